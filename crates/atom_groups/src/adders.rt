@@ -1,29 +1,29 @@
-//! Which instances add an atom, and whether they keep a set of atoms at one.
+//! Which instances add an atom, and whether they preserve that one atom of a set is true.
 use crate::numbers::place_of;
 use faults::NoMemory;
 use grounding::{CountingChange, Ground};
 use potentials::instance_count;
 use std::alloc::Global;
 
-/// For each atom the instances that may add it, rising.
+/// For each atom the instances that may add it, in ascending order.
 #[derive(Drop)]
 pub(crate) struct Adders {
     of_atom: Vec<Vec<u32>>,
 }
 
-/// What an instance does to the count of a set's true atoms, where one is true before.
+/// What an instance does to the number of true atoms in a set when one is true before.
 #[derive(Clone, Copy, Debug, PartialEq, Eq)]
 pub(crate) enum Balance {
-    /// It takes away as many as it adds.
+    /// It deletes as many as it adds.
     Keeps,
-    /// It may add one more than it takes away.
+    /// It may add one more than it deletes.
     Raises,
-    /// It may add several, or adds one under a `when` that takes none away.
+    /// It may add several, or adds one under a `when` that deletes none.
     Unclear,
 }
 
 impl Adders {
-    /// Those of the ground task.
+    /// The adders of the ground task's atoms.
     pub(crate) fn new(alloc: Global, ground: &Ground<'_>) -> Result<Adders, NoMemory> {
         let mut of_atom: Vec<Vec<u32>> = Vec::new(alloc);
         for _ in 0..ground.width() {
@@ -46,7 +46,7 @@ impl Adders {
         Ok(())
     }
 
-    /// The instance adds the atom. It may have been said before.
+    /// Records that the instance adds the atom. Repetitions are ignored.
     fn push(&mut self, atom: u32, number: u32) -> Result<(), NoMemory> {
         if let Some(instances) = self.of_atom.get_mut(place_of(atom)) {
             if instances.last() != Some(&number) {
@@ -56,7 +56,7 @@ impl Adders {
         Ok(())
     }
 
-    /// The instances that may add the atom, rising.
+    /// The instances that may add the atom, in ascending order.
     pub(crate) fn of(&self, atom: u32) -> &[u32] {
         match self.of_atom.get(place_of(atom)) {
             Some(instances) => instances,
@@ -65,8 +65,8 @@ impl Adders {
     }
 }
 
-/// Whether another change, under the same condition or none, takes a marked atom away where this one, which is under a `when`, adds
-/// one: so does a parcel that is carried along, and leaves the place where it was.
+/// Whether another change, under the same condition or none, deletes a marked atom when this one, which is under a `when`, adds
+/// one: like a carried parcel, which leaves the place where it was.
 fn moves(changes: &[CountingChange<'_>], add: &CountingChange<'_>, marked: &[bool]) -> bool {
     changes.iter().any(|change| {
         !change.value
@@ -84,12 +84,12 @@ fn have_same_condition(one: &CountingChange<'_>, other: &CountingChange<'_>) -> 
             && left.value == right.value)
 }
 
-/// Whether the change takes the atom away under no condition.
+/// Whether the change deletes the atom unconditionally.
 pub(crate) fn surely_deletes(changes: &[CountingChange<'_>], atom: u32) -> bool {
     changes.iter().any(|change| change.atom == atom && !change.value && change.is_unconditional())
 }
 
-/// What the instance of this number does to the marked atoms.
+/// What the instance with this number does to the marked atoms.
 pub(crate) fn balance_of(ground: &Ground<'_>, number: u32, marked: &[bool]) -> Balance {
     if number >= instance_count(ground) {
         return Balance::Unclear;

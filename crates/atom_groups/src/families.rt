@@ -1,18 +1,18 @@
-//! Families of atoms: those of a predicate, all of them or those with an object at a place.
+//! Families of atoms: all atoms of a predicate, or those with a given object at a given position.
 use crate::numbers::number_of;
 use faults::NoMemory;
 use grounding::Ground;
 use std::alloc::Global;
 use task::{ObjectId, PredicateId};
 
-/// An object at a place, from 0, among an atom's objects.
+/// An object at a position, counted from 0, of an atom's arguments.
 #[derive(Clone, Copy, Debug, PartialEq, Eq, PartialOrd, Ord)]
 pub(crate) struct Argument {
     place: u32,
     object: ObjectId,
 }
 
-/// Those atoms of the predicate that have this argument, or all of them.
+/// The atoms of the predicate with this argument, or all its atoms.
 #[derive(Clone, Copy, Debug, PartialEq, Eq, PartialOrd, Ord)]
 pub(crate) struct Family {
     pub(crate) predicate: PredicateId,
@@ -22,16 +22,16 @@ pub(crate) struct Family {
 /// All families of a ground task's atoms.
 #[derive(Drop)]
 pub(crate) struct Families {
-    /// Rising, each once.
+    /// In ascending order, without repetition.
     families: Vec<Family>,
-    /// For each of them its atoms, rising.
+    /// For each family its atoms, in ascending order.
     atoms: Vec<Vec<u32>>,
-    /// For each atom its families, the one of all the predicate's atoms first.
+    /// For each atom its families, beginning with that of all the predicate's atoms.
     of_atom: Vec<Vec<Family>>,
 }
 
 impl Families {
-    /// Those of the ground task.
+    /// The families of the ground task's atoms.
     pub(crate) fn new(alloc: Global, ground: &Ground<'_>) -> Result<Families, NoMemory> {
         let of_atom = families_of_atoms(alloc, ground)?;
         let mut all = Families {
@@ -70,12 +70,12 @@ impl Families {
         Ok(())
     }
 
-    /// The families, rising.
+    /// The families, in ascending order.
     pub(crate) fn all(&self) -> &[Family] {
         &self.families
     }
 
-    /// The atoms of the family, rising.
+    /// The atoms of the family, in ascending order.
     pub(crate) fn atoms(&self, family: &Family) -> &[u32] {
         match self.families.binary_search(family) {
             Ok(place) => match self.atoms.get(place) {
@@ -96,8 +96,8 @@ impl Families {
 }
 
 impl Family {
-    /// Whether it may join a group that begins with `first`: both are of one object, or both of all a predicate's atoms, or it
-    /// is of a predicate without arguments.
+    /// Whether the family may join a group that begins with `first`: both have the same object, or both have all atoms of a
+    /// predicate, or the predicate has no arguments.
     pub(crate) fn goes_with(&self, first: &Family, has_arguments: bool) -> bool {
         match (self.argument, first.argument) {
             (Some(own), Some(other)) => own.object == other.object,
@@ -117,7 +117,7 @@ fn families_of_atoms(alloc: Global, ground: &Ground<'_>) -> Result<Vec<Vec<Famil
     Ok(of_atom)
 }
 
-/// The families of an atom of this predicate and these objects.
+/// The families of an atom with this predicate and these objects.
 fn families_of(
     alloc: Global,
     predicate: PredicateId,

@@ -1,8 +1,9 @@
-//! Groups of atoms of which one at a time seems to be true: the atoms of some predicates with one object in one place.
+//! Groups of atoms that seem to be mutually exclusive: the atoms of some predicates that share an object, each predicate at a
+//! fixed position.
 //!
-//! A group begins with one family, and where an instance adds one of its atoms and takes none away, it grows by a family of an
-//! atom that the instance takes away (Edelkamp & Helmert 1999, "Exhibiting Knowledge in Planning Problems to Minimize State
-//! Encoding Length").
+//! A candidate begins with one family. If an instance adds one of its atoms and deletes none, it grows by a family of an atom
+//! that the instance deletes (Edelkamp & Helmert 1999, "Exhibiting Knowledge in Planning Problems to Minimize State Encoding
+//! Length").
 use crate::adders::{Adders, Balance, balance_of, is_marked, surely_deletes};
 use crate::families::{Families, Family};
 use crate::numbers::place_of;
@@ -12,42 +13,42 @@ use packed_state::Packed;
 use potentials::instance_count;
 use std::alloc::Global;
 
-/// The most families of a group.
+/// The maximum number of families in a group.
 const MAX_FAMILIES: usize = 5;
 
-/// How many sets are tried from one family on, at most.
+/// The maximum number of candidates tried from one family.
 const MAX_TRIED: usize = 60;
 
-/// How many instances are looked at in all, at most.
+/// The maximum number of instances examined in total.
 const MAX_LOOKS: u64 = 4_000_000;
 
-/// The numbers of a group's atoms, rising.
+/// The atom numbers of a group, in ascending order.
 pub type AtomGroup = Vec<u32>;
 
-/// What the groups are found by.
+/// The state of the search for groups.
 #[derive(Drop)]
 struct Finder<'g, 't> {
     ground: &'g Ground<'t>,
     families: Families,
     adders: Adders,
-    /// The atoms of the set that is tried.
+    /// The atoms of the current candidate.
     marked: Vec<bool>,
     looks: u64,
     found: Vec<AtomGroup>,
 }
 
-/// What came of a set of atoms.
+/// The result of testing a candidate.
 #[derive(Clone, Copy)]
 enum Trial {
-    /// No instance raises the count of its true atoms.
+    /// No instance increases the number of its true atoms.
     Group,
-    /// This one may.
+    /// This instance may.
     RaisedBy(u32),
     /// It is not worth more time.
     GivenUp,
 }
 
-/// Groups of the ground task's atoms, the largest first, each once: at the start one atom of each is true.
+/// Groups of the ground task's atoms, the largest first, without repetition: exactly one atom of each is initially true.
 pub fn found_groups(
     alloc: Global,
     ground: &Ground<'_>,
@@ -74,7 +75,7 @@ pub fn found_groups(
 }
 
 impl Finder<'_, '_> {
-    /// Begins with each family.
+    /// Starts from each family.
     fn find_all(&mut self, alloc: Global, initial: &Packed) -> Result<(), NoMemory> {
         for place in 0..self.families.all().len() {
             let Some(first) = self.families.all().get(place) else {
@@ -86,7 +87,7 @@ impl Finder<'_, '_> {
         Ok(())
     }
 
-    /// Tries the family alone, and then with others that instances ask for.
+    /// Tries the family alone, and then with others that instances suggest.
     fn find_from(
         &mut self,
         alloc: Global,
@@ -111,7 +112,7 @@ impl Finder<'_, '_> {
         Ok(())
     }
 
-    /// The atoms of the families, rising.
+    /// The atoms of the families, in ascending order.
     fn atoms_of(&self, alloc: Global, families: &[Family]) -> Result<AtomGroup, NoMemory> {
         let mut atoms = Vec::new(alloc);
         for family in families {
@@ -122,7 +123,7 @@ impl Finder<'_, '_> {
         Ok(atoms)
     }
 
-    /// Whether the atoms seem to be a group.
+    /// Tests whether the atoms seem to be a group.
     fn tried(&mut self, atoms: &[u32], initial: &Packed) -> Trial {
         if self.looks > MAX_LOOKS || true_among(atoms, initial) > 1 {
             return Trial::GivenUp;
@@ -133,7 +134,7 @@ impl Finder<'_, '_> {
         trial
     }
 
-    /// The same of the marked atoms.
+    /// The same for the marked atoms.
     fn tried_marked(&mut self, atoms: &[u32]) -> Trial {
         for atom in atoms {
             for number in self.adders.of(*atom) {
@@ -148,7 +149,7 @@ impl Finder<'_, '_> {
         Trial::Group
     }
 
-    /// Marks the atoms, or takes their marks away.
+    /// Marks the atoms, or removes their marks.
     fn mark(&mut self, atoms: &[u32], is_marked: bool) {
         for atom in atoms {
             if let Some(mark) = self.marked.get_mut(place_of(*atom)) {
@@ -157,7 +158,7 @@ impl Finder<'_, '_> {
         }
     }
 
-    /// Keeps the group, if it has several atoms and one of them is true at the start.
+    /// Keeps the group if it has several atoms and one of them is initially true.
     fn keep(&mut self, atoms: AtomGroup, initial: &Packed) -> Result<(), NoMemory> {
         if atoms.len() > 1 && true_among(&atoms, initial) == 1 {
             self.found.push(atoms)?;
@@ -165,7 +166,7 @@ impl Finder<'_, '_> {
         Ok(())
     }
 
-    /// Puts the families, with one more of an atom that the instance wants and takes away, among those that wait.
+    /// Queues the families extended by a family of an atom that the instance requires and deletes.
     fn grow(
         &self,
         alloc: Global,

@@ -1,6 +1,6 @@
-//! Finds groups of atoms of which one at a time seems to be true, and the variables that they make.
+//! Finds groups of atoms that seem to be mutually exclusive, and builds variables from them.
 //!
-//! Nothing is claimed of a group. Whoever takes one finds out which sets of its atoms may be true together.
+//! Nothing is claimed about a group. Users must find out which of its atoms may be true together.
 #![tactic(auto)]
 
 mod adders;

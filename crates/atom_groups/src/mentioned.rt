@@ -1,14 +1,14 @@
-//! Which variables an instance says or does something of.
+//! The variables that an instance mentions.
 use crate::variables::Variables;
 use faults::NoMemory;
 use grounding::{CountingChange, NumberedLiteral};
 use std::alloc::Global;
 
 impl Variables {
-    /// The variables of the atoms of these literals, rising.
+    /// The variables of the atoms in these literals, in ascending order.
     ///
     /// # Errors
-    /// Where memory is refused.
+    /// An allocation failed.
     pub fn of_literals(
         &self,
         alloc: Global,
@@ -23,10 +23,10 @@ impl Variables {
         Ok(found)
     }
 
-    /// The variables of the atoms of these changes, rising.
+    /// The variables of the atoms in these changes, in ascending order.
     ///
     /// # Errors
-    /// Where memory is refused.
+    /// An allocation failed.
     pub fn of_changes(
         &self,
         alloc: Global,

@@ -1,7 +1,7 @@
-//! Numbers of things in lists.
+//! Conversions between indices and `u32` numbers.
 ghost use Rattle.std.specs.Prelude.{◌≡◌, ◌≤◌};
 
-/// The place as a number, and the greatest number where it is beyond.
+/// The index as a number; the greatest number if it is too large.
 pub fn number_of(place: usize) -> u32
     ensures { result ≤ place }
 {
@@ -11,7 +11,7 @@ pub fn number_of(place: usize) -> u32
     }
 }
 
-/// The number as a place.
+/// The number as an index.
 pub fn place_of(number: u32) -> usize
     ensures { result ≡ number }
 {

@@ -1,10 +1,12 @@
-//! Variables: each has the atoms of a group as its values, and one value more, that none of them is true.
+//! Variables: each has the atoms of a group as its values, and one more value for "none of them".
+//!
+//! The groups are chosen by the greedy covering of Helmert 2009, "Concise finite-domain representations for PDDL planning tasks".
 use crate::groups::AtomGroup;
 use crate::numbers::{number_of, place_of};
 use faults::NoMemory;
 use std::alloc::Global;
 
-/// A value of a variable: 0 where none of its atoms is true, and else the place of the one that is, from 1.
+/// A value of a variable: the position, from 1, of the atom that is true, or 0 if none is.
 #[derive(Clone, Copy, Debug, PartialEq, Eq, PartialOrd, Ord)]
 pub struct Value {
     /// The variable.
@@ -13,18 +15,18 @@ pub struct Value {
     pub value: u32,
 }
 
-/// Variables of which each atom has at least one.
+/// Variables that cover all atoms: each atom belongs to at least one.
 #[derive(Drop)]
 pub struct Variables {
     /// For each variable its atoms, in the order of its values, from 1.
     atoms: Vec<AtomGroup>,
-    /// For each atom what it says of variables.
+    /// For each atom the values it stands for.
     of_atom: Vec<Vec<Value>>,
 }
 
 impl Variables {
-    /// Variables for so many atoms. As long as there is a group that has several atoms no variable has yet, the one that has
-    /// most of these is taken whole; each atom that is left is a variable by itself.
+    /// Variables for this many atoms. While some group has several atoms without a variable, the one with the most such atoms
+    /// becomes a variable with all its atoms; each remaining atom is a variable by itself.
     pub fn new(alloc: Global, width: u32, groups: &[AtomGroup]) -> Result<Variables, NoMemory> {
         let mut of_atom: Vec<Vec<Value>> = Vec::new(alloc);
         for _ in 0..width {
@@ -48,7 +50,7 @@ impl Variables {
         Ok(variables)
     }
 
-    /// The group that has most atoms without a variable, if it has several.
+    /// The group with the most atoms without a variable, if it has several such atoms.
     fn best_of<'a>(&self, groups: &'a [AtomGroup]) -> Option<&'a [u32]> {
         let mut best = None;
         let mut most = 1usize;
@@ -67,7 +69,7 @@ impl Variables {
         !self.of_atom(atom).is_empty()
     }
 
-    /// Adds the variable of these atoms.
+    /// Adds the variable with these atoms.
     fn add(&mut self, atoms: AtomGroup) -> Result<(), NoMemory> {
         let variable = number_of(self.atoms.len());
         for (place, atom) in atoms.iter().enumerate() {
@@ -80,7 +82,7 @@ impl Variables {
         Ok(())
     }
 
-    /// How many variables there are.
+    /// The number of variables.
     pub fn count(&self) -> u32 {
         number_of(self.atoms.len())
     }
@@ -93,12 +95,12 @@ impl Variables {
         }
     }
 
-    /// How many values the variable has, with that of no atom.
+    /// The number of the variable's values, including "none".
     pub fn value_count(&self, variable: u32) -> u32 {
         number_of(self.atoms(variable).len()).saturating_add(1)
     }
 
-    /// What it says of variables that the atom is true.
+    /// The values of variables that the atom stands for.
     pub fn of_atom(&self, atom: u32) -> &[Value] {
         match self.of_atom.get(place_of(atom)) {
             Some(values) => values,
@@ -106,7 +108,7 @@ impl Variables {
         }
     }
 
-    /// Whether an atom says something of both variables.
+    /// Whether the variables share an atom.
     pub fn overlap(&self, one: u32, other: u32) -> bool {
         self.atoms(one).iter().any(|atom| self
             .of_atom(*atom)

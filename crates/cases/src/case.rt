@@ -1,4 +1,4 @@
-//! A case: the files, the words of the command, and what is wanted of it.
+//! A case: the files, the words of the command, and the expected results.
 use crate::files::CaseFiles;
 use crate::follow_up::FollowUp;
 use crate::holdings::Holdings;
@@ -11,13 +11,13 @@ use test_devices::Table;
 /// Why a case could not be tried.
 #[derive(Clone, Copy, Debug)]
 pub enum CaseFault {
-    /// Memory was refused.
+    /// An allocation failed.
     NoMemory,
-    /// A number is none, or too large.
+    /// A word is not a number, or the number is too large.
     Number,
-    /// The words of a section say nothing.
+    /// The words of a section have no meaning.
     Words,
-    /// No section says what is run.
+    /// No section gives a command.
     NothingRun,
 }
 
@@ -45,12 +45,12 @@ impl From<NoMemory> for CaseFault {
     }
 }
 
-/// The number that a word is.
+/// The number that a word denotes.
 pub fn number_of(word: &str) -> Result<u32, CaseFault> {
     word.parse::<u32>().map_err(|_| CaseFault::Number)
 }
 
-/// Reads the number that a word is.
+/// Reads the number that a word denotes.
 pub fn read_number(word: &str, into: &mut u32) -> Result<(), CaseFault> {
     *into = number_of(word)?;
     Ok(())
@@ -63,20 +63,20 @@ pub struct Case<'a> {
     pub files: CaseFiles,
     /// The words of the command, if one is run.
     pub words: Option<Vec<&'a str>>,
-    /// What files are to hold after the run.
+    /// The expected contents of files after the run.
     pub holdings: Holdings<'a>,
     /// The standard output.
     pub out: Stream,
     /// The standard error.
     pub err: Stream,
-    /// The status that is wanted.
+    /// The expected exit status.
     pub status: u32,
-    /// What is run over the files that are left, if anything.
+    /// A further run over the files that are left, if any.
     pub then: Option<FollowUp<'a>>,
 }
 
 impl<'a> Case<'a> {
-    /// No file and nothing run: nothing is to be written, and the status is 0.
+    /// A case without files and command, which expects no output and status 0.
     pub fn new(alloc: Global) -> Case<'a> {
         Case {
             files: CaseFiles::new(alloc),
@@ -89,7 +89,7 @@ impl<'a> Case<'a> {
         }
     }
 
-    /// Takes the sections of a text. What comes before the first is a title or a comment.
+    /// Takes the sections of a text. Anything before the first is a title or a comment.
     pub fn take(
         &mut self,
         alloc: Global,
@@ -109,7 +109,7 @@ impl<'a> Case<'a> {
         turn: Escapes,
     ) -> Result<(), CaseFault> {
         match section.name {
-            // the bytes for which the case is run
+            // The section `each` was read before.
             "each" => Ok(()),
             "run" => self.take_words(alloc, section.words),
             "status" => read_number(section.words, &mut self.status),
@@ -139,7 +139,7 @@ impl<'a> Case<'a> {
     }
 }
 
-/// Has the file of the section hold its bytes after the run.
+/// Expects the section's file to have these bytes after the run.
 fn want_file<'a>(
     alloc: Global,
     holdings: &mut Holdings<'a>,
@@ -150,7 +150,7 @@ fn want_file<'a>(
     Ok(holdings.want(section.words, Some(bytes))?)
 }
 
-/// Has the file of the section be missing after the run.
+/// Expects the section's file not to exist after the run.
 fn want_no_file<'a>(holdings: &mut Holdings<'a>, section: Section<'a>) -> Result<(), CaseFault> {
     match section.verb() {
         ("file", name) => Ok(holdings.want(name, None)?),
@@ -158,7 +158,7 @@ fn want_no_file<'a>(holdings: &mut Holdings<'a>, section: Section<'a>) -> Result
     }
 }
 
-/// Takes what a section says of a file.
+/// Takes a section about a file.
 fn take_file(
     alloc: Global,
     files: &mut Table,
@@ -174,7 +174,7 @@ fn take_file(
     }
 }
 
-/// Has the file of the section hold its bytes.
+/// Gives the section's file its bytes.
 fn put_file(
     alloc: Global,
     files: &mut Table,
@@ -185,7 +185,7 @@ fn put_file(
     Ok(files.put(section.name, &bytes)?)
 }
 
-/// Adds the bytes of the section to the file, as often as the word says, and once where there is none.
+/// Appends the section's bytes to the file as often as the word says; once if there is no word.
 fn add_to(
     alloc: Global,
     files: &mut Table,
@@ -202,7 +202,7 @@ fn add_to(
     Ok(files.put(section.name, &bytes)?)
 }
 
-/// Adds the bytes of the section so many times.
+/// Appends the section's bytes `count` times.
 fn add_section(
     alloc: Global,
     section: Section<'_>,
@@ -217,7 +217,7 @@ fn add_section(
     add_blocks(alloc, &unit, count, bytes)
 }
 
-/// Adds the bytes of the section so many times, each with its number.
+/// Appends the section's bytes `count` times, each time with its number.
 fn add_numbered(
     alloc: Global,
     section: Section<'_>,
@@ -231,10 +231,10 @@ fn add_numbered(
     Ok(())
 }
 
-/// How many repetitions are put together and added at once.
+/// The number of repetitions that are combined into a block and appended at once.
 const BLOCK: u32 = 4096;
 
-/// Adds these bytes so many times, most of them in blocks.
+/// Appends the bytes `count` times, mostly in blocks.
 fn add_blocks(
     alloc: Global,
     unit: &[u8],
@@ -246,7 +246,7 @@ fn add_blocks(
     add_repeated(unit, count % BLOCK, bytes)
 }
 
-/// Adds these bytes so many times.
+/// Appends the bytes `count` times.
 fn add_repeated(unit: &[u8], count: u32, bytes: &mut Vec<u8>) -> Result<(), AllocError> {
     for _ in 0..count {
         bytes.extend_from_slice(unit)?;
@@ -254,14 +254,14 @@ fn add_repeated(unit: &[u8], count: u32, bytes: &mut Vec<u8>) -> Result<(), Allo
     Ok(())
 }
 
-/// Has the device of the file fail once, at the read after as many as the word says.
+/// Lets the file's device fail once, after this many reads.
 fn fail_at(alloc: Global, files: &mut Table, name: &str, count: &str) -> Result<(), CaseFault> {
     let reads = u64::from(number_of(count)?);
     let bytes = contents(alloc, files, name)?;
     Ok(files.put_failing(name, &bytes, reads)?)
 }
 
-/// The bytes of the file so far; none where there is no such file.
+/// The bytes of the file so far; none if there is no such file.
 fn contents(alloc: Global, files: &Table, name: &str) -> Result<Vec<u8>, AllocError> {
     Vec::from_slice(alloc, files.get(name).unwrap_or(&[]))
 }

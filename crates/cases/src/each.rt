@@ -1,4 +1,4 @@
-//! The bytes for each of which a case is run.
+//! Bytes for which a case is run one by one.
 use crate::section::{Escapes, Section};
 use std::alloc::{AllocError, Global};
 
@@ -13,7 +13,7 @@ fn each_section(text: &str) -> Option<Section<'_>> {
     None
 }
 
-/// The bytes that the case lists in a section `each`, and `None` where it has no such section.
+/// The bytes listed in the case's section `each`; `None` if it has no such section.
 pub fn listed_bytes(alloc: Global, text: &str) -> Result<Option<Vec<u8>>, AllocError> {
     match each_section(text) {
         Some(section) => Ok(Some(section.bytes(alloc, Escapes::default())?)),

@@ -3,17 +3,17 @@ use devices::{Files, IoFault, Memory};
 use std::alloc::Global;
 use test_devices::{FailsAt, InPieces, Table};
 
-/// A table of files, and how their bytes are given.
+/// A table of files, and how reads of them behave.
 #[derive(Drop)]
 pub struct CaseFiles {
     /// The files.
     pub table: Table,
-    /// The most bytes that a read gives; 0 is taken for 1.
+    /// The maximum number of bytes per read; 0 counts as 1.
     pub piece: u32,
 }
 
 impl CaseFiles {
-    /// No file, and reads that give what they are asked for.
+    /// No files, and reads that give as much as requested.
     pub fn new(alloc: Global) -> CaseFiles {
         CaseFiles {
             table: Table::new(alloc),

@@ -5,7 +5,7 @@ use crate::section::{Escapes, Section};
 use devices::Memory;
 use std::alloc::{AllocError, Global};
 
-/// The words of a further run, and what its standard output is to take.
+/// The words of a further run, and its expected standard output.
 #[derive(Drop)]
 pub struct FollowUp<'a> {
     words: Vec<&'a str>,
@@ -13,7 +13,7 @@ pub struct FollowUp<'a> {
 }
 
 impl<'a> FollowUp<'a> {
-    /// What a section says of it: its words, and below them what it is to report.
+    /// The further run that a section describes: its words, and below them the expected output.
     pub fn of(
         alloc: Global,
         section: Section<'a>,
@@ -25,7 +25,7 @@ impl<'a> FollowUp<'a> {
         })
     }
 
-    /// How what it reports differs from what is wanted, and `None` where it does not.
+    /// How the output differs from the expected one; `None` if it does not.
     pub fn difference(
         &self,
         alloc: Global,
@@ -36,7 +36,7 @@ impl<'a> FollowUp<'a> {
         self.reported(alloc, status, out.as_slice())
     }
 
-    /// How these bytes differ from what is wanted, and `None` where they do not.
+    /// How these bytes differ from the expected ones; `None` if they do not.
     fn reported(&self, alloc: Global, status: u8, is: &[u8]) -> Result<Option<String>, AllocError> {
         if is == self.wanted.as_slice() {
             return Ok(None);

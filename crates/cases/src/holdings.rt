@@ -1,18 +1,18 @@
-//! What files are to hold after the run.
+//! The expected contents of files after the run.
 use std::alloc::{AllocError, Global};
 use std::fmt;
 use test_devices::Table;
 
-/// A file that is to hold these bytes, or not to be there.
+/// A file that should have these bytes, or should not exist.
 #[derive(Drop)]
 struct Holding<'a> {
     name: &'a str,
-    // `None` where there is to be no file of this name
+    // `None` if there should be no file with this name.
     bytes: Option<Vec<u8>>,
 }
 
 impl Holding<'_> {
-    /// Whether this is what a file is to hold, `None` standing for no file.
+    /// Whether the file is as expected; `None` stands for no file.
     fn is_met(&self, found: Option<&[u8]>) -> bool {
         match (found, &self.bytes) {
             (Some(found), Some(wanted)) => found == wanted.as_slice(),
@@ -21,14 +21,14 @@ impl Holding<'_> {
         }
     }
 
-    /// How the file differs from what it is to hold.
+    /// How the file differs from the expectation.
     fn text(&self, alloc: Global, found: Option<&[u8]>) -> Result<String, AllocError> {
         let (name, is, wanted) = (self.name, Shown(found), Shown(self.bytes.as_deref()));
         format!(in alloc; "the file {name} is {is}, and not {wanted}")
     }
 }
 
-/// The bytes of a file as they are reported; `None` where there is none.
+/// The bytes of a file in a report; `None` if there is none.
 #[derive(Clone, Copy)]
 struct Shown<'a>(Option<&'a [u8]>);
 
@@ -41,28 +41,28 @@ impl fmt::Display for Shown<'_> {
     }
 }
 
-/// What files are to hold after the run. A file of which nothing is said may hold anything.
+/// The expected contents of files after the run. Files that are not listed may have any contents.
 #[derive(Drop)]
 pub struct Holdings<'a> {
     wanted: Vec<Holding<'a>>,
 }
 
 impl<'a> Holdings<'a> {
-    /// Nothing is said of any file.
+    /// No expectations.
     pub fn new(alloc: Global) -> Holdings<'a> {
         Holdings {
             wanted: Vec::new(alloc),
         }
     }
 
-    /// Has the file of this name hold these bytes, or not be there, whatever was said of it before.
+    /// Expects the file with this name to have these bytes, or not to exist. Replaces earlier expectations.
     pub fn want(&mut self, name: &'a str, bytes: Option<Vec<u8>>) -> Result<(), AllocError> {
         self.wanted.retain(|other| other.name != name);
         self.wanted.push(Holding { name, bytes })?;
         Ok(())
     }
 
-    /// How the first file that differs does, and `None` where none does.
+    /// How the first file that is not as expected differs; `None` if there is none.
     pub fn difference(&self, alloc: Global, files: &Table) -> Result<Option<String>, AllocError> {
         for holding in &self.wanted {
             let found = files.get(holding.name);

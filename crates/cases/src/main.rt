@@ -15,13 +15,12 @@ mod text;
 use std::process::ExitCode;
 use std::{fs, io};
 
-/// How the name of a file of cases ends.
+/// The ending of the name of a file of cases.
 const ENDING: &str = ".cases";
 
-/// Runs each file of cases that lies in the folder, in the order of their names, and ends with status 1 where a case
-/// differs.
+/// Runs each file of cases in the folder, in the order of names, and ends with status 1 if a case fails.
 ///
-/// No list names the files, so that none can be forgotten.
+/// The files are found by listing the folder, so that none can be forgotten.
 fn main(rt: HostRuntime) -> io::Result<ExitCode> {
     let mut differing = 0u64;
     for name in &case_files(&rt)? {
@@ -47,7 +46,7 @@ fn add_names(rt: &HostRuntime, names: &mut Vec<String>) -> io::Result<()> {
     Ok(())
 }
 
-/// Adds the name, if it is that of a file of cases.
+/// Adds the name if it is that of a file of cases.
 fn add_name(rt: &HostRuntime, name: &str, names: &mut Vec<String>) -> io::Result<()> {
     if name.ends_with(ENDING) {
         names.push(String::from_str(rt.alloc(), name)?)?;
@@ -55,13 +54,13 @@ fn add_name(rt: &HostRuntime, name: &str, names: &mut Vec<String>) -> io::Result
     Ok(())
 }
 
-/// Runs the cases of one file, with a line for each that differs and one that counts them: how many differ.
+/// Runs the cases of one file, with a line for each failing case and one for the counts. Returns the number of failing cases.
 fn run_file(rt: &HostRuntime, name: &str) -> io::Result<u64> {
     let text = fs::read_to_string(rt, name)?;
     run_text(rt, name, text.as_str())
 }
 
-/// The same of the file's text.
+/// The same, for the file's text.
 fn run_text(rt: &HostRuntime, name: &str, text: &str) -> io::Result<u64> {
     let mut cases = text.split("\n=== ");
     let shared = cases.next().unwrap_or("");
@@ -74,7 +73,7 @@ fn run_text(rt: &HostRuntime, name: &str, text: &str) -> io::Result<u64> {
     Ok(differing)
 }
 
-/// How many cases were run, and how many of them differ.
+/// The number of cases run, and the number of failing ones.
 #[derive(Clone, Copy, Default)]
 struct Tally {
     cases: u64,
@@ -88,7 +87,7 @@ impl Tally {
     }
 }
 
-/// Runs a case for each byte that it lists, and once where it has no such list.
+/// Runs a case for each byte that it lists, or once if it has no such list.
 fn run_each(
     rt: &HostRuntime,
     file: &str,
@@ -118,7 +117,7 @@ fn run_listed(
     Ok(())
 }
 
-/// Runs one case, and says where it differs: whether it does not.
+/// Runs one case and reports how it fails. Returns whether it passes.
 fn run_case(
     rt: &HostRuntime,
     file: &str,
@@ -135,7 +134,7 @@ fn run_case(
     Ok(false)
 }
 
-/// Reports what was found of a case.
+/// Prints the result of a case.
 fn print_result(
     rt: &HostRuntime,
     file: &str,

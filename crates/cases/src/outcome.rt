@@ -1,9 +1,9 @@
-//! What a case gives, beside what it is to give.
+//! The actual results of a case, compared with the expected ones.
 use crate::case::{Case, CaseFault};
 use crate::stream::Device;
 use std::alloc::{AllocError, Global};
 
-/// How a case differs from what is wanted, and `None` where it does not.
+/// How a case fails; `None` if it passes.
 pub fn difference(
     alloc: Global,
     shared: &str,
@@ -14,7 +14,7 @@ pub fn difference(
     filled_difference(alloc, &mut case, shared, text, byte)
 }
 
-/// The same of a case that takes these texts.
+/// The same, for a case filled from these texts.
 fn filled_difference<'a>(
     alloc: Global,
     case: &mut Case<'a>,
@@ -27,7 +27,7 @@ fn filled_difference<'a>(
     run(alloc, case)
 }
 
-/// Runs the command of a case: how what it gives differs, and `None` where it does not.
+/// Runs the command of a case: how its results differ; `None` if they do not.
 fn run(alloc: Global, case: &mut Case<'_>) -> Result<Option<String>, CaseFault> {
     let Some(words) = &case.words else {
         return Err(CaseFault::NothingRun);
@@ -38,7 +38,7 @@ fn run(alloc: Global, case: &mut Case<'_>) -> Result<Option<String>, CaseFault> 
     Ok(reported_difference(alloc, case, status, &out, &err)?)
 }
 
-/// How the status, what the streams took, or what is left differs, and `None` where nothing does.
+/// How the exit status, the output or the files differ; `None` if nothing does.
 fn reported_difference(
     alloc: Global,
     case: &mut Case<'_>,
@@ -55,7 +55,7 @@ fn reported_difference(
     }
 }
 
-/// How the files that are left, or what is reported for them by a further run, differ, and `None` where they do not.
+/// How the remaining files, or the output of a further run over them, differ; `None` if they do not.
 fn left_difference(alloc: Global, case: &mut Case<'_>) -> Result<Option<String>, AllocError> {
     match case.holdings.difference(alloc, &case.files.table)? {
         None => then_difference(alloc, case),
@@ -63,7 +63,7 @@ fn left_difference(alloc: Global, case: &mut Case<'_>) -> Result<Option<String>,
     }
 }
 
-/// How what is reported by a further run differs, and `None` where it does not, or there is none.
+/// How the output of the further run differs; `None` if it does not, or if there is no further run.
 fn then_difference(alloc: Global, case: &mut Case<'_>) -> Result<Option<String>, AllocError> {
     match &case.then {
         Some(then) => then.difference(alloc, &mut case.files),
@@ -71,7 +71,7 @@ fn then_difference(alloc: Global, case: &mut Case<'_>) -> Result<Option<String>,
     }
 }
 
-/// How what the streams took differs, and `None` where it does not.
+/// How the output of the streams differs; `None` if it does not.
 fn stream_difference(
     alloc: Global,
     case: &Case<'_>,

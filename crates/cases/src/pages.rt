@@ -1,20 +1,20 @@
-//! The completions and the manual page, held against the program's help: each command and each option that the help names is
-//! to occur in each of them.
+//! Compares the completions and the manual page with the program's help: each must mention every command and option that the help
+//! lists.
 use crate::Tally;
 use devices::Memory;
 use std::alloc::{AllocError, Global};
 use std::{fs, io};
 use test_devices::Table;
 
-/// A file that says of the commands, and how.
+/// A file that documents the commands, and its conventions.
 #[derive(Clone, Copy)]
 struct Page {
     name: &'static str,
-    // what comes before and after a command's name where its part begins, and what ends the part
+    // What comes before and after a command's name where its part begins, and what ends the part.
     before: &'static str,
     following: &'static str,
     ends: &'static str,
-    // what comes before an option's name
+    // What comes before an option's name.
     dashes: &'static str,
 }
 
@@ -50,8 +50,8 @@ const MANUAL: Page = Page {
     dashes: "\\-\\-",
 };
 
-/// Looks in each page for the commands and options of the help, with a line for each that it lacks and one that counts them:
-/// how many are lacking.
+/// Checks each page for the commands and options of the help, with a line for each missing one and one for the counts. Returns
+/// the number of missing ones.
 pub fn compare_pages(rt: &HostRuntime) -> io::Result<u64> {
     let program = said(rt.alloc(), &["help"])?;
     let mut tally = Tally::default();
@@ -61,7 +61,7 @@ pub fn compare_pages(rt: &HostRuntime) -> io::Result<u64> {
     Ok(differing)
 }
 
-/// Looks in each page for what the program's help names.
+/// Checks each page for what the program's help lists.
 fn look_in_pages(rt: &HostRuntime, program: &str, tally: &mut Tally) -> io::Result<()> {
     let shared = options(rt.alloc(), program)?;
     let commands = commands(rt.alloc(), program)?;
@@ -71,7 +71,7 @@ fn look_in_pages(rt: &HostRuntime, program: &str, tally: &mut Tally) -> io::Resu
     Ok(())
 }
 
-/// Looks in a page for these options of the program, and for its commands.
+/// Checks a page for these options of the program, and for its commands.
 fn look_in_page(
     rt: &HostRuntime,
     page: Page,
@@ -83,7 +83,7 @@ fn look_in_page(
     compare(rt, page, text.as_str(), shared, commands, tally)
 }
 
-/// Looks in the text of a page for these options of the program, and for its commands.
+/// Checks the text of a page for these options of the program, and for its commands.
 fn compare(
     rt: &HostRuntime,
     page: Page,
@@ -101,8 +101,8 @@ fn compare(
     Ok(())
 }
 
-/// Looks for the part of a command, and in it for the options of the command's help; those of the program itself are looked for
-/// in the whole text.
+/// Checks for the part of a command, and in it for the options in the command's help. The program's own options are searched in
+/// the whole text.
 fn compare_command(
     rt: &HostRuntime,
     page: Page,
@@ -128,7 +128,7 @@ fn is_among(name: &str, names: &[&str]) -> bool {
     names.iter().any(|&other| other == name)
 }
 
-/// Counts the part of a command, and says where it is missing.
+/// Counts the part of a command, and reports if it is missing.
 fn count_part(
     rt: &HostRuntime,
     page: Page,
@@ -143,7 +143,7 @@ fn count_part(
     Ok(())
 }
 
-/// Looks for an option in a text, and says where it is missing.
+/// Checks for an option in a text, and reports if it is missing.
 fn look(
     rt: &HostRuntime,
     page: Page,
@@ -163,7 +163,7 @@ fn look(
     Ok(())
 }
 
-/// The part of a text that is the command's, if it has one.
+/// The part of a text about the command, if there is one.
 fn part_of<'a>(
     alloc: Global,
     page: Page,
@@ -177,7 +177,7 @@ fn part_of<'a>(
     }
 }
 
-/// Whether the word is in the text, and is not only the beginning of a longer one.
+/// Whether the text contains the word other than as the beginning of a longer one.
 fn has_word(text: &str, word: &str) -> bool {
     text.split(word).skip(1).any(|rest| !rest.starts_with(|next: char| next == '-'
         || next.is_ascii_alphanumeric()))
@@ -189,7 +189,7 @@ fn help_of(alloc: Global, command: &str) -> Result<String, AllocError> {
     said(alloc, &words)
 }
 
-/// What the program says on the standard error for these words.
+/// The program's standard error for these words.
 fn said(alloc: Global, words: &[&str]) -> Result<String, AllocError> {
     let mut files = Table::new(alloc);
     let (mut out, mut err) = (Memory::empty(alloc), Memory::empty(alloc));
@@ -197,7 +197,7 @@ fn said(alloc: Global, words: &[&str]) -> Result<String, AllocError> {
     String::from_utf8_lossy(alloc, err.as_slice())
 }
 
-/// The commands that the program's help lists.
+/// The commands listed in the program's help.
 fn commands<'a>(alloc: Global, help: &'a str) -> Result<Vec<&'a str>, AllocError> {
     let mut names = Vec::new(alloc);
     let (_, listed) = help.split_once("\nCommands:\n").unwrap_or(("", ""));
@@ -207,7 +207,7 @@ fn commands<'a>(alloc: Global, help: &'a str) -> Result<Vec<&'a str>, AllocError
     Ok(names)
 }
 
-/// The names of the options that a help lists, each on a line that begins with hyphens.
+/// The names of the options in a help text, each on a line that begins with hyphens.
 fn options<'a>(alloc: Global, help: &'a str) -> Result<Vec<&'a str>, AllocError> {
     let mut names = Vec::new(alloc);
     for line in help.lines() {

@@ -2,36 +2,36 @@
 use crate::text::{add_lines, add_unescaped};
 use std::alloc::{AllocError, Global};
 
-/// What is below the line that begins a section, or after its colon.
+/// The content of a section: what is below its first line, or after the colon in that line.
 #[derive(Clone, Copy)]
 enum Content<'a> {
-    /// The lines below, as they are, without blank ones at the end.
+    /// The lines below, verbatim, without blank lines at the end.
     Lines(&'a str),
     /// The rest of the line, with escapes.
     Line(&'a str),
 }
 
-/// What the two escapes that change stand for.
+/// The values of the two variable escapes.
 #[derive(Clone, Copy, Default)]
 pub struct Escapes {
-    /// How often the bytes came before: `\#`.
+    /// The number of earlier repetitions: `\#`.
     pub number: u32,
-    /// The byte for which the case is run, if it lists some: `\@`.
+    /// The byte that the case is run for, if it lists some: `\@`.
     pub byte: Option<u8>,
 }
 
-/// A section: what it is of, what is done, and the bytes below it.
+/// A section: its subject, its words, and its content.
 #[derive(Clone, Copy)]
 pub struct Section<'a> {
-    /// What the section is of: the first word after the dashes.
+    /// The subject: the first word after the dashes.
     pub name: &'a str,
-    /// The further words up to a colon or the end of the line.
+    /// The further words, up to a colon or the end of the line.
     pub words: &'a str,
     content: Content<'a>,
 }
 
 impl<'a> Section<'a> {
-    /// The section of a text that was between two lines of dashes.
+    /// Parses a section: the text between two lines of dashes.
     pub fn of(text: &'a str) -> Section<'a> {
         let (first, below) = text.split_once('\n').unwrap_or((text, ""));
         match first.split_once(": ") {
@@ -49,12 +49,12 @@ impl<'a> Section<'a> {
         }
     }
 
-    /// The first of the further words, and what comes after it.
+    /// The first of the further words, and what follows it.
     pub fn verb(&self) -> (&'a str, &'a str) {
         self.words.split_once(' ').unwrap_or((self.words, ""))
     }
 
-    /// Whether the turn's number is in the section.
+    /// Whether the section contains the escape for the repetition's number.
     pub fn is_numbered(&self) -> bool {
         match self.content {
             Content::Lines(_) => false,
@@ -62,14 +62,14 @@ impl<'a> Section<'a> {
         }
     }
 
-    /// The bytes that the section stands for.
+    /// The bytes of the section's content.
     pub fn bytes(&self, alloc: Global, turn: Escapes) -> Result<Vec<u8>, AllocError> {
         let mut bytes = Vec::new(alloc);
         self.add_bytes(alloc, turn, &mut bytes)?;
         Ok(bytes)
     }
 
-    /// Adds the bytes that the section stands for.
+    /// Appends the bytes of the section's content.
     pub fn add_bytes(
         &self,
         alloc: Global,

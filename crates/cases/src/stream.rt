@@ -1,4 +1,4 @@
-//! The standard output and the standard error of a case.
+//! Standard output and standard error of a case.
 use crate::case::{CaseFault, number_of, read_number};
 use crate::section::{Escapes, Section};
 use devices::Memory;
@@ -8,7 +8,7 @@ use test_devices::{FailsAt, InPieces};
 /// A stream that may take its bytes in pieces, and fail.
 pub type Device = FailsAt<InPieces<Memory>>;
 
-/// Which part of what a stream takes is reported.
+/// The part of a stream's output that is compared.
 #[derive(Clone, Copy)]
 enum Part {
     Whole,
@@ -16,7 +16,7 @@ enum Part {
     End,
 }
 
-/// The part that a section with this verb reports.
+/// The part that a section with this verb compares.
 fn part_of(verb: &str) -> Result<Part, CaseFault> {
     match verb {
         "" => Ok(Part::Whole),
@@ -26,20 +26,20 @@ fn part_of(verb: &str) -> Result<Part, CaseFault> {
     }
 }
 
-/// A stream: what it is to take, and how it takes it.
+/// A stream: the expected output, and how the device behaves.
 #[derive(Drop)]
 pub struct Stream {
     wanted: Vec<u8>,
-    // the part that the wanted bytes are
+    // The part that the expected bytes are.
     part: Part,
-    // the most bytes that it takes at a write
+    // The maximum number of bytes per write.
     piece: u32,
-    // how many writes succeed before the one that fails, and `None` where none fails
+    // How many writes succeed before the one that fails; `None` if none fails.
     writes_before: Option<u32>,
 }
 
 impl Stream {
-    /// A stream that is to take nothing.
+    /// A stream without expected output.
     pub fn new(alloc: Global) -> Stream {
         Stream {
             wanted: Vec::new(alloc),
@@ -49,7 +49,7 @@ impl Stream {
         }
     }
 
-    /// Takes what a section says of the stream.
+    /// Takes a section about the stream.
     pub fn take(
         &mut self,
         alloc: Global,
@@ -81,9 +81,9 @@ impl Stream {
         Ok(())
     }
 
-    /// The device of the stream, which holds nothing yet.
+    /// The stream's device, empty.
     pub fn device(&self, alloc: Global) -> Device {
-        // a piece has at least one byte
+        // A piece has at least one byte.
         let length = self.piece.max(1) as usize;
         FailsAt::new(
             InPieces::new(Memory::empty(alloc), length),
@@ -91,7 +91,7 @@ impl Stream {
         )
     }
 
-    /// How the bytes that it took differ from what is wanted, and `None` where they do not.
+    /// How the output differs from the expected one; `None` if it does not.
     pub fn difference(
         &self,
         alloc: Global,

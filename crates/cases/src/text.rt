@@ -1,8 +1,8 @@
-//! The bytes that the lines of a section stand for.
+//! The bytes denoted by the lines of a section.
 use crate::section::Escapes;
 use std::alloc::{AllocError, Global};
 
-/// Adds the lines, each with its end, without the blank ones at the end.
+/// Adds the lines, each with its LF, without blank lines at the end.
 pub fn add_lines(lines: &str, bytes: &mut Vec<u8>) -> Result<(), AllocError> {
     let kept = lines.trim_end_matches('\n');
     bytes.extend_from_slice(kept.as_bytes())?;
@@ -12,8 +12,8 @@ pub fn add_lines(lines: &str, bytes: &mut Vec<u8>) -> Result<(), AllocError> {
     Ok(())
 }
 
-/// Adds the line, whose escapes are `\n`, `\r`, `\t`, `\\`, `\xHH` for a byte, `\#` for the turn's number and `\@` for its
-/// byte.
+/// Adds the line. Its escapes are `\n`, `\r`, `\t`, `\\`, `\xHH` for a byte, `\#` for the repetition's number and `\@` for the
+/// case's byte.
 pub fn add_unescaped(
     alloc: Global,
     line: &str,
@@ -29,31 +29,31 @@ pub fn add_unescaped(
     Ok(())
 }
 
-/// What comes next of a line with escapes.
+/// The state while reading a line with escapes.
 #[derive(Clone, Copy)]
 enum State {
-    /// A byte that stands for itself, or a backslash.
+    /// An ordinary byte or a backslash is next.
     Plain,
-    /// The letter after a backslash.
+    /// The letter after a backslash is next.
     Escape,
-    /// The first digit of a byte.
+    /// The first digit of a byte is next.
     High,
-    /// The second digit, with the value of the first.
+    /// The second digit is next; this is the value of the first.
     Low(u8),
 }
 
-/// What a byte of a line makes.
+/// The output of a byte of a line.
 #[derive(Clone, Copy)]
 enum Made {
     /// Nothing yet.
     Nothing,
     /// A byte.
     Byte(u8),
-    /// The turn's number.
+    /// The repetition's number.
     Number,
 }
 
-/// What comes after a byte of a line, and what the byte makes.
+/// The next state after a byte of a line, and the output of the byte.
 fn step(state: State, byte: u8, each: Option<u8>) -> (State, Made) {
     match state {
         State::Plain if byte == b'\\' => (State::Escape, Made::Nothing),
@@ -68,7 +68,7 @@ fn step(state: State, byte: u8, each: Option<u8>) -> (State, Made) {
     }
 }
 
-/// What a letter after a backslash makes.
+/// The output of a letter after a backslash.
 fn escaped(letter: u8, each: Option<u8>) -> Made {
     match letter {
         b'n' => Made::Byte(b'\n'),
@@ -92,7 +92,7 @@ fn add_made(alloc: Global, made: Made, number: u32, bytes: &mut Vec<u8>) -> Resu
     Ok(())
 }
 
-/// The value of a hexadecimal digit, and 0 of any other byte.
+/// The value of a hexadecimal digit; 0 for any other byte.
 fn digit(byte: u8) -> u8 {
     let digits: &[u8] = b"0123456789abcdef";
     let lower = byte.to_ascii_lowercase();

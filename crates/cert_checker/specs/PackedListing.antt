@@ -8,8 +8,8 @@ use Rattle.cert_checker.specs.declared.checker.packed.PackedListing.{PackedListi
 use Rattle.model.specs.Task.{Atom, Task}
 use Rattle.model.specs.Meaning.{State}
 use Rattle.certificate_definitions.specs.Certificates.{Certificate}
-use Rattle.tables.specs.declared.rooms.Room.{Room}
-use Rattle.tables.specs.Several.{HasRoomFor}
+use Rattle.tables.specs.declared.known_state.KnownState.{KnownState}
+use Rattle.tables.specs.Several.{Knows}
 use Rattle.model.specs.Grounding.{state_of_bits}
 
 abbrev pub task_at : PackedListing → Task
@@ -29,6 +29,6 @@ IsPacked listing packed = length (bits_of packed) ≡ length (atoms_at listing)
 abbrev pub state_at : PackedListing → Packed → State
 state_at listing packed = state_of_bits (task_at listing) (atoms_at listing) (bits_of packed)
 
--- there is room to ask for the values of a state
-abbrev pub HasRoomIn : PackedListing → Room → Type 0
-HasRoomIn listing room = HasRoomFor listing.values room
+-- what is known of a state is so by the listing's values
+abbrev pub IsKnownIn : PackedListing → KnownState → Type 0
+IsKnownIn listing known = Knows listing.values known

@@ -1,4 +1,4 @@
--- A text that goes to a sink in large pieces.
+-- A text written to a sink in large pieces.
 use Rattle.std.proofs.Common.{◌≡◌, ℕ, zero, suc, ◌+◌, ◌<◌, ◌≤◌, List, [], ◌∷◌, ◌++◌, length, map, take, drop, get_or, Option, refl, sym, ap, ◌∙◌, subst, append_assoc, append-nil, arith}
 use Rattle.std.specs.Io.KnownBytes.{Appends}
 use Rattle.std.specs.List.{flat_map}
@@ -20,7 +20,7 @@ module _ (before : Option (List ℕ)) where
   passed_nothing held = ([], Appends-nil before, append-nil held)
 
   module _ (now : Option (List ℕ)) (held held_now text : List ℕ) (passed : IsPassedOn before now held held_now text) where
-    -- more is held
+    -- more is buffered
     pub passed_held : (held_after more : List ℕ) → held_after ≡ held_now ++ more → IsPassedOn before now held held_after (text ++ more)
     passed_held held_after more is = (
       passed.0,
@@ -28,7 +28,7 @@ module _ (before : Option (List ℕ)) where
       sym (append_assoc held text more) ∙ ap (λ xs. xs ++ more) passed.2 ∙ append_assoc passed.0 held_now more ∙ ap (λ xs. passed.0 ++ xs) (sym is),
     )
 
-    -- more is passed on
+    -- more is written out
     pub passed_then : (after : Option (List ℕ)) (held_after more : List ℕ) → IsPassedOn now after held_now held_after more → IsPassedOn before after held held_after (text ++ more)
     passed_then after held_after more (written, taken, is) = (
       passed.0 ++ written,
@@ -37,7 +37,7 @@ module _ (before : Option (List ℕ)) where
           ∙ ap (λ xs. passed.0 ++ xs) is ∙ sym (append_assoc passed.0 written held_after),
     )
 
-    -- what is written is a beginning, with whatever comes later
+    -- what is written is a prefix, whatever follows
     pub passed_partly : (later : List ℕ) → AppendsBeginning before now (held ++ (text ++ later))
     passed_partly later = (
       passed.0,
@@ -46,7 +46,7 @@ module _ (before : Option (List ℕ)) where
       passed.1,
     )
 
-    -- a beginning of what comes next is written
+    -- a prefix of what comes next is written
     pub passed_beginning : (after : Option (List ℕ)) (next later : List ℕ) → AppendsBeginning now after (held_now ++ next)
         → AppendsBeginning before after (held ++ (text ++ (next ++ later)))
     passed_beginning after next later (front, rest, is, taken) = (
@@ -58,15 +58,15 @@ module _ (before : Option (List ℕ)) where
       Appends-trans before now after passed.0 front passed.1 taken,
     )
 
-    -- all that is held is written
+    -- the whole buffer is written
     pub passed_all : (after : Option (List ℕ)) → Appends now after held_now → Appends before after (held ++ text)
     passed_all after taken = subst (Appends before after) (sym passed.2) (Appends-trans before now after passed.0 held_now passed.1 taken)
 
--- one piece more, where it is read at its place
+-- one more piece, read at its index
 pub line_more : {Y : Type 0} (f : Y → List ℕ) (ys : List Y) (i : ℕ) (y : Y) → slice_get ys i ≡ Some y → flat_map f (take (i + 1) ys) ≡ flat_map f (take i ys) ++ f y
 line_more f ys i y at = parts_more f ys i y (slice_get_within ys i y at) (get_or_from_slice_get ys i y y at)
 
--- a piece is held, and what is held is passed on or not
+-- a piece is buffered, and the buffer is written out or not
 module _ (now after : Option (List ℕ)) (held held_added piece : List ℕ) (is : held_added ≡ held ++ piece) where
   pub added_passed : (held_after : List ℕ) → IsPassedOn now after held_added held_after [] → IsPassedOn now after held held_after piece
   added_passed held_after (written, taken, same) = (written, taken, sym is ∙ sym (append-nil held_added) ∙ same)
@@ -74,9 +74,9 @@ module _ (now after : Option (List ℕ)) (held held_added piece : List ℕ) (is 
   pub added_begun : AppendsBeginning now after held_added → AppendsBeginning now after (held ++ piece)
   added_begun begun = subst (AppendsBeginning now after) is begun
 
--- pieces, of which those up to a place are passed on
+-- pieces, of which those up to an index are written out
 module _ {Y : Type 0} (f : Y → List ℕ) (ys : List Y) (before now : Option (List ℕ)) (held held_now : List ℕ) (i : ℕ) (passed : IsPassedOn before now held held_now (flat_map f (take i ys))) where
-  -- they are a beginning of all
+  -- they are a prefix of all
   pub so_far_begun : AppendsBeginning before now (held ++ flat_map f ys)
   so_far_begun =
       subst (AppendsBeginning before now) (ap (λ xs. held ++ xs) (sym (parts_split f ys i))) (passed_partly before now held held_now (flat_map f (take i ys)) passed (flat_map f (drop i ys)))
@@ -84,7 +84,7 @@ module _ {Y : Type 0} (f : Y → List ℕ) (ys : List Y) (before now : Option (L
   pub all_passed : length ys ≤ i → IsPassedOn before now held held_now (flat_map f ys)
   all_passed past = subst (IsPassedOn before now held held_now) (parts_all f ys i past) passed
 
-  -- one piece more is passed on, or a beginning of it is written
+  -- one more piece is written out, or a prefix of it
   module _ (y : Y) (at : slice_get ys i ≡ Some y) (after : Option (List ℕ)) where
     pub next_passed : (held_after : List ℕ) → IsPassedOn now after held_now held_after (f y) → IsPassedOn before after held held_after (flat_map f (take (i + 1) ys))
     next_passed held_after then =
@@ -97,7 +97,7 @@ module _ {Y : Type 0} (f : Y → List ℕ) (ys : List Y) (before now : Option (L
         sym (append_assoc (flat_map f (take i ys)) (f y) later) ∙ ap (λ xs. xs ++ later) (sym (line_more f ys i y at)) ∙ sym (parts_split f ys (i + 1)) in
         subst (AppendsBeginning before after) (ap (λ xs. held ++ xs) whole) (passed_beginning before now held held_now (flat_map f (take i ys)) passed after (f y) later begun)
 
--- the atom at a place, by its name, with its weights
+-- the atom at an index, by name, with its weights
 weighed_from : (task : Task) (c : Certificate) (place : ℕ) (atoms : List Atom) (i : ℕ) (a : Atom) → slice_get atoms i ≡ Some a
     → slice_get (weighted_atoms task c place atoms) i ≡ Some (record { weights = weights_of_atom c (place + i); atom = named_atom task a })
 weighed_from task c place [] i a at = absurd (cc)
@@ -119,7 +119,7 @@ weighed_at task c v atoms are i a within is =
     at_zero : (n : ℕ) → 0 + n ≡ n
     at_zero n = omega arith
 
--- there are as many as atoms
+-- the number of weighted atoms is the number of atoms
 length-weighed : (task : Task) (c : Certificate) (place : ℕ) (atoms : List Atom) → length (weighted_atoms task c place atoms) ≡ length atoms
 length-weighed task c place [] = refl
 length-weighed task c place (a ∷ atoms) = ap suc (length-weighed task c (suc place) atoms)
@@ -127,7 +127,7 @@ length-weighed task c place (a ∷ atoms) = ap suc (length-weighed task c (suc p
 pub atoms_past : {X : Type 0} (task : Task) (c : Certificate) (v : X → Atom) (atoms : List X) → map v atoms ≡ c.atoms → (i : ℕ) → length atoms ≤ i → length (atoms_weighed task c) ≤ i
 atoms_past task c v atoms are i past = omega (arith, length-weighed task c 0 c.atoms, ap length are, length-map atoms v, past)
 
--- a part that is passed on after one that was
+-- a part written out after another one
 pub then_where_ok : {T E : Type 0} (r : Result T E) (before now after : Option (List ℕ)) (held held_now held_after text more : List ℕ) → IsPassedOn before now held held_now text
     → OnOk r (IsPassedOn now after held_now held_after more) → OnOk r (IsPassedOn before after held held_after (text ++ more))
 then_where_ok (Ok value) before now after held held_now held_after text more passed then = passed_then before now held held_now text passed after held_after more then

@@ -1,4 +1,4 @@
--- What it says that a certificate keeps its limits.
+-- The meaning of a certificate's limits.
 use Rattle.std.proofs.Common.{◌≡◌, ℕ, ◌+◌, true, List, [], ◌∷◌, length}
 use Rattle.std.specs.Prelude.{◌&&◌, IsTrue, All, nat_le}
 use Rattle.std.specs.List.{list_all}
@@ -6,7 +6,7 @@ use Rattle.std.proofs.lemmas.Bool.{and_parts}
 use Rattle.std.proofs.lemmas.List.Elements.{All-cons, All-nil}
 use Rattle.certificate_definitions.specs.Certificates.{Certificate, Version, StateLine, are_exchanges, are_potentials, are_tables, is_value_count, rows_of, is_claim, is_dead_end_weight, is_mark, is_number, is_state_line, is_weight, keeps_limits, rise}
 
--- the limits are those of the counts, of the lines, and of what bounds the costs
+-- the limits: those of the numbers of items, of the lines, and of the bounds of plan costs
 pub record Limits (c : Certificate) : Type 0 where
   pub few_atoms : nat_le (length c.atoms) 1048576 ≡ true
   pub few_lines : nat_le (length c.lines) 16777216 ≡ true
@@ -42,7 +42,7 @@ limits_of c keeps =
     let (first, few_lines) = and_parts most few_lines first in
     record { few_atoms = (and_parts (is_claim c.claim) few_atoms first).1; few_lines = few_lines; lines = lines; value_count = value_count; values = values; dead_ends = dead_ends; tables = tables; few_exchanges = few_exchanges }
 
--- the numbers of each line rise
+-- the numbers in each line ascend
 pub rising_lines : (version : Version) (count : ℕ) (lines : List StateLine) → list_all (is_state_line version count) lines ≡ true → All (λ (l : StateLine). IsTrue (rise count 0 l.atoms)) lines
 rising_lines version count [] keep = All-nil (λ (l : StateLine). IsTrue (rise count 0 l.atoms))
 rising_lines version count (line ∷ lines) keep =

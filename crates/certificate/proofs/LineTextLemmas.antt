@@ -1,4 +1,4 @@
--- The bytes of lines that are added piece by piece.
+-- The bytes of lines, added piece by piece.
 use Rattle.std.proofs.Common.{◌≡◌, ℕ, ◌+◌, ◌<◌, ◌≤◌, List, [], ◌∷◌, ◌++◌, codes, get_or, length, map, take, refl, sym, ap, ◌∙◌, append_assoc, append-nil}
 use Rattle.std.specs.Fmt.{digits}
 use Rattle.std.specs.List.{flat_map}
@@ -23,18 +23,18 @@ use Rattle.certificate.specs.declared.header.Potential.{Potential}
 use Rattle.certificate.specs.CertificateParts.{potential_of}
 use Rattle.certificate.specs.Gathering.{atom_line, number_text, row_line, scope_line, state_line, swap_line, weight_text}
 
--- what the bytes are where the last piece was added
+-- the bytes after the last piece was added
 pub where_added : {T E : Type 0} (r : Result T E) (new old piece whole : List ℕ) → new ≡ (if is_ok r then old ++ piece else old) → old ++ piece ≡ whole
     → OnOk r (new ≡ whole)
 where_added (Ok value) new old piece whole added is = added ∙ is
 where_added (Err error) new old piece whole added is = tt
 
--- the same by another name of what the bytes are
+-- the same, with the bytes described differently
 pub where_ok : {T E : Type 0} (r : Result T E) (new a b : List ℕ) → OnOk r (new ≡ a) → a ≡ b → OnOk r (new ≡ b)
 where_ok (Ok value) new a b is same = is ∙ same
 where_ok (Err error) new a b is same = tt
 
--- a piece, and a piece after it
+-- a piece, followed by another
 pub pieces : (old a b : List ℕ) → (old ++ a) ++ b ≡ old ++ (a ++ b)
 pieces old a b = append_assoc old a b
 
@@ -55,13 +55,13 @@ line_of_three = refl
 pub one_weight_text : (w : ℤ) → weight_text w ≡ weights_text (w ∷ [])
 one_weight_text w = sym (append-nil (weight_text w))
 
--- the weights of values, and after them that of dead ends
+-- the weights of values, followed by that of dead ends
 pub then_dead_end : (v : Version) (ws : List ℤ) (dead_end : ℤ) → weights_text ws ++ weights_text (weights_in v [] dead_end) ≡ weights_text (weights_in v ws dead_end)
 then_dead_end one ws dead_end = append-nil (weights_text ws)
 then_dead_end two ws dead_end = sym (flat_map-append weight_text ws (dead_end ∷ []))
 then_dead_end three ws dead_end = sym (flat_map-append weight_text ws (dead_end ∷ []))
 
--- one value more, of which each has this number
+-- one more value, each of which has this number
 pub value_more : (of : PotentialFunction → ℤ) (values : List Potential) (i : ℕ) (p : Potential) → i < length values → p ≡ get_or values i p
     → weights_text (map of (map potential_of (take (i + 1) values))) ≡ weights_text (map of (map potential_of (take i values))) ++ weight_text (of (potential_of p))
 value_more of values i p within is =
@@ -73,7 +73,7 @@ value_more of values i p within is =
 pub values_all : (of : PotentialFunction → ℤ) (values : List Potential) (i : ℕ) → length values ≤ i → weights_text (map of (map potential_of (take i values))) ≡ weights_text (map of (map potential_of values))
 values_all of values i past = ap (λ ps. weights_text (map of (map potential_of ps))) (take_all i values past)
 
--- bytes after those that were added to others
+-- bytes added after others
 pub added_after : (old front more bytes : List ℕ) → bytes ≡ old ++ front → bytes ++ more ≡ old ++ (front ++ more)
 added_after old front more bytes is = ap (λ xs. xs ++ more) is ∙ append_assoc old front more
 
@@ -85,7 +85,7 @@ pub head_text : (old : List ℕ) (v : Version) (claim : Claim) (k : List ℤ)
     ≡ old ++ (whole_line (version v) ++ whole_line (claims claim) ++ whole_line (constant k))
 head_text old v claim k = six old (whole_line (version v)) (line_text (claims claim)) (codes "\n") (codes "constant") (weights_text k)
 
--- the names of objects, as a plan's text spells them
+-- the names of objects, as a plan text has them
 names_text : (task : Task) (objects : List ℕ) → flat_map (object_text task) objects ≡ flat_map after_blank (map (object_name task) objects)
 names_text task [] = refl
 names_text task (o ∷ objects) = ap (λ xs. object_text task o ++ xs) (names_text task objects)
@@ -103,7 +103,7 @@ atom_text task a weights old =
 three_pieces : (old a b n : List ℕ) → ((old ++ a) ++ b) ++ n ≡ old ++ ((a ++ b) ++ n)
 three_pieces old a b n = simp append_assoc
 
--- the line of an exchange, and the names of one pair more
+-- the line of an exchange, and the names of one more pair
 pub swap_text : (task : Task) (e : Exchange) (old : List ℕ) → ((old ++ codes "swap") ++ flat_map (object_text task) (objects_in e)) ++ codes "\n" ≡ old ++ swap_line task e
 swap_text task e old =
     ap (λ xs. ((old ++ codes "swap") ++ xs) ++ codes "\n") (names_text task (objects_in e))

@@ -1,4 +1,4 @@
--- Lines, and the marks and the sets that are kept of them.
+-- Lines, and the marks and sets stored for them.
 use Rattle.std.proofs.Common.{◌≡◌, ℕ, ◌+◌, ◌<◌, ◌≤◌, Bool, true, false, List, [], ◌∷◌, ◌++◌, get_or, map, take, length, Some, refl, sym, ap, ◌∙◌, subst, arith}
 use Rattle.std.specs.Prelude.{IsTrue, All, Contains, slice_get}
 use Rattle.std.specs.Option.{option_map}
@@ -34,7 +34,7 @@ module _ (width : ℕ) where
       let here = numbers_back width line.atoms (All-contains IsRising (line ∷ lines) line rising (Contains-here line lines)) in
       λ i. record { cost = line.cost; mark = line.mark; atoms = here i } ∷ lines_back lines (All-tail IsRising line lines rising) i
 
-  -- where no two of their sets are the same, no state is listed twice
+  -- if no two of their sets are equal, no state is listed twice
   pub once_by_sets : (lines : List StateLine) → AreDistinct (map set_at lines) → ListOnce lines
   once_by_sets lines distinct j k d earlier within same =
       let there : slice_get (map set_at lines) j ≡ Some (set_at (get_or lines j d)) = slice_get-map set_at lines j ∙ ap (option_map set_at) (slice_get-get_or lines j d (omega (arith, earlier, within))) in
@@ -43,7 +43,7 @@ module _ (width : ℕ) where
       omega (arith, earlier, distinct j k (set_at (get_or lines j d)) there again)
 
   module _ (lines : List StateLine) (i : ℕ) (line : StateLine) (within : i < length lines) (is : get_or lines i line ≡ line) where
-    -- a line whose set is among those of the lines before lists one of their states
+    -- a line whose set is among those of earlier lines lists one of their states
     pub listed_twice : All IsRising lines → Contains (map set_at (take i lines)) (set_at line) → ListOnce lines → ⊥
     listed_twice rising there once =
         let (m, occurs, same) = map-Contains set_at (take i lines) (set_at line) there in
@@ -56,7 +56,7 @@ module _ (width : ℕ) where
         let one = one_set width m.atoms line.atoms (All-contains IsRising (take i lines) m (All-take IsRising i lines rising) occurs) (All-contains IsRising lines line rising (Contains-got lines i line at)) same in
         once j i m earlier within (ap (λ (l : StateLine). l.atoms) first ∙ one ∙ ap (λ (l : StateLine). l.atoms) (sym second))
 
-    -- one line more
+    -- one more line
     pub taken_more : {Y : Type 0} (f : StateLine → Y) (old new : List Y) → old ≡ map f (take i lines) → new ≡ old ++ f line ∷ [] → new ≡ map f (take (i + 1) lines)
     taken_more f old new so_far more =
         more ∙ ap (λ ys. ys ++ f line ∷ []) so_far ∙ sym (map-append f (take i lines) (line ∷ []))

@@ -1,4 +1,4 @@
--- The numbers of sets, and what they say of a cert.
+-- The numbers of sets, and their meaning for a certificate in memory.
 use Rattle.std.proofs.Common.{◌≡◌, ℕ, zero, suc, ◌+◌, ◌<◌, ◌≤◌, Bool, true, false, List, [], ◌∷◌, get_or, inl, inr, map, length, refl, sym, ap, ◌∙◌, subst, arith}
 use Rattle.std.specs.Prelude.{◌&&◌, ◌==◌, ℤ, pos, negsuc, All, Contains, Err, Ok, OnOk, Result, Some, slice_get}
 use Rattle.std.specs.List.{list_all, list_any, range_with_len}
@@ -31,9 +31,9 @@ use Rattle.certificate.proofs.LimitsLemmas.{Limits, limits_of}
 use Rattle.certificate.proofs.SetsLemmas.{numbers_back, rise_below}
 use Rattle.certificate.proofs.WideningLemmas.{IsBelow, has-at_width, length-at_width}
 
--- ---- numbers that rise
+-- ---- ascending numbers
 
--- they rise where more are allowed too
+-- they ascend under a larger count too
 rise_more : (count more least : ℕ) (numbers : List ℕ) → count ≤ more → rise count least numbers ≡ true → rise more least numbers ≡ true
 rise_more count more least [] few all = refl
 rise_more count more least (n ∷ numbers) few all =
@@ -70,20 +70,20 @@ Contains-numbers : (set : List Bool) (k : ℕ) → has set k ≡ true → Contai
 Contains-numbers set k is =
     Contains-filter (has set) (range_with_len 0 (length set)) k (Contains-range 0 (length set) k (omega arith) (omega (arith, has-within set k is))) is
 
--- a number is among those of a set just where it is in the set
+-- a number is among those of a set exactly if it is in the set
 among_numbers : (set : List Bool) (k : ℕ) → is_among (numbers_of set) k ≡ has set k
 among_numbers set k =
     both_ways (is_among (numbers_of set) k) (has set k) (λ among. (filter-Contains (has set) (range_with_len 0 (length set)) k (among-Contains (numbers_of set) k among)).1)
     (λ is. Contains-among (numbers_of set) k (Contains-numbers set k is))
 
--- the set of a set's numbers is this set, under whatever width
+-- the set of a set's numbers is this set, for any width
 pub set_back : (width : ℕ) (set : List Bool) → set_of width (numbers_of set) ≡ at_width width set
 set_back width set = λ i. map (λ k. among_numbers set k i) (range_with_len 0 width)
 
 same_width : (set : List Bool) → at_width (length set) set ≡ set
 same_width set = ext_get_or false (at_width (length set) set) set (length-at_width (length set) set) (λ k within. has-at_width (length set) set k (omega (arith, within, length-at_width (length set) set)))
 
--- ---- rising numbers under another count
+-- ---- ascending numbers under another count
 
 abbrev Rises : ℕ → List Bool → Type 0
 Rises count set = rise count 0 (numbers_of set) ≡ true
@@ -113,7 +113,7 @@ all_rise version count (mark ∷ marks) (set ∷ sets) same keep =
     All-cons (Rises count) set sets (and_parts (is_number line.cost && is_mark version line.mark) (rise count 0 line.atoms) here).1
     (all_rise version count marks sets (omega (arith, same)) more)
 
--- as many as there are of both
+-- the number of lines is the number of sets, if each set has its mark
 lines_count : (marks : List Marked) (sets : List (List Bool)) → length marks ≡ length sets → length (lines_with marks sets) ≡ length sets
 lines_count [] sets same = same
 lines_count (mark ∷ marks) [] same = absurd (omega (arith, same))
@@ -129,7 +129,7 @@ line_at (m ∷ marks) (s ∷ sets) zero mark set at_mark at_set =
     λ i. Some (line_with (same_mark i) (same_set i))
 line_at (m ∷ marks) (s ∷ sets) (suc i) mark set at_mark at_set = line_at marks sets i mark set at_mark at_set
 
--- the same where its numbers were listed
+-- the same if its numbers were listed
 pub where_listed : {T E : Type 0} (r : Result T E) (lines : List StateLine) (i : ℕ) (mark : Marked) (set : List Bool) (numbers : List ℕ) → slice_get lines i ≡ Some (line_with mark set)
     → OnOk r (numbers ≡ numbers_of set) → OnOk r (slice_get lines i ≡ Some (record { cost = mark.cost; mark = mark.mark; atoms = numbers }))
 where_listed (Ok value) lines i mark set numbers at same = at ∙ (λ j. Some (record { cost = mark.cost; mark = mark.mark; atoms = sym same j }))
@@ -154,13 +154,13 @@ lines_wide count wide (mark ∷ marks) (set ∷ sets) enough same rises =
     let here = same_numbers count wide set enough (All-contains (Rises count) (set ∷ sets) set rises (Contains-here set sets)) in
     λ i. record { cost = mark.cost; mark = mark.mark; atoms = here i } ∷ lines_wide count wide marks sets enough (omega (arith, same)) (All-tail (Rises count) set sets rises) i
 
--- ---- of a cert
+-- ---- for a certificate in memory
 
 set_lengths : (store : PooledStore) → All (λ (set : List Bool). length set ≡ pooled_width store) (pooled_states store)
 unfolding sets_in
 set_lengths store = All-map (λ (set : List Bool). length set ≡ store.width) (bits_in store.width) (rows_of store.pool) (λ k d within. length-bits store.width (get_or (rows_of store.pool) k d))
 
--- what the limits of a potential function say
+-- the meaning of a potential function's limits
 pub potential_parts : (is_in_range : ℤ → Bool) (count : ℕ) (p : PotentialFunction) → are_potentials is_in_range count p ≡ true
     → (is_in_range p.constant ≡ true) × (length p.weights ≡ count) × (list_all is_in_range p.weights ≡ true)
 potential_parts is_in_range count p are =
@@ -171,7 +171,7 @@ potential_parts is_in_range count p are =
 pub weight_count : (count : ℕ) (p : PotentialFunction) → are_potentials is_weight count p ≡ true → length p.weights ≡ count
 weight_count count p are = let (_, many, _) = potential_parts is_weight count p are in many
 
--- what detects dead ends is a weight, in version 1 too, where it is 0
+-- a weight for dead ends is a weight, also in version 1, where it is 0
 dead_end_weight : (version : Version) (w : ℤ) → is_dead_end_weight version w ≡ true → is_weight w ≡ true
 dead_end_weight one (pos zero) is = refl
 dead_end_weight one (pos (suc n)) is = absurd (cc)
@@ -191,7 +191,7 @@ dead_ends_are version count p are =
     let (constant_is, many) = and_parts (is_dead_end_weight version p.constant) (length p.weights == count) first in
     λ i. (dead_end_weight version p.constant constant_is i && many i) && dead_end_weights_are version p.weights weights i
 
--- what a test says of all of a list, by a view, it says of each
+-- what a test through a view says of all elements, it says of each
 all_kept : {X Y : Type 0} (p : Y → Bool) (v : X → Y) (xs : List X) → list_all p (map v xs) ≡ true → All (λ x. p (v x) ≡ true) xs
 all_kept p v [] all = All-nil (λ x. p (v x) ≡ true)
 all_kept p v (x ∷ xs) all =
@@ -235,7 +235,7 @@ module _ (cert : Cert) where
   pub marks_are : map listed_of cert.states.marks.items ≡ map marked (certificate_of cert).lines
   marks_are = sym (marked_back marks sets as_many)
 
-  -- there is a set for each line, and there are few
+  -- there is a set for each line, and their number is limited
   pub count_of_lines : length (certificate_of cert).lines ≡ length (pooled_states (store_in cert))
   count_of_lines = lines_count marks sets as_many
 
@@ -245,7 +245,7 @@ module _ (cert : Cert) where
   pub few_lines : length (certificate_of cert).lines ≤ 16777216
   few_lines = leb-true (length (certificate_of cert).lines) 16777216 limits.few_lines
 
-  -- a line by its mark and its set
+  -- a line, by its mark and its set
   pub line_read : (i : ℕ) (read : List Listed) (mark : Listed) (set : List Bool) → map listed_of read ≡ map marked (certificate_of cert).lines → slice_get read i ≡ Some mark
       → slice_get (pooled_states (store_in cert)) i ≡ Some set → slice_get (certificate_of cert).lines i ≡ Some (line_with (listed_of mark) set)
   line_read i read mark set are at_mark at_set =

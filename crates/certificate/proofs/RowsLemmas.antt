@@ -1,4 +1,4 @@
--- What the limits say of the rows of tables in memory.
+-- The limits of rows of tables in memory.
 use Rattle.std.proofs.Common.{◌≡◌, ℕ, zero, suc, ◌+◌, ◌≤◌, Bool, true, false, List, [], ◌∷◌, drop, refl, sym, ap, ◌∙◌, arith}
 use Rattle.std.specs.Prelude.{◌&&◌, ℤ, Some, slice_get}
 use Rattle.std.specs.List.{list_all}
@@ -14,7 +14,7 @@ use Rattle.certificate_definitions.specs.Certificates.{are_weights, is_row, rise
 use Rattle.certificate_reader.proofs.NumbersRead.{rise_parts}
 use Rattle.model.proofs.ListLemmas.{Contains-got, drop-here}
 
--- of numbers that rise some rise too
+-- a subset of ascending numbers ascends
 rise_from : (count least more : ℕ) (scope : List ℕ) (bits : List Bool) → least ≤ more → rise count more scope ≡ true → rise count least (atoms_at scope bits) ≡ true
 rise_from count least more [] bits low rises = refl
 rise_from count least more (n ∷ scope) [] low rises = refl
@@ -25,7 +25,7 @@ rise_from count least more (n ∷ scope) (false ∷ bits) low rises =
     let (above, below, rest) = rise_parts count more n scope rises in
     rise_from count least (n + 1) scope bits (omega (arith, low, above)) rest
 
--- each row is of some set of the scope's atoms
+-- each row is over some set of the scope's atoms
 set_of_row : (count : ℕ) (scope : List ℕ) (sets : List (List Bool)) (weights : List ℤ) (i : ℕ) (r : Row) → slice_get (rows_from count scope sets weights) i ≡ Some r
     → (bits : List Bool) × (r.atoms ≡ atoms_at scope bits)
 set_of_row count scope [] weights i r at = absurd (cc)
@@ -40,7 +40,7 @@ and_true true = refl
 and_true false = refl
 
 module _ (t : code.Table) (atom_count weight_count : ℕ) (rises : rise atom_count 0 (table_of t).scope ≡ true) (i : ℕ) (r : Row) (at : slice_get (table_of t).rows i ≡ Some r) where
-  -- whether it may be a row is decided by its weights
+  -- whether it is a valid row depends on its weights
   by_weights : is_row atom_count weight_count (table_of t).scope r ≡ are_weights weight_count r.weights
   by_weights =
       let (bits, is) = set_of_row t.count t.scope.items (pooled_states t.rows.sets) t.rows.weights.items i r at in

@@ -1,4 +1,4 @@
--- Rising numbers, and the sets of them.
+-- Ascending numbers, and the sets of them.
 use Rattle.std.proofs.Common.{◌≡◌, ◌≢◌, ℕ, zero, suc, ◌+◌, ◌<◌, ◌≤◌, ◌⊎◌, inl, inr, Bool, true, false, cond, List, [], ◌∷◌, refl, sym, ap, ◌∙◌, subst, arith}
 use Rattle.std.specs.Prelude.{◌&&◌, ◌||◌, ◌==◌, nat_le, nat_lt, All}
 use Rattle.std.proofs.lemmas.List.Elements.{All-cons, All-nil}
@@ -15,7 +15,7 @@ is_among numbers k = list_any (λ n. n == k) numbers
 
 -- ---- ranges
 
--- of a range two tests leave the same where they agree on it
+-- two tests keep the same of a range if they agree on it
 filter_within : (p q : ℕ → Bool) (len from : ℕ) → ((k : ℕ) → from ≤ k → k < from + len → p k ≡ q k) → filter p (range_with_len from len) ≡ filter q (range_with_len from len)
 filter_within p q zero from agree = refl
 filter_within p q (suc len) from agree =
@@ -26,7 +26,7 @@ none_left : (len from : ℕ) → filter (is_among []) (range_with_len from len) 
 none_left zero from = refl
 none_left (suc len) from = none_left len (from + 1)
 
--- ---- rising numbers
+-- ---- ascending numbers
 
 record Rises (count least n : ℕ) (numbers : List ℕ) : Type 0 where
   above : least ≤ n
@@ -66,18 +66,18 @@ left_of_range (suc len) from count (n ∷ numbers) all is =
         (λ i. cond (absent i) (from ∷ filter (is_among (n ∷ numbers)) (range_with_len (from + 1) len)) (filter (is_among (n ∷ numbers)) (range_with_len (from + 1) len)))
         ∙ more (n ∷ numbers) (λ i. (le-leb (from + 1) n (omega (arith, later)) i && lt-ltb n count parts.below i) && parts.more i)
 
--- the numbers of the set of rising numbers are these
+-- the numbers of the set of ascending numbers are these
 pub numbers_back : (width : ℕ) (numbers : List ℕ) → rise width 0 numbers ≡ true → numbers_of (set_of width numbers) ≡ numbers
 numbers_back width numbers is =
     ap (λ len. filter (has (set_of width numbers)) (range_with_len 0 len)) (length-set_of width numbers)
     ∙ filter_within (has (set_of width numbers)) (is_among numbers) width 0 (λ k above below. has-set_of width numbers k (omega (arith, below)))
     ∙ left_of_range width 0 width numbers (omega arith) is
 
--- rising numbers of one set are one list
+-- ascending numbers with the same set are equal lists
 pub one_set : (width : ℕ) (a b : List ℕ) → rise width 0 a ≡ true → rise width 0 b ≡ true → set_of width a ≡ set_of width b → a ≡ b
 one_set width a b a_rise b_rise same = sym (numbers_back width a a_rise) ∙ ap numbers_of same ∙ numbers_back width b b_rise
 
--- rising numbers are below the count
+-- ascending numbers are below the count
 pub rise_below : (count least : ℕ) (numbers : List ℕ) → rise count least numbers ≡ true → All (λ n. n < count) numbers
 rise_below count least [] is = All-nil (λ n. n < count)
 rise_below count least (n ∷ numbers) is =

@@ -1,4 +1,4 @@
--- The text of a certificate by its six parts: the first lines, the exchanges, the atoms, the tables, the states and the last line.
+-- The text of a certificate in six parts: the first lines, the exchanges, the atoms, the tables, the states and the last line.
 use Rattle.std.proofs.Common.{refl, ◌≡◌, ℕ, List, [], ◌∷◌, ◌++◌, length, map, Option, sym, ap, ◌∙◌, subst, append_assoc, append-nil}
 use Rattle.std.specs.Io.KnownBytes.{Appends}
 use Rattle.std.specs.List.{flat_map}
@@ -98,7 +98,7 @@ module _ (task : Task) (c : Certificate) where
   pub by_exchanges : certificate_text task c ≡ to_exchanges task c ++ (atoms_text task c ++ (tables_text c ++ (states_text c ++ last_text c)))
   by_exchanges = by_atoms ∙ append_assoc (to_exchanges task c) (atoms_text task c) (tables_text c ++ (states_text c ++ last_text c))
 
--- ---- what is passed on, and what is a beginning of the text, after each of the parts
+-- ---- what is written out, and what is a prefix of the text, after each part
 
 pub head_held : (before : Option (List ℕ)) (held held_after text : List ℕ) → held ≡ [] → held_after ≡ held ++ text → IsPassedOn before before [] held_after text
 head_held before held held_after text none is = passed_held before before [] [] [] (passed_nothing before []) held_after text (is ∙ ap (λ xs. xs ++ text) none)
@@ -107,7 +107,7 @@ module _ (before now : Option (List ℕ)) (held front : List ℕ) (passed : IsPa
   pub part_held : (after : Option (List ℕ)) (held_after part : List ℕ) → IsPassedOn now after held held_after part → IsPassedOn before after [] held_after (front ++ part)
   part_held after held_after part then = passed_then before now [] held front passed after held_after part then
 
-  -- a beginning of the next part is written
+  -- a prefix of the next part is written
   pub part_begun : (after : Option (List ℕ)) (whole part later : List ℕ) → whole ≡ (front ++ part) ++ later → AppendsBeginning now after (held ++ part) → AppendsBeginning before after whole
   part_begun after whole part later is begun =
       subst (AppendsBeginning before after) (sym (append_assoc front part later) ∙ sym is) (passed_beginning before now [] held front passed after part later begun)
@@ -119,7 +119,7 @@ module _ (before now : Option (List ℕ)) (held front : List ℕ) (passed : IsPa
   pub last_held : (held_after whole later : List ℕ) → whole ≡ front ++ later → held_after ≡ held ++ later → IsPassedOn before now [] held_after whole
   last_held held_after whole later is more = subst (IsPassedOn before now [] held_after) (sym is) (passed_held before now [] held front passed held_after later more)
 
-  -- all that is held is written, or a beginning of it
+  -- the whole buffer is written, or a prefix of it
   pub all_begun : (after : Option (List ℕ)) → AppendsBeginning now after held → AppendsBeginning before after front
   all_begun after begun =
       subst (AppendsBeginning before after) (append-nil front) (passed_beginning before now [] held front passed after [] [] (subst (AppendsBeginning now after) (sym (append-nil held)) begun))

@@ -1,4 +1,4 @@
--- Sets under a greater width are those that they were, and as many.
+-- Sets with a greater width contain the same numbers, and there are as many of them.
 use Rattle.std.proofs.Common.{◌≡◌, ℕ, ◌+◌, ◌<◌, ◌≤◌, ◌⊎◌, inl, inr, Bool, true, false, List, [], ◌∷◌, ◌++◌, map, take, length, Some, refl, sym, ap, ◌∙◌, subst, arith}
 use Rattle.std.specs.Prelude.{IsTrue, All, Contains, slice_get}
 use Rattle.std.proofs.lemmas.Bool.{cases_lt}

@@ -9,10 +9,10 @@ use Rattle.certificate.specs.CertificateParts.{certificate_with}
 abbrev pub certificate_of : Cert → Certificate
 certificate_of cert = certificate_with cert.header cert.states
 
--- the sets that its states are, and what they are of
+-- the sets of its states, with their width
 abbrev pub store_in : Cert → PooledStore
 store_in cert = cert.states.sets
 
--- its tables, as they stand in memory
+-- its tables in memory
 abbrev pub tables_in : Cert → List Table
 tables_in cert = cert.header.bounds.tables.items

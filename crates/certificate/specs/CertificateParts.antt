@@ -32,7 +32,7 @@ bounds_of b = record { values = map potential_of b.values.items; dead_ends = pot
 abbrev pub exchange_in : Vec (ObjectId × ObjectId) → Exchange
 exchange_in pairs = pairs_in pairs.items
 
--- the certificate that begins so, with these lines
+-- the certificate with this header and these lines
 abbrev pub certificate_with_lines : Header → List StateLine → Certificate
 certificate_with_lines header lines = record {
   version = version_of header.version;
@@ -45,17 +45,17 @@ certificate_with_lines header lines = record {
   lines = lines;
 }
 
--- its lines are those of the marks and the sets
+-- its lines are those of the marks and sets
 abbrev pub certificate_with : Header → States → Certificate
 certificate_with header states = certificate_with_lines header (lines_with (map listed_of states.marks.items) (pooled_states states.sets))
 
--- what the limits of a certificate of this version and of so many atoms say of its values and its tables
+-- the limits of a certificate of this version and with this many atoms, for its values and tables
 abbrev pub are_bounds : Version → ℕ → SeveralValues → Bool
 are_bounds version atom_count s =
     is_value_count version (length s.values) && list_all (are_potentials is_weight atom_count) s.values && are_potentials (is_dead_end_weight version) atom_count s.dead_ends
     && are_tables version atom_count (length s.values + 1) s.tables && nat_le (length s.tables) 4194304 && nat_le (length (rows_of s.tables)) 4194304
 
--- the constants, as they are written in this version, and the weights of the atom at this place, from 0
+-- the constants, as this version writes them, and the weights of the atom at this index, from 0
 abbrev pub constants_in : Version → SeveralValues → List ℤ
 constants_in version s = weights_in version (map (λ (p : PotentialFunction). p.constant) s.values) s.dead_ends.constant
 

@@ -1,4 +1,4 @@
--- A text that goes to a sink in large pieces: bytes are held until there are many.
+-- A text that is written to a sink in large pieces: bytes are buffered until there are many.
 use Rattle.std.specs.Prelude.{◌≡◌, ℕ, ℤ, List, ◌++◌, codes, Option}
 use Rattle.std.specs.Fmt.{decimal, signed_decimal}
 use Rattle.std.specs.Io.KnownBytes.{Appends}
@@ -10,11 +10,11 @@ use Rattle.certificate_definitions.specs.Certificates.{Certificate, StateLine}
 use Rattle.certificate_definitions.specs.CertificateText.{WeightedAtom, atom, listed, row, scope, swapped, tabled, whole_line}
 use Rattle.certificate_definitions.specs.CertificateNames.{named_exchange, weighted_atoms}
 
--- After the bytes that were held comes this text: of both, in their order, some went to the sink, and the others are held.
+-- After the buffered bytes comes this text: a prefix of both went to the sink, and the rest is buffered.
 abbrev pub IsPassedOn : (before after : Option (List ℕ)) → (held held_after : List ℕ) → List ℕ → Type 0
 IsPassedOn before after held held_after text = (written : List ℕ) × Appends before after written × (held ++ text ≡ written ++ held_after)
 
--- the line of an exchange, of an atom with its weights, of a table's scope, of a row, and of a listed state
+-- the lines of an exchange, of an atom with its weights, of a table's scope, of a row, and of a listed state
 abbrev pub swap_line : Task → Exchange → List ℕ
 swap_line task e = whole_line (swapped (named_exchange task e))
 
@@ -34,11 +34,11 @@ state_line l = whole_line (listed l)
 abbrev pub table_text : Table → List ℕ
 table_text t = scope_line t.scope ++ flat_map row_line t.rows
 
--- the certificate's atoms, by their names, each with its weights
+-- the certificate's atoms, by name, each with its weights
 abbrev pub atoms_weighed : Task → Certificate → List WeightedAtom
 atoms_weighed task c = weighted_atoms task c 0 c.atoms
 
--- a blank, and a weight or a number
+-- a blank, followed by a weight or a number
 abbrev pub weight_text : ℤ → List ℕ
 weight_text weight = codes " " ++ signed_decimal weight
 

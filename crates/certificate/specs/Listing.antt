@@ -1,4 +1,4 @@
--- States that are listed one after another.
+-- States listed one after another.
 use Rattle.std.specs.Prelude.{◌≡◌, ◌≢◌, Bool, List, [], ◌∷◌, ◌++◌, map, AllPairs, Contains, MatchBool}
 use Rattle.packed_state.specs.PooledView.{pooled_states, pooled_width}
 use Rattle.packed_state.specs.Sets.{set_of}
@@ -11,11 +11,11 @@ use Rattle.certificate.specs.ListedSets.{marked}
 abbrev pub ListOnce : List StateLine → Type 0
 ListOnce lines = AllPairs (λ (k l : StateLine). k.atoms ≢ l.atoms) lines
 
--- the set of the line's atoms, as wide as the others
+-- the set of the line's atoms, with the width of the others
 abbrev pub set_in : States → StateLine → List Bool
 set_in states line = set_of (pooled_width states.sets) line.atoms
 
--- the line's state is put after the others, if it is not among them
+-- the line's state is appended, unless it is there already
 abbrev pub IsPushed : (old new : States) → StateLine → Bool → Type 0
 IsPushed old new line is_new =
     MatchBool is_new

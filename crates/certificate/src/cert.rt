@@ -15,8 +15,8 @@ use packed_state::{Packed, PooledStore, StateStore};
 use std::alloc::Global;
 use task::{Atom, ObjectId};
 
-/// A certificate of a task, within the limits of a certificate's text: its version, its claim, its exchanges, its atoms, what
-/// bounds the costs of plans, and the states that it lists, as sets of the numbers of its atoms.
+/// A certificate of a task, within the limits of a certificate's text: its version, claim, exchanges and atoms, the bounds of
+/// plan costs, and the states it lists, as sets of its atoms' numbers.
 #[derive(Drop)]
 pub struct Cert {
     header: Header,
@@ -40,11 +40,11 @@ impl Cert {
     ghost use Rattle.certificate.specs.Listing.{ListOnce};
     ghost use Rattle.certificate.specs.Certificate.{certificate_of, store_in, tables_in};
 
-    /// The certificate that begins so and lists the states of these lines, in their order; `None` where it would exceed a limit
-    /// of a certificate's text, or list a state twice, as none does that shows its claim.
+    /// The certificate with this header that lists the states of these lines, in order; `None` if it would exceed a limit of a
+    /// certificate's text, or list a state twice, which is never accepted.
     ///
     /// # Errors
-    /// Where memory is refused.
+    /// An allocation failed.
     pub fn new(alloc: Global, header: Header, lines: &[StateLine]) -> Result<Option<Cert>, NoMemory>
         ensures within { IfOk result (λ made. IsSome made ↔ (IsTrue (keeps_limits (certificate_with_lines header (map line_of lines.now))) × ListOnce (map line_of lines.now))) }
         ensures parts { IfOk result (λ made. IfSome made (λ cert. certificate_of cert ≡ certificate_with_lines header (map line_of lines.now))) }
@@ -58,8 +58,8 @@ impl Cert {
         }
     }
 
-    /// The certificate that begins so and lists these states, with as many marks as sets, within the limits of a certificate's
-    /// text.
+    /// The certificate with this header and these states. There are as many marks as sets, and the limits of a certificate's text
+    /// hold.
     pub fn from_parts(header: Header, states: States) -> Cert
         requires limits { IsTrue (keeps_limits (certificate_with header states)) }
         requires marked { length states.marks.items ≡ length (pooled_states states.sets) }
@@ -77,14 +77,14 @@ impl Cert {
         self.header.version
     }
 
-    /// What it claims of all plans.
+    /// Its claim about all plans.
     pub fn claim(&self) -> Claim
         ensures { claim_of result ≡ (certificate_of self.now).claim }
     {
         self.header.claim
     }
 
-    /// Its exchanges, by which one state stands for others: for each the objects that change places, two by two.
+    /// Its exchanges, by which a state represents others: for each exchange, the pairs of objects that it swaps.
     pub fn exchanges(&self) -> &[Vec<(ObjectId, ObjectId)>]
         ensures exchanges { map exchange_in result.now ≡ (certificate_of self.now).exchanges }
         ensures at_most { length result.now ≤ MAX_SWAPS }
@@ -92,8 +92,7 @@ impl Cert {
         self.header.exchanges.as_slice()
     }
 
-    /// What bounds the costs of plans, within the limits of a certificate's text: each of its potential functions has a weight
-    /// for each atom.
+    /// The bounds of plan costs, within the limits of a certificate's text: each potential function has one weight per atom.
     pub fn bounds(&self) -> &Bounds
         ensures bounds { bounds_of result.now ≡ several_of (certificate_of self.now) }
         ensures value_count { IsTrue (is_value_count (certificate_of self.now).version (length result.now.values.items)) }
@@ -105,7 +104,7 @@ impl Cert {
         &self.header.bounds
     }
 
-    /// Its atoms, which its states name by their places here, from 0.
+    /// Its atoms, which its states refer to by index, from 0.
     pub fn atoms(&self) -> &[Atom]
         ensures atoms { map atom_of result.now ≡ (certificate_of self.now).atoms }
         ensures at_most { length result.now ≤ MAX_ATOMS }
@@ -113,7 +112,7 @@ impl Cert {
         self.header.atoms.as_slice()
     }
 
-    /// The costs of its states, and what is said of each, in the order of their lines.
+    /// The costs and roles of its states, in line order.
     pub fn marks(&self) -> &[Listed]
         ensures marks { map listed_of result.now ≡ map marked (certificate_of self.now).lines }
         ensures at_most { length result.now ≤ MAX_STATE_LINES }
@@ -121,14 +120,14 @@ impl Cert {
         self.states.marks.as_slice()
     }
 
-    /// Its states, in the order of their lines: the sets of their atoms' numbers.
+    /// Its states, in line order, as sets of atom numbers.
     pub fn sets(&self) -> &PooledStore
         ensures { result.now ≡ store_in self.now }
     {
         &self.states.sets
     }
 
-    /// The number of the line of its first state, from 1; each exchange has a line, each table, and each row.
+    /// The number of the line of its first state, from 1. Each exchange, atom, table and row before it has a line.
     pub fn first_state_line(&self) -> u64
         ensures line { result ≡ state_line (certificate_of self.now) 0 }
         ensures small { result < 2 ^ 32 }
@@ -140,17 +139,17 @@ impl Cert {
             + row_count(tables)
     }
 
-    /// How many states it lists.
+    /// The number of states that it lists.
     pub fn line_count(&self) -> usize
         ensures { result ≡ length (certificate_of self.now).lines }
     {
         self.marks().len()
     }
 
-    /// Reads the state line at this place, from 0, by a set that is as wide as its sets, which each line uses again.
+    /// Reads the state line at this index, from 0, using the given set (of the same width as its sets) as scratch.
     ///
     /// # Errors
-    /// Where memory is refused.
+    /// An allocation failed.
     pub fn read_line(
         &self,
         place: usize,
@@ -169,11 +168,11 @@ impl Cert {
         set.list_numbers(&mut line.atoms)
     }
 
-    /// The same certificate, with its sets as such of numbers below this width, which is at least the count of its atoms.
-    /// The sets are made anew where they are of another width.
+    /// The same certificate with sets of this width, which is at least the number of its atoms. The sets are rebuilt if their
+    /// width differs.
     ///
     /// # Errors
-    /// Where memory is refused.
+    /// An allocation failed.
     pub fn at_width(self, alloc: Global, width: u32) -> Result<Cert, NoMemory>
         requires { length (certificate_of self).atoms ≤ width }
         ensures same { IfOk result (λ cert. certificate_of cert ≡ certificate_of self) }

@@ -1,6 +1,6 @@
-//! A certificate as sets of numbers: the claim, the values, the tables and the listing; and its one text.
+//! A certificate in memory (the claim, the values, the tables and the listing as sets of numbers), and its unique text.
 //!
-//! It passes on the reader of lines and the devices that texts come from and go to.
+//! It re-exports the reader of lines and the devices for texts.
 #![tactic(auto)]
 
 mod cert;

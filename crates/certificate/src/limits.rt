@@ -16,7 +16,7 @@ use certificate_reader::{
 use table_rows::Table;
 use task::ObjectId;
 
-/// Whether a certificate that begins so may have these lines.
+/// Whether a certificate with this header may have these lines.
 pub(crate) fn keeps_limits(header: &Header, lines: &[StateLine]) -> bool
     ensures { result ≡ keeps_limits (certificate_with_lines header.now (map line_of lines.now)) }
 {
@@ -30,7 +30,7 @@ pub(crate) fn keeps_limits(header: &Header, lines: &[StateLine]) -> bool
         && header.exchanges.len() <= MAX_SWAPS
 }
 
-/// Whether a certificate of this version may have these exchanges: each has a pair of objects at least.
+/// Whether a certificate of this version may have these exchanges. Each must have at least one pair of objects.
 fn are_exchanges(version: Version, exchanges: &[Vec<(ObjectId, ObjectId)>]) -> bool
     ensures { result ≡ are_exchanges (version_of version) (map exchange_in exchanges.now) }
 {
@@ -49,7 +49,7 @@ fn has_exchanges(version: Version) -> bool
     version == Version::Three
 }
 
-/// Whether a certificate of this version and of this many atoms may have these bounds.
+/// Whether a certificate of this version and with this many atoms may have these bounds.
 pub(crate) fn are_bounds(version: Version, bounds: &Bounds, atom_count: usize) -> bool
     ensures { result ≡ are_bounds (version_of version) atom_count (bounds_of bounds.now) }
 {
@@ -61,7 +61,7 @@ pub(crate) fn are_bounds(version: Version, bounds: &Bounds, atom_count: usize) -
         && are_few_rows(&bounds.tables)
 }
 
-/// Whether a certificate of this version may have so many values.
+/// Whether a certificate of this version may have this many values.
 fn is_value_count(version: Version, count: usize) -> bool
     ensures { result ≡ is_value_count (version_of version) count }
 {
@@ -88,7 +88,7 @@ fn is_claim(claim: Claim) -> bool
     }
 }
 
-/// Whether each value is a constant and a weight for each of this many atoms.
+/// Whether each value has a constant and a weight for each of this many atoms.
 fn are_values(values: &[Potential], atom_count: usize) -> bool
     ensures { result ≡ list_all (are_potentials is_weight atom_count) (map potential_of values.now) }
 {
@@ -100,7 +100,7 @@ fn are_values(values: &[Potential], atom_count: usize) -> bool
     true
 }
 
-/// Whether these are a constant and a weight for each of this many atoms.
+/// Whether this potential function has a weight for each of this many atoms, all in range.
 fn are_potentials(potential: &Potential, atom_count: usize) -> bool
     ensures { result ≡ are_potentials is_weight atom_count (potential_of potential.now) }
 {
@@ -109,7 +109,7 @@ fn are_potentials(potential: &Potential, atom_count: usize) -> bool
         && are_weights(&potential.weights)
 }
 
-/// Whether they may detect dead ends in a certificate of this version and of this many atoms.
+/// Whether this potential function may detect dead ends in a certificate of this version and with this many atoms.
 fn are_dead_ends(version: Version, potential: &Potential, atom_count: usize) -> bool
     ensures { result ≡ are_potentials (is_dead_end_weight (version_of version)) atom_count (potential_of potential.now) }
 {
@@ -151,7 +151,7 @@ fn is_dead_end_weight(version: Version, number: i64) -> bool
     }
 }
 
-/// Whether each line may occur in a certificate of this version and of this many atoms.
+/// Whether each line may occur in a certificate of this version and with this many atoms.
 fn are_state_lines(version: Version, lines: &[StateLine], atom_count: usize) -> bool
     ensures { result ≡ list_all (is_state_line (version_of version) atom_count) (map line_of lines.now) }
 {
@@ -163,14 +163,14 @@ fn are_state_lines(version: Version, lines: &[StateLine], atom_count: usize) -> 
     true
 }
 
-/// Whether the line may occur in a certificate of this version and of this many atoms.
+/// Whether the line may occur in a certificate of this version and with this many atoms.
 fn is_state_line(version: Version, line: &StateLine, atom_count: usize) -> bool
     ensures { result ≡ is_state_line (version_of version) atom_count (line_of line.now) }
 {
     is_number(line.cost) && is_mark(version, line.mark) && rise(&line.atoms, atom_count)
 }
 
-/// Whether a state may be marked so in a certificate of this version.
+/// Whether a state may have this role in a certificate of this version.
 fn is_mark(version: Version, mark: Mark) -> bool
     ensures { result ≡ is_mark (version_of version) (mark_of mark) }
 {
@@ -181,7 +181,7 @@ fn is_mark(version: Version, mark: Mark) -> bool
     }
 }
 
-/// Whether the numbers are strictly rising and below the count.
+/// Whether the numbers are strictly ascending and below the count.
 fn rise(numbers: &[u32], atom_count: usize) -> bool
     ensures { result ≡ rise atom_count 0 numbers.now }
 {
@@ -196,7 +196,7 @@ fn rise(numbers: &[u32], atom_count: usize) -> bool
     true
 }
 
-/// Whether a certificate of this version and of this many atoms may have these tables, whose rows have so many weights.
+/// Whether a certificate of this version and with this many atoms may have these tables, whose rows have this many weights.
 fn are_tables(version: Version, tables: &[Table], atom_count: usize, weight_count: usize) -> bool
     ensures { result ≡ are_tables (version_of version) atom_count weight_count (map table_of tables.now) }
 {
@@ -218,7 +218,7 @@ fn has_tables(version: Version) -> bool
     }
 }
 
-/// Whether a certificate of this many atoms may have this table, whose rows have so many weights.
+/// Whether a certificate with this many atoms may have this table, whose rows have this many weights.
 fn is_table(table: &Table, atom_count: usize, weight_count: usize) -> bool
     ensures { result ≡ is_table atom_count weight_count (table_of table.now) }
 {
@@ -227,8 +227,8 @@ fn is_table(table: &Table, atom_count: usize, weight_count: usize) -> bool
         && are_rows(table, atom_count, weight_count)
 }
 
-/// Whether each row of the table, whose scope may occur in a certificate of this many atoms, has so many weights, each within
-/// its limits. That its atoms are of the scope is so for each table.
+/// Whether each row of the table has this many weights, each within its limits. The scope may occur in a certificate with this
+/// many atoms. That a row's atoms belong to the scope holds for every table.
 fn are_rows(table: &Table, atom_count: usize, weight_count: usize) -> bool
     requires scope { IsTrue (rise atom_count 0 (table_of table.now).scope) }
     ensures { result ≡ list_all (is_row atom_count weight_count (table_of table.now).scope) (table_of table.now).rows }
@@ -241,14 +241,14 @@ fn are_rows(table: &Table, atom_count: usize, weight_count: usize) -> bool
     true
 }
 
-/// Whether these are so many weights.
+/// Whether these are this many weights, all in range.
 fn are_row_weights(weights: &[i64], count: usize) -> bool
     ensures { result ≡ certificates.are_weights count weights.now }
 {
     weights.len() == count && are_weights(weights)
 }
 
-/// Whether the tables have no more rows together than a certificate may have.
+/// Whether the tables have no more rows in total than a certificate may have.
 fn are_few_rows(tables: &[Table]) -> bool
     ensures { result ≡ nat_le (length (rows_of (map table_of tables.now))) MAX_ROWS }
 {
@@ -262,7 +262,7 @@ fn are_few_rows(tables: &[Table]) -> bool
     true
 }
 
-/// How many rows the tables have together, which are no more than a certificate may have.
+/// The total number of rows of the tables, which is within the limit of a certificate.
 pub(crate) fn row_count(tables: &[Table]) -> u64
     requires { length (rows_of (map table_of tables.now)) ≤ MAX_ROWS }
     ensures { result ≡ length (rows_of (map table_of tables.now)) }

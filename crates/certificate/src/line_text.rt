@@ -1,4 +1,4 @@
-//! The lines of a certificate's text, each added to the bytes of those before it.
+//! The lines of a certificate's text, each appended to those before it.
 ghost use Rattle.std.specs.Prelude.{◌≡◌, ◌<◌, ◌++◌, [], All, codes, length, map, OnOk};
 ghost use Rattle.std.specs.List.{flat_map};
 ghost use Rattle.std.specs.Fmt.{decimal};
@@ -68,7 +68,7 @@ fn add_constants(version: Version, bounds: &Bounds, text: &mut Vec<u8>) -> Resul
     add_dead_end_weight(version, bounds.dead_ends.constant, text)
 }
 
-/// Adds the line of objects that change places two by two, by their names.
+/// Adds the line of an exchange, with the names of the objects in each pair.
 pub(crate) fn add_exchange(
     task: &Task,
     pairs: &[(ObjectId, ObjectId)],
@@ -96,7 +96,7 @@ fn add_pairs(
     Ok(())
 }
 
-/// Adds the line of the atom at this place, from 0, by its names, with its weights.
+/// Adds the line of the atom at this index, from 0, with its weights and names.
 pub(crate) fn add_atom(
     task: &Task,
     atom: &Atom,
@@ -117,7 +117,7 @@ pub(crate) fn add_atom(
     text.extend_from_slice(b")\n")
 }
 
-/// Adds the weights of the atom at this place, from 0: those of the values and, from version 2 on, that of dead ends, with a
+/// Adds the weights of the atom at this index, from 0: those of the values and, from version 2 on, that of dead ends, with a
 /// blank before each.
 fn add_weights_at(
     place: usize,
@@ -172,7 +172,7 @@ pub(crate) fn add_scope(scope: &[u32], text: &mut Vec<u8>) -> Result<(), AllocEr
     text.extend_from_slice(b"\n")
 }
 
-/// Adds the line of a row with these weights, in which these atoms are true.
+/// Adds the line of a row with these weights and these true atoms.
 pub(crate) fn add_row(weights: &[i64], atoms: &[u32], text: &mut Vec<u8>) -> Result<(), AllocError>
     ensures { OnOk result (text.new.items ≡ text.old.items ++ row_line (record { atoms = atoms.now; weights = weights.now })) }
 {
@@ -201,7 +201,7 @@ fn add_numbers(numbers: &[u32], text: &mut Vec<u8>) -> Result<(), AllocError>
     Ok(())
 }
 
-/// Adds a state's mark and its cost, and of a cut what is still to pay at least.
+/// Adds a state's role and its cost, and for a cut the lower bound of the remaining cost.
 fn add_mark(mark: Mark, cost: u64, text: &mut Vec<u8>) -> Result<(), AllocError>
     ensures { OnOk result (text.new.items ≡ text.old.items ++ mark_text (mark_of mark) cost) }
 {
@@ -215,7 +215,7 @@ fn add_mark(mark: Mark, cost: u64, text: &mut Vec<u8>) -> Result<(), AllocError>
     }
 }
 
-/// Adds the last line, with the count of the lines that list states.
+/// Adds the last line, with the number of state lines.
 pub(crate) fn add_last(count: usize, text: &mut Vec<u8>) -> Result<(), AllocError>
     ensures { OnOk result (text.new.items ≡ text.old.items ++ whole_line (last count)) }
 {
@@ -241,7 +241,7 @@ fn add_weights(weights: &[i64], text: &mut Vec<u8>) -> Result<(), AllocError>
     Ok(())
 }
 
-/// Adds a blank, and then a constant or a weight in decimal digits, a `-` before it where it is negative.
+/// Adds a blank, then a constant or a weight in decimal digits, with `-` if it is negative.
 fn add_weight(weight: i64, text: &mut Vec<u8>) -> Result<(), AllocError>
     ensures { OnOk result (text.new.items ≡ text.old.items ++ weight_text weight) }
 {
@@ -249,7 +249,7 @@ fn add_weight(weight: i64, text: &mut Vec<u8>) -> Result<(), AllocError>
     text.extend_from_slice(Buffer::new().format(weight).as_bytes())
 }
 
-/// The predicate's name; no bytes where there is no such predicate.
+/// The predicate's name; empty if there is no such predicate.
 fn predicate_name(task: &Task, predicate: PredicateId) -> &[u8]
     ensures { result.now ≡ predicate_name (task_of task.now) predicate.0 }
 {
@@ -259,7 +259,7 @@ fn predicate_name(task: &Task, predicate: PredicateId) -> &[u8]
     }
 }
 
-/// The object's name; no bytes where there is no such object.
+/// The object's name; empty if there is no such object.
 fn object_name(task: &Task, object: ObjectId) -> &[u8]
     ensures { result.now ≡ object_name (task_of task.now) object.0 }
 {

@@ -1,4 +1,4 @@
-//! The states of lines.
+//! The states of state lines.
 ghost use Rattle.std.specs.Prelude.{◌≡◌, ◌≤◌, All, IfNone, IfOk, IfSome, IsTrue, length, map};
 ghost use Rattle.packed_state.specs.PooledView.{pooled_states};
 ghost use Rattle.certificate_definitions.specs.Certificates as certificates;
@@ -14,7 +14,7 @@ use certificate_reader::StateLine;
 use faults::NoMemory;
 use std::alloc::Global;
 
-/// The states that the lines list, in order, over so many atoms, and `None` where one is listed twice.
+/// The states that the lines list, in order, over this many atoms; `None` if one is listed twice.
 pub(crate) fn states_of(
     alloc: Global,
     atom_count: u32,

@@ -1,4 +1,4 @@
-//! The states that a certificate lists, as sets of the numbers of its atoms.
+//! The states that a certificate lists, as sets of atom numbers.
 ghost use Rattle.std.specs.Prelude.{◌≡◌, ◌<◌, [], All, IfOk, length};
 ghost use Rattle.packed_state.specs.PooledView.{pooled_width, pooled_states};
 ghost use Rattle.certificate_reader.specs.Lines.{line_of};
@@ -9,29 +9,29 @@ use faults::NoMemory;
 use packed_state::{Packed, PooledStore, StateStore};
 use std::alloc::Global;
 
-/// At which cost a state is listed, and what is said of it.
+/// The cost at which a state is listed, and its role.
 #[derive(Clone, Copy, Debug, PartialEq, Eq)]
 pub struct Listed {
     /// The cost.
     pub cost: u64,
-    /// What is said of it.
+    /// Its role.
     pub mark: Mark,
 }
 
-/// The states, in the order of their lines.
+/// The states, in line order.
 #[derive(Drop)]
 pub struct States {
-    /// Their costs, and what is said of them.
+    /// Their costs and roles.
     pub marks: Vec<Listed>,
     /// Their atoms, by number.
     pub sets: PooledStore,
 }
 
 impl States {
-    /// None yet, over so many atoms.
+    /// No states yet, over this many atoms.
     ///
     /// # Errors
-    /// Where memory is refused.
+    /// An allocation failed.
     pub fn new(alloc: Global, width: u32) -> Result<States, NoMemory>
         ensures width { IfOk result (λ states. pooled_width states.sets ≡ width) }
         ensures none { IfOk result (λ states. (states.marks.items ≡ []) × (pooled_states states.sets ≡ [])) }
@@ -42,10 +42,10 @@ impl States {
         })
     }
 
-    /// Puts the state of the line after the others and answers `true`, if it is not among them; else `false`.
+    /// Appends the state of the line and returns `true`, unless it is there already; then returns `false`.
     ///
     /// # Errors
-    /// Where memory is refused.
+    /// An allocation failed.
     pub fn push(&mut self, alloc: Global, line: &StateLine) -> Result<bool, NoMemory>
         requires below { All (λ number. number < pooled_width self.old.sets) line.now.atoms.items }
         requires room { length (pooled_states self.old.sets) < 16777216 }

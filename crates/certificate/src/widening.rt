@@ -1,4 +1,4 @@
-//! Sets under a greater width.
+//! Sets rebuilt with a greater width.
 ghost use Rattle.std.specs.Prelude.{◌≡◌, ℕ, ◌<◌, All, IfOk, IsTrue, map};
 ghost use Rattle.packed_state.specs.PooledView.{pooled_width, pooled_states};
 ghost use Rattle.packed_state.specs.Sets.{at_width, has};
@@ -7,7 +7,7 @@ use faults::NoMemory;
 use packed_state::{Packed, PooledStore, StateStore};
 use std::alloc::Global;
 
-/// The same sets, in order, of numbers below this width.
+/// The same sets, in order, with this width.
 pub(crate) fn widened(
     alloc: Global,
     sets: &PooledStore,

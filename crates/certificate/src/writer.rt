@@ -1,4 +1,4 @@
-//! The text of a certificate, on any device.
+//! Writes the text of a certificate to any device.
 ghost use Rattle.std.specs.Prelude.{◌≡◌, ◌++◌, [], map, OnOk};
 ghost use Rattle.std.specs.Io.KnownBytes.{Appends};
 ghost use Rattle.std.specs.List.{flat_map};
@@ -19,15 +19,14 @@ use std::alloc::Global;
 use table_rows::Table;
 use task::{ObjectId, Task};
 
-/// From how many bytes on what is held is written.
+/// The size from which on the buffer is written out.
 const PIECE: usize = 65_536;
 
-/// Writes the text of a certificate of the task, a line at a time: the version, the claim and the constants, a line for each
-/// exchange, by its objects' names, and for each atom, by its names, the lines of each table, a line for each listed state, and
-/// last how many states are listed.
+/// Writes the text of a certificate of the task, line by line: the version, the claim and the constants; a line for each exchange
+/// and for each atom, by names; the lines of each table; a line for each listed state; and last the number of listed states.
 ///
 /// # Errors
-/// The device failed, or memory was refused. It has then taken a beginning of the text.
+/// The device failed, or an allocation failed. A prefix of the text has then been written.
 ///
 /// # Examples
 /// ```
@@ -56,7 +55,7 @@ pub fn write_cert<W: Sink>(
     write_all(out, held.as_slice())
 }
 
-/// Writes the lines of the exchanges after the bytes that are held.
+/// Writes the lines of the exchanges after the buffered bytes.
 fn write_exchanges<W: Sink>(
     task: &Task,
     exchanges: &[Vec<(ObjectId, ObjectId)>],
@@ -75,7 +74,7 @@ fn write_exchanges<W: Sink>(
     Ok(())
 }
 
-/// Writes the lines of the atoms, each with its weights, after the bytes that are held.
+/// Writes the lines of the atoms, each with its weights, after the buffered bytes.
 fn write_atoms<W: Sink>(
     task: &Task,
     cert: &Cert,
@@ -95,7 +94,7 @@ fn write_atoms<W: Sink>(
     Ok(())
 }
 
-/// Writes the lines of the tables after the bytes that are held.
+/// Writes the lines of the tables after the buffered bytes.
 fn write_tables<W: Sink>(
     alloc: Global,
     tables: &[Table],
@@ -113,7 +112,7 @@ fn write_tables<W: Sink>(
     Ok(())
 }
 
-/// Writes the lines of the table after the bytes that are held.
+/// Writes the lines of the table after the buffered bytes.
 fn write_table<W: Sink>(
     alloc: Global,
     table: &Table,
@@ -130,7 +129,7 @@ fn write_table<W: Sink>(
     write_rows(alloc, table, held, out)
 }
 
-/// Writes the lines of the table's rows after the bytes that are held.
+/// Writes the lines of the table's rows after the buffered bytes.
 fn write_rows<W: Sink>(
     alloc: Global,
     table: &Table,
@@ -156,7 +155,7 @@ fn write_rows<W: Sink>(
     Ok(())
 }
 
-/// Writes the lines of the listed states after the bytes that are held.
+/// Writes the lines of the listed states after the buffered bytes.
 fn write_states<W: Sink>(
     alloc: Global,
     cert: &Cert,
@@ -186,7 +185,7 @@ fn write_states<W: Sink>(
     Ok(())
 }
 
-/// Writes the bytes that are held, where they are many.
+/// Writes out the buffer if it is large enough.
 fn pass_on<W: Sink>(held: &mut Vec<u8>, out: &mut W) -> Result<(), IoFault>
     ensures text { OnOk result (IsPassedOn (W.taken out.old) (W.taken out.new) held.old.items held.new.items []) }
     ensures beginning { AppendsBeginning (W.taken out.old) (W.taken out.new) held.old.items }

@@ -1,4 +1,4 @@
--- The first lines of a text say just what they are of.
+-- The first lines of a text determine its content.
 use Rattle.std.proofs.Common.{◌≡◌, ℕ, List, [], ◌∷◌, ◌++◌, map, length, Option, None, Some, refl, sym, ap, ◌∙◌}
 use Rattle.std.specs.Prelude.{ℤ}
 use Rattle.std.specs.List.{filter_map}
@@ -59,7 +59,7 @@ counts_of_body [] [] (t ∷ tables) states = counts_of_body [] [] tables states
 counts_of_body [] (a ∷ atoms) tables states = counts_of_body [] atoms tables states
 counts_of_body (names ∷ swaps) atoms tables states = counts_of_body swaps atoms tables states
 
--- ---- one beginning
+-- ---- one prefix
 
 first_lines : (u v : Version) (c d : Claim) (j k : List ℤ) (xs ys : List TextLine) → version u ∷ claims c ∷ constant j ∷ xs ≡ version v ∷ claims d ∷ constant k ∷ ys
     → (u ≡ v) × (c ≡ d) × (j ≡ k)
@@ -79,7 +79,7 @@ one_beginning g h same =
 abbrev pub beginning_of : NamedCertificate → Beginning
 beginning_of c = record { version = c.version; claim = c.claim; constants = c.constants; swaps = c.swaps; atoms = c.atoms; tables = c.tables; states = c.lines }
 
--- the last line is no beginning's
+-- the last line is not in a prefix
 not_last : (count : ℕ) → ◌≡◌ {A = List ℕ} (count ∷ []) [] → ⊥
 not_last count same = absurd (cc same)
 
@@ -89,7 +89,7 @@ no_beginning_is_whole c g same =
     (sym (filter_map-append count_in (head_lines (beginning_of c)) (last (length c.lines) ∷ []) ∙ ap (λ counts. counts ++ length c.lines ∷ []) (counts_of_body c.swaps c.atoms c.tables c.lines))
     ∙ ap (filter_map count_in) same ∙ counts_of_body g.swaps g.atoms g.tables g.states)
 
--- the lines are of one certificate
+-- the lines determine the certificate
 pub one_whole_text : (c d : NamedCertificate) → text_lines c ≡ text_lines d → c ≡ d
 one_whole_text c d same =
     let end_of : NamedCertificate → List TextLine = λ c. last (length c.lines) ∷ [] in

@@ -1,4 +1,4 @@
--- What the definitions say of the worked certificates.
+-- The worked certificates.
 use Rattle.std.proofs.Common.{◌≡◌, ◌⊎◌, ◌+◌, ◌≤◌, inl, inr, Bool, true, false, true≢false, ◌&&◌, ◌||◌, [], ◌∷◌, Some, refl, sym, ◌∙◌, ap, subst, arith}
 use Rattle.std.specs.Prelude.{◌≢◌, ℕ, ℤ, pos, negsuc, ◌+ℤ◌, ◌≤ℤ◌, List, if◌then◌else◌, length, All, AllPairs, Contains, IsTrue}
 use Rattle.std.specs.Int.Signed.{le_z_yes}
@@ -65,7 +65,7 @@ same_end = same_state end after_it (λ q. contains-from_list atoms_total (tied �
     by_tests false true = refl
     by_tests false false = refl
 
--- the only instance, and where it leads
+-- the only instance, and its successor
 only_instance : (a : Instance) (next : State) → step tie_task start a ≡ Some next → next ≡ end
 only_instance a next h = by_place (Contains-cases the_instance [] a (Contains-all_instances tie_task a (is_instance-of_step tie_task start a next h)))
   where
@@ -118,7 +118,7 @@ kept_are = kept-is tie_task ∙ refl
 abbrev potentials : ℤ → ℤ → PotentialFunction
 potentials constant w = record { constant = constant; weights = weights_of w }
 
--- fair over the one atom, it is fair over the numbered atoms
+-- fair over the single atom, it is fair over the numbered atoms
 over_numbered : (p : PotentialFunction) → AreFair tie_task (tied ∷ []) p → AreFair tie_task (numbered_atoms tie_task (tied ∷ [])) p
 over_numbered p fair = subst (λ atoms. AreFair tie_task atoms p) (sym atoms_are) fair
 
@@ -134,7 +134,7 @@ zero_is_fair = over_numbered (potentials (pos 0) (pos 0)) (zero-fair tie_task (t
 worth_one : AreFair tie_task (numbered_atoms tie_task (tied ∷ [])) (potentials (pos 1) (negsuc 0))
 worth_one = over_numbered (potentials (pos 1) (negsuc 0)) (record { instances = one_fair (negsuc 0) (le_z_yes tt); goals = record { within = le_z_yes tt } })
 
--- where nothing weighs, no state is reported as a dead end, and that is dead-fair
+-- if all weights are 0, no state is reported as a dead end, and the function is dead-fair
 zero_is_dead_fair : AreDeadFair tie_task (numbered_atoms tie_task (tied ∷ [])) (potentials (pos 0) (pos 0))
 zero_is_dead_fair = subst (λ atoms. AreDeadFair tie_task atoms (potentials (pos 0) (pos 0))) (sym atoms_are) (record {
   instances =
@@ -143,14 +143,14 @@ zero_is_dead_fair = subst (λ atoms. AreDeadFair tie_task atoms (potentials (pos
   goals = record { within = le_z_yes tt };
 })
 
--- the initial state, cut
+-- the initial state, as a cut
 abbrev start_cut : ℕ → Line State
 start_cut rest = line_of (cut_at 0 rest [])
 
 start_value : value_of_state (tied ∷ []) (potentials (pos 1) (negsuc 0)) start ≡ 1
 start_value = ap (λ b. or_zero (pos 1 +ℤ (pos 0 +ℤ (if b then negsuc 0 else pos 0)))) not_tied
 
--- where nothing weighs, every state has the value 0
+-- if all weights are 0, every state has the value 0
 end_value : value_of_state (tied ∷ []) (potentials (pos 0) (pos 0)) end ≡ 0
 end_value = ap (λ b. or_zero (pos 0 +ℤ (pos 0 +ℤ (if b then pos 0 else pos 0)))) (contains-from_list atoms_total (tied ∷ linked ∷ []) tied)
 
@@ -201,7 +201,7 @@ cut_closed = record {
   });
 }
 
--- worth two, it is lost by the instance, which costs one
+-- with weight two, the instance loses more than its cost of one
 worth_two : IsWrongAt tie_task (weighs (bound 1) (pos 2) (negsuc 1) (cut_at 0 1 [] ∷ [])) unfair 0
 worth_two = (
   the_instance,
@@ -269,11 +269,11 @@ dead_closed claim = record {
   });
 }
 
--- with a constant of 1 it has the value 0
+-- with the constant 1 its value is 0
 not_reported : IsWrongAt token_task (token_reported two model.none (pos 1) (minus 1)) not_dead 6
 not_reported = (dead_line, (0, refl, refl), refl, reported_at_x (fair.potentials (pos 1) (minus 1 ∷ minus 1 ∷ [])))
 
--- with a constant of 3, 1 is left at the goal
+-- with the constant 3, the value in goal states is 1
 dead_left : IsWrongAt token_task (token_reported two model.none (pos 3) (minus 1)) dead_unfair_goal 1
 dead_left = (
   refl,
@@ -281,7 +281,7 @@ dead_left = (
       (λ fair. more_than_none (pos 1) refl fair.within),
 )
 
--- where (y) weighs -2, the first step makes the sum fall by 1
+-- if (y) has weight -2, the first step makes the sum fall by 1
 fore_loses : IsWrongAt token_task (token_reported two model.none (pos 2) (minus 2)) dead_unfair 1
 fore_loses = (
   refl,

@@ -1,4 +1,4 @@
--- Of a certificate that is closed nothing is wrong.
+-- A closed certificate has no fault.
 use Rattle.std.proofs.Common.{◌≡◌, ℕ, suc, ◌+◌, ◌<◌, ◌&&◌, List, [], ◌∷◌, get_or, Option, None, Some, inl, inr, ⊎_elim, true≢false, refl, sym, ap, ◌∙◌, subst, arith}
 use Rattle.std.specs.Prelude.{◌≢◌, IsTrue, AllPairs, Contains, slice_get}
 use Rattle.std.proofs.lemmas.Option.{slice_get_within, get_or_from_slice_get}
@@ -21,9 +21,9 @@ use Rattle.table_functions.specs.FairTables as fair_tables
 use Rattle.table_functions.specs.FairTables.{is_asked}
 use Rattle.model.proofs.ListLemmas.{Contains-cases, Contains-got, Contains-none}
 
--- ---- elements at their places
+-- ---- elements at their indices
 
--- what holds of each two holds of those at two places
+-- what holds of each two elements holds of those at two indices
 pub apart : {X : Type 0} (R : X → X → Type 0) (xs : List X) (i j : ℕ) (x y : X) → AllPairs R xs → i < j → slice_get xs i ≡ Some x → slice_get xs j ≡ Some y → R x y
 apart R xs i j x y pairs lt at_i at_j =
     subst (λ b. R x b) (get_or_from_slice_get xs j y x at_j)
@@ -46,7 +46,7 @@ module _ (task : Task) (c : Certificate) where
       wrong (All-contains (λ (i : Instance). IsTrue (is_asked task (numbered_atoms task c.atoms) c.tables i) → fair_tables.IsFairAt (allowance i) task (numbered_atoms task c.atoms) h i)
       (kept_instances task) i fair.instances kept asked)
 
-  -- each of several fair ones is fair over the certificate's tables
+  -- each of several fair values is fair over the certificate's tables
   each_is_fair : fair_tables.AreFair task (numbered_atoms task c.atoms) (several_of c) → (place : ℕ) (h : TableFunction) → slice_get (functions_of (several_of c)) place ≡ Some h
       → fair_tables.AreFairAt (is_asked task (numbered_atoms task c.atoms) c.tables) (cost_of task) task (numbered_atoms task c.atoms) h
   each_is_fair fair place h at =
@@ -126,7 +126,7 @@ module _ (task : Task) (c : Certificate) (closed : IsClosedFor task c) where
   right_line plan_dearer line wrong = wrong
   right_line limit line wrong = wrong
 
-  -- and nothing else is wrong but the count of instances
+  -- and there is no other fault except for the number of instances
   pub right : (plan : Option (List Instance)) (most : ℕ) (reason : Reason) → IsPlanWithin task c.claim plan → IsWrong task c plan most reason → reason ≡ limit
   right plan most no_initial within wrong = absurd (wrong closed.listing_is_closed.initial_listed)
   right plan most unfair within wrong = absurd wrong

@@ -1,4 +1,4 @@
--- What the definitions say of the worked lines.
+-- The worked lines.
 use Rattle.std.proofs.Common.{[], ◌∷◌, ◌++◌, refl, arith}
 use Rattle.std.specs.Prelude.{pos}
 use Rattle.potential_functions.specs.FairExamples.{minus}

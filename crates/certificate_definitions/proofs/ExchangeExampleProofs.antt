@@ -1,4 +1,4 @@
--- What the definitions say of the worked certificates with exchanges.
+-- The worked certificates with exchanges.
 use Rattle.std.proofs.Common.{◌≡◌, ◌⊎◌, ◌+◌, ◌≤◌, inl, inr, Bool, true, false, true≢false, ◌&&◌, [], ◌∷◌, Some, refl, sym, ◌∙◌, ap, subst, arith}
 use Rattle.std.specs.Prelude.{◌≢◌, ℕ, List, length, get_or, AllPairs, Contains, IsTrue}
 use Rattle.std.specs.FinSet.{contains, from_list, contains-from_list}
@@ -35,7 +35,7 @@ use Rattle.certificate_definitions.specs.ExchangeExamples.{lit, light, lamps, da
 
 -- ---- states and steps
 
--- the state in which these atoms are true
+-- the state with these true atoms
 abbrev state : List Atom → State
 state atoms = from_list {R = atom_cmp} atoms
 
@@ -52,7 +52,7 @@ one_lit lamp fit =
     leads dark (state []) (lighting lamp) light refl fit refl
     ∙ ap Some (same_state (state_after dark [] (changes ∷ [])) (state (lit lamp ∷ [])) (λ q. contains-state_after dark [] (changes ∷ []) q ∙ sym (contains-from_list atoms_total (lit lamp ∷ []) q)))
 
--- what holds where either lamp is lit holds of each successor of the start
+-- what holds if either lamp is lit holds of each successor of the initial state
 each_lit : (P : State → Type 0) → P (state (lit 0 ∷ [])) → P (state (lit 1 ∷ [])) → (a : Instance) (next : State) → step dark (state []) a ≡ Some next → P next
 each_lit P of_first of_second a next h =
     by_first (Contains-cases (lighting 0) (lighting 1 ∷ []) a (Contains-all_instances dark a (is_instance-of_step dark (state []) a next h)))
@@ -71,7 +71,7 @@ each_lit P of_first of_second a next h =
 dark_misses : meets_goal dark (state []) ≡ false
 dark_misses = holds-after dark [] [] dark.goal []
 
--- ---- which states are alike
+-- ---- which states are in the same class
 
 dark_numbered : numbered_atoms dark lamp_atoms ≡ lamp_atoms
 dark_numbered = numbered-is dark lamp_atoms ∙ refl
@@ -126,7 +126,7 @@ closed_by task c initial right =
       dead_are_dead = λ line listed. (at line listed).deads;
     }
 
--- a cut that stands for nothing
+-- a cut with bound 0
 cut_right : (task : Task) (c : Certificate) (s : State) (least cost : ℕ) → c.claim ≡ bound least → least ≤ cost → IsRight task c (record { state = s; cost = cost; mark = cut 0 })
 cut_right task c s least cost claims enough = record {
   successors = λ a next is_open. absurd (cc);
@@ -137,7 +137,7 @@ cut_right task c s least cost claims enough = record {
   deads = λ is. absurd (cc);
 }
 
--- the dark state is open, at 0
+-- the dark state is open, at cost 0
 dark_right : (c : Certificate) → IsListedWithin (AreAlikeFor dark c) (lines_of dark c) (state (lit 0 ∷ [])) 1 → IsListedWithin (AreAlikeFor dark c) (lines_of dark c) (state (lit 1 ∷ [])) 1
     → IsRight dark c (record { state = state []; cost = 0; mark = opened })
 dark_right c first second = record {
@@ -217,7 +217,7 @@ second_and_first = apart (lit 1 ∷ []) (lit 0 ∷ []) (lit 0) refl refl
 first_and_second : state (lit 0 ∷ []) ≢ state (lit 1 ∷ [])
 first_and_second = apart (lit 0 ∷ []) (lit 1 ∷ []) (lit 1) refl refl
 
--- one line lists no other line's state
+-- no other line lists this line's state
 alone : (l : Line State) → AllPairs Differ (l ∷ [])
 alone l = λ i j d before within. absurd (omega (arith, before, within))
 
@@ -246,7 +246,7 @@ of_cheaper =
       (cut_right dark c (state (lit 0 ∷ [])) 1 2 refl (omega arith), (cut_right dark c (state (lit 1 ∷ [])) 1 1 refl (omega arith), tt)),
     ))
 
--- of a start at which the second lamp is lit
+-- for an initial state in which the second lamp is lit
 of_start : (lamp : ℕ) (lines : List StateLine) → lines ≡ cut_at 0 0 (lamp ∷ []) ∷ [] → lines_of second_lit (by_exchange (bound 0) lines) ≡ cut_lit lamp 0 ∷ []
     → images_in lamp_atoms both_ways 4 (lit lamp ∷ []) ≡ images_in lamp_atoms both_ways 4 (lit 1 ∷ []) → IsClosedFor second_lit (by_exchange (bound 0) lines)
 of_start lamp lines is listed same =

@@ -1,4 +1,4 @@
--- The place of a reader after some lines says just what they are.
+-- The state of a reader after some lines determines their content.
 use Rattle.std.proofs.Common.{◌≡◌, ℕ, suc, ◌+◌, ◌<◌, ◌≤◌, Bool, true, false, List, [], ◌∷◌, ◌++◌, map, length, Option, None, Some, refl, sym, ap, ◌∙◌, subst, append_assoc, append-nil, length-append, arith}
 use Rattle.std.specs.Prelude.{◌&&◌, ◌==◌, nat_le, nat_lt, ℤ, pos, IsTrue}
 use Rattle.std.specs.List.{list_all}
@@ -14,12 +14,12 @@ use Rattle.certificate_definitions.specs.CertificateText.{WeightedAtom, TableLin
 use Rattle.certificate_definitions.specs.CertificateMachine.{Body, CertificatePlace, at_version, at_claim, at_constant, in_body, ended, no_format, no_body, swap_more, atom_more, scope_more, row_more, state_more, swap_follows, atom_follows, row_follows, only_if, next_place, place_from, place_after}
 use Rattle.certificate_definitions.proofs.Beginnings.{body_lines}
 
--- ---- what comes before a place
+-- ---- what comes before a state
 
 abbrev pub body_of : Beginning → Body
 body_of g = record { format = format_in g; swaps = length g.swaps; tables = scope_count g.tables; rows = row_count g.tables; states = length g.states }
 
--- the first lines keep the limits
+-- the first lines are within the limits
 pub record Keeps (g : Beginning) : Type 0 where
   pub claim_is : IsTrue (is_claim g.claim)
   pub constants_are : IsTrue (is_line (format_in g) (constant g.constants))
@@ -47,7 +47,7 @@ ComesBefore (at_constant v) lines = (claim : Claim) × IsTrue (is_claim claim) �
 ComesBefore (in_body b) lines = IsBody b lines
 ComesBefore ended lines = AreWhole lines
 
--- ---- one line more
+-- ---- one more line
 
 pub only_where : (holds : Bool) (place next : CertificatePlace) → only_if holds place ≡ Some next → (holds ≡ true) × (place ≡ next)
 only_where true place next same = (refl, cc same)
@@ -117,10 +117,10 @@ scope_after [] atoms first = refl
 scope_after (scope s ∷ tables) atoms first = refl
 scope_after (row r ∷ tables) atoms first = absurd (cc first)
 
--- ---- one line more of a body
+-- ---- one more line of a body
 
 module _ (g : Beginning) (keeps : Keeps g) where
-  -- the beginning with other atoms, tables or states
+  -- the prefix with other atoms, tables or states
   abbrev with_parts : List WeightedAtom → List TableLine → List StateLine → Beginning
   with_parts atoms tables states = record { version = g.version; claim = g.claim; constants = g.constants; swaps = g.swaps; atoms = atoms; tables = tables; states = states }
 
@@ -256,7 +256,7 @@ module _ (g : Beginning) (keeps : Keeps g) where
         ∙ ap (λ lines. (fronts ++ map tabled g.tables) ++ lines) (sym (map-append listed g.states (l ∷ []))));
   }
 
-  -- the lines before the last one, and it, are a certificate
+  -- the lines with the last one are a certificate
   whole : AreWhole (head_lines g ++ last (length g.states) ∷ [])
   whole =
       let c : NamedCertificate = record { version = g.version; claim = g.claim; constants = g.constants; swaps = g.swaps; atoms = g.atoms; tables = g.tables; lines = g.states } in
@@ -279,7 +279,7 @@ module _ (g : Beginning) (keeps : Keeps g) where
       let few_states : nat_le (length g.states) most_states ≡ true = le-leb (length g.states) most_states keeps.few_states in
       (c, both_true _ _ (both_true _ _ (both_true _ _ (both_true _ _ few_swaps few) (both_true _ _ (both_true _ _ keeps.scope_first few_tables) few_rows)) few_states) each, refl)
 
-  -- one line more of such lines leads to the next place
+  -- one more such line leads to the next state
   step_on : (line : TextLine) (next : CertificatePlace) → next_place (in_body (body_of g)) line ≡ Some next → ComesBefore next (head_lines g ++ line ∷ [])
   step_on (version w) next leads = never next leads
   step_on (claims claim) next leads = never next leads
@@ -325,7 +325,7 @@ module _ (g : Beginning) (keeps : Keeps g) where
       subst (λ q. ComesBefore q (head_lines g ++ last count ∷ [])) same
       (subst (λ k. AreWhole (head_lines g ++ last k ∷ [])) (sym (eqb-true count (length g.states) holds)) whole)
 
--- one line more leads to the next place
+-- one more line leads to the next state
 step : (place : CertificatePlace) (line : TextLine) (next : CertificatePlace) (lines : List TextLine) → ComesBefore place lines → next_place place line ≡ Some next
     → ComesBefore next (lines ++ line ∷ [])
 step at_version (version v) next lines occurs leads = subst (λ q. ComesBefore q (lines ++ version v ∷ [])) (place_same (at_claim v) next leads) (ap (λ lines. lines ++ version v ∷ []) occurs)
@@ -387,7 +387,7 @@ step ended (tabled t) next lines occurs leads = never next leads
 step ended (listed l) next lines occurs leads = never next leads
 step ended (last count) next lines occurs leads = never next leads
 
--- and so many lines lead to the place after them
+-- and this many lines lead to the state after them
 pub comes_after : (lines done : List TextLine) (place after : CertificatePlace) → ComesBefore place done → place_from place lines ≡ Some after
     → ComesBefore after (done ++ lines)
 comes_after [] done place after occurs leads =
@@ -401,7 +401,7 @@ comes_after (line ∷ lines) done place after occurs leads =
     by_next rest None is leads = never after leads
     by_next rest (Some next) is leads = subst (ComesBefore after) (append_assoc done (line ∷ []) lines) (rest next is leads)
 
--- ---- what begins a certificate, and what is one
+-- ---- prefixes of certificates, and whole ones
 
 begins_before : (lines : List TextLine) (line : TextLine) → BeginCertificate (lines ++ line ∷ []) → BeginCertificate lines
 begins_before lines line (rest, whole) = (line ∷ rest, subst AreWhole (append_assoc lines (line ∷ []) rest) whole)
@@ -435,7 +435,7 @@ begin (at_constant v) lines occurs = begin_constant v lines occurs
 begin (in_body b) lines occurs = begin_body b lines occurs
 begin ended lines occurs = ([], subst AreWhole (sym (append-nil lines)) occurs)
 
--- where a place comes after lines, they begin a certificate, and are one after its end
+-- if a state comes after lines, they are a prefix of a certificate, and a whole one at its end
 module _ (lines : List TextLine) where
   pub occurs : (place : CertificatePlace) → place_after lines ≡ Some place → ComesBefore place lines
   occurs place leads = comes_after lines [] at_version place refl leads
@@ -446,7 +446,7 @@ module _ (lines : List TextLine) where
   pub ends : place_after lines ≡ Some ended → AreWhole lines
   ends leads = occurs ended leads
 
--- ---- and the other way
+-- ---- the converse
 
 zero_more : (n : ℕ) → n ≡ n + 0
 zero_more n = omega arith
@@ -589,7 +589,7 @@ lines_read c keeps =
 pub end_of_whole : (lines : List TextLine) → AreWhole lines → place_after lines ≡ Some ended
 end_of_whole lines (c, keeps, are) = subst (λ lines. place_after lines ≡ Some ended) are (lines_read c keeps)
 
--- the place after the first of some lines
+-- the state after the first of some lines
 pub front_leads : (front rest : List TextLine) (place after : CertificatePlace) → place_from place (front ++ rest) ≡ Some after
     → (between : CertificatePlace) × (place_from place front ≡ Some between) × (place_from between rest ≡ Some after)
 front_leads [] rest place after leads = (place, refl, leads)

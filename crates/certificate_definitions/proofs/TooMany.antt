@@ -1,4 +1,4 @@
--- What is one line too many, by the place where it is.
+-- Lines beyond a limit, by the state in which they occur.
 use Rattle.std.proofs.Common.{◌≡◌, ℕ, ◌<◌, List, [], ◌∷◌, length, refl, sym, ap, ◌∙◌, subst, Some, arith}
 use Rattle.std.specs.Prelude.{◌≢◌, IsTrue}
 use Rattle.table_functions.specs.TableFunctions.{Row}
@@ -8,7 +8,7 @@ use Rattle.certificate_definitions.specs.CertificateMachine.{Body, CertificatePl
 use Rattle.certificate_definitions.proofs.Beginnings.{no_beginning_is_whole, one_beginning}
 use Rattle.certificate_definitions.proofs.Machine.{ComesBefore, Keeps, body_of, no_atoms, no_states, no_tables, occurs}
 
--- The bytes are a line that may not occur in this body for the limit alone.
+-- The bytes are a line that is not allowed in this body only because of a limit.
 pub data IsOverIn (b : Body) (bytes : List ℕ) : Type 0 where
   a_swap : (names : List (List ℕ)) → b.format.atoms ≡ 0 → b.tables ≡ 0 → b.states ≡ 0 → b.swaps ≡ most_swaps → IsTrue (is_line b.format (swapped names)) → bytes ≡ line_text (swapped names)
       → IsOverIn b bytes
@@ -24,7 +24,7 @@ IsTooManyAt (at_claim v) bytes = ⊥
 IsTooManyAt (at_constant v) bytes = ⊥
 IsTooManyAt ended bytes = ⊥
 
--- the place after the first lines is in the body
+-- the state after the first lines is in the body
 place_past : (g : Beginning) (place : CertificatePlace) → ComesBefore place (head_lines g) → place ≡ in_body (body_of g)
 place_past g at_version occurs = absurd (cc occurs)
 place_past g (at_claim w) occurs = absurd (cc occurs)
@@ -41,7 +41,7 @@ some_where : (tables : List TableLine) → 0 < scope_count tables → tables ≢
 some_where [] begun = absurd (omega (arith, begun))
 some_where (t ∷ tables) begun = λ same. absurd (cc same)
 
--- ---- the limit, by the place
+-- ---- the limit, by state
 
 over_in : (bytes : List ℕ) (before : List TextLine) → (over : IsOneTooMany before bytes) → (g : Beginning) × (before ≡ head_lines g) × (Keeps g → IsOverIn (body_of g) bytes)
 over_in bytes before (swaps g names are no_atom none_yet no_state full is same) = (g, are, λ keeps. a_swap names (ap length no_atom) (ap scope_count none_yet) (ap length no_state) full is same)
@@ -50,7 +50,7 @@ over_in bytes before (scopes g s are no_state full is same) = (g, are, λ keeps.
 over_in bytes before (rows g r are some no_state full is same) = (g, are, λ keeps. a_row r (begun_where g.tables keeps.scope_first some) (ap length no_state) full is same)
 over_in bytes before (states g l are full is same) = (g, are, λ keeps. a_state l full is same)
 
--- the first lines that come before a place keep the limits
+-- the first lines before a state are within the limits
 kept : (g : Beginning) (place : CertificatePlace) → ComesBefore place (head_lines g) → Keeps g
 kept g at_version occurs = absurd (cc occurs)
 kept g (at_claim w) occurs = absurd (cc occurs)

@@ -1,4 +1,4 @@
--- Without exchanges only equal states are alike.
+-- Without exchanges only equal states are in the same class.
 use Rattle.std.proofs.Common.{◌≡◌, ℕ, ◌+◌, List, [], ap, subst}
 use Rattle.std.specs.Prelude.{Bool}
 use Rattle.model.specs.Task.{Task}
@@ -9,14 +9,14 @@ use Rattle.model.specs.NumberedAtoms.{numbered_atoms}
 use Rattle.symmetries.specs.Orbits.{representative, AreAlike}
 use Rattle.certificate_definitions.specs.Certificates.{Certificate, AreAlikeFor}
 
--- a state is alike itself
+-- a state is in its own class
 pub alike_itself : (task : Task) (c : Certificate) (s r : State) → s ≡ r → AreAlikeFor task c s r
 alike_itself task c s r is = ap (representative (numbered_atoms task c.atoms) c.exchanges) is
 
 pub alike_alone : (task : Task) (c : Certificate) → c.exchanges ≡ [] → (s r : State) → AreAlikeFor task c s r → s ≡ r
 alike_alone task c none s r is = subst (λ exchanges. AreAlike (numbered_atoms task c.atoms) exchanges s r) none is
 
--- what is closed up to one relation is closed up to a wider one
+-- a listing closed up to one relation is closed up to a wider one
 pub closed_wider : {S A : Type 0} (t : System S A) (alike wider : S → S → Type 0) → ((s r : S) → alike s r → wider s r)
     → (value : S → ℕ) (is_dead : S → Bool) (claim : Claim) (lines : List (Line S)) → IsClosed t alike value is_dead claim lines → IsClosed t wider value is_dead claim lines
 closed_wider {S} t alike wider widens value is_dead claim lines closed = record {

@@ -1,10 +1,10 @@
--- What the lines of a certificate's text give, one after another.
+-- The contents of the lines of a certificate's text, one after another.
 use Rattle.std.specs.Prelude.{ℕ, List, Option, None, Some}
 use Rattle.std.specs.List.{filter_map}
 use Rattle.certificate_definitions.specs.Certificates.{StateLine}
 use Rattle.certificate_definitions.specs.CertificateText.{WeightedAtom, TableLine, TextLine, version, claims, constant, swapped, atom, tabled, listed, last}
 
--- the names of an exchange that the line gives, the atom, with its weights, what it says of a table, and the state that it lists
+-- the names of an exchange in the line, the atom with its weights, its part of a table, and the state that it lists
 abbrev pub swap_in : TextLine → Option (List (List ℕ))
 swap_in (version v) = None
 swap_in (claims claim) = None
@@ -45,7 +45,7 @@ state_in (tabled t) = None
 state_in (listed l) = Some l
 state_in (last count) = None
 
--- those of the lines, in order
+-- the contents of the lines, in order
 abbrev pub swaps_given : List TextLine → List (List (List ℕ))
 swaps_given lines = filter_map swap_in lines
 

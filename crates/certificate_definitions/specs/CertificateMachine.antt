@@ -1,11 +1,11 @@
--- Where a reader of a certificate's lines is, and what may come next. The theorem does not cite it: it says the same as
--- `BeginCertificate` and `AreWhole` of `CertificateText`, a line at a time.
+-- The state of a reader of a certificate's lines, and which line may come next. The theorem does not cite it: it is equivalent to
+-- `BeginCertificate` and `AreWhole` of `CertificateText`, one line at a time.
 use Rattle.std.specs.Prelude.{ℕ, ◌+◌, Bool, ◌&&◌, ◌==◌, nat_lt, if◌then◌else◌, List, [], ◌∷◌, length, Option, None, Some}
 use Rattle.std.specs.Option.{option_and_then}
 use Rattle.certificate_definitions.specs.Certificates.{Version, one}
 use Rattle.certificate_definitions.specs.CertificateText.{Format, scope, row, TextLine, version, claims, constant, swapped, atom, tabled, listed, last, is_line, most_swaps, most_atoms, most_tables, most_rows, most_states}
 
--- what came after the constants: exchanges, atoms, which the format counts, tables, their rows, and states
+-- the numbers of exchanges, atoms (in the format), tables, rows and states after the constants
 pub record Body : Type 0 where
   pub format : Format
   pub swaps : ℕ
@@ -15,17 +15,17 @@ pub record Body : Type 0 where
 
 pub data CertificatePlace : Type 0 where
   at_version : CertificatePlace
-  -- from here on in a text of this version
+  -- the states from here on, in a text of this version
   at_claim : Version → CertificatePlace
   at_constant : Version → CertificatePlace
   in_body : Body → CertificatePlace
   ended : CertificatePlace
 
--- a text of this version before its constants, of which there will be one at least
+-- a text of this version before its constants, of which there will be at least one
 abbrev pub no_format : Version → Format
 no_format v = record { version = v; weights = 1; atoms = 0 }
 
--- what is known of the text's format; where none is reported yet, or none matters any more, any will do
+-- the known format of the text; where it is not given yet, or does not matter, any will do
 abbrev pub format_at : CertificatePlace → Format
 format_at at_version = no_format one
 format_at (at_claim v) = no_format v
@@ -33,11 +33,11 @@ format_at (at_constant v) = no_format v
 format_at (in_body b) = b.format
 format_at ended = no_format one
 
--- the body of a text with so many constants
+-- the body of a text with this many constants
 abbrev pub no_body : Version → ℕ → Body
 no_body v weights = record { format = record { version = v; weights = weights; atoms = 0 }; swaps = 0; tables = 0; rows = 0; states = 0 }
 
--- one more of each
+-- one more of each kind
 abbrev pub swap_more : Body → Body
 swap_more b = record { format = b.format; swaps = b.swaps + 1; tables = b.tables; rows = b.rows; states = b.states }
 
@@ -59,7 +59,7 @@ row_more b = record { format = b.format; swaps = b.swaps; tables = b.tables; row
 abbrev pub state_more : Body → Body
 state_more b = record { format = b.format; swaps = b.swaps; tables = b.tables; rows = b.rows; states = b.states + 1 }
 
--- whether one more may follow: exchanges come before atoms, these before tables, these before states, and a row after a scope
+-- whether one more may follow: exchanges come before atoms, atoms before tables, tables before states, and rows after a scope
 abbrev pub swap_follows : Body → Bool
 swap_follows b = (b.format.atoms == 0) && (b.tables == 0) && (b.states == 0)
 
@@ -69,11 +69,11 @@ atom_follows b = (b.tables == 0) && (b.states == 0)
 abbrev pub row_follows : Body → Bool
 row_follows b = nat_lt 0 b.tables && (b.states == 0)
 
--- the place, where this is so
+-- the state, if this holds
 abbrev pub only_if : Bool → CertificatePlace → Option CertificatePlace
 only_if holds place = if holds then Some place else None
 
--- the place after one line more, and None where it may not occur there
+-- the state after one more line; None if the line may not occur there
 abbrev pub next_place : CertificatePlace → TextLine → Option CertificatePlace
 next_place at_version (version v) = Some (at_claim v)
 next_place (at_claim v) (claims claim) = only_if (is_line (no_format v) (claims claim)) (at_constant v)
@@ -86,7 +86,7 @@ next_place (in_body b) (listed l) = only_if (nat_lt b.states most_states && is_l
 next_place (in_body b) (last count) = only_if (count == b.states) ended
 next_place _ _ = None
 
--- the place after these lines, from this one on
+-- the state after these lines, from this one on
 abbrev pub place_from : CertificatePlace → List TextLine → Option CertificatePlace
 place_from place [] = Some place
 place_from place (line ∷ lines) = option_and_then (λ next. place_from next lines) (next_place place line)

@@ -1,4 +1,4 @@
--- What is wrong with a certificate, or with the plan that was given with it, where the checker refuses it.
+-- What is wrong with a certificate, or with the plan given with it, when the checker refuses it.
 use Rattle.std.specs.Prelude.{◌≡◌, ℕ, ◌+◌, ◌<◌, ◌≤◌, ◌⊎◌, ◌&&◌, false, IsTrue, List, length, Contains, slice_get, Option, None, Some, IsSome, MatchOption}
 use Rattle.model.specs.Task.{Atom, Task, Instance}
 use Rattle.model.specs.WellTyped.{is_atom}
@@ -38,8 +38,8 @@ pub data Reason : Type 0 where
   not_dead : Reason  -- 58
   not_symmetry : Reason  -- 59
 
--- The lines of a certificate's text are counted from 1: its version, its claim and its constants come first, then its exchanges
--- and its atoms, a line each, then its tables, each with its rows, and then its states.
+-- The lines of a certificate's text are counted from 1: first its version, its claim and its constants, then its exchanges and
+-- its atoms, one per line, then its tables, each with its rows, and then its states.
 abbrev pub exchange_line : ℕ → ℕ
 exchange_line place = 4 + place
 
@@ -61,11 +61,11 @@ HasAtom c line a = (place : ℕ) × (line ≡ atom_line c place) × (slice_get c
 abbrev pub HasState : Task → Certificate → ℕ → Line State → Type 0
 HasState task c line l = (place : ℕ) × (line ≡ state_line c place) × (slice_get (lines_of task c) place ≡ Some l)
 
--- the state is listed, at whatever cost
+-- the state is listed, at any cost
 abbrev pub IsListed : {S : Type 0} → (S → S → Type 0) → List (Line S) → S → Type 0
 IsListed {S} alike lines s = (line : Line S) × Contains lines line × alike line.state s
 
--- the atom, or the state, of this line is in a line before
+-- the atom, or the state, in this line occurs in an earlier line
 abbrev pub IsRepeatedAtom : Certificate → ℕ → Type 0
 IsRepeatedAtom c line = (a : Atom) × (before : ℕ) × (before < line) × HasAtom c before a × HasAtom c line a
 
@@ -73,35 +73,35 @@ abbrev pub IsRepeatedState : Task → Certificate → ℕ → Type 0
 IsRepeatedState task c line =
     (earlier l : Line State) × (before : ℕ) × (before < line) × HasState task c before earlier × HasState task c line l × (earlier.state ≡ l.state)
 
--- this line lists an open state, from which this instance leads to this state
+-- this line lists an open state, from which this instance leads to that state
 abbrev pub LeadsFrom : Task → Certificate → ℕ → Line State → Instance → State → Type 0
 LeadsFrom task c line l i next = HasState task c line l × (l.mark ≡ opened) × ((system_of task).step l.state i ≡ Some next)
 
 -- ---- values that are not fair
 
--- the kept instance may lose more of the potential function than it is allowed to, where the certificate's atoms have the first
+-- the kept instance may lose more by the potential function than it is allowed to, if the certificate's atoms have the first
 -- numbers
 abbrev pub MayLose : (allowance : ℕ) → Task → Certificate → PotentialFunction → Instance → Type 0
 MayLose allowance task c p i = Contains (kept_instances task) i × ¬ IsFairAt allowance task (numbered_atoms task c.atoms) p.weights i
 
--- so of the table function, where it is not shut out
+-- the same for the table function, if the instance is not shut out
 abbrev pub MayLoseByTables : (allowance : ℕ) → Task → Certificate → TableFunction → Instance → Type 0
 MayLoseByTables allowance task c h i =
     Contains (kept_instances task) i × IsTrue (is_asked task (numbered_atoms task c.atoms) c.tables i) × ¬ fair_tables.IsFairAt allowance task (numbered_atoms task c.atoms) h i
 
--- of the value at this place, from 0: versions 1 and 2 have one
+-- the same for the value at this index, from 0: versions 1 and 2 have one
 abbrev pub IsUnfairIn : Version → Task → Certificate → ℕ → Instance → Type 0
 IsUnfairIn one task c place i = (place ≡ 0) × MayLose (cost_of task i) task c (potentials_of c) i
 IsUnfairIn two task c place i = (place ≡ 0) × MayLose (cost_of task i) task c (potentials_of c) i
 IsUnfairIn three task c place i = (h : TableFunction) × (slice_get (functions_of (several_of c)) place ≡ Some h) × MayLoseByTables (cost_of task i) task c h i
 
--- more than 0 of it may be left at a goal
+-- its value in goal states may exceed 0
 abbrev pub IsUnfairAtGoalsIn : Version → Task → Certificate → ℕ → Type 0
 IsUnfairAtGoalsIn one task c place = (place ≡ 0) × ¬ IsFairAtGoals task (numbered_atoms task c.atoms) (potentials_of c)
 IsUnfairAtGoalsIn two task c place = (place ≡ 0) × ¬ IsFairAtGoals task (numbered_atoms task c.atoms) (potentials_of c)
 IsUnfairAtGoalsIn three task c place = (h : TableFunction) × (slice_get (functions_of (several_of c)) place ≡ Some h) × ¬ fair_tables.IsFairAtGoals task (numbered_atoms task c.atoms) h
 
--- and the same of what reports dead ends, of which nothing may be lost
+-- the same for the function for dead ends, with allowance 0
 abbrev pub IsDeadUnfairIn : Version → Task → Certificate → Instance → Type 0
 IsDeadUnfairIn one task c i = MayLose 0 task c c.dead_ends i
 IsDeadUnfairIn two task c i = MayLose 0 task c c.dead_ends i
@@ -112,60 +112,61 @@ IsDeadUnfairAtGoalsIn one task c = ¬ IsFairAtGoals task (numbered_atoms task c.
 IsDeadUnfairAtGoalsIn two task c = ¬ IsFairAtGoals task (numbered_atoms task c.atoms) c.dead_ends
 IsDeadUnfairAtGoalsIn three task c = ¬ fair_tables.IsFairAtGoals task (numbered_atoms task c.atoms) (dead_ends_of (several_of c))
 
--- ---- what is wrong
+-- ---- faults
 
--- What is wrong with a line of the certificate's text, or with one of its values, by the place of the value, from 0; what
--- reports dead ends comes behind them.
+-- The faults of a line of the certificate's text, or of one of its values, given by the value's index, from 0; the function for
+-- dead ends comes after them.
 abbrev pub IsWrongAt : Task → Certificate → Reason → ℕ → Type 0
 -- its atom is not well-typed, or its predicate is static
 IsWrongAt task c not_fluent line = (a : Atom) × HasAtom c line a × ((is_atom task a && is_fluent task a.predicate) ≡ false)
--- its exchange is no symmetry of the task, or takes a numbered atom to one that has no number
+-- its exchange is not a symmetry of the task, or maps a numbered atom to one without a number
 IsWrongAt task c not_symmetry line = (e : Exchange) × HasExchange c line e × (is_symmetry_for task c e ≡ false)
--- its atom, or its state, is in a line before
+-- its atom, or its state, occurs in an earlier line
 IsWrongAt task c repeated line = IsRepeatedAtom c line ⊎ IsRepeatedState task c line
--- its open state meets the goal, at a cost that the claim does not allow
+-- its open state satisfies the goal, at a cost that the claim does not allow
 IsWrongAt task c goal_open line = (l : Line State) × HasState task c line l × (l.mark ≡ opened) × IsTrue (meets_goal task l.state) × ¬ Allows c.claim l.cost
--- an instance leads from its open state to one like which none is listed
+-- an instance leads from its open state to a state whose class is not listed
 IsWrongAt task c successor_missing line =
     (l : Line State) × (i : Instance) × (next : State) × LeadsFrom task c line l i next × ¬ IsListed (AreAlikeFor task c) (lines_of task c) next
--- an instance leads from its open state to one like which some are listed, but none at so little as its cost and that of the instance
+-- an instance leads from its open state to a state whose class is listed, but not at a cost as low as the open state's plus the
+-- instance's
 IsWrongAt task c successor_dearer line =
     (l : Line State) × (i : Instance) × (next : State) × LeadsFrom task c line l i next × IsListed (AreAlikeFor task c) (lines_of task c) next
     × ¬ IsListedWithin (AreAlikeFor task c) (lines_of task c) next (l.cost + (system_of task).cost i)
--- its cut's bound is more than the state's value, or what it claims is less than what is claimed
+-- its cut's bound exceeds the state's value, or its cost plus the bound is below the claim
 IsWrongAt task c cut_weak line =
     (l : Line State) × (rest : ℕ) × HasState task c line l × (l.mark ≡ cut rest) × ((value_of task c l.state < rest) ⊎ ¬ Allows c.claim (l.cost + rest))
--- it is a cut, and it is claimed that no list solves
+-- it is a cut although the claim is that no list solves the task
 IsWrongAt task c cut_not_allowed line = (l : Line State) × (rest : ℕ) × HasState task c line l × (l.mark ≡ cut rest) × (c.claim ≡ none)
--- it is listed as a dead end, and its value is not at least 1
+-- it is listed as a dead end, but its value is below 1
 IsWrongAt task c not_dead line = (l : Line State) × HasState task c line l × (l.mark ≡ dead) × (is_dead_end_of task c l.state ≡ false)
--- a kept instance may lose more of the value at this place than it costs
+-- a kept instance may lose more than its cost by the value at this index
 IsWrongAt task c unfair place = (i : Instance) × IsUnfairIn c.version task c place i
--- more than 0 of it may be left at a goal
+-- the value in goal states may exceed 0
 IsWrongAt task c unfair_goal place = IsUnfairAtGoalsIn c.version task c place
--- a kept instance may make what reports dead ends fall
+-- a kept instance may make the function for dead ends fall
 IsWrongAt task c dead_unfair place = (place ≡ length c.values) × (i : Instance) × IsDeadUnfairIn c.version task c i
--- more than 0 of it may be left at a goal
+-- that function's value in goal states may exceed 0
 IsWrongAt task c dead_unfair_goal place = (place ≡ length c.values) × IsDeadUnfairAtGoalsIn c.version task c
 IsWrongAt task c _ line = ⊥
 
--- What is wrong, and neither with a line nor with a value: with the whole certificate, with the plan, if one is given, or with the
--- ground task in which the certificate's atoms have the first numbers, of whose instances at most `most` may be kept.
+-- The faults that concern neither a line nor a value, but the whole certificate, the plan, if one is given, or the ground task in
+-- which the certificate's atoms have the first numbers, and of which at most `most` instances may be kept.
 abbrev pub IsWrong : Task → Certificate → Option (List Instance) → ℕ → Reason → Type 0
--- no state that is alike the initial one is listed at 0
+-- no state in the class of the initial state is listed at cost 0
 IsWrong task c plan most no_initial = ¬ IsListedWithin (AreAlikeFor task c) (lines_of task c) (system_of task).initial 0
 -- the plan does not solve the task
 IsWrong task c plan most plan_invalid = MatchOption plan ⊥ (λ p. ¬ Solves (system_of task) p)
--- the plan solves it, and costs more than is claimed
+-- the plan solves the task, but costs more than the claim
 IsWrong task c plan most plan_dearer =
     MatchOption plan ⊥ (λ p. (least : ℕ) × (c.claim ≡ bound least) × Solves (system_of task) p × (least < cost_of_all (system_of task) p))
--- more instances are kept, or too many atoms have numbers
+-- too many instances are kept, or too many atoms numbered
 IsWrong task c plan most limit = IsSome (exceeded_limit most max_numbered_atoms task c.atoms)
 IsWrong task c plan most _ = ⊥
 
--- The checker looks for what is wrong in this order: it reads the lines one by one, grounds the task, looks whether the exchanges
--- are symmetries, one line after another, whether the values are fair, one after another, and what reports dead ends is dead-fair, looks for the initial state, goes through the state lines
--- one by one, and holds the plan against the claim.
+-- The checker's order: it reads the lines, grounds the task, tests whether the exchanges are symmetries, line by line, whether
+-- the values are fair, one after another, and the function for dead ends dead-fair, looks for the initial state, checks the state
+-- lines one by one, and compares the plan with the claim.
 abbrev pub stage_of : Reason → ℕ
 stage_of not_fluent = 0
 stage_of repeated = 0
@@ -185,7 +186,7 @@ stage_of not_dead = 5
 stage_of plan_invalid = 6
 stage_of plan_dearer = 6
 
--- and of one line in this order; of a line's successors it reports the first one that is not as it is to be
+-- within a line this order; of a line's successors, the first wrong one is reported
 abbrev pub rank_of : Reason → ℕ
 rank_of repeated = 1
 rank_of cut_not_allowed = 2
@@ -197,18 +198,17 @@ rank_of successor_dearer = 1
 rank_of plan_dearer = 1
 rank_of _ = 0
 
--- the one reason comes before the other, in these lines, or in the values at these places; what is wrong with neither is
--- reported as in line 0
+-- the order of faults, by lines or by the indices of values; a fault of neither counts as in line 0
 abbrev pub ComesBefore : Reason → ℕ → Reason → ℕ → Type 0
 ComesBefore earlier line later other =
     (stage_of earlier < stage_of later) ⊎ ((stage_of earlier ≡ stage_of later) × ((line < other) ⊎ ((line ≡ other) × (rank_of earlier < rank_of later))))
 
--- nothing is wrong that comes before
+-- no fault comes before
 abbrev pub IsFirst : Task → Certificate → Option (List Instance) → ℕ → Reason → ℕ → Type 0
 IsFirst task c plan most reason line =
     (earlier : Reason) (before : ℕ) → ComesBefore earlier before reason line → ¬ (IsWrongAt task c earlier before ⊎ IsWrong task c plan most earlier)
 
--- no plan is given, or one that solves the task and costs no more than is claimed
+-- no plan is given, or one that solves the task and costs no more than the claim
 abbrev pub IsPlanWithin : Task → Claim → Option (List Instance) → Type 0
 IsPlanWithin task claim None = Unit {0}
 IsPlanWithin task (bound least) (Some p) = Solves (system_of task) p × (cost_of_all (system_of task) p ≤ least)

@@ -1,5 +1,5 @@
--- The text of a certificate, version 1, 2 or 3, and the first line at which a text that is none is at fault. The format is this
--- repository's own; docs/certificates.md shows it. Every certificate has one text, and a text is at most one certificate.
+-- The text of a certificate, version 1, 2 or 3, and the first faulty line of a text that is not one. The format is this
+-- repository's own; docs/certificates.md shows it. Every certificate has exactly one text, and a text is at most one certificate.
 use Rattle.std.specs.Prelude.{◌≡◌, ◌≢◌, ℕ, ◌+◌, ◌<◌, ◌≤◌, ◌==◌, Bool, true, false, not, ◌&&◌, nat_le, ℤ, IsTrue, List, [], ◌∷◌, ◌++◌, codes, length, map, Contains}
 use Rattle.std.specs.Fmt.{decimal, signed_decimal}
 use Rattle.std.specs.List.{flat_map, list_all, list_any}
@@ -9,25 +9,25 @@ use Rattle.table_functions.specs.TableFunctions.{Row}
 use Rattle.model.specs.Resolution.{is_same}
 use Rattle.model.specs.PlanWriting.{is_lower_name}
 
--- ---- what is in a text
+-- ---- the content of a text
 
 -- an atom, by the names of its predicate and its objects
 pub record NamedAtom : Type 0 where
   pub predicate : List ℕ
   pub objects : List (List ℕ)
 
--- an atom and its weights: one for each value and, last, one for dead ends, which version 1 does not write
+-- an atom with its weights: one for each value and, last, one for dead ends, which version 1 does not write
 pub record WeightedAtom : Type 0 where
   pub weights : List ℤ
   pub atom : NamedAtom
 
--- a line of a table, which begins with its scope: a row belongs to the last scope before it
+-- a line of a table: a scope, which begins it, or a row, which belongs to the last scope before it
 pub data TableLine : Type 0 where
   scope : List ℕ → TableLine
   row : Row → TableLine
 
--- what a text says: a claim, exchanges of objects, of each the names two by two, values, and a listing of states; atoms are named
--- by their numbers, from 0 on
+-- what a text says: a claim, exchanges given by pairs of names, values, and a listing of states; atoms are referred to by number,
+-- from 0
 pub record NamedCertificate : Type 0 where
   pub version : Version
   pub claim : Claim
@@ -41,14 +41,14 @@ pub record NamedCertificate : Type 0 where
 pub data TextLine : Type 0 where
   version : Version → TextLine
   claims : Claim → TextLine
-  -- constants, as many as an atom has weights
+  -- constants; an atom has one weight for each
   constant : List ℤ → TextLine
-  -- names of objects: the first and the second change places, the third and the fourth, and so on
+  -- names of objects: the first is swapped with the second, the third with the fourth, and so on
   swapped : List (List ℕ) → TextLine
   atom : WeightedAtom → TextLine
   tabled : TableLine → TextLine
   listed : StateLine → TextLine
-  -- the last line, with the count of those that list states
+  -- the last line, with the number of state lines
   last : ℕ → TextLine
 
 -- a blank and this word
@@ -67,7 +67,7 @@ weights_text = flat_map (λ (w : ℤ). after_blank (signed_decimal w))
 abbrev pub numbers_text : List ℕ → List ℕ
 numbers_text = flat_map (λ (number : ℕ). after_blank (decimal number))
 
--- a state's mark and its cost, and of a cut what follows at least
+-- a state's role and its cost, and for a cut the lower bound of the remaining cost
 abbrev pub mark_text : Mark → ℕ → List ℕ
 mark_text opened cost = codes "open " ++ decimal cost
 mark_text (cut rest) cost = codes "cut " ++ decimal cost ++ after_blank (decimal rest)
@@ -103,61 +103,61 @@ text_lines c = version c.version ∷ claims c.claim ∷ constant c.constants ∷
 abbrev pub most_atoms : ℕ
 most_atoms = 1048576
 
--- the most exchanges
+-- the maximum number of exchanges
 abbrev pub most_swaps : ℕ
 most_swaps = 1048576
 
--- the most tables
+-- the maximum number of tables
 abbrev pub most_tables : ℕ
 most_tables = 4194304
 
--- the most rows of all tables together
+-- the maximum number of rows of all tables together
 abbrev pub most_rows : ℕ
 most_rows = 4194304
 
 abbrev pub most_states : ℕ
 most_states = 16777216
 
--- how many bytes a line may have without its LF
+-- the maximum length of a line, in bytes without LF
 abbrev pub longest_line : ℕ
 longest_line = 16777216
 
--- What the lines of a text have in common: its version, how many weights an atom has, and how many atoms there are.
+-- The form of the lines of a text: its version, the number of weights of an atom, and the number of atoms.
 pub record Format : Type 0 where
   pub version : Version
   pub weights : ℕ
   pub atoms : ℕ
 
--- how many constants there may be: in version 1 one, in version 2 two, in version 3 from 2 to 33
+-- the allowed number of constants: one in version 1, two in version 2, from 2 to 33 in version 3
 abbrev pub is_weight_count : Version → ℕ → Bool
 is_weight_count one count = count == 1
 is_weight_count two count = count == 2
 is_weight_count three count = nat_le 2 count && nat_le count 33
 
--- a scope has an atom at least, and a row's atoms may be none
+-- a scope has at least one atom; a row may have none
 abbrev pub is_table_line : Format → TableLine → Bool
 is_table_line f (scope atoms) = rise f.atoms 0 atoms && nat_le 1 (length atoms)
 is_table_line f (row r) = are_weights f.weights r.weights && rise f.atoms 0 r.atoms
 
--- two by two none is left over
+-- the number of elements is even
 abbrev pub are_paired : {X : Type 0} → List X → Bool
 are_paired [] = true
 are_paired (x ∷ []) = false
 are_paired (x ∷ y ∷ rest) = are_paired rest
 
--- no name is there twice
+-- no name is repeated
 abbrev pub differ : List (List ℕ) → Bool
 differ [] = true
 differ (name ∷ rest) = not (list_any (is_same name) rest) && differ rest
 
--- two names at least, names in lower case, of which two by two none is left over, and none is there twice
+-- at least two names in lower case, an even number of them, all different
 abbrev pub are_exchanged : List (List ℕ) → Bool
 are_exchanged names = nat_le 2 (length names) && are_paired names && differ names && list_all is_lower_name names
 
--- The line keeps the limits by itself, in a text of this format: numbers are below 2 to the power 60, constants and weights are
--- at most 2147483647 either way, names are names of a domain file in lower case (PDDL 1.2 manual, "Domains") of at most 255
--- bytes, those of an exchange are two at least, even in number and all different, the numbers of a state's atoms, of a scope and
--- of a row rise and are those of atoms, and the line is not too long.
+-- The line by itself is within the limits, in a text of this format: numbers are below 2 to the power 60, constants and weights
+-- at most 2147483647 in absolute value; names are those of a domain file in lower case (PDDL 1.2 manual, "Domains") with at most
+-- 255 bytes; the names of an exchange are at least two, even in number and all different; the numbers of a state's atoms, of a
+-- scope and of a row ascend and are those of atoms; and the line is not too long.
 abbrev pub is_line : Format → TextLine → Bool
 is_line f (version w) = true
 is_line f (claims claim) = is_claim claim
@@ -168,13 +168,13 @@ is_line f (tabled t) = has_tables f.version && is_table_line f t
 is_line f (listed l) = is_state_line f.version f.atoms l
 is_line f (last count) = is_number count
 
--- how many of the lines begin a table
+-- the number of lines that begin a table
 abbrev pub scope_count : List TableLine → ℕ
 scope_count [] = 0
 scope_count (scope atoms ∷ lines) = 1 + scope_count lines
 scope_count (row r ∷ lines) = scope_count lines
 
--- and how many are rows
+-- and the number of rows
 abbrev pub row_count : List TableLine → ℕ
 row_count [] = 0
 row_count (scope atoms ∷ lines) = row_count lines
@@ -189,24 +189,24 @@ begin_with_scope (row r ∷ lines) = false
 abbrev pub format_of : NamedCertificate → Format
 format_of c = record { version = c.version; weights = length c.constants; atoms = length c.atoms }
 
--- the certificate keeps all limits
+-- the certificate is within all limits
 abbrev pub keeps_text_limits : NamedCertificate → Bool
 keeps_text_limits c =
     (nat_le (length c.swaps) most_swaps && nat_le (length c.atoms) most_atoms) && (begin_with_scope c.tables && nat_le (scope_count c.tables) most_tables && nat_le (row_count c.tables) most_rows) && nat_le (length c.lines) most_states
     && list_all (is_line (format_of c)) (text_lines c)
 
--- The text is this certificate.
+-- The text is that of this certificate.
 pub record IsCertificateText (text : List ℕ) (c : NamedCertificate) : Type 0 where
   pub within : IsTrue (keeps_text_limits c)
   pub lines : text ≡ text_of (text_lines c)
 
 -- ---- faults
 
--- these lines are those of a certificate
+-- these are the lines of a certificate
 abbrev pub AreWhole : List TextLine → Type 0
 AreWhole lines = (c : NamedCertificate) × IsTrue (keeps_text_limits c) × (text_lines c ≡ lines)
 
--- these lines begin those of a certificate
+-- these lines are a prefix of those of a certificate
 abbrev pub BeginCertificate : List TextLine → Type 0
 BeginCertificate lines = (rest : List TextLine) × AreWhole (lines ++ rest)
 
@@ -214,11 +214,11 @@ BeginCertificate lines = (rest : List TextLine) × AreWhole (lines ++ rest)
 abbrev pub MayFollow : List TextLine → List ℕ → Type 0
 MayFollow before bytes = (line : TextLine) × BeginCertificate (before ++ line ∷ []) × (line_text line ≡ bytes)
 
--- they are the first line of another version
+-- the first line for another version
 abbrev pub IsOtherVersion : List TextLine → List ℕ → Type 0
 IsOtherVersion before bytes = (before ≡ []) × (number : ℕ) × IsTrue (is_number number) × (number ≢ 1) × (number ≢ 2) × (number ≢ 3) × (bytes ≡ codes "pddl-cert " ++ decimal number)
 
--- the first lines of a text: all but some of the last exchanges, atoms, tables and states, and the last line
+-- a prefix of a text's lines: all but some of the last exchanges, atoms, tables and states, and the last line
 pub record Beginning : Type 0 where
   pub version : Version
   pub claim : Claim
@@ -234,8 +234,8 @@ head_lines b = version b.version ∷ claims b.claim ∷ constant b.constants ∷
 abbrev pub format_in : Beginning → Format
 format_in b = record { version = b.version; weights = length b.constants; atoms = length b.atoms }
 
--- they are a line of an exchange, an atom, a table, a row or a state that may occur there but for the limit, which the lines before
--- have used up
+-- a line of an exchange, an atom, a table, a row or a state that would be allowed there if the lines before did not exhaust the
+-- limit
 pub data IsOneTooMany (before : List TextLine) (bytes : List ℕ) : Type 0 where
   swaps : (b : Beginning) (names : List (List ℕ)) → before ≡ head_lines b → b.atoms ≡ [] → b.tables ≡ [] → b.states ≡ [] → length b.swaps ≡ most_swaps
       → IsTrue (is_line (format_in b) (swapped names)) → bytes ≡ line_text (swapped names) → IsOneTooMany before bytes
@@ -256,23 +256,23 @@ IsInOneLine bytes = ¬ Contains bytes 10
 abbrev pub HasLine : List ℕ → List ℕ → Type 0
 HasLine bytes line = (more : List ℕ) × (bytes ≡ line ++ codes "\n" ++ more) × IsInOneLine line × (length line ≤ longest_line)
 
--- What comes after these lines, which begin a certificate, is at fault, and the number is reported for it.
+-- The bytes after these lines, which are a prefix of a certificate, are faulty, and the number is reported.
 pub data IsFaultAfter (before : List TextLine) (bytes : List ℕ) : ℕ → Type 0 where
   -- another version
   other_version : (line : List ℕ) → HasLine bytes line → IsOtherVersion before line → IsFaultAfter before bytes 41
-  -- a line that cannot occur in its place
+  -- a line that is invalid at its place
   malformed : (line : List ℕ) → HasLine bytes line → ¬ MayFollow before line → ¬ IsOtherVersion before line → ¬ IsOneTooMany before line
       → IsFaultAfter before bytes 40
-  -- a line that is too long, whether its LF comes or not
+  -- a line that is too long, whether or not its LF comes
   too_long : (front rest : List ℕ) → bytes ≡ front ++ rest → longest_line < length front → IsInOneLine front → IsFaultAfter before bytes 40
   -- a byte after the last line
   trailing : AreWhole before → bytes ≢ [] → IsFaultAfter before bytes 40
-  -- the text ends before the last line does
+  -- the text ends before its last line does
   cut_short : ¬ AreWhole before → IsInOneLine bytes → length bytes ≤ longest_line → IsFaultAfter before bytes 42
-  -- an exchange, an atom, a table, a row or a state too many
+  -- too many exchanges, atoms, tables, rows or states
   too_many : (line : List ℕ) → HasLine bytes line → IsOneTooMany before line → IsFaultAfter before bytes 55
 
--- The number is reported for this line, counted from 1, which is the first at fault: the lines before it begin a certificate.
+-- The number is reported for this line, counted from 1, the first faulty one: the lines before it are a prefix of a certificate.
 pub record IsTextFault (text : List ℕ) (number line : ℕ) : Type 0 where
   pub before : List TextLine
   pub bytes : List ℕ

@@ -1,5 +1,5 @@
--- Worked examples of lines of certificates' texts: where each may occur, and what is wrong with others. Each is chosen so that
--- a wrong reading says otherwise.
+-- Worked examples of lines of certificate texts: where each may occur, and the faults of others. Each is chosen to expose a wrong
+-- reading.
 use Rattle.std.specs.Prelude.{◌≡◌, ℕ, ℤ, pos, false, true, List, [], ◌∷◌, ◌++◌, codes, Option, None, Some}
 use Rattle.model.specs.Examples.{tie_task}
 use Rattle.model.specs.Claims.{bound}
@@ -18,7 +18,7 @@ weighs weights name = record { weights = weights; atom = record { predicate = na
 abbrev pub zeros : List ℤ
 zeros = pos 0 ∷ pos 0 ∷ pos 0 ∷ []
 
--- the line of a row of these atoms
+-- the line of a row with these atoms
 abbrev pub row_line : List ℤ → List ℕ → TextLine
 row_line weights atoms = tabled (row (record { atoms = atoms; weights = weights }))
 
@@ -26,14 +26,14 @@ row_line weights atoms = tabled (row (record { atoms = atoms; weights = weights 
 abbrev pub first_lines : List TextLine
 first_lines = version three ∷ claims (bound 2) ∷ constant (pos 2 ∷ pos 1 ∷ pos 0 ∷ []) ∷ atom (weighs zeros (codes "p")) ∷ atom (weighs zeros (codes "q")) ∷ []
 
--- those of its one table, of both atoms: its rows are that none is true, and that both are
+-- the lines of its single table, over both atoms: one row where none is true, and one where both are
 abbrev pub table_lines_of_both : List TextLine
 table_lines_of_both = tabled (scope (0 ∷ 1 ∷ [])) ∷ row_line zeros [] ∷ row_line (minus 2 ∷ pos 0 ∷ pos 1 ∷ []) (0 ∷ 1 ∷ []) ∷ []
 
 abbrev pub last_lines : List TextLine
 last_lines = listed (open_at 0 []) ∷ last 1 ∷ []
 
--- a certificate of one table of both atoms, which has a row with these weights and these atoms
+-- a certificate with one table over both atoms, which has a row with these weights and atoms
 abbrev pub with_row : Version → List ℤ → List ℕ → Certificate
 with_row v weights atoms = record {
   version = v;
@@ -46,15 +46,15 @@ with_row v weights atoms = record {
   lines = [];
 }
 
--- what a text with one atom says of values and of dead ends
+-- what a text with one atom says about values and dead ends
 abbrev pub said_of : Version → (constants weights : List ℤ) → NamedCertificate
 said_of v constants weights = record { version = v; claim = bound 0; constants = constants; swaps = []; atoms = weighs weights (codes "p") ∷ []; tables = []; lines = [] }
 
--- the place after these lines, in a text of this version with so many constants, behind two atoms
+-- the state after these lines, in a text of this version with this many constants, after two atoms
 abbrev pub behind_atoms : Version → ℕ → List TextLine → Option CertificatePlace
 behind_atoms v weights = place_from (in_body (record { format = record { version = v; weights = weights; atoms = 2 }; swaps = 0; tables = 0; rows = 0; states = 0 }))
 
--- the place after these lines, in a text of this version, behind its constants
+-- the state after these lines, in a text of this version, after its constants
 abbrev pub behind_constants : Version → List TextLine → Option CertificatePlace
 behind_constants v = place_from (in_body (record { format = record { version = v; weights = 2; atoms = 0 }; swaps = 0; tables = 0; rows = 0; states = 0 }))
 
@@ -66,41 +66,42 @@ pub record AreTextsJudged : Type 0 where
   pub atom_behind_a_table : behind_atoms three 3 (table_lines_of_both ++ atom (weighs zeros (codes "r")) ∷ []) ≡ None
   pub row_behind_a_state : behind_atoms three 3 (table_lines_of_both ++ listed (open_at 0 []) ∷ row_line zeros (0 ∷ []) ∷ []) ≡ None
   pub table_behind_a_state : behind_atoms three 3 (listed (open_at 0 []) ∷ tabled (scope (0 ∷ [])) ∷ []) ≡ None
-  -- A scope has an atom at least, and its numbers rise and are those of atoms; so are a row's, which has as many weights as
-  -- there are constants.
+  -- A scope has at least one atom, and its numbers ascend and are those of atoms; the same holds for a row, which has one weight
+  -- for each constant.
   pub empty_scope : behind_atoms three 3 (tabled (scope []) ∷ []) ≡ None
   pub numbers_rise : behind_atoms three 3 (tabled (scope (1 ∷ 0 ∷ [])) ∷ []) ≡ None
   pub another_number : behind_atoms three 3 (tabled (scope (2 ∷ [])) ∷ []) ≡ None
   pub weight_missing : behind_atoms three 3 (tabled (scope (0 ∷ [])) ∷ row_line (pos 0 ∷ pos 0 ∷ []) [] ∷ []) ≡ None
-  -- Version 3 has two constants at least, and version 2 just two; neither version 1 nor 2 has tables.
+  -- Version 3 has at least two constants, and version 2 exactly two; versions 1 and 2 have no tables.
   pub one_constant : place_after (version three ∷ claims (bound 2) ∷ constant (pos 2 ∷ []) ∷ []) ≡ None
   pub three_in_version_2 : place_after (version two ∷ claims (bound 2) ∷ constant zeros ∷ []) ≡ None
   pub table_in_version_2 : behind_atoms two 2 (tabled (scope (0 ∷ [])) ∷ []) ≡ None
-  -- Exchanges come after the constants, before all else.
+  -- Exchanges come right after the constants.
   pub exchanges : behind_constants three (swapped (codes "a" ∷ codes "b" ∷ []) ∷ swapped (codes "b" ∷ codes "c" ∷ codes "d" ∷ codes "a" ∷ []) ∷ last_lines) ≡ Some ended
   pub exchange_behind_atoms : behind_atoms three 2 (swapped (codes "a" ∷ codes "b" ∷ []) ∷ []) ≡ None
   pub exchange_behind_a_state : behind_constants three (listed (open_at 0 []) ∷ swapped (codes "a" ∷ codes "b" ∷ []) ∷ []) ≡ None
   pub exchange_in_version_1 : behind_constants one (swapped (codes "a" ∷ codes "b" ∷ []) ∷ []) ≡ None
   pub exchange_in_version_2 : behind_constants two (swapped (codes "a" ∷ codes "b" ∷ []) ∷ []) ≡ None
-  -- Of an exchange the names are two at least, none is left over, and none is there twice.
+  -- The names of an exchange are at least two, even in number, and all different.
   pub no_names : behind_constants three (swapped [] ∷ []) ≡ None
   pub one_left_over : behind_constants three (swapped (codes "a" ∷ codes "b" ∷ codes "c" ∷ []) ∷ []) ≡ None
   pub name_twice : behind_constants three (swapped (codes "a" ∷ codes "b" ∷ codes "c" ∷ codes "a" ∷ []) ∷ []) ≡ None
   pub capital_letter : behind_constants three (swapped (codes "a" ∷ codes "B" ∷ []) ∷ []) ≡ None
-  -- A name that no object has is the number of none.
+  -- An unknown name gives a number that is no object's.
   pub exchange_of_balls : exchange_said gripper (codes "ball2" ∷ codes "ball1" ∷ codes "left" ∷ codes "right" ∷ []) ≡ (3, 2) ∷ (4, 5) ∷ []
   pub exchange_of_none : exchange_said gripper (codes "ball1" ∷ codes "ball3" ∷ []) ≡ (2, 6) ∷ []
   pub exchange_is_written : named_exchange gripper ((3, 2) ∷ (4, 5) ∷ []) ≡ codes "ball2" ∷ codes "ball1" ∷ codes "left" ∷ codes "right" ∷ []
-  -- The atoms of a row are of its table's scope.
+  -- The atoms of a row are in its table's scope.
   pub row_of_scope : keeps_limits (with_row three (pos 0 ∷ pos 0 ∷ []) (1 ∷ [])) ≡ true
   pub row_of_others : keeps_limits (with_row three (pos 0 ∷ pos 0 ∷ []) (0 ∷ [])) ≡ false
   pub row_without_weights : keeps_limits (with_row three (pos 0 ∷ []) (1 ∷ [])) ≡ false
   pub tables_of_version_2 : keeps_limits (with_row two (pos 0 ∷ pos 0 ∷ []) (1 ∷ [])) ≡ false
-  -- The last of several weights is that of dead ends; version 1 writes none.
+  -- The last of several weights is that for dead ends; version 1 writes none.
   pub values_of_version_1 : values_said (said_of one (pos 3 ∷ []) (pos 4 ∷ [])) ≡ potentials (pos 3) (pos 4 ∷ []) ∷ []
   pub dead_ends_of_version_1 : dead_ends_said (said_of one (pos 3 ∷ []) (pos 4 ∷ [])) ≡ potentials (pos 0) (pos 0 ∷ [])
   pub values_of_version_3 : values_said (said_of three (pos 3 ∷ pos 5 ∷ pos 7 ∷ []) (pos 4 ∷ pos 6 ∷ pos 8 ∷ [])) ≡ potentials (pos 3) (pos 4 ∷ []) ∷ potentials (pos 5) (pos 6 ∷ []) ∷ []
   pub dead_ends_of_version_3 : dead_ends_said (said_of three (pos 3 ∷ pos 5 ∷ pos 7 ∷ []) (pos 4 ∷ pos 6 ∷ pos 8 ∷ [])) ≡ potentials (pos 7) (pos 8 ∷ [])
-  -- A row is of the last scope before it, and is once in its table, whatever it weighs; another table may have it too.
+  -- A row belongs to the last scope before it and occurs once in its table, whatever its weights; another table may have the same
+  -- row.
   pub row_of_another_scope : IsWrongAfter tie_task (first_lines ++ tabled (scope (1 ∷ [])) ∷ tabled (scope (0 ∷ [])) ∷ []) (row_line zeros (1 ∷ [])) 40
   pub row_twice : IsWrongAfter tie_task (first_lines ++ table_lines_of_both) (row_line zeros (0 ∷ 1 ∷ [])) 44

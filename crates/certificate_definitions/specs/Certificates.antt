@@ -1,4 +1,4 @@
--- Certificates, and when one is closed for a task.
+-- Certificates, and when they are closed for a task.
 use Rattle.std.specs.Prelude.{◌≡◌, ◌≢◌, ℕ, zero, ◌+◌, ◌==◌, Bool, true, false, ◌&&◌, nat_lt, nat_le, ℤ, pos, negsuc, IsTrue, List, [], ◌∷◌, ◌++◌, map, length, get_or, All, AllPairs, slice_get}
 use Rattle.std.specs.List.{list_all, filter_map, flat_map}
 use Rattle.std.specs.FinSet.{from_list}
@@ -17,24 +17,23 @@ use Rattle.symmetries.specs.Exchanges.{Exchange}
 use Rattle.symmetries.specs.Symmetries.{is_symmetry}
 use Rattle.symmetries.specs.Orbits.{AreAlike, keeps_atoms}
 
--- The versions of a certificate's text. From version 2 on a state may be listed as a dead end. In version 3 a state may have
--- several values, these may look at tables, and one state may stand for all that exchanges of objects take into one another.
+-- The versions of a certificate's text. From version 2 on, states may be listed as dead ends. In version 3 a state may have
+-- several values, these may use tables, and a state may represent all states that exchanges of objects map to it.
 pub data Version : Type 0 where
   one : Version
   two : Version
   three : Version
 
--- A line that lists a state: its cost, its mark, and the atoms by their numbers, which are the places, from 0, of the
--- certificate's atoms.
+-- A state line: its cost, its role, and its atoms by number, that is, by index from 0 among the certificate's atoms.
 pub record StateLine : Type 0 where
   pub cost : ℕ
   pub mark : Mark
   pub atoms : List ℕ
 
--- A claim, with what shows it: values that are lower bounds, of which the greatest counts, one by which states are dead ends,
--- and a listing of states. The weights of each are those of the atoms, one for one, and a row of a table has one for each value
--- and, last, one for dead ends. Versions 1 and 2 have one value and no tables: potential functions. And they have no exchanges of
--- objects, by which a state stands for others.
+-- A claim with its evidence: values that are lower bounds, whose maximum counts, one that detects dead ends, and a listing of
+-- states. Each has weights for the atoms, one for one, and a row of a table has one for each value and, last, one for dead ends.
+-- Versions 1 and 2 have one value, a potential function, and no tables. And they have no exchanges of objects, by which a state
+-- represents others.
 pub record Certificate : Type 0 where
   pub version : Version
   pub claim : Claim
@@ -45,7 +44,7 @@ pub record Certificate : Type 0 where
   pub tables : List Table
   pub lines : List StateLine
 
--- the first value, which is the only one of versions 1 and 2; 0 where there is none
+-- the first value, the only one in versions 1 and 2; 0 if there is none
 abbrev pub potentials_of : Certificate → PotentialFunction
 potentials_of certificate = get_or certificate.values 0 (record { constant = pos 0; weights = [] })
 
@@ -54,11 +53,11 @@ several_of certificate = record { values = certificate.values; dead_ends = certi
 
 -- ---- limits
 
--- a number that a certificate's text may have: below 2 to the power 60
+-- a number that may occur in a certificate's text: below 2 to the power 60
 abbrev pub is_number : ℕ → Bool
 is_number n = nat_lt n 1152921504606846976
 
--- a constant or a weight that a certificate's text may have: at most 2147483647, and no less than its negative
+-- a constant or a weight that may occur in a certificate's text: at most 2147483647 in absolute value
 abbrev pub is_weight : ℤ → Bool
 is_weight (pos n) = nat_le n 2147483647
 is_weight (negsuc n) = nat_lt n 2147483647
@@ -67,12 +66,12 @@ abbrev pub is_claim : Claim → Bool
 is_claim (bound least) = is_number least
 is_claim none = true
 
--- the numbers are strictly rising, from the least one that is allowed, and name atoms
+-- the numbers are strictly ascending, from the least allowed one, and are those of atoms
 abbrev pub rise : ℕ → ℕ → List ℕ → Bool
 rise atom_count least [] = true
 rise atom_count least (n ∷ rest) = nat_le least n && nat_lt n atom_count && rise atom_count (n + 1) rest
 
--- version 1 knows no dead ends
+-- version 1 has no dead ends
 abbrev pub is_mark : Version → Mark → Bool
 is_mark version opened = true
 is_mark version (cut rest) = is_number rest
@@ -83,14 +82,14 @@ is_mark three dead = true
 abbrev pub is_state_line : Version → ℕ → StateLine → Bool
 is_state_line version atom_count line = is_number line.cost && is_mark version line.mark && rise atom_count 0 line.atoms
 
--- a constant or a weight of dead ends, which is 0 in version 1
+-- a constant or a weight for dead ends, which is 0 in version 1
 abbrev pub is_dead_end_weight : Version → ℤ → Bool
 is_dead_end_weight one (pos zero) = true
 is_dead_end_weight one _ = false
 is_dead_end_weight two w = is_weight w
 is_dead_end_weight three w = is_weight w
 
--- a constant, and a weight for each of so many atoms, of which this is true
+-- a constant, and a weight for each of this many atoms, all of which satisfy this
 abbrev pub are_potentials : (ℤ → Bool) → ℕ → PotentialFunction → Bool
 are_potentials is_in_range atom_count p = is_in_range p.constant && (length p.weights == atom_count) && list_all is_in_range p.weights
 
@@ -100,19 +99,19 @@ is_value_count one count = count == 1
 is_value_count two count = count == 1
 is_value_count three count = nat_le 1 count && nat_le count 32
 
--- so many constants or weights, each within its limits
+-- this many constants or weights, each within its limits
 abbrev pub are_weights : ℕ → List ℤ → Bool
 are_weights count weights = (length weights == count) && list_all is_weight weights
 
--- a row of a table of this scope: its atoms are of the scope
+-- a row of a table with this scope: its atoms are in the scope
 abbrev pub is_row : (atom_count weight_count : ℕ) → List ℕ → Row → Bool
 is_row atom_count weight_count scope r = are_weights weight_count r.weights && rise atom_count 0 r.atoms && list_all (is_among scope) r.atoms
 
--- the scope has an atom at least, and a table may have any rows
+-- the scope has at least one atom, and a table may have any rows
 abbrev pub is_table : (atom_count weight_count : ℕ) → Table → Bool
 is_table atom_count weight_count t = rise atom_count 0 t.scope && nat_le 1 (length t.scope) && list_all (is_row atom_count weight_count t.scope) t.rows
 
--- versions 1 and 2 know no tables
+-- versions 1 and 2 have no tables
 abbrev pub has_tables : Version → Bool
 has_tables one = false
 has_tables two = false
@@ -121,21 +120,21 @@ has_tables three = true
 abbrev pub are_tables : Version → (atom_count weight_count : ℕ) → List Table → Bool
 are_tables version atom_count weight_count = list_all (λ t. has_tables version && is_table atom_count weight_count t)
 
--- versions 1 and 2 know no exchanges
+-- versions 1 and 2 have no exchanges
 abbrev pub has_exchanges : Version → Bool
 has_exchanges one = false
 has_exchanges two = false
 has_exchanges three = true
 
--- an exchange has a pair of objects at least
+-- an exchange has at least one pair of objects
 abbrev pub are_exchanges : Version → List Exchange → Bool
 are_exchanges version = list_all (λ e. has_exchanges version && nat_le 1 (length e))
 
--- all rows, of whichever table
+-- the rows of all tables
 abbrev pub rows_of : List Table → List Row
 rows_of = flat_map (λ (t : Table). t.rows)
 
--- the certificate keeps the limits of a certificate's text, and lists each state by its atoms in their order
+-- the certificate is within the limits of a certificate's text, and each state's atoms are in ascending order
 abbrev pub keeps_limits : Certificate → Bool
 keeps_limits c =
     is_claim c.claim && nat_le (length c.atoms) 1048576 && nat_le (length c.lines) 16777216 && list_all (is_state_line c.version (length c.atoms)) c.lines
@@ -146,7 +145,7 @@ keeps_limits c =
 
 -- ---- listings
 
--- the state that a line lists: its atoms with the initial static ones
+-- the state that a line lists: its atoms and the initial static ones
 abbrev pub state_of_line : Task → Certificate → StateLine → State
 state_of_line task certificate line = from_list (filter_map (slice_get certificate.atoms) line.atoms ++ static_atoms task)
 
@@ -157,19 +156,19 @@ lines_of task certificate =
 
 -- ---- exchanges
 
--- the exchange is a symmetry of the task, and the image of each numbered atom has a number
+-- the exchange is a symmetry of the task, and the image of each numbered atom is numbered
 abbrev pub is_symmetry_for : Task → Certificate → Exchange → Bool
 is_symmetry_for task c exchange = is_symmetry task exchange && keeps_atoms (numbered_atoms task c.atoms) exchange
 
--- The states are alike by the certificate's exchanges: their representatives are the same, where the certificate's atoms have the first
--- numbers. Without exchanges only equal states are.
+-- The states are in the same class by the certificate's exchanges: their representatives are equal, if the certificate's atoms
+-- have the first numbers. Without exchanges, classes are singletons.
 abbrev pub AreAlikeFor : Task → Certificate → State → State → Type 0
 AreAlikeFor task c = AreAlike (numbered_atoms task c.atoms) c.exchanges
 
--- ---- what it says of states
+-- ---- values of states
 
--- The value that the certificate gives to a state: in versions 1 and 2 that of its potential function, to which an atom that has
--- no number adds nothing, and in version 3 the greatest of its values.
+-- The value that the certificate gives a state: in versions 1 and 2 that of its potential function, to which an atom without a
+-- number contributes nothing, and in version 3 the maximum of its values.
 abbrev pub value_in : Version → Task → Certificate → State → ℕ
 value_in one task c state = value_of_state c.atoms (potentials_of c) state
 value_in two task c state = value_of_state c.atoms (potentials_of c) state
@@ -178,7 +177,7 @@ value_in three task c state = greatest_of_state task (numbered_atoms task c.atom
 abbrev pub value_of : Task → Certificate → State → ℕ
 value_of task c = value_in c.version task c
 
--- the certificate says that the state is a dead end
+-- the certificate's values show that the state is a dead end
 abbrev pub is_dead_end_in : Version → Task → Certificate → State → Bool
 is_dead_end_in one task c state = is_dead_state c.atoms c.dead_ends state
 is_dead_end_in two task c state = is_dead_state c.atoms c.dead_ends state
@@ -189,12 +188,13 @@ is_dead_end_of task c = is_dead_end_in c.version task c
 
 -- ---- closed certificates
 
--- the potential functions of versions 1 and 2 are fair and dead-fair for the ground task in which its atoms have the first numbers
+-- the potential functions of versions 1 and 2 are fair and dead-fair for the ground task in which the certificate's atoms have
+-- the first numbers
 pub record ArePotentialsFair (task : Task) (c : Certificate) : Type 0 where
   pub values : AreFair task (numbered_atoms task c.atoms) (potentials_of c)
   pub dead_ends : AreDeadFair task (numbered_atoms task c.atoms) c.dead_ends
 
--- so are all values of version 3, each by itself, and that of dead ends
+-- each value of version 3 is fair, and that for dead ends is dead-fair
 abbrev pub AreFairIn : Version → Task → Certificate → Type 0
 AreFairIn one task c = ArePotentialsFair task c
 AreFairIn two task c = ArePotentialsFair task c
@@ -203,8 +203,8 @@ AreFairIn three task c = fair_tables.AreFair task (numbered_atoms task c.atoms) 
 abbrev pub AreFairFor : Task → Certificate → Type 0
 AreFairFor task c = AreFairIn c.version task c
 
--- Its exchanges are symmetries of the task, its values, which have a weight for each of its atoms, are fair, that of dead ends is
--- dead-fair, and its listing is closed up to the exchanges, by what the values say of the listed states.
+-- Its exchanges are symmetries of the task, its values, which have a weight for each of its atoms, are fair, the one for dead
+-- ends is dead-fair, and its listing is closed up to the exchanges, with the values of the listed states.
 pub record IsClosedFor (task : Task) (certificate : Certificate) : Type 0 where
   pub as_many_values : IsTrue (is_value_count certificate.version (length certificate.values))
   pub one_weight_an_atom : All (λ (p : PotentialFunction). length p.weights ≡ length certificate.atoms) certificate.values

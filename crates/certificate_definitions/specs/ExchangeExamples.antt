@@ -1,4 +1,4 @@
--- Worked examples of certificates with exchanges: which are closed for two lamps that are alike, and what is wrong with others.
+-- Worked examples of certificates with exchanges: which are closed for two interchangeable lamps, and the faults of others.
 use Rattle.std.specs.Prelude.{ℕ, false, List, [], ◌∷◌, codes, None}
 use Rattle.model.specs.Task.{Atom, variable, atom, and, forall, literal, add, by_number, Schema, Task}
 use Rattle.model.specs.Examples.{formulas, lifted, ground, root, untyped, any}
@@ -36,7 +36,7 @@ lamps init = record {
   has_metric = false;
 }
 
--- both are dark at the start; the second is lit at the start
+-- both are initially dark; the second is initially lit
 abbrev pub dark : Task
 dark = lamps []
 
@@ -58,30 +58,30 @@ lamps_by exchanges claim lines = record {
   lines = lines;
 }
 
--- by the exchange of the two lamps, and by none
+-- with the exchange of the two lamps, and with none
 abbrev pub by_exchange : Claim → List StateLine → Certificate
 by_exchange = lamps_by (swapping 0 1 ∷ [])
 
 abbrev pub by_none : Claim → List StateLine → Certificate
 by_none = lamps_by []
 
--- the state in which both are dark is open, and the second lamp alone is lit in the one that is cut
+-- the state in which both are dark is open, and the state in which only the second lamp is lit is a cut
 abbrev pub one_of_two : List StateLine
 one_of_two = open_at 0 [] ∷ cut_at 1 0 (1 ∷ []) ∷ []
 
--- first the first alone, at a cost of 2
+-- first the state with only the first lamp lit, at cost 2
 abbrev pub dearer_first : List StateLine
 dearer_first = open_at 0 [] ∷ cut_at 2 0 (0 ∷ []) ∷ cut_at 1 0 (1 ∷ []) ∷ []
 
 pub record AreExchangesJudged : Type 0 where
-  -- Of the states in which one of the two lamps is lit, either may be listed for both.
+  -- Of the two states in which one lamp is lit, either may be listed for both.
   pub one_listed : IsClosedFor dark (by_exchange (bound 1) one_of_two)
   pub one_missing : IsWrongAt dark (by_none (bound 1) one_of_two) successor_missing 6
-  -- Both may be listed; then it is the cheaper one that counts, wherever it is.
+  -- Both may be listed; then the cheaper one counts, wherever it is.
   pub cheaper_counts : IsClosedFor dark (by_exchange (bound 1) dearer_first)
   pub dearer_alone : IsWrongAt dark (by_none (bound 1) dearer_first) successor_dearer 6
   pub both_dearer : IsWrongAt dark (by_exchange (bound 1) (open_at 0 [] ∷ cut_at 2 0 (0 ∷ []) ∷ cut_at 2 0 (1 ∷ []) ∷ [])) successor_dearer 7
-  -- The start need not be its own representative, nor need it be listed.
+  -- The initial state need not be its own representative, nor need it be listed itself.
   pub start_listed : IsClosedFor second_lit (by_exchange (bound 0) (cut_at 0 0 (1 ∷ []) ∷ []))
   pub alike_the_start : IsClosedFor second_lit (by_exchange (bound 0) (cut_at 0 0 (0 ∷ []) ∷ []))
   pub start_missing : IsWrong second_lit (by_none (bound 0) (cut_at 0 0 (0 ∷ []) ∷ [])) None 1 no_initial

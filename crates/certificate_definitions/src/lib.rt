@@ -1,2 +1,2 @@
-//! Defines certificates: when one is closed, what its text is and what is refused. No code.
+//! Defines certificates: when they are closed, what their text is, and what is refused. No code.
 #![tactic(auto)]

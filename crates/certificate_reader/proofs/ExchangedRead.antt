@@ -1,4 +1,4 @@
--- Names of objects that change places, two by two and all different.
+-- Names of exchanged objects, in pairs and all different.
 use Rattle.std.proofs.Common.{◌≡◌, ◌∙◌, ℕ, suc, ◌+◌, ◌<◌, ◌%◌, Bool, true, false, not, ◌&&◌, ◌||◌, List, [], ◌∷◌, ◌++◌, length, map, take, drop, get_or, None, Some, Vec, refl, sym, ap, arith}
 use Rattle.std.specs.Prelude.{◌==◌, IsTrue, nat_le, if◌then◌else◌}
 use Rattle.std.specs.declared.alloc.Global.{Global}
@@ -60,7 +60,7 @@ module _ (found : List (List ℕ)) (rest : List ℕ) (lower : IsTrue (list_all i
   pub not_different : differ found ≡ false → (names : List (List ℕ)) → IsTrue (are_exchanged names) → then_words names None ≡ Some rest → ⊥
   not_different twice names are splits = true≢false (sym (ap differ (only_these names are splits) ∙ (passed_by names are).different) ∙ twice)
 
--- ---- no name twice
+-- ---- no repeated name
 
 same-flip : (a b : List ℕ) → is_same a b ≡ is_same b a
 same-flip a b = by_tests (is_same a b) refl (is_same b a) refl
@@ -99,7 +99,7 @@ repeats_go_on (x ∷ xs) ys twice = by_here (repeats_go_on xs ys) (list_any (is_
     by_here rest true is _ = ap (λ b. not b && differ (xs ++ ys)) (list_any-append (is_same x) xs ys ∙ ap (λ b. b || list_any (is_same x) ys) is)
     by_here rest false is later = ap (λ b. not (list_any (is_same x) (xs ++ ys)) && b) (rest later) ∙ and_none (not (list_any (is_same x) (xs ++ ys)))
 
--- what the set of the names so far has
+-- the elements of the set of the names so far
 abbrev pub has_name : List ℕ → Vec ℕ Global → Bool
 has_name name key = pointwise ◌==◌ name key.items
 
@@ -132,7 +132,7 @@ module _ (names : List (Vec ℕ Global)) (i : ℕ) (here : Vec ℕ Global) (with
         ap differ one_more ∙ differ_more (map name_of (take i names)) here.items ∙ (λ j. before j && not ((sym known ∙ none) j)),
       )
 
-  -- and one that is there already
+  -- and one that is already there
   pub known_name : not (list_any (has_name key.items) keys) ≡ false → false ≡ differ (map name_of names)
   known_name there =
       let twice : differ (map name_of (take (i + 1) names)) ≡ false =

@@ -1,4 +1,4 @@
--- What is reported for a whole line at a place is the fault of the text there.
+-- What is reported for a whole line at a stage is the fault of the text there.
 use Rattle.std.proofs.Common.{◌≡◌, ◌≢◌, ℕ, List, [], ◌∷◌, ◌++◌, codes, Option, None, Some, sym, ap, ◌∙◌, subst}
 use Rattle.std.specs.Prelude.{IsTrue}
 use Rattle.std.specs.Option.{option_and_then}
@@ -10,7 +10,7 @@ use Rattle.certificate_definitions.proofs.Machine.{ComesBefore, occurs, followed
 use Rattle.certificate_definitions.proofs.TooMany.{IsTooManyAt, a_swap, an_atom, a_scope, a_row, a_state, too_many_at, too_many_of}
 use Rattle.certificate_reader.specs.Stages.{IsOver}
 
--- ---- limits, in both words
+-- ---- limits, in both formulations
 
 over_is : (place : CertificatePlace) (line : TextLine) (bytes : List ℕ) → IsTrue (is_line (format_at place) line) → IsOver place line → line_text line ≡ bytes → IsTooManyAt place bytes
 over_is (in_body b) (swapped names) bytes is (no_atom, none_yet, empty, full) same = a_swap names no_atom none_yet empty full is (sym same)
@@ -67,7 +67,7 @@ module _ (before : List TextLine) (place : CertificatePlace) (leads : place_afte
       not_over : IsOneTooMany before line → ⊥
       not_over over = let (l, is, limit, same) = over_of place line (too_many_at before place leads line over) in within l is limit same
 
--- the place after one line more
+-- the stage after one more line
 line_after : (lines : List TextLine) (from place next : CertificatePlace) (line : TextLine) → place_from from lines ≡ Some place → next_place place line ≡ Some next
     → place_from from (lines ++ line ∷ []) ≡ Some next
 line_after [] from place next line leads is =

@@ -1,4 +1,4 @@
--- The first place of a list at which a test passes, and where it is looked for after places at which it does not.
+-- The first index of a list at which a test passes, and its search after indices at which the test fails.
 use Rattle.std.proofs.Common.{◌≡◌, ℕ, suc, zero, ◌+◌, ◌<◌, ◌≤◌, Bool, true, false, not, cond, List, [], ◌∷◌, ◌++◌, drop, length, None, Some, refl, sym, ap, ◌∙◌, subst, length-append, arith}
 use Rattle.std.specs.Prelude.{if◌then◌else◌, nat_lt}
 use Rattle.std.specs.List.{position, position_or_len}
@@ -44,7 +44,7 @@ module _ (test : ℕ → Bool) where
       by_test more true within = absurd (omega (arith, within))
       by_test more false within = let rest = more (omega (arith, within)) in omega (arith, rest)
 
-  -- where nothing passes at the first n places, the first place is found after them
+  -- if the first n indices fail, the first one that passes is found after them
   pub found_after : (n : ℕ) (xs : List ℕ) (k : ℕ) → n ≤ position_or_len test xs → position test (drop n xs) ≡ Some k → position test xs ≡ Some (n + k)
   found_after n xs k before at =
       let first = first_at (drop n xs) k at in
@@ -53,13 +53,13 @@ module _ (test : ℕ → Bool) where
       (lt-ltb (position_or_len test xs) (length xs) (omega (arith, there, first.within, length-drop n xs)))
       ∙ ap (λ k. Some k) there
 
-  -- and where none is found after them, there is none
+  -- and if none is found after them, there is none
   pub nowhere_after : (n : ℕ) (xs : List ℕ) → n ≤ position_or_len test xs → position test (drop n xs) ≡ None → position test xs ≡ None
   nowhere_after n xs before at =
       ap (λ b. cond b (Some (position_or_len test xs)) None)
       (le-ltb (position_or_len test xs) (length xs) (omega (arith, first_after n xs before, passes_nowhere (drop n xs) at, length-drop n xs)))
 
-  -- what comes after brings no earlier place
+  -- appending elements adds no earlier index
   first_grows : (xs ys : List ℕ) → position_or_len test xs ≤ position_or_len test (xs ++ ys)
   first_grows [] ys = omega arith
   first_grows (x ∷ xs) ys = by_test (first_grows xs ys) (test x)
@@ -69,7 +69,7 @@ module _ (test : ℕ → Bool) where
       by_test more true = omega arith
       by_test more false = omega (arith, more)
 
-  -- what was known of a list from a place on stays so where something may have come to its end
+  -- what is known from an index on remains true after elements are appended
   pub known_still : (start n : ℕ) (xs more ys : List ℕ) (came : Bool) → start ≤ length xs → n ≤ position_or_len test (drop start xs)
       → ys ≡ if came then xs ++ more else xs → (start ≤ length ys) × (n ≤ position_or_len test (drop start ys))
   known_still start n xs more ys true within known grown = (

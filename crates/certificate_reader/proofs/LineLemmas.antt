@@ -17,7 +17,7 @@ use Rattle.certificate_reader.specs.Words.{is_blank, is_word, atom_rest, line_he
 use Rattle.certificate_reader.proofs.NumberLemmas.{is_below}
 use Rattle.certificate_reader.proofs.WordLemmas.{one_first}
 
--- ---- what is a word
+-- ---- what counts as a word
 
 digits_are_word : (digits : List ℕ) → AllDigits 10 digits → IsTrue (is_word digits)
 digits_are_word [] all = refl
@@ -33,7 +33,7 @@ pub weight_is_word : (w : ℤ) → IsTrue (is_weight w) → IsTrue (is_word (sig
 weight_is_word (pos n) is = digits_are_word (decimal n) ((decimal_is_IsNumeral n (let most = leb-true n 2147483647 is in omega (arith, most))).0.1)
 weight_is_word (negsuc n) is = digits_are_word (decimal (suc n)) ((decimal_is_IsNumeral (suc n) (let most = ltb-true n 2147483647 is in omega (arith, most))).0.1)
 
--- a byte that passes a test that a blank does not pass is none
+-- a byte that passes a test that a blank fails is not a blank
 no_blank_byte : (test : ℕ → Bool) → test 32 ≡ false → (byte : ℕ) → test byte ≡ true → not (is_blank byte) ≡ true
 no_blank_byte test fails byte passes = by_test (is_blank byte) refl
   where
@@ -58,7 +58,7 @@ lower_name_is_word name is = name_is_word name (and_parts _ _ (and_parts _ _ is)
 
 -- ---- a line by its first word and the rest
 
--- the bytes of some words: a blank before each, and before what comes after them
+-- the bytes of some words: a blank before each, and before what follows them
 abbrev pub bytes_of : Option (List ℕ) → List ℕ
 bytes_of None = []
 bytes_of (Some rest) = after_blank rest
@@ -142,7 +142,7 @@ pub then_words_more : (words : List (List ℕ)) (word : List ℕ) (rest : Option
 then_words_more [] word rest = refl
 then_words_more (first ∷ words) word rest = ap (λ r. Some (with_rest first r)) (then_words_more words word rest)
 
--- the bytes after the words that were read are words too, where all of them are
+-- if all bytes are words, so are those after the words already read
 pub record IsNext (words done : List (List ℕ)) (bytes : List ℕ) : Type 0 where
   pub word : List ℕ
   pub more : List (List ℕ)
@@ -170,7 +170,7 @@ next_word (first ∷ done) (word ∷ words) bytes d w same =
       splits = next.splits;
     }
 
--- words that all were read are all of them
+-- if all words have been read, they are all of them
 pub all_words : (done words : List (List ℕ)) → IsTrue (list_all is_word done) → IsTrue (list_all is_word words)
     → then_words done None ≡ then_words words None → done ≡ words
 all_words [] [] d w same = refl

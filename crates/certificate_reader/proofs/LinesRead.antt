@@ -1,4 +1,4 @@
--- The lines of states and atoms, by what comes after their first word.
+-- The lines of states and atoms, by what follows their first word.
 use Rattle.std.proofs.Common.{◌≡◌, ℕ, Bool, true, false, List, [], ◌∷◌, ◌++◌, codes, map, Option, None, Some, refl, sym, ap, ◌∙◌, subst, append_assoc, append-nil, arith}
 use Rattle.std.specs.Prelude.{◌&&◌, ◌<◌, ◌≤◌, ◌==◌, ℤ, IsTrue, length, nat_le, nat_lt}
 use Rattle.std.specs.Fmt.{decimal}
@@ -18,7 +18,7 @@ use Rattle.certificate_reader.proofs.WordLemmas.{one_first}
 use Rattle.certificate_reader.proofs.LineLemmas.{line_splits, lower_name_is_word, number_is_word, some_same, words_after}
 use Rattle.certificate_reader.proofs.WeightsRead.{leading, leading_alone, one_leading}
 
--- ---- a number and numbers after it
+-- ---- a number, followed by numbers
 
 module _ (bytes word : List ℕ) (following : Option (List ℕ)) (count : ℕ) (first : IsFirstWord bytes word following) where
   numbered_parts : (n : ℕ) (atoms : List ℕ) → IsNumbered bytes count n atoms → (word ≡ decimal n) × (following ≡ then_words (map decimal atoms) None)
@@ -40,12 +40,12 @@ module _ (bytes word : List ℕ) (following : Option (List ℕ)) (count : ℕ) (
     splits = first.splits ∙ (λ i. with_rest (sym same i) (sym numbers i));
   }
 
--- ---- lines that are not these
+-- ---- other lines
 
 pub unlike : (text other : List ℕ) → bytes_eq text other ≡ false → text ≡ other → ⊥
 unlike text other differ same = absurd (cc (sym differ ∙ (bytes_eq-Decides text other).1 same))
 
--- the word is that of no line that lists a state
+-- no state line begins with the word
 pub is_no_mark : (word : List ℕ) → bytes_eq (codes "open") word ≡ false → bytes_eq (codes "cut") word ≡ false → bytes_eq (codes "dead") word ≡ false
     → (mark : Mark) → mark_head mark ≡ word → ⊥
 is_no_mark word no_open no_cut no_dead opened = unlike (codes "open") word no_open
@@ -55,7 +55,7 @@ is_no_mark word no_open no_cut no_dead dead = unlike (codes "dead") word no_dead
 and_all : (a b c : Bool) → a ≡ true → b ≡ true → c ≡ true → a && b && c ≡ true
 and_all a b c x y z = λ i. x i && y i && z i
 
--- a line that begins with the word of a state's mark lists a state
+-- a line that begins with a state's word is a state line
 module _ (word : List ℕ) (no_version : bytes_eq (codes "pddl-cert") word ≡ false) (no_claim : bytes_eq (codes "claim") word ≡ false)
     (no_constant : bytes_eq (codes "constant") word ≡ false) (no_atom : bytes_eq (codes "atom") word ≡ false) (no_end : bytes_eq (codes "end") word ≡ false)
     (no_scope : bytes_eq (codes "table") word ≡ false) (no_row : bytes_eq (codes "row") word ≡ false) (no_swap : bytes_eq (codes "swap") word ≡ false)
@@ -72,7 +72,7 @@ module _ (word : List ℕ) (no_version : bytes_eq (codes "pddl-cert") word ≡ f
   only_listed never (listed l) read = never l.cost l.mark l.atoms read
   only_listed never (last n) read = unlike (codes "end") word no_end read.head
 
--- ---- open states and dead ends: a number, and numbers after it
+-- ---- open states and dead ends: a number, followed by numbers
 
 module _ (rest : List ℕ) (f : Format) where
   pub open_is_read : (cost : ℕ) (atoms : List ℕ) → IsNumbered rest f.atoms cost atoms
@@ -123,7 +123,7 @@ module _ (rest : List ℕ) (f : Format) where
 
 -- ---- cuts
 
--- the bytes are a number and, after it, a number with those of atoms
+-- the bytes are a number, followed by another with those of atoms
 pub record IsCut (rest : List ℕ) (count cost least : ℕ) (atoms : List ℕ) : Type 0 where
   pub is_number : IsTrue (is_number cost)
   pub bytes : List ℕ
@@ -195,12 +195,12 @@ module _ (rest : List ℕ) (f : Format) where
       splits = first.splits ∙ (λ i. with_rest (sym same i) (at i));
     }
 
--- ---- weights, where there is one for each value and one for dead ends
+-- ---- weights, one for each value and one for dead ends
 
 eqb_same : (a b : ℕ) → a ≡ b → (a == b) ≡ true
 eqb_same a b same = grind (arith, nat_tests, same)
 
--- as many weights are those of the format
+-- there are as many weights as in the format
 weights_within : (words : Option (List ℕ)) (count : ℕ) (weights : List ℤ) (others : Option (List ℕ)) → IsLeading words count weights others → (length weights < count → ⊥)
     → IsTrue (are_weights count weights)
 weights_within words count weights others is whole =
@@ -213,14 +213,14 @@ weights_within words count weights others is whole =
         by_test true fewer = absurd (not_fewer (ltb-true n m fewer))
         by_test false other = omega (arith, few, ltb-false n m other)
 
--- and the other way
+-- and the converse
 weights_lead : (words : Option (List ℕ)) (count : ℕ) (weights : List ℤ) (others : Option (List ℕ)) → IsTrue (are_weights count weights) → then_weights weights others ≡ words
     → IsLeading words count weights others
 weights_lead words count weights others are splits =
     let (long, all) = and_parts (length weights == count) (list_all is_weight weights) are in
     leading words count weights others all (eqb-true (length weights) count long) splits
 
--- words are weights of this count in one way
+-- words contain this many weights in only one way
 pub same_weights : (count : ℕ) (a b : List ℤ) (r s : Option (List ℕ)) → IsTrue (are_weights count a) → IsTrue (are_weights count b) → then_weights a r ≡ then_weights b s → (a ≡ b) × (r ≡ s)
 same_weights count a b r s a_are b_are same = one_leading (then_weights b s) count a b r s (weights_lead (then_weights b s) count a r a_are same) (weights_lead (then_weights b s) count b s b_are refl)
 
@@ -268,7 +268,7 @@ module _ (rest : List ℕ) (f : Format) where
 
 -- ---- atoms
 
--- the bytes are weights and, after them, an atom
+-- the bytes are weights, followed by an atom
 module _ (rest : List ℕ) (f : Format) where
   atom_within : (a : WeightedAtom) → IsTrue (is_line f (atom a)) → IsTrue (are_weights f.weights a.weights) × IsTrue (are_lower a.atom)
   atom_within a within =
@@ -337,7 +337,7 @@ module _ (rest : List ℕ) (f : Format) where
   swap_parts names read =
       and_parts (has_exchanges f.version) (are_exchanged names) (and_parts (has_exchanges f.version && are_exchanged names) (nat_le (length (line_text (swapped names))) longest_line) read.within).0
 
-  -- a version without exchanges has no such line
+  -- a version without exchanges has no such lines
   pub no_exchanges : has_exchanges f.version ≡ false → (line : TextLine) → IsReadAs (codes "swap") rest f line → ⊥
   no_exchanges none = only_swap (λ names read. absurd (cc (sym none ∙ (swap_parts names read).0)))
 
@@ -428,7 +428,7 @@ names_after word [] = sym (append-nil word)
 names_after word (next ∷ words) =
     ap (λ rest. word ++ codes " " ++ rest) (names_after next words) ∙ append_assoc word (codes " ") (next ++ flat_map after_blank words)
 
--- an atom by what is in its parentheses
+-- an atom, by what is inside its parentheses
 abbrev pub inner_of : NamedAtom → List ℕ
 inner_of a = with_rest a.predicate (then_words a.objects None)
 

@@ -12,7 +12,7 @@ use Rattle.certificate_reader.specs.Words.{IsFirstWord, is_no_capital, is_word, 
 use Rattle.certificate_reader.proofs.WordLemmas.{one_first}
 use Rattle.certificate_reader.proofs.LineLemmas.{lower_name_is_word, next_word, then_words_more}
 
--- ---- what is a name in lower case
+-- ---- names in lower case
 
 capital : (byte : ℕ) → is_no_capital byte ≡ (to_ascii_lowercase byte == byte)
 capital byte = grind (arith, nat_tests)

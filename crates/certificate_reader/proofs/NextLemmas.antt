@@ -1,4 +1,4 @@
--- Lines in the bytes that wait, and what is reported for them.
+-- Lines in the buffered bytes, and what is reported for them.
 use Rattle.std.proofs.Common.{◌≡◌, ◌≢◌, ℕ, ◌+◌, ◌<◌, ◌≤◌, List, [], ◌∷◌, ◌++◌, codes, take, drop, length, get_or, Option, None, Some, sym, ap, ◌∙◌, subst, append_assoc, arith}
 use Rattle.std.specs.Prelude.{Contains, Result, Ok, Err}
 use Rattle.std.specs.Io.KnownBytes.{IsAtEnd}
@@ -23,7 +23,7 @@ use Rattle.certificate_reader.proofs.FaultsRead.{reported_other_version, reporte
 
 -- ---- where lines end
 
--- before the first LF none is
+-- there is no LF before the first one
 no_end_before : (bytes : List ℕ) (n : ℕ) → n ≤ position_or_len is_end bytes → Contains (take n bytes) 10 → ⊥
 no_end_before bytes n before (k, within, same) =
     let below : k < n = omega (arith, within, length-take n bytes) in
@@ -49,7 +49,7 @@ has_line bytes end (at, short) more =
       omega (arith, short, length-take end bytes),
     )
 
--- ---- a line that waits
+-- ---- a buffered line
 
 module _ (place : CertificatePlace) (bytes : List ℕ) (end : ℕ) (has : HasEnd bytes end) where
   pub taken : (line : TextLine) → line_text line ≡ take end bytes → (new : List ℕ) → new ≡ drop (end + 1) bytes → bytes ≡ whole_line line ++ new
@@ -58,7 +58,7 @@ module _ (place : CertificatePlace) (bytes : List ℕ) (end : ℕ) (has : HasEnd
       ∙ sym (append_assoc (take end bytes) (10 ∷ []) (drop (end + 1) bytes))
       ∙ (λ i. sym text i ++ codes "\n" ++ sym left i)
 
-  -- what is reported for its bytes is reported for what waits
+  -- what is reported for its bytes is reported for the buffer
   pub line_reported : (why : NextFault) → IsReadAt place (take end bytes) (Err why) → (new : List ℕ) → IsTaken place bytes new (Err why)
   line_reported (Text Version) (at, is) new = λ before leads more. reported_other_version before place leads (bytes ++ more) (take end bytes) (has_line bytes end has more) at is
   line_reported (Text Form) (nowhere, limits, other) new = λ before leads more.
@@ -68,7 +68,7 @@ module _ (place : CertificatePlace) (bytes : List ℕ) (end : ℕ) (has : HasEnd
   line_reported NoMemory reported new = tt
   line_reported _ reported new = reported
 
--- ---- what came and what is reported
+-- ---- what was read and what is reported
 
 module _ (place : CertificatePlace) (old waiting : List ℕ) (before after : Option (List ℕ)) (grown : IsGrown before after old waiting) where
   pub next_of_line : (new : List ℕ) (r : Result (CertLine × Stage) NextFault) → IsTaken place waiting new r → IsNext place old new before after r

@@ -1,4 +1,4 @@
--- A number's word is read as that number.
+-- The word of a number is read as that number.
 use Rattle.std.proofs.Common.{◌≡◌, ℕ, zero, suc, ◌+◌, ◌-◌, ◌*◌, ◌<◌, ◌≤◌, ◌^◌, List, [], ◌∷◌, length, get_or, drop, inl, inr, true, false, refl, sym, ap, ◌∙◌, subst, arith}
 use Rattle.std.specs.Prelude.{◌==◌, not, ◌||◌, ◌&&◌, nat_le, ℤ, pos, negsuc, FitsSigned, IsTrue, Result, Ok}
 use Rattle.std.specs.Char.{digit_value, is_ascii_digit}
@@ -20,12 +20,12 @@ use Rattle.certificate_reader.specs.Words.{is_spelled}
 own : IsNumeralModel (AllDigits 10) (digits_value 10)
 own = numerals_by_value (AllDigits 10) tells_digits
 
--- digits that follow others make no less of them
+-- further digits never make a number smaller
 pub no_less : (number : ℕ) (digits : List ℕ) → number ≤ digits_value_after 10 number digits
 no_less number [] = omega arith
 no_less number (digit ∷ digits) = let more = no_less (number * 10 + digit_value digit) digits in omega (arith, more)
 
--- the digits that are left make no less of a number than the next one does
+-- the remaining digits never make a number smaller than the next one does
 pub next_is_no_more : (digits : List ℕ) (i number : ℕ) → i < length digits → is_ascii_digit (get_or digits i 0) ≡ true
     → number * 10 + (get_or digits i 0 - 48) ≤ digits_value_after 10 number (drop i digits)
 next_is_no_more digits i number within is =
@@ -66,7 +66,7 @@ pub digits_are_spelled : (digits : List ℕ) (number : ℕ) → is_spelled digit
 digits_are_spelled digits number spelled all value below =
     ap decimal (sym value) ∙ decimal-digits_value own digits all (some_are_spelled digits spelled) (zero_is_all digits spelled) (omega (arith, below, value))
 
--- a digit is first of those that are left
+-- a digit comes first in the rest
 pub digit_left : (digits : List ℕ) (i : ℕ) → i < length digits → AllDigits 10 (drop i digits) → is_ascii_digit (get_or digits i 0) ≡ false → ⊥
 digit_left digits i within left unlike =
     let here = subst (AllDigits 10) (drop_more digits i 0 within) left in

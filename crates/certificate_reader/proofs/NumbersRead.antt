@@ -52,7 +52,7 @@ rising_are_numbers count least (n ∷ numbers) few all =
     let (above, below, more) = rise_parts count least n numbers all in
     ap (λ b. b && list_all is_number numbers) (few_are_numbers count n few below) ∙ rising_are_numbers count (n + 1) numbers few more
 
--- the number after those that were read, where all are numbers
+-- the number after those already read, if all are numbers
 record NextNumber (done numbers : List ℕ) (bytes : List ℕ) : Type 0 where
   next : ℕ
   more : List ℕ
@@ -90,7 +90,7 @@ number_after (first ∷ done) (n ∷ numbers) bytes d w same =
       splits = more.splits;
     }
 
--- what is left is counted, so that each word leaves less
+-- the length of the rest, which decreases with each word
 abbrev pub bytes_left : Option (List ℕ) → ℕ
 bytes_left None = 0
 bytes_left (Some bytes) = 1 + length bytes

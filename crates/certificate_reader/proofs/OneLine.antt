@@ -1,4 +1,4 @@
--- A line of a text is one line.
+-- A line of a text has a unique reading.
 use Rattle.std.proofs.Common.{◌≡◌, ℕ, ◌≤◌, List, [], ◌∷◌, ◌++◌, codes, map, Option, None, Some, refl, sym, ap, ◌∙◌, subst, arith}
 use Rattle.std.specs.Prelude.{◌&&◌, ℤ, IsTrue, length, nat_le}
 use Rattle.std.specs.Fmt.{decimal}
@@ -51,7 +51,7 @@ same_numbers (m ∷ a) (n ∷ b) a_are b_are same =
     let rest : a ≡ b = same_numbers a b a_more b_more (more_same (decimal m) (decimal n) (map decimal a) (map decimal b) same) in
     λ i. here i ∷ rest i
 
--- bytes are one number with one list of numbers after it
+-- bytes are a number followed by numbers in only one way
 one_numbered : (bytes : List ℕ) (count : ℕ) → count ≤ most_atoms → (m n : ℕ) (a b : List ℕ) → IsNumbered bytes count m a → IsNumbered bytes count n b → (m ≡ n) × (a ≡ b)
 one_numbered bytes count few m n a b h g =
     let both = one_first (decimal m) (decimal n) (then_words (map decimal a) None) (then_words (map decimal b) None) (number_is_word m h.is_number) (number_is_word n g.is_number) (sym h.splits ∙ g.splits) in
@@ -80,7 +80,7 @@ one_cut rest count few c d k l a b h g =
     )
 
 module _ (f : Format) (few : f.atoms ≤ most_atoms) (rest : List ℕ) where
-  -- a line of a state that begins with this word
+  -- a state line that begins with this word
   abbrev IsState : List ℕ → ℕ → Mark → List ℕ → Type 0
   IsState head cost mark atoms = IsReadAs head rest f (listed (record { cost = cost; mark = mark; atoms = atoms }))
 

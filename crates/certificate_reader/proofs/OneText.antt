@@ -27,7 +27,7 @@ use Rattle.certificate_reader.proofs.OneLine.{one_line}
 use Rattle.certificate_reader.proofs.PlaceRead.{few_atoms, leads_line}
 use Rattle.certificate_reader.proofs.ReaderLemmas.{leads_within}
 
--- ---- no LF is in a line
+-- ---- a line contains no LF
 
 abbrev is_no_end : ℕ → Bool
 is_no_end byte = not (byte == 10)
@@ -164,7 +164,7 @@ line_first line lines = append_assoc (line_text line) (10 ∷ []) (text_of lines
 
 -- ---- certificates
 
--- a line that leads to the end leads to a place first
+-- a line that leads to the end leads to a state first
 step_of : (next : Option CertificatePlace) (lines : List TextLine) → option_and_then (λ next. place_from next lines) next ≡ Some ended
     → (place : CertificatePlace) × (next ≡ Some place) × (place_from place lines ≡ Some ended)
 step_of None lines leads = never ended leads

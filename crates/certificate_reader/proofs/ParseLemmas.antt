@@ -1,4 +1,4 @@
--- A line is read by its first word and what comes after it.
+-- A line is parsed by its first word and what follows it.
 use Rattle.std.proofs.Common.{◌≡◌, ℕ, true, false, List, [], ◌∷◌, codes, arith, Option, None, Some, refl, sym, ap, ◌∙◌, subst}
 use Rattle.std.specs.Prelude.{◌≢◌, ◌&&◌, ◌==◌, ◌≤◌, ℤ, length, nat_le, is_some, Result, Ok, Err, IsTrue}
 use Rattle.std.specs.List.{list_all}
@@ -53,14 +53,14 @@ has_dead_ends One other = absurd (other refl)
 has_dead_ends Two other = refl
 has_dead_ends Three other = refl
 
--- ---- no line
+-- ---- invalid lines
 
--- what comes after a word is no line, and the word is not that of the first line
+-- what follows a word is not a valid line, and the word is not that of the first line
 pub malformed : (word rest : List ℕ) (f : Format) → bytes_eq word (codes "pddl-cert") ≡ false
     → ((line : TextLine) → IsReadAs word rest f line → ⊥) → IsParsedAfter word rest f (Err (Text fault.Form))
 malformed word rest f other never = (never, λ same n is reported. unlike word (codes "pddl-cert") other same)
 
--- something comes after
+-- something follows
 pub goes_on : (following : Option (Bor (List ℕ))) → is_some following ≡ true → (bytes : List ℕ) × (text_in following ≡ Some bytes)
 goes_on None some = absurd (cc some)
 goes_on (Some bytes) some = (bytes.now, refl)
@@ -72,12 +72,12 @@ malformed_atom rest f never = malformed (codes "atom") rest f refl (no_atom rest
 
 -- ---- any line
 
--- what is reported after a word is reported after bytes that are it
+-- what is reported for a word and its rest is reported for their bytes
 pub parsed_as : (word own rest : List ℕ) (f : Format) (r : Result CertLine NextFault) → bytes_eq word own ≡ true
     → IsParsedAfter own rest f r → IsParsedAfter word rest f r
 parsed_as word own rest f r is reported = subst (λ word. IsParsedAfter word rest f r) (sym ((bytes_eq-Decides word own).0 is)) reported
 
--- what is reported for a word and the rest is reported for the bytes that they are
+-- what is reported for a word and its rest is reported for the bytes that consist of them
 whole : (bytes word rest : List ℕ) (f : Format) → IsFirstWord bytes word (Some rest) → (r : Result CertLine NextFault) → IsParsedAfter word rest f r → IsParsed bytes f r
 whole bytes word rest f first (Ok line) read =
     (line_splits (text_line_of line) ∙ (λ i. with_rest (read.head i) (read.following i)) ∙ sym first.splits, read.within)
@@ -99,7 +99,7 @@ pub parsed_whole : (bytes word : List ℕ) (following : Option (Bor (List ℕ)))
 parsed_whole bytes word following rest f r first is reported =
     whole bytes word rest.now f (subst (λ following. IsFirstWord bytes word (text_in following)) is first) r reported
 
--- ---- a word alone
+-- ---- a single word
 
 weights_then : (weights : List ℤ) (rest : List ℕ) → then_weights weights (Some rest) ≡ None → ⊥
 weights_then [] rest none = absurd (cc none)

@@ -1,4 +1,4 @@
--- A line that is read at a place, and what is reported for one that cannot occur there.
+-- A line parsed at a stage, and what is reported for one that is not allowed there.
 use Rattle.std.proofs.Common.{◌≡◌, ◌≢◌, ℕ, ◌≤◌, List, ◌++◌, codes, Some, refl, sym, ap, ◌∙◌, subst, arith}
 use Rattle.std.specs.Prelude.{length, ◌&&◌, ◌==◌, Err, IsTrue, nat_le, nat_lt}
 use Rattle.std.specs.Fmt.{decimal}
@@ -37,7 +37,7 @@ some_weights (at_constant v) within = omega arith
 some_weights (in_body b) within = leb-true 1 b.format.weights (and_parts (nat_le 1 b.format.weights) (nat_le b.swaps most_swaps) (and_parts (nat_le 1 b.format.weights && nat_le b.swaps most_swaps) _ within).0).0
 some_weights ended within = omega arith
 
--- a line that leads on keeps the limits there
+-- a line that leads on is within the limits there
 pub leads_line : (place : CertificatePlace) → IsWithin place → (line : TextLine) (next : CertificatePlace) → next_place place line ≡ Some next → IsTrue (is_line (format_at place) line)
 leads_line at_version within (version w) next leads = refl
 leads_line at_version within (claims claim) next leads = never next leads
@@ -109,7 +109,7 @@ no_other_version line n is not_one not_two not_three same =
     let (v, rest) = version_rest line (sym both.0) in
     neither n is not_one not_two not_three v (some_same (decimal n) (decimal (version_number v)) (both.1 ∙ rest))
 
--- what is reported for bytes that are no line there is reported for the place
+-- what is reported for bytes that are not a line is reported at the stage
 malformed_at : (place : CertificatePlace) → IsWithin place → (bytes : List ℕ) (f : Format) → f ≡ format_at place → IsParsed bytes f (Err (Text fault.Form))
     → IsReadAt place bytes (Err (Text fault.Form))
 malformed_at place within bytes f f_is reported =
@@ -119,7 +119,7 @@ malformed_at place within bytes f f_is reported =
       λ at n is not_one not_two not_three. other n is,
     )
 
--- so is another fault of the bytes alone, but for another version, which is reported for the first line only
+-- the same for another fault of the bytes alone, except for another version, which is reported only for the first line
 pub reported_at : (place : CertificatePlace) → IsWithin place → (bytes : List ℕ) (f : Format) → f ≡ format_at place
     → (why : NextFault) → why ≢ Text fault.Version → IsParsed bytes f (Err why) → IsReadAt place bytes (Err why)
 reported_at place within bytes f f_is (Text fault.Version) other reported = absurd (other refl)
@@ -131,7 +131,7 @@ module _ (place : CertificatePlace) (within : IsWithin place) (line : TextLine) 
   only_line : (other : TextLine) → IsTrue (is_line (format_at place) other) → line_text other ≡ bytes → other ≡ line
   only_line other other_is same = one_line (format_at place) (few_atoms place within) other line other_is is (same ∙ sym text)
 
-  -- what comes of the line there is reported for its bytes
+  -- the fault of a line at a stage is reported for its bytes
   pub reported_after : (why : TextFault) → IsStep place line (Err why) → IsReadAt place bytes (Err (Text why))
   reported_after fault.Limit over = (line, is, over, text)
   reported_after fault.Form (nowhere, within_limits) = (

@@ -1,4 +1,4 @@
--- What a reader gives out and reports, where some lines were given out before.
+-- What a reader returns and reports, given the lines returned before.
 use Rattle.std.proofs.Common.{◌≡◌, ◌≢◌, ℕ, ◌+◌, ◌<◌, true, List, [], ◌∷◌, ◌++◌, map, length, Option, None, Some, refl, ap, ◌∙◌, subst, length-append, arith}
 use Rattle.std.specs.Prelude.{◌&&◌, ◌==◌, nat_le, nat_lt, Err, Ok}
 use Rattle.std.proofs.lemmas.Bool.{and_parts, eqb-true, le-leb, leb-true, ltb-true}
@@ -27,7 +27,7 @@ some_constants one n is = le-leb 1 n (omega (arith, eqb-true n 1 is))
 some_constants two n is = le-leb 1 n (omega (arith, eqb-true n 2 is))
 some_constants three n is = le-leb 1 n (omega (arith, leb-true 2 n (and_parts (nat_le 2 n) (nat_le n 33) is).0))
 
--- one line more leads to a place within the limits
+-- one more line leads to a state within the limits
 pub leads_within : (place : CertificatePlace) → IsWithin place → (line : TextLine) (next : CertificatePlace) → next_place place line ≡ Some next → IsWithin next
 leads_within at_version within (version w) next leads = subst IsWithin (place_same (at_claim w) next leads) refl
 leads_within at_version within (claims claim) next leads = never next leads
@@ -111,7 +111,7 @@ leads_within ended within (tabled (row r)) next leads = never next leads
 leads_within ended within (listed l) next leads = never next leads
 leads_within ended within (last count) next leads = never next leads
 
--- ---- how many lines there are
+-- ---- the number of lines
 
 body_length : (swaps : List (List (List ℕ))) (atoms : List WeightedAtom) (tables : List TableLine) (states : List StateLine)
     → length (body_lines swaps atoms tables states) ≡ (length swaps + length atoms + length tables) + length states
@@ -132,7 +132,7 @@ table_lines [] = refl
 table_lines (scope s ∷ tables) = let more = table_lines tables in let long : length (scope s ∷ tables) ≡ 1 + length tables = omega arith in omega (arith, more, long)
 table_lines (row r ∷ tables) = let more = table_lines tables in let long : length (row r ∷ tables) ≡ 1 + length tables = omega arith in omega (arith, more, long)
 
--- there are few lines, and so their count is that of lines
+-- the number of lines is limited, so their count is exact
 pub few_lines : (lines : List TextLine) (place : CertificatePlace) → ComesBefore place lines → length lines < 30000000
 few_lines lines at_version are = omega (arith, ap length are)
 few_lines lines (at_claim v) are = omega (arith, ap length are)
@@ -169,7 +169,7 @@ pub trailing_reported : (before : List TextLine) → AreWhole before → (old by
 trailing_reported before whole old bytes new grown some more =
     trailing whole (something (old ++ bytes) more (λ empty. some (grown ∙ empty)))
 
--- ---- what has come
+-- ---- what has been read
 
 pub come_unless_ended : (at : Stage) (bytes : List ℕ) → at ≢ stage.Ended → come_at (place_of at) bytes ≡ is_ready bytes
 come_unless_ended stage.Version bytes goes_on = refl
@@ -186,7 +186,7 @@ prompt_unless_ended at goes_on waited came prompt = λ some.
 -- ---- what is reported for a line
 
 module _ {R : Type 0} (remaining : R → Option (List ℕ)) (old between : CertReader R) (before : List TextLine) where
-  -- the reader, once it has reported a fault
+  -- the reader after it has reported a fault
   abbrev pub failed : CertReader R
   failed = record { alloc = between.alloc; source = between.source; waiting = between.waiting; position = between.position; failed = true }
 
@@ -200,7 +200,7 @@ module _ {R : Type 0} (remaining : R → Option (List ℕ)) (old between : CertR
   reported_answer next.Device line is reported = record { bytes = reported.bytes; consumed = reported.consumed; waits = reported.waits; nothing = reported.nothing }
   reported_answer next.NoMemory line is reported = tt
 
--- ---- what the lines that were given out begin
+-- ---- the certificate that the returned lines begin
 
 module _ {R : Type 0} (remaining : R → Option (List ℕ)) (old new : CertReader R) (before : List TextLine) (read : HasRead old before) where
   pub begun : (line : Option CertLine) → IsAdvance remaining old new before (Ok line) → HaveBegun before (Ok line)

@@ -17,15 +17,15 @@ some_same a b same = cc
 never : {A : Type 0} (a : List ℕ) → ◌≡◌ {A = Option (List ℕ)} None (Some a) → A
 never a same = absurd (cc same)
 
--- bytes begin with one weight
+-- bytes begin with a unique weight
 one_weight : (a b : ℤ) (r s : Option (List ℕ)) → IsTrue (is_weight a) → IsTrue (is_weight b) → with_rest (signed_decimal a) r ≡ with_rest (signed_decimal b) s → (a ≡ b) × (r ≡ s)
 one_weight a b r s a_is b_is same =
     let both = one_first (signed_decimal a) (signed_decimal b) r s (weight_is_word a a_is) (weight_is_word b b_is) same in
     (same_weight a b a_is b_is both.0, both.1)
 
--- ---- words begin with one choice of weights
+-- ---- the weights at the beginning of words are unique
 
--- so many weights were before these
+-- this many weights came before these
 one_choice : (before most : ℕ) (a b : List ℤ) (r s : Option (List ℕ)) → IsTrue (list_all is_weight a) → IsTrue (list_all is_weight b)
     → before + length a ≤ most → before + length b ≤ most → (before + length a < most → r ≡ None) → (before + length b < most → s ≡ None)
     → then_weights a r ≡ then_weights b s → (a ≡ b) × (r ≡ s)
@@ -53,7 +53,7 @@ pub one_leading : (words : Option (List ℕ)) (most : ℕ) (a b : List ℤ) (r s
 one_leading words most a b r s h g =
     one_choice 0 most a b r s h.are g.are (omega (arith, h.few)) (omega (arith, g.few)) (λ below. h.stops (omega (arith, below))) (λ below. g.stops (omega (arith, below))) (h.splits ∙ sym g.splits)
 
--- as many weights as there may be, whatever comes after them
+-- as many weights as allowed, followed by anything
 pub leading : (words : Option (List ℕ)) (count : ℕ) (weights : List ℤ) (others : Option (List ℕ)) → IsTrue (list_all is_weight weights) → length weights ≡ count
     → then_weights weights others ≡ words → IsLeading words count weights others
 leading words count weights others are long splits = record {
@@ -63,14 +63,14 @@ leading words count weights others are long splits = record {
   splits = splits;
 }
 
--- fewer, and nothing after them
+-- fewer weights, followed by nothing
 pub leading_alone : (words : Option (List ℕ)) (most : ℕ) (weights : List ℤ) → IsTrue (list_all is_weight weights) → length weights ≤ most
     → then_weights weights None ≡ words → IsLeading words most weights None
 leading_alone words most weights are few splits = record { are = are; few = few; stops = λ below. refl; splits = splits }
 
--- ---- weights that were read
+-- ---- weights already read
 
--- the weight after those that were read
+-- the weight after those already read
 record NextWeight (done weights : List ℤ) (others : Option (List ℕ)) (bytes : List ℕ) : Type 0 where
   next : ℤ
   more : List ℤ

@@ -1,4 +1,4 @@
--- The first word of some bytes.
+-- The first word of bytes.
 use Rattle.std.proofs.Common.{◌≡◌, ℕ, suc, ◌+◌, ◌-◌, ◌<◌, ◌≤◌, nat_lt, Bool, true, false, not, cond, List, [], ◌∷◌, ◌++◌, take, drop, length, Option, None, Some, refl, sym, ap, ◌∙◌, subst, append_assoc, arith}
 use Rattle.std.specs.Prelude.{◌&&◌, IsTrue}
 use Rattle.std.specs.List.{position, position_or_len}
@@ -74,7 +74,7 @@ word_alone bytes at = by_test (nat_lt place (length bytes)) refl at
         let cut = cut_at_first bytes in
         record { is_word = subst (λ word. IsTrue (is_word word)) (cut.whole (ltb-false place (length bytes) past)) cut.is_word; splits = refl }
 
--- Bytes have one first word.
+-- Bytes have a unique first word.
 with_rest-cons : (byte : ℕ) (word : List ℕ) (rest : Option (List ℕ)) → with_rest (byte ∷ word) rest ≡ byte ∷ with_rest word rest
 with_rest-cons byte word None = refl
 with_rest-cons byte word (Some rest) = refl

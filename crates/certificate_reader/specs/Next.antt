@@ -1,4 +1,4 @@
--- What is reported for the next line of a text, at a place in it.
+-- The result for the next line of a text, at a stage.
 use Rattle.std.specs.Prelude.{◌≡◌, ◌≢◌, ℕ, ◌≤◌, Bool, true, false, List, [], ◌++◌, Option, Some, Result, Ok, Err}
 use Rattle.std.specs.List.{position}
 use Rattle.std.specs.Io.KnownBytes.{Consumes, IsAtEnd, Keeps}
@@ -29,21 +29,21 @@ abbrev pub of_device : IoFault → NextFault
 of_device device.Device = Device
 of_device device.NoMemory = NoMemory
 
--- the failure of a device counts one failure, another answer none
+-- a device failure counts as one failure, any other result as none
 abbrev pub CountsFault : {T : Type 0} → (before after : ℕ) → Result T NextFault → Type 0
 CountsFault before after (Err Device) = after ≡ one_more before
 CountsFault before after _ = after ≡ before
 
--- The bytes are at fault at this place, whatever comes after them.
+-- The bytes are faulty at this stage, whatever follows them.
 abbrev pub IsFaultAt : CertificatePlace → List ℕ → TextFault → Type 0
 IsFaultAt place bytes fault =
     (before : List TextLine) → place_after before ≡ Some place → (more : List ℕ) → IsFaultAfter before (bytes ++ more) (number_of fault)
 
--- A line of so many bytes waits.
+-- A line of this length is buffered.
 abbrev pub HasEnd : List ℕ → ℕ → Type 0
 HasEnd bytes end = (position is_end bytes ≡ Some end) × (end ≤ longest_line)
 
--- The line that waits is given out, or it is at fault.
+-- The buffered line is returned, or it is faulty.
 abbrev pub IsTaken : CertificatePlace → (old new : List ℕ) → Result (CertLine × Stage) NextFault → Type 0
 IsTaken place old new (Ok (line, next)) = (old ≡ whole_line (text_line_of line) ++ new) × (next_place place (text_line_of line) ≡ Some (place_of next))
 IsTaken place old new (Err (Text Truncated)) = ⊥
@@ -51,8 +51,7 @@ IsTaken place old new (Err (Text fault)) = IsFaultAt place old fault
 IsTaken place old new (Err Device) = ⊥
 IsTaken place old new (Err NoMemory) = Unit {0}
 
--- Of the bytes that waited and those that came, no more than had to, the next line is given out; or they are at fault, or
--- end too early.
+-- From the buffered bytes and those read, no more than needed, the next line is returned; or they are faulty, or end too early.
 abbrev pub IsNext : CertificatePlace → (old new : List ℕ) → (before after : Option (List ℕ)) → Result (CertLine × Stage) NextFault → Type 0
 IsNext place old new before after (Ok (line, next)) =
     (bytes : List ℕ) × Consumes before after bytes × (old ++ bytes ≡ whole_line (text_line_of line) ++ new)
@@ -64,7 +63,7 @@ IsNext place old new before after (Err (Text fault)) = (bytes : List ℕ) × Con
 IsNext place old new before after (Err Device) = IsUnready before after old new
 IsNext place old new before after (Err NoMemory) = Unit {0}
 
--- Nothing waits, and the end has come; or some byte waits.
+-- Nothing is buffered, and the source has ended; or some byte is buffered.
 abbrev pub IsEnd : (old new : List ℕ) → (before after : Option (List ℕ)) → Result Bool IoFault → Type 0
 IsEnd old new before after (Ok true) = (old ≡ []) × (new ≡ []) × Consumes before after [] × IsAtEnd after
 IsEnd old new before after (Ok false) = (bytes : List ℕ) × Consumes before after bytes × (new ≡ old ++ bytes) × (new ≢ []) × IsPrompt (come_at ended) old bytes

@@ -1,4 +1,4 @@
--- What is reported for bytes that are to be a line.
+-- The result of parsing bytes as a line.
 use Rattle.std.specs.Prelude.{◌≡◌, ◌≢◌, ℕ, List, ◌++◌, codes, Result, Ok, Err, IsTrue}
 use Rattle.std.specs.Fmt.{decimal}
 use Rattle.certificate_definitions.specs.Certificates.{is_number}
@@ -10,7 +10,7 @@ use Rattle.certificate_reader.specs.declared.fault.NextFault.TheVariants.{Text, 
 use Rattle.certificate_reader.specs.declared.fault.TextFault.TheVariants as fault
 use Rattle.certificate_reader.specs.Words.{IsReadAs}
 
--- the bytes are the line that is answered, in a text of this format; or the first line of another version; or neither
+-- the bytes are the returned line, in a text of this format; or the first line for another version; or neither
 abbrev pub IsParsed : List ℕ → Format → Result CertLine NextFault → Type 0
 IsParsed bytes f (Ok line) = (line_text (text_line_of line) ≡ bytes) × IsTrue (is_line f (text_line_of line))
 IsParsed bytes f (Err (Text fault.Version)) =
@@ -21,7 +21,7 @@ IsParsed bytes f (Err (Text fault.Form)) =
 IsParsed bytes f (Err NoMemory) = Unit {0}
 IsParsed bytes f _ = ⊥
 
--- the same of bytes that are this word and, after a blank, these
+-- the same for bytes that consist of this word, a blank, and these
 abbrev pub IsParsedAfter : (word rest : List ℕ) → Format → Result CertLine NextFault → Type 0
 IsParsedAfter word rest f (Ok line) = IsReadAs word rest f (text_line_of line)
 IsParsedAfter word rest f (Err (Text fault.Version)) =

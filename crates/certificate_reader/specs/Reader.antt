@@ -1,4 +1,4 @@
--- What a reader of a certificate's text has given out, and what it reports.
+-- What a reader of a certificate's text has returned, and what it reports.
 use Rattle.std.specs.Prelude.{◌≡◌, ℕ, ◌+◌, Bool, false, List, [], ◌∷◌, ◌++◌, length, Option, Some, None, Result, Ok, Err}
 use Rattle.std.specs.Io.KnownBytes.{Consumes, IsAtEnd}
 use Rattle.devices.specs.Devices.{one_more}
@@ -18,11 +18,11 @@ use Rattle.certificate_reader.specs.Ready.{IsPrompt, come_at}
 use Rattle.certificate_reader.specs.Stages.{place_of}
 use Rattle.certificate_reader.specs.Waiting.{waiting_of}
 
--- the source that it reads, the bytes that came and were not given out, and whether a fault was reported
+-- its source, its buffered bytes, and whether a fault was reported
 abbrev pub source_of : {R : Type 0} → CertReader R → R
 source_of reader = reader.source
 
--- how many lines were given out
+-- the number of lines returned
 abbrev pub lines_read : {R : Type 0} → CertReader R → ℕ
 lines_read reader = reader.position.lines
 
@@ -32,11 +32,11 @@ waits_in reader = waiting_of reader.waiting
 abbrev pub has_failed : {R : Type 0} → CertReader R → Bool
 has_failed reader = reader.failed
 
--- what is to be reported next waits
+-- the next result is determined by the buffer
 abbrev pub has_come : {R : Type 0} → CertReader R → Bool
 has_come reader = come_at (place_of reader.position.stage) (waits_in reader)
 
--- These lines were given out.
+-- The reader has returned these lines.
 pub record HasRead {R : Type 0} (reader : CertReader R) (lines : List TextLine) : Type 0 where
   pub place : place_after lines ≡ Some (place_of reader.position.stage)
   pub count : reader.position.lines ≡ length lines
@@ -46,16 +46,16 @@ fault_at (next.Text code) line = cert.Line code line
 fault_at next.Device line = cert.Device
 fault_at next.NoMemory line = cert.NoMemory
 
--- the failure of a device counts one failure, another answer none
+-- a device failure counts as one failure, any other result as none
 abbrev pub CountsCert : {T : Type 0} → (before after : ℕ) → Result T CertFault → Type 0
 CountsCert before after (Err cert.Device) = after ≡ one_more before
 CountsCert before after _ = after ≡ before
 
--- The source was read only while what is to be reported next had not come.
+-- The source was read only until the next result was determined.
 abbrev pub WasPrompt : {R : Type 0} → CertReader R → (came : List ℕ) → Type 0
 WasPrompt old came = IsPrompt (come_at (place_of old.position.stage)) (waits_in old) came
 
--- The bytes that waited and that came are this line, with its LF, and those that wait now.
+-- The bytes buffered before and those read are this line, with its LF, followed by the bytes buffered now.
 pub record IsYielded {R : Type 0} (remaining : R → Option (List ℕ)) (old new : CertReader R) (before : List TextLine) (line : TextLine) : Type 0 where
   pub bytes : List ℕ
   pub consumed : Consumes (remaining (source_of old)) (remaining (source_of new)) bytes
@@ -63,7 +63,7 @@ pub record IsYielded {R : Type 0} (remaining : R → Option (List ℕ)) (old new
   pub read : HasRead new (before ++ line ∷ [])
   pub prompt : WasPrompt old bytes
 
--- The lines that were given out are all of a certificate, and nothing comes after them.
+-- The lines returned are those of a whole certificate, and nothing follows them.
 pub record IsOver {R : Type 0} (remaining : R → Option (List ℕ)) (old new : CertReader R) (before : List TextLine) : Type 0 where
   pub whole : AreWhole before
   pub nothing : waits_in old ≡ []
@@ -72,14 +72,14 @@ pub record IsOver {R : Type 0} (remaining : R → Option (List ℕ)) (old new : 
   pub still : waits_in new ≡ []
   pub read : HasRead new before
 
--- Nothing that was to be reported had come when the device failed, and what came waits.
+-- The next result was not determined yet when the device failed, and the bytes read are buffered.
 pub record IsCutOff {R : Type 0} (remaining : R → Option (List ℕ)) (old new : CertReader R) : Type 0 where
   pub bytes : List ℕ
   pub consumed : Consumes (remaining (source_of old)) (remaining (source_of new)) bytes
   pub waits : waits_in new ≡ waits_in old ++ bytes
   pub nothing : has_come new ≡ false
 
--- Of what waited and came this is the fault: of a text that ends too early where it has ended, and else whatever follows.
+-- This is the fault of the bytes buffered and read: of a text that ends too early if it has ended, otherwise whatever follows.
 abbrev pub IsReportedOf : {R : Type 0} → (remaining : R → Option (List ℕ)) → (old new : CertReader R) → List TextLine → TextFault → Type 0
 IsReportedOf remaining old new before Truncated =
     (bytes : List ℕ) × Consumes (remaining (source_of old)) (remaining (source_of new)) bytes × IsAtEnd (remaining (source_of new))
@@ -88,7 +88,7 @@ IsReportedOf remaining old new before fault =
     (bytes : List ℕ) × Consumes (remaining (source_of old)) (remaining (source_of new)) bytes
     × ((more : List ℕ) → IsFaultAfter before (waits_in old ++ bytes ++ more) (number_of fault)) × WasPrompt old bytes
 
--- what is given out or reported, where these lines were given out before
+-- the line returned or the fault reported, if these lines were returned before
 abbrev pub IsAdvance : {R : Type 0} → (remaining : R → Option (List ℕ)) → (old new : CertReader R) → List TextLine → Result (Option CertLine) NextFault → Type 0
 IsAdvance remaining old new before (Ok (Some line)) = IsYielded remaining old new before (text_line_of line)
 IsAdvance remaining old new before (Ok None) = IsOver remaining old new before
@@ -104,7 +104,7 @@ IsAnswer remaining old new before (Err cert.Device) = IsCutOff remaining old new
 IsAnswer remaining old new before (Err cert.NoMemory) = Unit {0}
 IsAnswer remaining old new before (Err cert.Failed) = ⊥
 
--- What was given out begins a certificate, and so does what comes before a line that is at fault.
+-- The lines returned are a prefix of a certificate, and so are the lines before a faulty one.
 abbrev pub HaveBegun : List TextLine → Result (Option CertLine) CertFault → Type 0
 HaveBegun before (Ok (Some line)) = BeginCertificate (before ++ text_line_of line ∷ [])
 HaveBegun before (Ok None) = BeginCertificate before

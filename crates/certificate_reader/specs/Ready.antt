@@ -1,4 +1,4 @@
--- What waits in a reader: a line, too long a one, or neither.
+-- What is buffered in a reader: a line, an overlong line, or neither.
 use Rattle.std.specs.Prelude.{◌≡◌, ◌≢◌, ℕ, ◌<◌, ◌≤◌, Bool, false, true, ◌||◌, nat_lt, List, [], ◌∷◌, ◌++◌, length, is_some, Option, None, Some}
 use Rattle.std.specs.List.{position, position_or_len}
 use Rattle.std.specs.Io.KnownBytes.{Consumes, IsAtEnd}
@@ -8,11 +8,11 @@ use Rattle.certificate_reader.specs.declared.ready.Ready.{Ready}
 use Rattle.certificate_reader.specs.declared.ready.Ready.TheVariants.{Line, TooLong, End}
 use Rattle.certificate_reader.specs.Ends.{is_end}
 
--- a line waits, or more bytes than one may have
+-- a line is buffered, or more bytes than a line may have
 abbrev pub is_ready : List ℕ → Bool
 is_ready bytes = is_some (position is_end bytes) || nat_lt longest_line (length bytes)
 
--- what is to be reported next is in these bytes: a line, or too long a one, and after the last line any byte
+-- the next result is determined by these bytes: they have a line or an overlong one, or after the last line any byte
 abbrev pub come_at : CertificatePlace → List ℕ → Bool
 come_at at_version bytes = is_ready bytes
 come_at (at_claim v) bytes = is_ready bytes
@@ -27,26 +27,26 @@ IsReady bytes remaining (Line end) = (position is_end bytes ≡ Some end) × (en
 IsReady bytes remaining TooLong = longest_line < position_or_len is_end bytes
 IsReady bytes remaining End = (position is_end bytes ≡ None) × (length bytes ≤ longest_line) × IsAtEnd remaining
 
--- the line that waits, or too long a one, or neither
+-- the buffered line, the overlong line, or neither
 abbrev pub IsLineIn : List ℕ → Option Ready → Type 0
 IsLineIn bytes (Some (Line end)) = (position is_end bytes ≡ Some end) × (end ≤ longest_line)
 IsLineIn bytes (Some TooLong) = longest_line < position_or_len is_end bytes
 IsLineIn bytes (Some End) = ⊥
 IsLineIn bytes None = (position is_end bytes ≡ None) × (length bytes ≤ longest_line)
 
--- A source was read only while what was waited for had not come: it was not yet among what waited and what came before the
--- last piece, which has as many bytes as one read gives at most.
+-- A source was read only until this held: it did not hold for the bytes buffered and read before the last piece, which is at most
+-- as long as a single read.
 abbrev pub IsPrompt : (has_come : List ℕ → Bool) → (waited came : List ℕ) → Type 0
 IsPrompt has_come waited came = came ≢ [] → (earlier piece : List ℕ) × (came ≡ earlier ++ piece) × (length piece ≤ 65536) × (has_come (waited ++ earlier) ≡ false)
 
--- bytes came from a source, no more than had to, and wait after those that waited
+-- bytes were read from a source, no more than needed, and appended to the buffer
 pub record IsGrown (before after : Option (List ℕ)) (old new : List ℕ) : Type 0 where
   pub bytes : List ℕ
   pub appended : new ≡ old ++ bytes
   pub consumed : Consumes before after bytes
   pub prompt : IsPrompt is_ready old bytes
 
--- The device failed while no line had come.
+-- The device failed before a line was complete.
 pub record IsUnready (before after : Option (List ℕ)) (old new : List ℕ) : Type 0 where
   pub grown : IsGrown before after old new
   pub unready : is_ready new ≡ false

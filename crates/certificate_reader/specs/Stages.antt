@@ -1,4 +1,4 @@
--- Where the code's reader is, and what comes of a line there.
+-- The stage of the code's reader, and the result of a line there.
 use Rattle.std.specs.Prelude.{◌≡◌, ◌≢◌, ℕ, ◌<◌, Bool, true, ◌&&◌, nat_le, List, ◌++◌, codes, None, Some, Result, Ok, Err, IsTrue}
 use Rattle.std.specs.Fmt.{decimal}
 use Rattle.certificate_definitions.specs.Certificates.{is_number}
@@ -30,7 +30,7 @@ place_of (stage.Constants version) = at_constant (version_of version)
 place_of (stage.Body b) = in_body (body_of b)
 place_of stage.Ended = ended
 
--- the body has weights, and no more exchanges, atoms, tables, rows and states than there may be
+-- the body has weights, and its numbers of exchanges, atoms, tables, rows and states are within the limits
 abbrev pub is_body_within : machine.Body → Bool
 is_body_within b = (nat_le 1 b.format.weights && nat_le b.swaps most_swaps) && (nat_le b.format.atoms most_atoms && nat_le b.tables most_tables && nat_le b.rows most_rows && nat_le b.states most_states)
 
@@ -44,7 +44,7 @@ is_within ended = true
 abbrev pub IsWithin : CertificatePlace → Type 0
 IsWithin place = IsTrue (is_within place)
 
--- the line could occur there but for a limit
+-- the line would be allowed there but for a limit
 abbrev pub IsOver : CertificatePlace → TextLine → Type 0
 IsOver (in_body b) (swapped names) = (b.format.atoms ≡ 0) × (b.tables ≡ 0) × (b.states ≡ 0) × (b.swaps ≡ most_swaps)
 IsOver (in_body b) (atom a) = (b.tables ≡ 0) × (b.states ≡ 0) × (b.format.atoms ≡ most_atoms)
@@ -53,14 +53,14 @@ IsOver (in_body b) (tabled (row r)) = (0 < b.tables) × (b.states ≡ 0) × (b.r
 IsOver (in_body b) (listed l) = b.states ≡ most_states
 IsOver _ _ = ⊥
 
--- the line leads to this stage, is one too many, or cannot occur there
+-- the line leads to this stage, exceeds a limit, or is not allowed there
 abbrev pub IsStep : CertificatePlace → TextLine → Result Stage TextFault → Type 0
 IsStep place line (Ok next) = next_place place line ≡ Some (place_of next)
 IsStep place line (Err fault.Limit) = IsOver place line
 IsStep place line (Err fault.Form) = (next_place place line ≡ None) × (IsOver place line → ⊥)
 IsStep place line _ = ⊥
 
--- The bytes are the line that is answered, and lead to this stage; or what is reported for them is so.
+-- The bytes are the returned line and lead to this stage; or this is reported for them.
 abbrev pub IsReadAt : CertificatePlace → List ℕ → Result (CertLine × Stage) NextFault → Type 0
 IsReadAt place bytes (Ok (line, next)) = (line_text (text_line_of line) ≡ bytes) × (next_place place (text_line_of line) ≡ Some (place_of next))
 IsReadAt place bytes (Err (Text fault.Version)) =

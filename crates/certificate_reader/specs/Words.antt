@@ -1,4 +1,4 @@
--- The words of a line, and a line by its first word and what comes after it.
+-- The words of a line, and a line as its first word and the rest.
 use Rattle.std.specs.Prelude.{◌≡◌, ℕ, ◌<◌, ◌≤◌, ℤ, ◌==◌, Bool, false, not, ◌||◌, List, [], ◌∷◌, ◌++◌, codes, length, map, Option, None, Some, IsTrue}
 use Rattle.std.specs.Borrow.{Bor}
 use Rattle.std.specs.Char.{is_ascii_uppercase}
@@ -10,7 +10,7 @@ use Rattle.model.specs.Claims.{Claim, bound, none, Mark, opened, cut, dead}
 use Rattle.certificate_definitions.specs.Certificates.{is_number, is_weight, rise}
 use Rattle.certificate_definitions.specs.CertificateText.{NamedAtom, scope, row, Format, TextLine, version, claims, constant, swapped, atom, tabled, listed, last, after_blank, numbers_text, is_line, version_number}
 
--- the bytes of a word, where there is one
+-- the bytes of a word, if there is one
 abbrev pub text_in : Option (Bor (List ℕ)) → Option (List ℕ)
 text_in = option_map (λ (word : Bor (List ℕ)). word.now)
 
@@ -21,28 +21,28 @@ is_blank byte = byte == 32
 abbrev pub is_word : List ℕ → Bool
 is_word = list_all (λ byte. not (is_blank byte))
 
--- a word, and what comes after the blank after it, if there is one
+-- a word, and the rest after a blank, if there is one
 abbrev pub with_rest : List ℕ → Option (List ℕ) → List ℕ
 with_rest word None = word
 with_rest word (Some rest) = word ++ codes " " ++ rest
 
--- The bytes begin with this word, and after a blank is the rest, if any.
+-- The bytes are this word, and after a blank the rest, if any.
 pub record IsFirstWord (bytes word : List ℕ) (rest : Option (List ℕ)) : Type 0 where
   pub is_word : IsTrue (is_word word)
   pub splits : bytes ≡ with_rest word rest
 
--- digits as their number is written: one at least, and the first is 0 only where it is all
+-- digits in canonical form: at least one, without leading zeros
 abbrev pub is_spelled : List ℕ → Bool
 is_spelled [] = false
 is_spelled (first ∷ rest) = not (first == 48) || (length rest == 0)
 
--- the first word of a line that lists a state
+-- the first word of a state line
 abbrev pub mark_head : Mark → List ℕ
 mark_head opened = codes "open"
 mark_head (cut rest) = codes "cut"
 mark_head dead = codes "dead"
 
--- and what comes after it, up to the numbers of atoms
+-- and the rest of it, up to the numbers of atoms
 abbrev pub mark_rest : Mark → ℕ → List ℕ
 mark_rest opened cost = decimal cost
 mark_rest (cut rest) cost = decimal cost ++ after_blank (decimal rest)
@@ -60,17 +60,17 @@ line_head (tabled (row r)) = codes "row"
 line_head (listed l) = mark_head l.mark
 line_head (last count) = codes "end"
 
--- what comes after it
+-- the rest of it
 abbrev pub claim_rest : Claim → List ℕ
 claim_rest (bound least) = codes "bound " ++ decimal least
 claim_rest none = codes "none"
 
--- these words, each after a blank, and then the rest, if any: all but the first blank
+-- these words, each after a blank, and then the rest, if any, without the first blank
 abbrev pub then_words : List (List ℕ) → Option (List ℕ) → Option (List ℕ)
 then_words [] rest = rest
 then_words (word ∷ words) rest = Some (with_rest word (then_words words rest))
 
--- weights and what comes after them
+-- weights and the rest after them
 abbrev pub then_weights : List ℤ → Option (List ℕ) → Option (List ℕ)
 then_weights weights = then_words (map signed_decimal weights)
 
@@ -78,18 +78,18 @@ then_weights weights = then_words (map signed_decimal weights)
 abbrev pub then_numbers : List ℕ → Option (List ℕ)
 then_numbers numbers = then_words (map decimal numbers) None
 
--- The words begin with weights, at most so many, and others come after these only where there are as many.
+-- The words begin with weights, at most this many, and anything else comes only after as many.
 pub record IsLeading (words : Option (List ℕ)) (most : ℕ) (weights : List ℤ) (others : Option (List ℕ)) : Type 0 where
   pub are : IsTrue (list_all is_weight weights)
   pub few : length weights ≤ most
   pub stops : length weights < most → others ≡ None
   pub splits : then_weights weights others ≡ words
 
--- what comes after the weights of an atom
+-- the rest of a line after the weights of an atom
 abbrev pub atom_rest : NamedAtom → List ℕ
 atom_rest a = codes "(" ++ a.predicate ++ flat_map after_blank a.objects ++ codes ")"
 
--- what comes after the first word of a line and a blank
+-- the rest of a line after its first word and a blank
 abbrev pub line_rest : TextLine → Option (List ℕ)
 line_rest (version v) = Some (decimal (version_number v))
 line_rest (claims claim) = Some (claim_rest claim)
@@ -101,7 +101,7 @@ line_rest (tabled (row r)) = then_weights r.weights (then_numbers r.atoms)
 line_rest (listed l) = Some (mark_rest l.mark l.cost ++ numbers_text l.atoms)
 line_rest (last count) = Some (decimal count)
 
--- The bytes are a number, and after it numbers of atoms, rising.
+-- The bytes are a number, followed by atom numbers in ascending order.
 pub record IsNumbered (bytes : List ℕ) (atom_count number : ℕ) (atoms : List ℕ) : Type 0 where
   pub is_number : IsTrue (is_number number)
   pub rising : IsTrue (rise atom_count 0 atoms)
@@ -111,11 +111,11 @@ pub record IsNumbered (bytes : List ℕ) (atom_count number : ℕ) (atoms : List
 abbrev pub are_lower : NamedAtom → Bool
 are_lower a = list_all is_lower_name (a.predicate ∷ a.objects)
 
--- the byte is no capital letter
+-- the byte is not a capital letter
 abbrev pub is_no_capital : ℕ → Bool
 is_no_capital byte = not (is_ascii_uppercase byte)
 
--- the line begins with this word, after which these bytes are, and keeps the limits
+-- the line begins with this word, followed by these bytes, and is within the limits
 pub record IsReadAs (word rest : List ℕ) (f : Format) (line : TextLine) : Type 0 where
   pub head : line_head line ≡ word
   pub following : line_rest line ≡ Some rest

@@ -1,4 +1,4 @@
-//! The names of objects that change places.
+//! The object names of an exchange.
 ghost use Rattle.std.specs.Prelude.{◌≡◌, ◌≢◌, IfNone, IfOk, IfSome, IsTrue, List, ℕ, None, Some, length, map};
 ghost use Rattle.certificate_definitions.specs.CertificateText.{are_exchanged, are_paired, differ};
 ghost use Rattle.certificate_reader.specs.Lines.{name_of};
@@ -8,7 +8,7 @@ use crate::lower_names::{copy, names};
 use indexmap::IndexSet;
 use std::alloc::{AllocError, Global};
 
-/// The names that are there, two by two and all different, and `None` where something else is there.
+/// The names, in pairs and all different; `None` if the bytes are anything else.
 pub(crate) fn exchanged_names(
     alloc: Global,
     rest: &[u8],
@@ -30,14 +30,14 @@ pub(crate) fn exchanged_names(
     Ok(Some(names))
 }
 
-/// Whether no name is left over, where they are taken two by two.
+/// Whether the number of names is even.
 fn are_paired(names: &[Vec<u8>]) -> bool
     ensures { result ≡ are_paired (map name_of names.now) }
 {
     names.len() % 2 == 0
 }
 
-/// Whether no name is there twice.
+/// Whether all names are different.
 fn differ(alloc: Global, names: &[Vec<u8>]) -> Result<bool, AllocError>
     ensures { IfOk result (λ answer. answer ≡ differ (map name_of names.now)) }
 {

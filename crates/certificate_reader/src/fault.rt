@@ -1,28 +1,28 @@
-//! What is at fault in a text, and why there is no next line of it.
+//! Faults of a text, and why there is no next line.
 use devices::IoFault;
 use std::alloc::AllocError;
 
-/// What is at fault in a text.
+/// A fault of a text, with the number it is reported as.
 #[derive(Clone, Copy, Debug, PartialEq, Eq)]
 pub enum TextFault {
-    /// A line that cannot occur in its place, or is too long, or a byte after the last line: 40.
+    /// A line that is invalid at its place or too long, or a byte after the last line: 40.
     Form,
-    /// The first line of another version: 41.
+    /// A first line for another version: 41.
     Version,
-    /// The text ends before the last line does: 42.
+    /// The text ends before its last line does: 42.
     Truncated,
-    /// One atom, one table, one row or one state more than there may be: 55.
+    /// More atoms, tables, rows or states than allowed: 55.
     Limit,
 }
 
 /// Why there is no next line.
 #[derive(Clone, Copy, Debug, PartialEq, Eq)]
 pub(crate) enum NextFault {
-    /// The text is at fault there.
+    /// The text is faulty.
     Text(TextFault),
     /// The device failed.
     Device,
-    /// Memory was refused.
+    /// An allocation failed.
     NoMemory,
 }
 

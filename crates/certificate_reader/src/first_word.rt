@@ -1,10 +1,10 @@
-//! The words of a line: what is between blanks.
+//! The words of a line, separated by blanks.
 ghost use Rattle.std.specs.Prelude.{◌≡◌};
 ghost use Rattle.std.specs.List.{position};
 ghost use Rattle.std.specs.Str.{bytes_eq};
 ghost use Rattle.certificate_reader.specs.Words.{IsFirstWord, is_blank, text_in};
 
-/// The bytes up to the first blank, and those after it where there is one.
+/// The bytes up to the first blank, and the bytes after it if there is one.
 pub(crate) fn first_word(bytes: &[u8]) -> (&[u8], Option<&[u8]>)
     ensures { IsFirstWord bytes.now result.0.now (text_in result.1) }
 {
@@ -14,7 +14,7 @@ pub(crate) fn first_word(bytes: &[u8]) -> (&[u8], Option<&[u8]>)
     (&bytes[..end], Some(&bytes[end + 1..]))
 }
 
-/// Where the first blank is.
+/// The index of the first blank.
 fn first_blank(bytes: &[u8]) -> Option<usize>
     ensures { result ≡ position is_blank bytes.now }
 {

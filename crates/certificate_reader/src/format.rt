@@ -1,4 +1,4 @@
-//! What the lines of a text have in common.
+//! The parameters that determine the form of lines.
 ghost use Rattle.std.specs.Prelude.{◌≡◌};
 ghost use Rattle.certificate_definitions.specs.Certificates.{has_exchanges, has_tables};
 ghost use Rattle.certificate_definitions.specs.CertificateText.{is_weight_count};
@@ -6,18 +6,18 @@ ghost use Rattle.certificate_reader.specs.Lines.{version_of};
 
 use crate::line::{MAX_CONSTANTS, Version};
 
-/// What the lines before one say of its form.
+/// The parameters given by the lines before a line.
 #[derive(Clone, Copy, Debug, PartialEq, Eq)]
 pub(crate) struct Format {
     /// The version of the text.
     pub(crate) version: Version,
-    /// How many weights an atom or a row has: as many as there are constants.
+    /// The number of weights of an atom or a row, equal to the number of constants.
     pub(crate) weights: usize,
-    /// How many atoms there were.
+    /// The number of atoms.
     pub(crate) atoms: usize,
 }
 
-/// Whether there may be so many constants.
+/// Whether this number of constants is allowed.
 pub(crate) fn is_weight_count(version: Version, count: usize) -> bool
     ensures { result ≡ is_weight_count (version_of version) count }
 {
@@ -28,7 +28,7 @@ pub(crate) fn is_weight_count(version: Version, count: usize) -> bool
     }
 }
 
-/// Whether there may be tables.
+/// Whether tables are allowed.
 pub(crate) fn has_tables(version: Version) -> bool
     ensures { result ≡ has_tables (version_of version) }
 {
@@ -38,7 +38,7 @@ pub(crate) fn has_tables(version: Version) -> bool
     }
 }
 
-/// Whether there may be exchanges of objects.
+/// Whether exchanges of objects are allowed.
 pub(crate) fn has_exchanges(version: Version) -> bool
     ensures { result ≡ has_exchanges (version_of version) }
 {

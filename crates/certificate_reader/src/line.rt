@@ -1,33 +1,33 @@
-//! What a line of a certificate's text says.
+//! The content of a line of a certificate's text.
 
-/// The most atoms that a certificate may have.
+/// The maximum number of atoms of a certificate.
 pub const MAX_ATOMS: usize = 1_048_576;
 
-/// The most exchanges of objects that a certificate may have.
+/// The maximum number of exchanges of objects of a certificate.
 pub const MAX_SWAPS: usize = 1_048_576;
 
-/// The most tables that a certificate may have.
+/// The maximum number of tables of a certificate.
 pub const MAX_TABLES: usize = 4_194_304;
 
-/// The most rows that the tables of a certificate may have together.
+/// The maximum number of rows of all tables of a certificate together.
 pub const MAX_ROWS: usize = 4_194_304;
 
-/// The most state lines that a certificate may have.
+/// The maximum number of state lines of a certificate.
 pub const MAX_STATE_LINES: usize = 16_777_216;
 
-/// The most constants of a certificate: one for each of 32 values, and one for dead ends.
+/// The maximum number of constants of a certificate: one for each of 32 values, and one for dead ends.
 pub const MAX_CONSTANTS: usize = 33;
 
-/// Each constant of a certificate and each of its weights is at most this, and no less than its negative.
+/// The maximum absolute value of the constants and weights of a certificate.
 pub const MAX_WEIGHT: i64 = 2_147_483_647;
 
-/// Each cost and each bound in a certificate is below this number, 2 to the power 60.
+/// The exclusive upper limit of costs and bounds in a certificate: 2 to the power 60.
 pub const NUMBER_LIMIT: u64 = 1_152_921_504_606_846_976;
 
-/// The most bytes that a line of a certificate's text may have, without its LF.
+/// The maximum length of a line of a certificate's text, in bytes without LF.
 pub const LONGEST_LINE: usize = 16_777_216;
 
-/// What a certificate claims of all plans.
+/// What a certificate claims about all plans.
 #[derive(Clone, Copy, Debug, PartialEq, Eq)]
 pub enum Claim {
     /// Every plan that solves the task costs at least this.
@@ -36,8 +36,8 @@ pub enum Claim {
     Unsolvable,
 }
 
-/// The version of a certificate's text. From version 2 on a state may be listed as a dead end, and each atom has a last weight,
-/// by which dead ends are reported. In version 3 there are up to 32 values, tables, and exchanges of objects.
+/// The version of a certificate's text. From version 2 on, states may be listed as dead ends, and each atom has a last weight,
+/// for detecting them. Version 3 allows up to 32 values, tables, and exchanges of objects.
 #[derive(Clone, Copy, Debug, PartialEq, Eq)]
 pub enum Version {
     /// `pddl-cert 1`.
@@ -48,17 +48,17 @@ pub enum Version {
     Three,
 }
 
-/// What a listing says of a state.
+/// The role of a state in a listing.
 #[derive(Clone, Copy, Debug, PartialEq, Eq)]
 pub enum Mark {
     /// All its successors are listed too.
     Open,
-    /// It stands for all that follows it.
+    /// It is not expanded: a lower bound takes the place of its successors.
     Cut {
-        /// A lower bound of what is still to pay from the state on.
+        /// The lower bound of the remaining cost from the state.
         rest: u64,
     },
-    /// No plan leads from it to the goal. Version 1 has no such states.
+    /// A dead end: no plan leads from it to the goal. Not in version 1.
     Dead,
 }
 
@@ -67,13 +67,13 @@ pub enum Mark {
 pub struct StateLine {
     /// The cost at which the state is listed.
     pub cost: u64,
-    /// What is said of it.
+    /// Its role.
     pub mark: Mark,
-    /// The state's fluent atoms, by their places, from 0, among the certificate's atoms, rising.
+    /// The state's fluent atoms, in ascending order, by index (from 0) among the certificate's atoms.
     pub atoms: Vec<u32>,
 }
 
-/// An atom by the names of its predicate and its objects, in lower case.
+/// An atom, by the names of its predicate and objects, in lower case.
 #[derive(Debug, PartialEq, Eq, Drop)]
 pub struct NamedAtom {
     /// The predicate's name.
@@ -82,46 +82,46 @@ pub struct NamedAtom {
     pub objects: Vec<Vec<u8>>,
 }
 
-/// A line of a certificate's text, by what it says.
+/// A line of a certificate's text.
 #[derive(Debug, PartialEq, Eq, Drop)]
 pub enum CertLine {
     /// The first line: `pddl-cert 2`.
     Head(Version),
     /// The claim: `claim bound 6`, `claim none`.
     Claim(Claim),
-    /// The constants, one for each value and, last, one for dead ends: `constant 6 1`, and in version 1 `constant 6`.
+    /// The constants, one for each value and last one for dead ends: `constant 6 1`, or in version 1 `constant 6`.
     Constant(Vec<i64>),
-    /// Objects that change places, two by two, by their names in lower case: `swap ball1 ball2`.
+    /// An exchange of objects, by their names in lower case: `swap ball1 ball2`.
     Swap {
-        /// The names: the first and the second change places, the third and the fourth, and so on. All are different.
+        /// The names: the first is swapped with the second, the third with the fourth, and so on. All are different.
         objects: Vec<Vec<u8>>,
     },
-    /// An atom and its weights: `atom -3 0 (at b)`, and in version 1 `atom -3 (at b)`.
+    /// An atom and its weights: `atom -3 0 (at b)`, or in version 1 `atom -3 (at b)`.
     Weight {
-        /// The weights, as many as there are constants.
+        /// The weights, as many as the constants.
         weights: Vec<i64>,
         /// The name of the atom's predicate, in lower case.
         predicate: Vec<u8>,
         /// The names of its objects, in order.
         objects: Vec<Vec<u8>>,
     },
-    /// A table, which looks at these atoms: `table 0 2`.
+    /// A table over these atoms: `table 0 2`.
     Table {
-        /// The atoms, by their places, rising.
+        /// The atoms, in ascending order, by index.
         scope: Vec<u32>,
     },
     /// A row of the last table: `row 3 0 2`.
     Row {
-        /// The weights, as many as there are constants.
+        /// The weights, as many as the constants.
         weights: Vec<i64>,
-        /// Those of the table's atoms that are true, by their places, rising.
+        /// The true atoms of the table, in ascending order, by index.
         atoms: Vec<u32>,
     },
     /// A state: `open 3 0 2`, `cut 6 2 0 1`, `dead 1 2`.
     Listed(StateLine),
-    /// The last line, with the count of the lines that list states: `end 2`.
+    /// The last line, with the number of state lines: `end 2`.
     Last {
-        /// How many lines list states.
+        /// The number of state lines.
         count: u64,
     },
 }

@@ -1,4 +1,4 @@
-//! The names of a certificate's text.
+//! Names in a certificate's text.
 ghost use Rattle.std.specs.Prelude.{◌≡◌, ◌≢◌, IfNone, IfOk, IfSome, IsTrue, List, ℕ, None, map};
 ghost use Rattle.std.specs.List.{list_all};
 ghost use Rattle.model.specs.PlanWriting as writing;
@@ -9,10 +9,10 @@ use crate::first_word::first_word;
 use names::is_name;
 use std::alloc::{AllocError, Global};
 
-/// The most bytes that a name may have.
+/// The maximum length of a name, in bytes.
 const LONGEST_NAME: usize = 255;
 
-/// The names that are there, and `None` where there are none, or something else is there.
+/// The names in the rest of a line; `None` if there are none, or if the rest is anything else.
 pub(crate) fn names(alloc: Global, rest: Option<&[u8]>) -> Result<Option<Vec<Vec<u8>>>, AllocError>
     ensures some { IfOk result (λ found. IfSome found (λ names. IsTrue (list_all writing.is_lower_name (map name_of names.items))
         × (then_words (map name_of names.items) None ≡ text_in rest.entry))) }
@@ -32,7 +32,7 @@ pub(crate) fn names(alloc: Global, rest: Option<&[u8]>) -> Result<Option<Vec<Vec
     Ok(Some(names))
 }
 
-/// These bytes.
+/// A copy of the bytes.
 pub(crate) fn copy(alloc: Global, bytes: &[u8]) -> Result<Vec<u8>, AllocError>
     ensures { IfOk result (λ copy. copy.items ≡ bytes.now) }
 {
@@ -41,7 +41,7 @@ pub(crate) fn copy(alloc: Global, bytes: &[u8]) -> Result<Vec<u8>, AllocError>
     Ok(copy)
 }
 
-/// Whether the word is a name in lower case, not too long.
+/// Whether the word is a name in lower case that is not too long.
 pub(crate) fn is_lower_name(word: &[u8]) -> bool
     ensures { result ≡ writing.is_lower_name word.now }
 {
@@ -54,7 +54,7 @@ pub(crate) fn is_lower_name(word: &[u8]) -> bool
     is_name(word)
 }
 
-/// Whether no letter is a capital.
+/// Whether there are no capital letters.
 fn is_lower(bytes: &[u8]) -> bool
     ensures { result ≡ list_all is_no_capital bytes.now }
 {

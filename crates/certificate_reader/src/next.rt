@@ -1,4 +1,4 @@
-//! The next line of a text, at its place.
+//! The next line of a text, read at the current stage.
 ghost use Rattle.std.specs.Prelude.{◌≡◌, ◌≢◌, IsTrue, []};
 ghost use Rattle.certificate_reader.specs.Waiting.{waiting_of};
 ghost use Rattle.certificate_reader.specs.Ready.{is_ready};
@@ -14,7 +14,7 @@ use crate::waiting::Waiting;
 use devices::{IoFault, Source};
 use std::alloc::Global;
 
-/// The next line, and the stage after it; it is read only where none waits.
+/// The next line and the stage after it. The source is read only if no line is buffered.
 pub(crate) fn next_line<S: Source>(
     alloc: Global,
     stage: Stage,
@@ -33,7 +33,7 @@ pub(crate) fn next_line<S: Source>(
     }
 }
 
-/// The line that waits, of so many bytes.
+/// The buffered line with this length.
 fn take_line(
     alloc: Global,
     stage: Stage,
@@ -49,7 +49,7 @@ fn take_line(
     Ok(read)
 }
 
-/// Whether nothing comes after the last line; it is read only where nothing waits.
+/// Whether nothing follows the last line. The source is read only if nothing is buffered.
 pub(crate) fn is_at_end<S: Source>(waiting: &mut Waiting, source: &mut S) -> Result<bool, IoFault>
     ensures end { IsEnd (waiting_of waiting.old) (waiting_of waiting.new) (S.remaining source.old) (S.remaining source.new) result }
     ensures lazy { waiting_of waiting.old ≢ [] → source.new ≡ source.old }

@@ -1,4 +1,4 @@
-//! The numbers of a certificate's text.
+//! Numbers in a certificate's text.
 ghost use Rattle.std.specs.Prelude.{◌≡◌, ◌≢◌, ℕ, ℤ, IfNone, IfSome, IsTrue};
 ghost use Rattle.std.specs.Fmt.{decimal, signed_decimal};
 ghost use Rattle.std.specs.Str.{bytes_eq};
@@ -9,7 +9,7 @@ use crate::line::{MAX_WEIGHT, NUMBER_LIMIT};
 use itoa::Buffer;
 use std::str;
 
-/// The number that a word is, and `None` where it is none, or not spelled as it is written.
+/// The number denoted by a word; `None` if there is none, or if it is not in canonical form.
 pub(crate) fn number(word: &[u8]) -> Option<u64>
     ensures some { IfSome result (λ n. IsTrue (is_number n) × (decimal n ≡ word.now)) }
     ensures none { IfNone result ((n : ℕ) → IsTrue (is_number n) → decimal n ≢ word.now) }
@@ -30,7 +30,7 @@ pub(crate) fn number(word: &[u8]) -> Option<u64>
     Some(number)
 }
 
-/// Whether digits are spelled as their number is written: there is one, and the first is 0 only where it is all.
+/// Whether digits are in canonical form: at least one, without leading zeros.
 fn is_spelled(word: &[u8]) -> bool
     ensures { result ≡ is_spelled word.now }
 {
@@ -40,7 +40,7 @@ fn is_spelled(word: &[u8]) -> bool
     }
 }
 
-/// The constant or the weight that a word is, and `None` where it is none, or not spelled as it is written.
+/// The constant or weight denoted by a word; `None` if there is none, or if it is not in canonical form.
 pub(crate) fn weight(word: &[u8]) -> Option<i64>
     ensures some { IfSome result (λ w. IsTrue (is_weight w) × (signed_decimal w ≡ word.now)) }
     ensures none { IfNone result ((w : ℤ) → IsTrue (is_weight w) → signed_decimal w ≢ word.now) }
@@ -65,7 +65,7 @@ fn is_weight(number: i64) -> bool
     -MAX_WEIGHT <= number && number <= MAX_WEIGHT
 }
 
-/// Whether the word is how the weight is written.
+/// Whether the word is the canonical form of the weight.
 fn is_weight_spelled(weight: i64, word: &[u8]) -> bool
     ensures { result ≡ bytes_eq (signed_decimal weight) word.now }
 {

@@ -1,4 +1,4 @@
-//! A line of a certificate's text, read.
+//! Parses a line of a certificate's text.
 ghost use Rattle.std.specs.Prelude.{◌≡◌, ◌≢◌, ℕ, ◌≤◌, ◌++◌, codes, Err, IfNone, IfOk, IfSome, IsTrue, List, Some, length};
 ghost use Rattle.std.specs.Fmt.{decimal};
 ghost use Rattle.certificate_definitions.specs.Certificates.{is_number};
@@ -19,11 +19,11 @@ use crate::number::number;
 use crate::parts::{claim, leading_weights, numbered, numbers};
 use std::alloc::{AllocError, Global};
 
-/// The line that these bytes are, without an LF, in a text of this format.
+/// Parses these bytes, without LF, as a line of a text with this format.
 ///
 /// # Errors
-/// [`TextFault::Version`] for `pddl-cert N` where N is none of 1, 2 and 3; [`TextFault::Form`] for all else that is no line;
-/// [`NextFault::NoMemory`] where memory is refused.
+/// [`TextFault::Version`] for `pddl-cert N` if N is not 1, 2 or 3; [`TextFault::Form`] for anything else that is not a line;
+/// [`NextFault::NoMemory`] if an allocation failed.
 pub(crate) fn parse(alloc: Global, bytes: &[u8], format: Format) -> Result<CertLine, NextFault>
     requires some { 1 ≤ format.weights }
     requires few { format.atoms ≤ most_atoms }
@@ -37,7 +37,7 @@ pub(crate) fn parse(alloc: Global, bytes: &[u8], format: Format) -> Result<CertL
     parse_after(alloc, word, rest, format)
 }
 
-/// The line that begins with this word, after which the rest is.
+/// Parses a line with this first word and this rest.
 fn parse_after(
     alloc: Global,
     word: &[u8],
@@ -84,7 +84,7 @@ fn parse_after(
     Err(NextFault::Text(TextFault::Form))
 }
 
-/// The first line, of which the rest comes after `pddl-cert`.
+/// Parses the first line from what follows `pddl-cert`.
 fn head_line(rest: &[u8]) -> Result<CertLine, NextFault>
     ensures { (f : text.Format) → IsParsedAfter (codes "pddl-cert") rest.now f result }
 {
@@ -97,7 +97,7 @@ fn head_line(rest: &[u8]) -> Result<CertLine, NextFault>
     }
 }
 
-/// The line of the claim that comes after `claim`.
+/// Parses the claim from what follows `claim`.
 fn claim_line(rest: &[u8]) -> Result<CertLine, NextFault>
     ensures { (f : text.Format) → IsParsedAfter (codes "claim") rest.now f result }
 {
@@ -107,7 +107,7 @@ fn claim_line(rest: &[u8]) -> Result<CertLine, NextFault>
     }
 }
 
-/// The line of the constants that come after `constant`.
+/// Parses the constants from what follows `constant`.
 fn constant_line(alloc: Global, rest: &[u8], format: Format) -> Result<CertLine, NextFault>
     ensures { IsParsedAfter (codes "constant") rest.now (format_of format) result }
 {
@@ -123,7 +123,7 @@ fn constant_line(alloc: Global, rest: &[u8], format: Format) -> Result<CertLine,
     Ok(CertLine::Constant(constants))
 }
 
-/// The last line, whose count comes after `end`.
+/// Parses the last line from the count that follows `end`.
 fn last_line(rest: &[u8]) -> Result<CertLine, NextFault>
     ensures { (f : text.Format) → IsParsedAfter (codes "end") rest.now f result }
 {
@@ -133,7 +133,7 @@ fn last_line(rest: &[u8]) -> Result<CertLine, NextFault>
     }
 }
 
-/// The line of the atom, with its weights, that comes after `atom`.
+/// Parses an atom with its weights from what follows `atom`.
 fn atom_line(alloc: Global, rest: &[u8], format: Format) -> Result<CertLine, NextFault>
     requires short { length (with_rest (codes "atom") (Some rest.now)) ≤ longest_line }
     ensures { IsParsedAfter (codes "atom") rest.now (format_of format) result }
@@ -141,7 +141,7 @@ fn atom_line(alloc: Global, rest: &[u8], format: Format) -> Result<CertLine, Nex
     let Some((weights, following)) = leading_weights(alloc, Some(rest), format.weights)? else {
         return Err(NextFault::Text(TextFault::Form));
     };
-    // What comes after the weights comes after all of them.
+    // There must be something after the weights.
     let Some(following) = following else {
         return Err(NextFault::Text(TextFault::Form));
     };
@@ -155,7 +155,7 @@ fn atom_line(alloc: Global, rest: &[u8], format: Format) -> Result<CertLine, Nex
     }
 }
 
-/// The line of the objects that change places, whose names come after `swap`.
+/// Parses an exchange from the names that follow `swap`.
 fn swap_line(alloc: Global, rest: &[u8], format: Format) -> Result<CertLine, NextFault>
     requires short { length (with_rest (codes "swap") (Some rest.now)) ≤ longest_line }
     ensures { IsParsedAfter (codes "swap") rest.now (format_of format) result }
@@ -169,7 +169,7 @@ fn swap_line(alloc: Global, rest: &[u8], format: Format) -> Result<CertLine, Nex
     }
 }
 
-/// The line of the table whose scope comes after `table`.
+/// Parses a table from the scope that follows `table`.
 fn table_line(alloc: Global, rest: &[u8], format: Format) -> Result<CertLine, NextFault>
     requires few { format.atoms ≤ most_atoms }
     ensures { IsParsedAfter (codes "table") rest.now (format_of format) result }
@@ -183,7 +183,7 @@ fn table_line(alloc: Global, rest: &[u8], format: Format) -> Result<CertLine, Ne
     }
 }
 
-/// The line of the row, with its weights, that comes after `row`.
+/// Parses a row with its weights from what follows `row`.
 fn row_line(alloc: Global, rest: &[u8], format: Format) -> Result<CertLine, NextFault>
     requires few { format.atoms ≤ most_atoms }
     ensures { IsParsedAfter (codes "row") rest.now (format_of format) result }
@@ -203,7 +203,7 @@ fn row_line(alloc: Global, rest: &[u8], format: Format) -> Result<CertLine, Next
     }
 }
 
-/// The line of the open state that comes after `open`.
+/// Parses an open state from what follows `open`.
 fn open_line(alloc: Global, rest: &[u8], format: Format) -> Result<CertLine, NextFault>
     requires few { format.atoms ≤ most_atoms }
     ensures { IsParsedAfter (codes "open") rest.now (format_of format) result }
@@ -218,7 +218,7 @@ fn open_line(alloc: Global, rest: &[u8], format: Format) -> Result<CertLine, Nex
     }
 }
 
-/// The line of the cut that comes after `cut`.
+/// Parses a cut from what follows `cut`.
 fn cut_line(alloc: Global, rest: &[u8], format: Format) -> Result<CertLine, NextFault>
     requires few { format.atoms ≤ most_atoms }
     ensures { IsParsedAfter (codes "cut") rest.now (format_of format) result }
@@ -240,7 +240,7 @@ fn cut_line(alloc: Global, rest: &[u8], format: Format) -> Result<CertLine, Next
     }
 }
 
-/// The line of the dead end that comes after `dead`; version 1 has none.
+/// Parses a dead end from what follows `dead`; version 1 has none.
 fn dead_line(alloc: Global, rest: &[u8], format: Format) -> Result<CertLine, NextFault>
     requires few { format.atoms ≤ most_atoms }
     ensures { IsParsedAfter (codes "dead") rest.now (format_of format) result }
@@ -258,7 +258,7 @@ fn dead_line(alloc: Global, rest: &[u8], format: Format) -> Result<CertLine, Nex
     }
 }
 
-/// The atom that comes after the weights, and `None` where none does.
+/// The atom after the weights; `None` if there is none.
 fn named_atom(alloc: Global, rest: &[u8]) -> Result<Option<NamedAtom>, AllocError>
     ensures some { IfOk result (λ found. IfSome found (λ a. IsTrue (are_lower (named_atom_of a)) × (atom_rest (named_atom_of a) ≡ rest.now))) }
     ensures none { IfOk result (λ found. IfNone found ((a : text.NamedAtom) → IsTrue (are_lower a) → atom_rest a ≢ rest.now)) }
@@ -279,7 +279,7 @@ fn named_atom(alloc: Global, rest: &[u8]) -> Result<Option<NamedAtom>, AllocErro
     }
 }
 
-/// What is in the parentheses, and `None` where there is something else.
+/// The bytes inside the parentheses; `None` if there is anything else.
 fn in_parentheses(rest: &[u8]) -> Option<&[u8]>
     ensures some { IfSome result (λ inner. rest.now ≡ codes "(" ++ inner.now ++ codes ")") }
     ensures none { IfNone result ((inner : List ℕ) → rest.now ≢ codes "(" ++ inner ++ codes ")") }

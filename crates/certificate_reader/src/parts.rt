@@ -1,4 +1,4 @@
-//! What comes after the first word of a line.
+//! Parsers for what follows the first word of a line.
 ghost use Rattle.std.specs.Prelude.{◌≡◌, ◌≢◌, ℕ, ℤ, ◌≤◌, ◌<◌, IfNone, IfOk, IfSome, IsTrue, List, None, Option, map};
 ghost use Rattle.std.specs.Fmt.{decimal};
 ghost use Rattle.model.specs.Claims as model;
@@ -12,7 +12,7 @@ use crate::line::Claim;
 use crate::number::{number, weight};
 use std::alloc::{AllocError, Global};
 
-/// The claim that the bytes are, and `None` where they are none.
+/// The claim in the bytes; `None` if there is none.
 pub(crate) fn claim(rest: &[u8]) -> Option<Claim>
     ensures some { IfSome result (λ claim. IsTrue (is_claim (claim_of claim)) × (claim_rest (claim_of claim) ≡ rest.now)) }
     ensures none { IfNone result ((claim : model.Claim) → IsTrue (is_claim claim) → claim_rest claim ≢ rest.now) }
@@ -34,7 +34,8 @@ pub(crate) fn claim(rest: &[u8]) -> Option<Claim>
     }
 }
 
-/// The weights that the words begin with, at most so many, and what comes after them; `None` where a word among those is none.
+/// The weights at the beginning of the words, at most `count`, and what follows them; `None` if one of these words is not a
+/// weight.
 pub(crate) fn leading_weights(
     alloc: Global,
     rest: Option<&[u8]>,
@@ -60,7 +61,7 @@ pub(crate) fn leading_weights(
     Ok(Some((weights, left)))
 }
 
-/// A number and, after it, numbers of atoms, rising, and `None` where something else is there.
+/// A number, followed by atom numbers in ascending order; `None` if there is anything else.
 pub(crate) fn numbered(
     alloc: Global,
     bytes: &[u8],
@@ -80,7 +81,7 @@ pub(crate) fn numbered(
     }
 }
 
-/// The numbers of atoms that the bytes are, rising, and `None` where they are none.
+/// Atom numbers in ascending order; `None` if there is anything else.
 pub(crate) fn numbers(
     alloc: Global,
     rest: Option<&[u8]>,
@@ -107,7 +108,7 @@ pub(crate) fn numbers(
     Ok(Some(numbers))
 }
 
-/// How many numbers the bytes are at most: each has a digit, and a blank before the next.
+/// Upper bound of how many numbers the bytes contain: each has a digit, and a blank before the next.
 fn most_numbers(rest: Option<&[u8]>) -> usize {
     match rest {
         Some(bytes) => bytes.len() / 2 + 1,
@@ -115,7 +116,7 @@ fn most_numbers(rest: Option<&[u8]>) -> usize {
     }
 }
 
-/// The number of an atom that a word is, from the least one that is allowed, and `None` where it is none.
+/// The atom number denoted by a word, at least `least`; `None` if there is none.
 fn next_number(word: &[u8], least: u32, atom_count: usize) -> Option<u32>
     requires few { atom_count ≤ most_atoms }
     ensures some { IfSome result (λ n. (decimal n ≡ word.now) × (least ≤ n) × (n < atom_count)) }

@@ -1,15 +1,15 @@
-//! How far a reader has come.
+//! The position of a reader.
 ghost use Rattle.std.specs.Prelude.{◌≡◌, IsTrue};
 ghost use Rattle.certificate_reader.specs.Stages.{IsWithin, place_of};
 
 use crate::stage::Stage;
 
-/// How many lines were given out, and what may come next.
+/// The number of lines returned, and the stage of the next line.
 #[derive(Clone, Copy)]
 pub(crate) struct Position {
-    /// How many lines were given out; at the last value of 64 bits the count stays.
+    /// The number of lines returned; it saturates at the maximum of 64 bits.
     pub(crate) lines: u64,
-    /// What may come next.
+    /// The stage of the next line.
     pub(crate) stage: Stage,
     ghost within: { IsWithin (place_of stage) },
 }

@@ -15,21 +15,21 @@ use crate::waiting::Waiting;
 use devices::Source;
 use std::alloc::Global;
 
-/// Why no line is given out.
+/// Why no line is returned.
 #[derive(Clone, Copy, Debug, PartialEq, Eq)]
 pub enum CertFault {
-    /// The text is at fault: what, and at which line, counted from 1. It is the first line at fault.
+    /// The text is faulty: the fault and its line. It is the first faulty line.
     Line {
-        /// What is at fault.
+        /// The fault.
         code: TextFault,
         /// The line's number, from 1.
         line: u64,
     },
     /// The device failed.
     Device,
-    /// Memory was refused.
+    /// An allocation failed.
     NoMemory,
-    /// A fault was reported before.
+    /// A fault was reported by an earlier call.
     Failed,
 }
 
@@ -44,7 +44,7 @@ pub struct CertReader<R> {
 }
 
 impl<R: Source> CertReader<R> {
-    /// A reader of the text that the source gives from here on.
+    /// A reader of the text that the source gives from its current position.
     pub fn new(alloc: Global, source: R) -> CertReader<R>
         ensures source { source_of result ≡ source }
         ensures read { HasRead result [] }
@@ -63,35 +63,35 @@ impl<R: Source> CertReader<R> {
         }
     }
 
-    /// How many lines were given out.
+    /// The number of lines returned.
     pub fn lines(&self) -> u64
         ensures { result ≡ lines_read self.now }
     {
         self.position.lines
     }
 
-    /// The source, as far as it was read.
+    /// The source, as far as it has been read.
     pub fn into_source(self) -> R
         ensures { result ≡ source_of self }
     {
         self.source
     }
 
-    /// The next line; after the last one `None`, where nothing follows it. The source is read only while no whole line
-    /// has come, or, after the last line, until a byte or the end has.
+    /// The next line; `None` after the last line, if nothing follows it. The source is read only until a whole line is buffered,
+    /// or after the last line until there is a byte or the end of the source.
     ///
     /// # Errors
-    /// [`CertFault::Line`] where the text is at fault; [`CertFault::Device`] where the device failed;
-    /// [`CertFault::NoMemory`] where memory is refused; from then on [`CertFault::Failed`].
+    /// [`CertFault::Line`] if the text is faulty; [`CertFault::Device`] if the device failed; [`CertFault::NoMemory`] if an
+    /// allocation failed; after any of these, [`CertFault::Failed`].
     pub fn next_line(&mut self) -> Result<Option<CertLine>, CertFault>
-        // What is given out of the text, or reported for it, where these lines were given out before.
+        // What is returned or reported, if these lines were returned before.
         ensures reported { (before : List TextLine) → HasRead self.old before → has_failed self.old ≡ false
             → IsAnswer R.remaining self.old self.new before result }
-        // The lines that were given out begin a certificate, and so those before the first line at fault.
+        // The lines returned are a prefix of a certificate, and so are the lines before the first faulty one.
         ensures begins { (before : List TextLine) → HasRead self.old before → has_failed self.old ≡ false → HaveBegun before result }
         ensures failed { has_failed self.new ≡ is_err result }
         ensures still { has_failed self.old ≡ true → (result ≡ Err Failed) × (self.new ≡ self.old) }
-        // The source is left alone where what is to be reported has come.
+        // The source is not touched if the result is determined by the buffer.
         ensures lazy { IsTrue (has_come self.old) → source_of self.new ≡ source_of self.old }
         ensures failures { CountsCert (R.failures (source_of self.old)) (R.failures (source_of self.new)) result }
     {
@@ -108,7 +108,7 @@ impl<R: Source> CertReader<R> {
         }
     }
 
-    /// The next line, and the place after it.
+    /// The next line, and the position after it.
     fn advance(&mut self) -> Result<Option<CertLine>, NextFault>
         ensures reported { (before : List TextLine) → HasRead self.old before → IsAdvance R.remaining self.old self.new before result }
         ensures failed { has_failed self.new ≡ has_failed self.old }
@@ -135,7 +135,7 @@ impl<R: Source> CertReader<R> {
     }
 }
 
-/// The fault that is reported for this line.
+/// The fault as reported for this line.
 fn reported_at(fault: NextFault, line: u64) -> CertFault
     ensures { result ≡ fault_at fault line }
 {

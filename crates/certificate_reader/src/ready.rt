@@ -1,4 +1,4 @@
-//! Waits until a line of a text has come.
+//! Buffers a text until a line is complete.
 ghost use Rattle.std.specs.Prelude.{◌≡◌, Err, IfOk, IsTrue};
 ghost use Rattle.devices.specs.Devices.{CountsDevice};
 ghost use Rattle.devices.specs.declared.device.IoFault.TheVariants.{Device as device_failed};
@@ -9,18 +9,18 @@ use crate::line::LONGEST_LINE;
 use crate::waiting::Waiting;
 use devices::{IoFault, Source};
 
-/// What waits of a text.
+/// What is buffered of a text.
 #[derive(Clone, Copy, Debug, PartialEq, Eq)]
 pub(crate) enum Ready {
-    /// A line of so many bytes, and its LF.
+    /// A line of this length, with its LF.
     Line(usize),
-    /// A line with more bytes than one may have, whether its LF came or not.
+    /// A line that exceeds the maximum length, whether or not its LF has come.
     TooLong,
-    /// The end of the text, before the LF of a line.
+    /// The end of the text without the LF of a line.
     End,
 }
 
-/// Reads until a line waits, or too long a one, or the end of the text has come.
+/// Reads until a line, an overlong line or the end of the text is buffered.
 pub(crate) fn await_line<S: Source>(waiting: &mut Waiting, source: &mut S) -> Result<Ready, IoFault>
     ensures grown { IfOk result (λ _. IsGrown (S.remaining source.old) (S.remaining source.new) (waiting_of waiting.old) (waiting_of waiting.new)) }
     ensures ready { IfOk result (IsReady (waiting_of waiting.new) (S.remaining source.new)) }
@@ -38,7 +38,7 @@ pub(crate) fn await_line<S: Source>(waiting: &mut Waiting, source: &mut S) -> Re
     }
 }
 
-/// The line that waits, or too long a one, and `None` where neither does.
+/// The buffered line or overlong line; `None` if there is neither.
 fn line_in(waiting: &mut Waiting) -> Option<Ready>
     ensures line { IsLineIn (waiting_of waiting.old) result }
     ensures kept { waiting_of waiting.new ≡ waiting_of waiting.old }

@@ -1,4 +1,4 @@
-//! Where a reader is in a certificate, and which line may come next.
+//! The stage of a reader: which line may come next.
 ghost use Rattle.std.specs.Prelude.{◌≡◌, ℕ, ◌≤◌, IsTrue, List, length};
 ghost use Rattle.table_functions.specs.TableFunctions.{Row};
 ghost use Rattle.certificate_definitions.specs.Certificates.{StateLine};
@@ -13,38 +13,38 @@ use crate::line::{CertLine, MAX_ATOMS, MAX_ROWS, MAX_STATE_LINES, MAX_SWAPS, MAX
 use crate::parsing::parse;
 use std::alloc::Global;
 
-/// What may come next.
+/// The lines that may come next.
 #[derive(Clone, Copy, Debug, PartialEq, Eq)]
 pub(crate) enum Stage {
     /// The version.
     Version,
-    /// The claim, in a text of this version.
+    /// The claim, in a text with this version.
     Claim(Version),
     /// The constants.
     Constants(Version),
-    /// What comes after the constants.
+    /// The lines after the constants.
     Body(Body),
     /// Nothing.
     Ended,
 }
 
-/// What came after the constants: exchanges, then atoms, which the format counts, then tables with their rows, then states.
+/// The lines after the constants so far: exchanges, then atoms (counted by the format), then tables with their rows, then states.
 #[derive(Clone, Copy, Debug, PartialEq, Eq)]
 pub(crate) struct Body {
-    /// What was said of the form of lines.
+    /// The form of lines.
     pub(crate) format: Format,
-    /// How many exchanges of objects there were.
+    /// The number of exchanges of objects.
     pub(crate) swaps: usize,
-    /// How many tables began.
+    /// The number of tables.
     pub(crate) tables: usize,
-    /// How many rows there were.
+    /// The number of rows.
     pub(crate) rows: usize,
-    /// How many states there were.
+    /// The number of states.
     pub(crate) states: usize,
 }
 
 impl Stage {
-    /// What is known of the form of lines. Where it is not known yet, and where no line comes any more, any will do.
+    /// The known form of lines. At stages where it does not matter, any will do.
     pub(crate) fn format(self) -> Format
         ensures { format_of result ≡ format_at (place_of self) }
     {
@@ -56,7 +56,7 @@ impl Stage {
         }
     }
 
-    /// The stage after this line, or the fault of one that cannot occur here.
+    /// The stage after this line, or the fault of a line that is not allowed here.
     pub(crate) fn after(self, line: &CertLine) -> Result<Stage, TextFault>
         requires within { IsWithin (place_of self) }
         requires line { IsTrue (is_line (format_at (place_of self)) (text_line_of line.now)) }
@@ -81,7 +81,7 @@ impl Stage {
     }
 }
 
-/// The format before the constants, of which there will be one at least.
+/// The format before the constants, of which there will be at least one.
 fn no_format(version: Version) -> Format
     ensures { format_of result ≡ no_format (version_of version) }
 {
@@ -92,7 +92,7 @@ fn no_format(version: Version) -> Format
     }
 }
 
-/// What came after so many constants: nothing yet.
+/// The stage right after this many constants.
 fn no_body(version: Version, weights: usize) -> Body
     ensures { body_of result ≡ no_body (version_of version) weights }
 {
@@ -133,7 +133,7 @@ impl Body {
         }
     }
 
-    /// The stage after an exchange of objects, or its fault: exchanges come before all else.
+    /// The stage after an exchange of objects, or its fault. Exchanges come before everything else.
     fn after_swap(self) -> Result<Stage, TextFault>
         requires within { IsWithin (in_body (body_of self)) }
         ensures { (names : List (List ℕ)) → IsTrue (is_line (format_of self.format) (swapped names)) → IsStep (in_body (body_of self)) (swapped names) result }
@@ -235,7 +235,7 @@ impl Body {
     }
 }
 
-/// The line that these bytes are at a stage, and the stage after it.
+/// Parses these bytes as a line at this stage, and returns it with the stage after it.
 pub(crate) fn read_line(
     alloc: Global,
     stage: Stage,

@@ -1,4 +1,4 @@
-//! The bytes of a text that came from a source and were not given out yet.
+//! The buffer between a source and its reader.
 ghost use Rattle.std.specs.Prelude.{◌≡◌, ◌≤◌, ◌++◌, drop, take, Err, IfOk, length, OnOk, position, []};
 ghost use Rattle.std.specs.List.{position_or_len};
 ghost use Rattle.certificate_reader.specs.Ends.{is_end};
@@ -8,16 +8,16 @@ ghost use Rattle.devices.specs.declared.device.IoFault.TheVariants.{Device as de
 use devices::{IoFault, Source};
 use std::alloc::{AllocError, Global};
 
-/// How many bytes are asked for at a read.
+/// The number of bytes requested at a time.
 const PIECE: usize = 65_536;
 
-/// The bytes that came and were not given out yet.
+/// The bytes that were read and not yet consumed.
 #[derive(Drop)]
 pub(crate) struct Waiting {
     alloc: Global,
     held: Vec<u8>,
     start: usize,
-    // of the bytes that wait, how many are known to have no LF
+    // How many of the buffered bytes are known to contain no LF.
     passed_over: usize,
     room: Vec<u8>,
     ghost starts_within: { start ≤ length held.items },
@@ -27,7 +27,7 @@ pub(crate) struct Waiting {
 impl Waiting {
     ghost use Rattle.certificate_reader.specs.Waiting.{IsKept, waiting_of};
 
-    /// None yet.
+    /// An empty buffer.
     pub(crate) fn new(alloc: Global) -> Waiting
         ensures { waiting_of result ≡ [] }
     {
@@ -40,14 +40,14 @@ impl Waiting {
         }
     }
 
-    /// The bytes.
+    /// The buffered bytes.
     pub(crate) fn bytes(&self) -> &[u8]
         ensures { result.now ≡ waiting_of self.now }
     {
         &self.held[self.start..]
     }
 
-    /// Where the first LF is. A byte is looked at once.
+    /// The index of the first LF. Each byte is examined once.
     pub(crate) fn line_end(&mut self) -> Option<usize>
         ensures end { result ≡ position is_end (waiting_of self.old) }
         ensures kept { waiting_of self.new ≡ waiting_of self.old }
@@ -59,7 +59,7 @@ impl Waiting {
         end
     }
 
-    /// Hands out so many bytes.
+    /// Consumes this many bytes.
     pub(crate) fn pass(&mut self, count: usize)
         requires { count ≤ length (waiting_of self.old) }
         ensures { waiting_of self.new ≡ drop count (waiting_of self.old) }
@@ -68,7 +68,7 @@ impl Waiting {
         self.passed_over = 0;
     }
 
-    /// Reads once, to the end of the bytes, and says how many bytes came.
+    /// Reads once, appending to the buffer, and returns how many bytes came.
     pub(crate) fn fill<S: Source>(&mut self, source: &mut S) -> Result<usize, IoFault>
         ensures ok { IfOk result (λ count. ReadsSome 65536 count (S.remaining source.old) (S.remaining source.new) (waiting_of self.old) (waiting_of self.new)) }
         ensures device { result ≡ Err device_failed → IsKept (S.remaining source.old) (S.remaining source.new) (waiting_of self.old) (waiting_of self.new) }
@@ -81,7 +81,7 @@ impl Waiting {
         Ok(count)
     }
 
-    /// Lets so many bytes of the room wait after the others.
+    /// Appends this many bytes of the read buffer.
     fn hold(&mut self, count: usize) -> Result<(), AllocError>
         requires { count ≤ length self.old.room.items }
         ensures { OnOk result (waiting_of self.new ≡ waiting_of self.old ++ take count self.old.room.items) }
@@ -89,7 +89,7 @@ impl Waiting {
         self.held.extend_from_slice(&self.room[..count])
     }
 
-    /// Makes the room that is lent to the source, once.
+    /// Allocates the read buffer, once.
     fn make_room(&mut self) -> Result<(), AllocError>
         ensures room { OnOk result (length self.new.room.items ≡ 65536) }
         ensures kept { waiting_of self.new ≡ waiting_of self.old }
@@ -101,7 +101,7 @@ impl Waiting {
         Ok(())
     }
 
-    /// Forgets the bytes that were given out.
+    /// Discards the consumed bytes.
     fn forget(&mut self)
         ensures { waiting_of self.new ≡ waiting_of self.old }
     {
@@ -110,7 +110,7 @@ impl Waiting {
     }
 }
 
-/// Where the first LF is; among the first bytes, so many, there is none.
+/// The index of the first LF, given that the first `passed_over` bytes contain none.
 #[tactic(auto, using(crate::proofs::FirstPlaces::first_within))]
 fn end_after(bytes: &[u8], passed_over: usize) -> Option<usize>
     requires { passed_over ≤ position_or_len is_end bytes.now }
@@ -122,14 +122,14 @@ fn end_after(bytes: &[u8], passed_over: usize) -> Option<usize>
     }
 }
 
-/// Where the first LF is.
+/// The index of the first LF.
 fn first_end(bytes: &[u8]) -> Option<usize>
     ensures { result ≡ position is_end bytes.now }
 {
     bytes.iter().position(|byte| *byte == b'\n')
 }
 
-/// The bytes from this place on.
+/// The bytes from this index on.
 fn rest_from(bytes: &[u8], place: usize) -> &[u8]
     requires { place ≤ length bytes.now }
     ensures { result.now ≡ drop place bytes.now }

@@ -1,4 +1,4 @@
-//! The limits of certificates in memory, and the checker where no instance may be kept.
+//! Tests of the limits of certificates in memory, and of the checker when no instance may be kept.
 use crate::helpers::Reported::Plain;
 use crate::helpers::{Answer, check_text};
 use cert_checker::Accepted;
@@ -11,9 +11,9 @@ use std::process::Abort;
 use std::test::Fail;
 use task::Atom;
 use task_certificates::RefusalCode;
-use test_texts::{GO, Texts, UNTIED, atom, on_task};
+use test_texts::{Application, GO, Texts, UNTIED, atom, on_task};
 
-/// Tasks, certificates of them, and what the checker answers where no instance may be kept: `GO` keeps one, and `UNTIED` none.
+/// Tasks, certificates for them, and the checker's answers when no instance may be kept: `GO` keeps one, `UNTIED` none.
 #[rattlefmt::skip]
 static NO_INSTANCE: [(Texts, &[u8], Answer); 2] = [
     (GO, b"pddl-cert 1\nclaim bound 1\nconstant 0\natom 0 (p)\natom 0 (q)\nopen 0 0\ncut 1 0 0 1\nend 2\n", Err(Plain(RefusalCode::Limit))),
@@ -33,13 +33,13 @@ fn no_instance_may_be_kept(rt: HostRuntime) -> Result<(), Fail> {
 }
 
 /// A constant, and the weights of the atoms.
-type Weights = (i64, &'static [i64]);
+pub(crate) type Weights = (i64, &'static [i64]);
 
-/// What it costs to reach a state, what is said of it, and its atoms.
-type Line = (u64, Mark, &'static [u32]);
+/// The cost of a state, its role, and its atoms.
+pub(crate) type Line = (u64, Mark, &'static [u32]);
 
-/// A version, a claim, what values and dead ends weigh, and a state: the parts of a certificate with two atoms, and whether they
-/// keep its limits.
+/// A version, a claim, the weights of values and dead ends, and a state: the parts of a certificate with two atoms, and whether
+/// they are within its limits.
 type Row = (Version, Claim, Weights, Weights, Line, bool);
 
 /// The largest number that may occur in a certificate.
@@ -62,7 +62,7 @@ static CLAIMS: [Row; 11] = [
     (Version::One, Claim::Bound(MOST + 1), LARGEST, ZERO, START, false),
     (Version::One, Claim::Bound(0), LARGEST, ZERO, (MOST + 1, Mark::Open, &[]), false),
     (Version::One, Claim::Bound(0), LARGEST, ZERO, (0, Mark::Cut { rest: MOST + 1 }, &[]), false),
-    // numbers that fall, are twice, or name no atom
+    // Numbers that descend, repeat, or name no atom.
     (Version::One, Claim::Bound(0), LARGEST, ZERO, (0, Mark::Open, &[1, 0]), false),
     (Version::One, Claim::Bound(0), LARGEST, ZERO, (0, Mark::Open, &[0, 0]), false),
     (Version::One, Claim::Bound(0), LARGEST, ZERO, (0, Mark::Open, &[1, 1]), false),
@@ -70,7 +70,7 @@ static CLAIMS: [Row; 11] = [
     (Version::One, Claim::Bound(0), LARGEST, ZERO, (0, Mark::Open, &[0, 1, 2]), false),
 ];
 
-/// What values weigh.
+/// Weights of values.
 #[rattlefmt::skip]
 static VALUES: [Row; 7] = [
     (Version::One, Claim::Bound(0), ZERO, ZERO, START, true),
@@ -78,12 +78,12 @@ static VALUES: [Row; 7] = [
     (Version::One, Claim::Bound(0), (-2_147_483_648, &[0, 0]), ZERO, START, false),
     (Version::One, Claim::Bound(0), (0, &[2_147_483_648, 0]), ZERO, START, false),
     (Version::One, Claim::Bound(0), (0, &[0, -2_147_483_648]), ZERO, START, false),
-    // one weight too few, and one too many
+    // One weight too few, and one too many.
     (Version::One, Claim::Bound(0), (0, &[0]), ZERO, START, false),
     (Version::One, Claim::Bound(0), (0, &[0, 0, 0]), ZERO, START, false),
 ];
 
-/// Versions, and what dead ends weigh.
+/// Versions, and weights of dead ends.
 #[rattlefmt::skip]
 static VERSIONS: [Row; 10] = [
     (Version::One, Claim::Unsolvable, ZERO, ZERO, START, true),
@@ -98,8 +98,8 @@ static VERSIONS: [Row; 10] = [
     (Version::Two, Claim::Unsolvable, ZERO, (0, &[0]), (0, Mark::Dead, &[]), false),
 ];
 
-/// The potential function of this constant and these weights.
-fn potential(alloc: Global, weights: &Weights) -> Result<Potential, AllocError> {
+/// The potential function with this constant and these weights.
+pub(crate) fn potential(alloc: Global, weights: &Weights) -> Result<Potential, AllocError> {
     Ok(Potential {
         constant: weights.0,
         weights: Vec::from_slice(alloc, weights.1)?,
@@ -107,44 +107,51 @@ fn potential(alloc: Global, weights: &Weights) -> Result<Potential, AllocError> 
 }
 
 /// The two atoms of each certificate.
-pub(crate) fn both_atoms(alloc: Global) -> Result<IndexSet<Atom>, NoMemory> {
+pub(crate) static BOTH: [Application; 2] = [(0, &[]), (1, &[])];
+
+/// The set of these atoms.
+pub(crate) fn atoms(alloc: Global, rows: &[Application]) -> Result<IndexSet<Atom>, NoMemory> {
     let mut atoms = IndexSet::new(alloc);
-    atoms.insert(atom(0, &[]))?;
-    atoms.insert(atom(1, &[]))?;
+    for row in rows {
+        atoms.insert(atom(row.0, row.1))?;
+    }
     Ok(atoms)
 }
 
-/// The state line of this one.
-fn line(alloc: Global, line: &Line) -> Result<StateLine, AllocError> {
+/// The state line with this content.
+pub(crate) fn line(alloc: Global, line: &Line) -> Result<StateLine, AllocError> {
     let (cost, mark, numbers) = *line;
     let atoms = numbers.to_vec(alloc)?;
     Ok(StateLine { cost, mark, atoms })
 }
 
-/// What values and dead ends weigh.
-fn bounds(alloc: Global, row: &Row) -> Result<Bounds, NoMemory> {
-    let mut values = Vec::new(alloc);
-    values.push(potential(alloc, &row.2)?)?;
+/// The bounds with these weights of one value and of dead ends, without tables.
+pub(crate) fn bounds(
+    alloc: Global,
+    value: &Weights,
+    dead_ends: &Weights,
+) -> Result<Bounds, NoMemory> {
+    let values = vec![in alloc; potential(alloc, value)?]?;
     Ok(Bounds {
         values,
-        dead_ends: potential(alloc, &row.3)?,
+        dead_ends: potential(alloc, dead_ends)?,
         tables: Vec::new(alloc),
     })
 }
 
-/// What comes before the states.
+/// The header of the certificate.
 fn header(alloc: Global, row: &Row) -> Result<Header, NoMemory> {
-    let atoms = both_atoms(alloc)?;
+    let atoms = atoms(alloc, &BOTH)?;
     Ok(Header {
         version: row.0,
         claim: row.1,
         exchanges: Vec::new(alloc),
         atoms,
-        bounds: bounds(alloc, row)?,
+        bounds: bounds(alloc, &row.2, &row.3)?,
     })
 }
 
-/// The state of this line, so many times.
+/// The state of this line, `times` times.
 fn lines(alloc: Global, row: &Row, times: usize) -> Result<Vec<StateLine>, AllocError> {
     let mut lines = Vec::new(alloc);
     for _ in 0..times {
@@ -153,7 +160,7 @@ fn lines(alloc: Global, row: &Row, times: usize) -> Result<Vec<StateLine>, Alloc
     Ok(lines)
 }
 
-/// The certificate of these parts that lists the state so many times, and `None` where they exceed its limits.
+/// The certificate with these parts that lists the state `times` times; `None` if they exceed its limits.
 fn cert(alloc: Global, row: &Row, times: usize) -> Result<Option<Cert>, NoMemory> {
     let lines = lines(alloc, row, times)?;
     Cert::new(alloc, header(alloc, row)?, &lines)
@@ -170,7 +177,7 @@ fn is_potential(potential: &Potential, weights: &Weights) -> bool {
     (potential.constant, potential.weights.as_slice()) == *weights
 }
 
-/// Whether the certificate has one value, with these weights.
+/// Whether the certificate has a single value, with these weights.
 fn weighs(cert: &Cert, row: &Row) -> bool {
     let bounds = cert.bounds();
     match bounds.values.as_slice() {
@@ -179,7 +186,7 @@ fn weighs(cert: &Cert, row: &Row) -> bool {
     }
 }
 
-/// Whether the certificate lists the state of this line, and no other.
+/// Whether the certificate lists the state of this line and no other.
 fn lists_only(alloc: Global, cert: &Cert, wanted: &Line) -> Result<bool, NoMemory> {
     if cert.line_count() != 1 {
         return Ok(false);
@@ -190,7 +197,7 @@ fn lists_only(alloc: Global, cert: &Cert, wanted: &Line) -> Result<bool, NoMemor
     Ok((only.cost, only.mark, only.atoms.as_slice()) == *wanted)
 }
 
-/// Whether the certificate begins with these parts.
+/// Whether the certificate's header has these parts.
 fn begins_so(cert: &Cert, row: &Row) -> bool {
     match cert.atoms() {
         [_, second] => {
@@ -202,7 +209,7 @@ fn begins_so(cert: &Cert, row: &Row) -> bool {
     }
 }
 
-/// Whether the certificate of these parts has them, and `None` where there is none.
+/// Whether the certificate made of these parts has them; `None` if there is no such certificate.
 fn is_made(alloc: Global, row: &Row) -> Result<Option<bool>, NoMemory> {
     match &cert(alloc, row, 1)? {
         Some(cert) => Ok(Some(begins_so(cert, row) && lists_only(alloc, cert, &row.4)?)),
@@ -210,7 +217,7 @@ fn is_made(alloc: Global, row: &Row) -> Result<Option<bool>, NoMemory> {
     }
 }
 
-/// There are certificates of these parts where the rows say so.
+/// Certificates exist for these parts exactly if the rows say so.
 fn are_made(rt: &impl Abort, alloc: Global, rows: &[Row]) -> Result<(), Fail> {
     for (number, row) in rows.iter().enumerate() {
         assert_eq!(rt; is_made(alloc, row)?, row.5.then_some(true), "row {number}");

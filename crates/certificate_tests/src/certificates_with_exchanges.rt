@@ -1,15 +1,15 @@
-//! Certificates with exchanges, made in memory and written.
-use certificate::{Bounds, Cert, Claim, Header, Mark, Potential, StateLine, Version, write_cert};
+//! Tests of certificates with exchanges, built in memory and written.
+use crate::certificates::{Line, Weights, atoms, bounds, line};
+use certificate::{Cert, Claim, Header, Mark, Version, write_cert};
 use devices::Memory;
 use faults::NoMemory;
-use indexmap::IndexSet;
 use std::alloc::{AllocError, Global};
 use std::process::Abort;
 use std::test::Fail;
-use task::{Atom, ObjectId};
-use test_texts::{LAMPS, atom, on_task};
+use task::ObjectId;
+use test_texts::{Application, LAMPS, on_task};
 
-/// Objects that change places, two by two.
+/// Pairs of objects that are swapped.
 type Pairs = &'static [(ObjectId, ObjectId)];
 
 /// An exchange of two lamps of [`LAMPS`], and one of four.
@@ -17,32 +17,18 @@ const TWO: Pairs = &[(ObjectId(0), ObjectId(1))];
 
 const FOUR: Pairs = &[(ObjectId(2), ObjectId(3)), (ObjectId(15), ObjectId(0))];
 
-/// The potential function of this constant, in which the atom has this weight.
-fn potential(alloc: Global, constant: i64, weight: i64) -> Result<Potential, AllocError> {
-    Ok(Potential {
-        constant,
-        weights: vec![in alloc; weight; 1]?,
-    })
-}
+/// The single atom: the first lamp is lit.
+static LIT: [Application; 1] = [(0, &[0])];
 
-/// One value, and no dead ends.
-fn bounds(alloc: Global) -> Result<Bounds, AllocError> {
-    let values = vec![in alloc; potential(alloc, 1, -1)?]?;
-    Ok(Bounds {
-        values,
-        dead_ends: potential(alloc, 0, 0)?,
-        tables: Vec::new(alloc),
-    })
-}
+/// The weights of one value, and no dead-end detection.
+const VALUE: Weights = (1, &[-1]);
 
-/// The first lamp is lit.
-fn atoms(alloc: Global) -> Result<IndexSet<Atom>, NoMemory> {
-    let mut atoms = IndexSet::new(alloc);
-    atoms.insert(atom(0, &[0]))?;
-    Ok(atoms)
-}
+const NO_DEAD_END: Weights = (0, &[0]);
 
-/// The exchanges of these objects.
+/// The state in which the first lamp is lit.
+const START: Line = (0, Mark::Open, &[0]);
+
+/// The exchanges of these pairs.
 fn exchanges(alloc: Global, all: &[Pairs]) -> Result<Vec<Vec<(ObjectId, ObjectId)>>, AllocError> {
     let mut exchanges = Vec::new(alloc);
     for pairs in all {
@@ -51,35 +37,26 @@ fn exchanges(alloc: Global, all: &[Pairs]) -> Result<Vec<Vec<(ObjectId, ObjectId
     Ok(exchanges)
 }
 
-/// What comes before the state.
+/// The header of the certificate.
 fn header(alloc: Global, version: Version, all: &[Pairs]) -> Result<Header, NoMemory> {
     let exchanges = exchanges(alloc, all)?;
-    let atoms = atoms(alloc)?;
+    let atoms = atoms(alloc, &LIT)?;
     Ok(Header {
         version,
         claim: Claim::Bound(0),
         exchanges,
         atoms,
-        bounds: bounds(alloc)?,
+        bounds: bounds(alloc, &VALUE, &NO_DEAD_END)?,
     })
 }
 
-/// The line of the state.
-fn line(alloc: Global) -> Result<StateLine, AllocError> {
-    Ok(StateLine {
-        cost: 0,
-        mark: Mark::Open,
-        atoms: vec![in alloc; 0]?,
-    })
-}
-
-/// A certificate of an atom and these exchanges, if one of this version may have them.
+/// A certificate with one atom and these exchanges, if this version allows them.
 fn cert(alloc: Global, version: Version, all: &[Pairs]) -> Result<Option<Cert>, NoMemory> {
-    let lines = vec![in alloc; line(alloc)?]?;
+    let lines = vec![in alloc; line(alloc, &START)?]?;
     Cert::new(alloc, header(alloc, version, all)?, &lines)
 }
 
-/// The text of the one with both.
+/// The text of the certificate with both exchanges.
 const TEXT: &[u8] =
     b"pddl-cert 3\nclaim bound 0\nconstant 1 0\nswap a b\nswap c d p a\natom -1 0 (on a)\nopen 0 0\nend 1\n";
 
@@ -101,20 +78,14 @@ fn is_there(alloc: Global, version: Version, all: &[Pairs]) -> Result<bool, NoMe
 }
 
 #[test]
-fn exchanges_are_of_version_3(rt: HostRuntime) -> Result<(), Fail> {
+fn exchanges_are_of_version_3_and_have_a_pair(rt: HostRuntime) -> Result<(), Fail> {
     let are_there = [
         is_there(rt.alloc(), Version::One, &[TWO])?,
         is_there(rt.alloc(), Version::Two, &[TWO])?,
         is_there(rt.alloc(), Version::Three, &[TWO])?,
+        is_there(rt.alloc(), Version::Three, &[TWO, &[]])?,
     ];
-    assert_eq!(rt; are_there, [false, false, true]);
-    Ok(())
-}
-
-#[test]
-fn an_exchange_has_a_pair(rt: HostRuntime) -> Result<(), Fail> {
-    let is_there = is_there(rt.alloc(), Version::Three, &[TWO, &[]])?;
-    assert!(rt; !is_there);
+    assert_eq!(rt; are_there, [false, false, true, false]);
     Ok(())
 }
 

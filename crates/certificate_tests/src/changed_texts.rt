@@ -1,4 +1,4 @@
-//! Texts of certificates that are changed in one byte. What is accepted of them is true.
+//! Tests of certificate texts with one byte changed: what is accepted is true.
 use crate::helpers::{Answer, check_text};
 use cert_checker::Accepted;
 use std::alloc::{AllocError, Global};
@@ -7,7 +7,7 @@ use std::test::Fail;
 use task::Task;
 use test_texts::{HOP, PATH, Texts, on_task};
 
-/// A task, what its cheapest plan costs, a text, and how many texts that differ from it in one byte are accepted.
+/// A task, its optimal plan cost, a text, and how many texts that differ from it in one byte are accepted.
 struct Row {
     texts: Texts,
     cheapest: u64,
@@ -15,9 +15,9 @@ struct Row {
     accepted: u64,
 }
 
-/// Three texts that are accepted, the last of them with a table, and two that are not: that a plan costs more than the cheapest
-/// does, and that there is none. Of their changes are accepted those of the claim to at most 2, and the last cut of the first text
-/// at 2.
+/// Three accepted texts, the last one with a table, and two refused ones: with a claim above the optimal cost, and with the claim
+/// that there is no plan. Of their changes, those of the claim to at most 2 are accepted, and the last cut of the first text at
+/// 2.
 #[rattlefmt::skip]
 static ROWS: [Row; 5] = [
     Row { texts: HOP, cheapest: 6, accepted: 3,
@@ -32,10 +32,10 @@ static ROWS: [Row; 5] = [
         text: "pddl-cert 1\nclaim none\nconstant 0\natom 0 (at a)\natom 0 (at b)\natom 0 (at c)\nopen 0 0\nopen 3 1\nopen 6 2\nend 3\n" },
 ];
 
-/// The bytes that are in the place of another.
+/// The bytes that replace others.
 const OTHERS: &[u8] = b"0129 \n()an";
 
-/// What the checker answers where this byte is at this place of the text; `None` where it is there already.
+/// The checker's answer if this byte is at this index of the text; `None` if it is there already.
 fn answer(
     alloc: Global,
     task: &Task,
@@ -51,7 +51,7 @@ fn answer(
     Ok(Some(check_text(alloc, task, changed, 100)))
 }
 
-/// Whether it is refused, or is true of a task whose cheapest plan costs so much.
+/// Whether the answer is a refusal, or true of a task with this optimal plan cost.
 fn is_true(answer: Answer, cheapest: u64) -> bool {
     match answer {
         Ok(Accepted::AtLeast { cost }) => cost <= cheapest,
@@ -60,7 +60,7 @@ fn is_true(answer: Answer, cheapest: u64) -> bool {
     }
 }
 
-/// How many of the texts are accepted that have another byte at this place.
+/// The number of accepted texts with another byte at this index.
 fn accepted_at(
     rt: &impl Abort,
     alloc: Global,
@@ -82,7 +82,7 @@ fn accepted_at(
     Ok(accepted)
 }
 
-/// How many of the texts are accepted that have another byte anywhere.
+/// The number of accepted texts with another byte at any index.
 fn accepted(rt: &impl Abort, alloc: Global, task: &Task, row: &Row) -> Result<u64, Fail> {
     let mut accepted: u64 = 0;
     for place in 0..row.text.len() {

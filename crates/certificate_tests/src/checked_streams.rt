@@ -1,7 +1,6 @@
-//! The checker over sources that fail, and that never end.
-use crate::helpers::Reported::{Device, Line as At};
+//! Tests of the checker with endless sources.
+use crate::helpers::Reported::Line as At;
 use crate::helpers::{Answer, check_source};
-use cert_checker::Accepted;
 use devices::Memory;
 use std::alloc::{AllocError, Global};
 use std::process::Abort;
@@ -9,14 +8,14 @@ use std::test::Fail;
 use task::Task;
 use task_certificates::RefusalCode;
 use task_certificates::RefusalCode::{CertForm, NotFluent, Repeated};
-use test_devices::{Endless, FailsAt, InPieces};
+use test_devices::Endless;
 use test_texts::{PAIRS, on_task};
 
-/// There is no plan.
+/// A certificate that there is no plan.
 const NO_PLAN: &[u8] =
     b"pddl-cert 1\nclaim none\nconstant 0\natom 0 (on s1)\natom 0 (on s2)\natom 0 (on s3)\nopen 0\nopen 1 0 1\nopen 1 0 2\nopen 1 1 2\nend 4\n";
 
-/// An atom is repeated.
+/// A certificate that repeats an atom.
 const AGAIN: &[u8] = b"pddl-cert 1\nclaim none\nconstant 0\natom 0 (on s1)\natom 0 (on s1)\n";
 
 /// The bytes as a device.
@@ -24,46 +23,15 @@ fn memory(alloc: Global, bytes: &[u8]) -> Result<Memory, AllocError> {
     Ok(Memory::new(bytes.to_vec(alloc)?))
 }
 
-/// What the checker answers where bytes come one by one, and the read after so many fails.
-fn failing(alloc: Global, task: &Task, bytes: &[u8], reads: u64) -> Result<Answer, AllocError> {
-    let source = FailsAt::source(InPieces::new(memory(alloc, bytes)?, 1), Some(reads));
-    Ok(check_source(alloc, task, source, 6))
-}
-
-/// A failure is reported before the end of the text.
-fn failures_are_reported(rt: &impl Abort, alloc: Global, task: &Task) -> Result<(), Fail> {
-    for reads in 0..=NO_PLAN.len() as u64 {
-        let answer = failing(alloc, task, NO_PLAN, reads)?;
-        assert_eq!(rt; answer, Err(Device), "{reads}");
-    }
-    Ok(())
-}
-
 /// The answer to a text with this fault.
 fn at_line(code: RefusalCode, line: u64) -> Answer {
     Err(At { code, line })
 }
 
-/// A failure is reported unless the end of the text was read, or a fault of a line that came comes before it.
-fn only_failures_are_reported(rt: &impl Abort, alloc: Global, task: &Task) -> Result<(), Fail> {
-    failures_are_reported(rt, alloc, task)?;
-    let answers = [
-        failing(alloc, task, NO_PLAN, NO_PLAN.len().saturating_add(1) as u64)?,
-        failing(alloc, task, AGAIN, AGAIN.len() as u64)?,
-    ];
-    assert_eq!(rt; answers, [Ok(Accepted::Unsolvable), at_line(Repeated, 5)]);
-    Ok(())
-}
-
-#[test]
-fn a_failure_is_reported_where_it_comes(rt: HostRuntime) -> Result<(), Fail> {
-    on_task(&rt, rt.alloc(), &PAIRS, only_failures_are_reported)
-}
-
-/// What comes before the first atom.
+/// The lines before the first atom.
 const HEAD: &[u8] = b"pddl-cert 1\nclaim none\nconstant 0\n";
 
-/// What the checker answers to a text that these bytes follow for ever.
+/// The checker's answer to a text followed by these bytes forever.
 fn endless(alloc: Global, task: &Task, text: &[u8], again: &[u8]) -> Result<Answer, AllocError> {
     let again = again.repeat(alloc, 4_096)?;
     if again.is_empty() {
@@ -73,7 +41,7 @@ fn endless(alloc: Global, task: &Task, text: &[u8], again: &[u8]) -> Result<Answ
     Ok(check_source(alloc, task, source, 6))
 }
 
-/// Texts, what follows them for ever, and the first line at fault.
+/// Texts, the bytes that follow them forever, and the first faulty line.
 #[rattlefmt::skip]
 static ENDLESS: [(&[u8], &[u8], RefusalCode, u64); 6] = [
     (AGAIN, b" ", Repeated, 5),
@@ -84,7 +52,7 @@ static ENDLESS: [(&[u8], &[u8], RefusalCode, u64); 6] = [
     (HEAD, b"atom 0 (on s9)\n", NotFluent, 4),
 ];
 
-/// The first line at fault is reported, whatever follows.
+/// The first faulty line is reported, whatever follows.
 fn ends_are_reported(rt: &impl Abort, alloc: Global, task: &Task) -> Result<(), Fail> {
     for (number, (text, again, code, line)) in ENDLESS.iter().enumerate() {
         let answer = endless(alloc, task, *text, *again)?;

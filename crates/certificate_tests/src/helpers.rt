@@ -1,4 +1,4 @@
-//! What the checker answers to texts of certificates.
+//! The checker's answers to certificate texts.
 use cert_checker::{Accepted, check};
 use certificate::CertReader;
 use devices::{Memory, Source};
@@ -6,31 +6,31 @@ use std::alloc::Global;
 use task::{SchemaId, Task};
 use task_certificates::{Refusal, RefusalCode};
 
-/// A [`Refusal`] as tests compare it.
+/// A [`Refusal`] in a form that tests can compare.
 #[derive(Clone, Copy, Debug, PartialEq, Eq)]
 pub(crate) enum Reported {
-    /// What is wrong with a line.
+    /// A line is wrong.
     Line {
         /// What is wrong.
         code: RefusalCode,
         /// The line, counted from 1.
         line: u64,
     },
-    /// The first instance that is not fair is one of this schema.
+    /// The first instance that is not fair belongs to this schema.
     Unfair(SchemaId),
-    /// The first instance that is not dead-fair is one of this schema.
+    /// The first instance that is not dead-fair belongs to this schema.
     DeadUnfair(SchemaId),
-    /// What is wrong, and not with one line.
+    /// Wrong, but not at a particular line.
     Plain(RefusalCode),
-    /// Memory was refused.
+    /// An allocation failed.
     NoMemory,
     /// The device failed.
     Device,
-    /// The reader had reported a fault before.
+    /// The reader reported a fault before.
     Failed,
 }
 
-/// The refusal, to be compared.
+/// The refusal in comparable form.
 fn as_reported(refusal: Refusal) -> Reported {
     match refusal {
         Refusal::Line { code, line } => Reported::Line { code, line },
@@ -43,10 +43,10 @@ fn as_reported(refusal: Refusal) -> Reported {
     }
 }
 
-/// What the checker answers.
+/// The checker's answer.
 pub(crate) type Answer = Result<Accepted, Reported>;
 
-/// What the checker answers to the certificate whose text the source gives.
+/// The checker's answer to the certificate whose text the source gives.
 pub(crate) fn check_source<S: Source + Drop>(
     alloc: Global,
     task: &Task,
@@ -60,7 +60,7 @@ pub(crate) fn check_source<S: Source + Drop>(
     }
 }
 
-/// What the checker answers to the certificate of this text.
+/// The checker's answer to the certificate with this text.
 pub(crate) fn check_text(alloc: Global, task: &Task, text: Vec<u8>, max_instances: u32) -> Answer {
     check_source(alloc, task, Memory::new(text), max_instances)
 }

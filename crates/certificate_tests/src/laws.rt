@@ -1,4 +1,4 @@
-//! The laws of certificates that are stated of all values, and proved, each called once; and the numbers that the contracts name.
+//! The laws of certificates that are proved for all values, each called once; and the numbers that the contracts mention.
 use cert_checker::{
     closed_certificates_are_accepted, closed_claim_holds, examples_are_judged,
     solving_list_stays_listed, written_certificates_read_back,

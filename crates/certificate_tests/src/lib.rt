@@ -1,10 +1,8 @@
-//! Tests of certificates: made in memory, written, read and checked, over failing devices, and damaged.
+//! Tests of certificates: built in memory, written to failing devices, read from endless ones, and damaged.
 #![tactic(auto)]
 
 #[cfg(test)]
 mod certificates;
-#[cfg(test)]
-mod certificates_of_classes;
 #[cfg(test)]
 mod certificates_with_exchanges;
 #[cfg(test)]

@@ -1,21 +1,21 @@
-//! Certificates that are written to sinks that fail.
+//! Tests of certificates written to sinks that fail.
 ghost use Rattle.std.specs.Prelude.{◌<◌};
 
-use certificate::{Bounds, Cert, Claim, Header, Mark, Potential, StateLine, Version, write_cert};
+use crate::certificates::{Weights, atoms, bounds};
+use certificate::{Cert, Claim, Header, Mark, StateLine, Version, write_cert};
 use devices::{IoFault, Memory};
 use faults::NoMemory;
-use indexmap::IndexSet;
 use std::alloc::{AllocError, Global};
 use std::process::Abort;
 use std::test::Fail;
-use task::{Atom, Task};
+use task::Task;
 use test_devices::{FailsAt, InPieces};
-use test_texts::{GO, atom, on_task};
+use test_texts::{Application, GO, on_task};
 
-/// How many atoms the certificates have: the two of `GO`, and others, which the task has no names for.
+/// The number of atoms of the certificates: the two of `GO`, and others, for which the task has no names.
 const ATOMS: u32 = 12;
 
-/// The numbers of the atoms of a state, which are the places of the ones in its number.
+/// The atoms of a state: the positions of the ones in its binary number.
 fn atoms_of(alloc: Global, state: u32) -> Result<Vec<u32>, AllocError> {
     let mut atoms = Vec::new(alloc);
     for atom in 0..ATOMS {
@@ -26,7 +26,7 @@ fn atoms_of(alloc: Global, state: u32) -> Result<Vec<u32>, AllocError> {
     Ok(atoms)
 }
 
-/// The lines of the first so many states, which are dead ends.
+/// The lines of the first `count` states, which are dead ends.
 fn lines(alloc: Global, count: u32) -> Result<Vec<StateLine>, AllocError> {
     let mut lines = Vec::new(alloc);
     for state in 0..count {
@@ -39,46 +39,31 @@ fn lines(alloc: Global, count: u32) -> Result<Vec<StateLine>, AllocError> {
     Ok(lines)
 }
 
-/// The atoms, each of a predicate of its own.
-fn atoms(alloc: Global) -> Result<IndexSet<Atom>, NoMemory> {
-    let mut atoms = IndexSet::new(alloc);
-    for predicate in 0..ATOMS {
-        atoms.insert(atom(predicate as usize, &[]))?;
-    }
-    Ok(atoms)
-}
+/// The atoms, each with a predicate of its own.
+#[rattlefmt::skip]
+static NAMED: [Application; 12] = [
+    (0, &[]), (1, &[]), (2, &[]), (3, &[]), (4, &[]), (5, &[]),
+    (6, &[]), (7, &[]), (8, &[]), (9, &[]), (10, &[]), (11, &[]),
+];
 
-/// The potential function of this constant, in which each atom has this weight.
-fn potential(alloc: Global, constant: i64, weight: i64) -> Result<Potential, AllocError> {
-    Ok(Potential {
-        constant,
-        weights: vec![in alloc; weight; ATOMS as usize]?,
-    })
-}
+/// A value of 0; only the state without atoms counts as a dead end.
+const VALUE: Weights = (0, &[0, 0, 0, 0, 0, 0, 0, 0, 0, 0, 0, 0]);
 
-/// A value of 0, and no state without an atom is a dead end.
-fn bounds(alloc: Global) -> Result<Bounds, AllocError> {
-    let values = vec![in alloc; potential(alloc, 0, 0)?]?;
-    Ok(Bounds {
-        values,
-        dead_ends: potential(alloc, 1, -1)?,
-        tables: Vec::new(alloc),
-    })
-}
+const DEAD_ENDS: Weights = (1, &[-1, -1, -1, -1, -1, -1, -1, -1, -1, -1, -1, -1]);
 
-/// What comes before the states.
+/// The header of the certificate.
 fn header(alloc: Global) -> Result<Header, NoMemory> {
-    let atoms = atoms(alloc)?;
+    let atoms = atoms(alloc, &NAMED)?;
     Ok(Header {
         version: Version::Two,
         claim: Claim::Bound(0),
         exchanges: Vec::new(alloc),
         atoms,
-        bounds: bounds(alloc)?,
+        bounds: bounds(alloc, &VALUE, &DEAD_ENDS)?,
     })
 }
 
-/// The certificate that lists the first so many states as dead ends.
+/// The certificate that lists the first `count` states as dead ends.
 fn cert(alloc: Global, count: u32) -> Result<Option<Cert>, NoMemory> {
     let lines = lines(alloc, count)?;
     Cert::new(alloc, header(alloc)?, &lines)
@@ -93,7 +78,7 @@ fn add_line(alloc: Global, state: u32, text: &mut Vec<u8>) -> Result<(), AllocEr
     text.extend_from_slice(b"\n")
 }
 
-/// Adds what comes after the atoms that have names.
+/// Appends what comes after the atoms that have names.
 fn add_lines(alloc: Global, count: u32, text: &mut Vec<u8>) -> Result<(), AllocError> {
     text.extend_from_slice(b"atom 0 -1 ()\n".repeat(alloc, 10)?.as_slice())?;
     for state in 0..count {
@@ -102,7 +87,7 @@ fn add_lines(alloc: Global, count: u32, text: &mut Vec<u8>) -> Result<(), AllocE
     text.extend_from_slice(format!(in alloc; "end {count}\n")?.as_bytes())
 }
 
-/// Its text.
+/// The text of the certificate.
 fn text(alloc: Global, count: u32) -> Result<Vec<u8>, AllocError> {
     let mut text =
         b"pddl-cert 2\nclaim bound 0\nconstant 0 1\natom 0 -1 (p)\natom 0 -1 (q)\n".to_vec(alloc)?;
@@ -110,8 +95,7 @@ fn text(alloc: Global, count: u32) -> Result<Vec<u8>, AllocError> {
     Ok(text)
 }
 
-/// What is reported, and what is taken of the text, where the sink takes so many bytes at a write and the write after so many
-/// fails.
+/// The result of writing, and the bytes taken, if the sink takes `length` bytes per write and the write after this many fails.
 fn taken(
     alloc: Global,
     task: &Task,
@@ -127,7 +111,7 @@ fn taken(
     (written, sink.inner.inner.into_vec())
 }
 
-/// What is reported where this is taken of the text, and no more: that a write failed, unless it is all.
+/// The expected result if this prefix of the text is taken and no more: a failed write, unless it is all.
 fn reported_of(taken: &[u8], text: &[u8]) -> Result<(), IoFault> {
     if taken == text {
         Ok(())
@@ -136,7 +120,7 @@ fn reported_of(taken: &[u8], text: &[u8]) -> Result<(), IoFault> {
     }
 }
 
-/// A sink that takes byte by byte fails at each of the text's bytes.
+/// A sink that takes single bytes fails at each byte of the text.
 fn fails_at_each_byte(rt: &impl Abort, alloc: Global, task: &Task, cert: &Cert, text: &[u8]) {
     for count in 0..=text.len() {
         let wanted = &text[..count];
@@ -158,14 +142,14 @@ fn a_certificate_is_begun_where_a_write_fails(rt: HostRuntime) -> Result<(), Fai
     })
 }
 
-/// How many states are listed of which the text has more bytes than are held before they are written.
+/// A number of states whose text exceeds the writer's buffer.
 const MANY: u32 = 4_000;
 
-/// How many bytes are held.
+/// The size of the writer's buffer.
 const HELD: usize = 65_536;
 
-/// Whether this is a beginning of the text, and no less than the sink was given that takes a thousand bytes at a write, and
-/// of which the write after so many fails, but for one piece that was shorter; and what is reported is so.
+/// Whether the bytes taken are a prefix of the text of the right length, and the result matches. The sink takes a thousand bytes
+/// per write and fails at the write after this many; one piece may have been shorter.
 fn is_beginning(written: Result<(), IoFault>, taken: &[u8], text: &[u8], writes: u64) -> bool {
     let most = writes.saturating_mul(1_000);
     let count = taken.len() as u64;
@@ -174,7 +158,7 @@ fn is_beginning(written: Result<(), IoFault>, taken: &[u8], text: &[u8], writes:
         && (written.is_ok() || count <= most && most < count.saturating_add(1_000))
 }
 
-/// Whether this sink takes such a beginning.
+/// Whether such a sink takes such a prefix.
 fn is_begun(alloc: Global, task: &Task, cert: &Cert, text: &[u8], writes: u64) -> bool {
     let (written, taken) = taken(alloc, task, cert, 1_000, writes);
     is_beginning(written, &taken, text, writes)
@@ -183,14 +167,14 @@ fn is_begun(alloc: Global, task: &Task, cert: &Cert, text: &[u8], writes: u64) -
 /// More writes than the text takes.
 const MOST_WRITES: u64 = 90;
 
-/// It fails at each write.
+/// The sink fails at each write.
 fn fails_at_each_piece(rt: &impl Abort, alloc: Global, task: &Task, cert: &Cert, text: &[u8]) {
     for writes in 0..MOST_WRITES {
         assert!(rt; is_begun(alloc, task, cert, text, writes), "{writes}");
     }
 }
 
-/// It fails at none where the one that fails would come after the text, which is longer than what is held.
+/// A sink that would fail only after the end of the text does not fail. The text exceeds the buffer.
 fn is_taken_whole(rt: &impl Abort, alloc: Global, task: &Task, cert: &Cert, text: &[u8]) {
     let (written, whole) = taken(alloc, task, cert, 1_000, MOST_WRITES);
     assert_eq!(rt;

@@ -1,4 +1,4 @@
--- What a parse reads of a command, as it is described step by step.
+-- How a parser sees a command, as it is described step by step.
 use Rattle.std.proofs.Common.{◌≡◌, ◌∙◌, Bool, List, [], ◌∷◌, ◌++◌, false, append-nil, append_assoc, sym, ap, ap₂, subst}
 use Rattle.std.specs.Prelude.{◌||◌}
 use Rattle.std.specs.List.{fold}
@@ -15,12 +15,12 @@ use Rattle.command_line.specs.Description.{subcommand}
 abbrev pub app_with : Text → List Rule → App
 app_with name rules = record { top = subcommand name rules; subs = [] }
 
--- the command is this one to a parse, and has no global argument
+-- to a parser the command is this one, and it has no global argument
 pub record IsDescribed (c : Command) (app : App) : Type 0 where
   pub is : app_of c ≡ app
   pub local : (out-Command c).has_globals ≡ false
 
--- arguments that are added in turn
+-- arguments added in turn
 pub with_rules : (name : Text) (seen rules : List Rule) (arguments : List Arg) (old new : Command) → AddsInTurn AddsArg old arguments new
     → HaveRules arguments rules → IsDescribed old (app_with name seen) → IsDescribed new (app_with name (seen ++ rules))
 with_rules name seen [] [] old new added have is =
@@ -33,7 +33,7 @@ with_rules name seen (rule ∷ rules) (argument ∷ arguments) old new (next, fi
 with_rules name seen [] (argument ∷ arguments) old new added have is = absurd have
 with_rules name seen (rule ∷ rules) [] old new added have is = absurd have
 
--- commands that are added in turn
+-- commands added in turn
 pub with_shapes : (old new : Command) (commands : List Command) (shapes : List Shape) (app : App) → AddsInTurn AddsSubcommand old commands new
     → HaveShapes commands shapes → app_of old ≡ app → app_of new ≡ fold with_subcommand app shapes
 with_shapes old new [] [] app added have is = ap app_of (sym added) ∙ is

@@ -1,4 +1,4 @@
--- The worked examples of what words ask for: each computes.
+-- The worked examples of words and their orders: each computes.
 use Rattle.std.proofs.Common.{refl}
 use Rattle.clap.proofs.OnLiterals.{clap_on_literals}
 use Rattle.command_line.specs.Examples.{AreRead}

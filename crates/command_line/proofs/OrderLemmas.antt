@@ -1,4 +1,4 @@
--- What the words are, and what they ask for.
+-- The words and their order.
 use Rattle.std.proofs.Common.{◌≡◌, ◌∙◌, ℕ, ◌<◌, ◌≤◌, ◌^◌, List, [], Bool, true, false, refl, sym, ap, subst, inl, inr, arith}
 use Rattle.std.specs.Prelude.{Option, Some, None, IfSome, is_some, if◌then◌else◌, option_map, option_and_then}
 use Rattle.std.specs.Str.Parse.{IsNumeral, digits_value, without_leading_plus}
@@ -21,7 +21,7 @@ use Rattle.command_line.specs.Description.{optplan}
 use Rattle.command_line.specs.Orders.{Asks, IsCommand, Wanted, limit_of, wanted_in}
 use Rattle.command_line.specs.declared.max_count.MaxCount.{MaxCount}
 
--- words ask for one thing
+-- words give only one order
 pub one_wanted : (words : List Text) (a b : Wanted) → Asks words a → Asks words b → a ≡ b
 one_wanted words a b asks others =
     let same : ◌≡◌ {A = Option Wanted} (Some a) (Some b) = sym asks.1 ∙ others.1 in cc
@@ -39,7 +39,7 @@ limit_within n least most = rw (le-leb _ _ least, le-leb _ _ most) refl
 within_limit : (n : ℕ) → is_limit n ≡ true → (1 ≤ n) × (n ≤ most)
 within_limit n is = let parts = both _ _ is in (leb-true _ _ parts.0, leb-true _ _ parts.1)
 
--- a text that reads as a number is a limit where the number is
+-- a text that reads as a number is a limit exactly if the number is
 limit_text : (text : Text) → IsNumeral 10 (without_leading_plus text) → is_unsigned_in 1 most text ≡ is_limit (digits_value 10 (without_leading_plus text))
 limit_text text numeral = same_bool _ _
     (λ is. let a = accepts-Accepts false (Unsigned 1 most) text is in limit_within _ a.2 a.3)
@@ -66,7 +66,7 @@ module _ (text : Text) (fails : IsNumeral 10 (without_leading_plus text) × (dig
   pub no_limit_read : None ≡ limit_of text
   no_limit_read = no_limit (is_unsigned_in 1 most text) refl
 
--- ---- what the words are
+-- ---- the description
 
 pub optplan_is_simple : is_simple_and_free optplan ≡ true
 unfolding clap_on_literals

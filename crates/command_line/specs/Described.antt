@@ -1,4 +1,4 @@
--- What a parse reads of arguments and commands, as they are built step by step.
+-- How a parser sees arguments and commands, as they are built step by step.
 use Rattle.std.specs.Prelude.{◌≡◌, List, [], ◌∷◌, ◌++◌, true, false}
 use Rattle.clap.specs.Walk.{Rule, rule_of}
 use Rattle.clap.specs.Simple.{App, Shape, shape_of}
@@ -7,17 +7,17 @@ use Rattle.clap.specs.declared.builder.command.Command.{Command}
 use Rattle.clap.specs.declared.builder.command.Command.TheViews.{out-Command}
 use Rattle.command_line.specs.Description.{optplan}
 
--- the argument is this one to a parse, and is its command's own
+-- to a parser the argument is this one, and it belongs to its command alone
 pub record HasRule (argument : Arg) (rule : Rule) : Type 0 where
   pub is : rule_of argument ≡ rule
   pub local : argument.global ≡ false
 
--- the command is this one to a parse, and has no global argument
+-- to a parser the command is this one, and it has no global argument
 pub record HasShape (command : Command) (shape : Shape) : Type 0 where
   pub is : shape_of command ≡ shape
   pub local : (out-Command command).has_globals ≡ false
 
--- the same of each in turn
+-- the same for each in turn
 abbrev pub HaveRules : List Arg → List Rule → Type 0
 HaveRules [] [] = Unit {0}
 HaveRules (argument ∷ arguments) (rule ∷ rules) = HasRule argument rule × HaveRules arguments rules
@@ -28,7 +28,7 @@ HaveShapes [] [] = Unit {0}
 HaveShapes (command ∷ commands) (shape ∷ shapes) = HasShape command shape × HaveShapes commands shapes
 HaveShapes _ _ = ⊥
 
--- one more command, the last
+-- one more command, appended
 abbrev pub AddsShape : List Command → Shape → List Command → Type 0
 AddsShape old shape new = (command : Command) × HasShape command shape × (new ≡ old ++ command ∷ [])
 

@@ -1,5 +1,5 @@
--- The command line as it is described to `clap`, whose definitions say what words come to under a description: which words it takes
--- (`fault_of`), and which values its arguments then have (`subcommand_of`).
+-- The command line as described for `clap`, whose definitions determine the meaning of words under a description: which words are
+-- accepted (`fault_of`), and which values the arguments then have (`subcommand_of`).
 use Rattle.std.specs.Prelude.{List, [], ◌∷◌, codes, Some, true, false}
 use Rattle.clap.specs.Walk.{Rule, Text}
 use Rattle.clap.specs.Simple.{App, Shape, new_rule, new_shape}
@@ -7,23 +7,23 @@ use Rattle.clap.specs.declared.builder.action.ArgAction.TheVariants.{SetTrue}
 use Rattle.clap.specs.declared.builder.value_parser.ValueParser.TheVariants.{Unsigned}
 use Rattle.command_line.specs.Limit.{most}
 
--- the name of a file, which must be there
+-- a required file name
 abbrev pub file : Text → Rule
 file name = record (new_rule name) { required = true }
 
--- the name of a file, which may be missing
+-- an optional file name
 abbrev pub optional_file : Text → Rule
 optional_file name = new_rule name
 
--- an option with a value, as `--plan FILE`
+-- an option with a value, such as `--plan FILE`
 abbrev pub option : Text → Rule
 option name = record (new_rule name) { long = Some name; value_names = 1 }
 
--- an option whose value is a limit, 1,000,000 where it is not given
+-- an option whose value is a limit, with 1,000,000 as the default
 abbrev pub limit : Text → Rule
 limit name = record (option name) { parser = Some (Unsigned 1 most); defaults = codes "1000000" ∷ [] }
 
--- an option without a value, as `--json`
+-- a flag, such as `--json`
 abbrev pub flag : Text → Rule
 flag name = record (new_rule name) { long = Some name; action = Some SetTrue }
 
@@ -33,7 +33,7 @@ json = flag (codes "json")
 abbrev pub progress : Rule
 progress = flag (codes "progress")
 
--- a command of this name with these arguments
+-- a command with this name and these arguments
 abbrev pub subcommand : Text → List Rule → Shape
 subcommand name rules = record (new_shape name) { rules = rules }
 
@@ -56,7 +56,7 @@ abbrev pub explain : Shape
 explain = subcommand (codes "explain")
     (file (codes "DOMAIN") ∷ file (codes "PROBLEM") ∷ optional_file (codes "PLAN") ∷ limit (codes "instances") ∷ json ∷ [])
 
--- the program: one of the four commands must be there, and it is reported how the program is used where no word is
+-- the program: one of the four commands is required, and without words the usage is reported
 abbrev pub optplan : App
 optplan = record {
   top = record (new_shape (codes "optplan")) {

@@ -1,4 +1,4 @@
--- Worked examples of what words ask for, each chosen so that a wrong reading says otherwise.
+-- Worked examples of words and their orders, each chosen to expose a wrong reading.
 use Rattle.std.specs.Prelude.{◌≡◌, true, false, List, [], ◌∷◌, ◌++◌, codes, None, Some}
 use Rattle.clap.specs.Kinds.{Kinds}
 use Rattle.clap.specs.Faults.{fault_of}
@@ -7,18 +7,18 @@ use Rattle.clap.specs.declared.error.kind.ErrorKind.TheVariants.{ArgumentConflic
 use Rattle.command_line.specs.Description.{optplan}
 use Rattle.command_line.specs.Orders.{Asks, Asked, to_solve, to_validate, to_check, to_explain}
 
--- `solve d p`, with the words before, between and after the two names
+-- `solve d p`, with these words before, between and after the two names
 abbrev pub solve_words : (first second third : List Text) → List Text
 solve_words first second third = codes "solve" ∷ (first ++ (codes "d" ∷ (second ++ (codes "p" ∷ third))))
 
 abbrev pub words : List Text → List Text
 words options = solve_words [] [] options
 
--- nothing is asked for but the answer
+-- no options
 abbrev pub plain : Asked
 plain = record { states = 1000000; instances = 1000000; plan = None; cert = None; json = false; progress = false }
 
--- the words ask for a plan for d and p, with this
+-- the words ask for a plan for d and p, with these options
 abbrev pub AskToSolve : List Text → Asked → Type 0
 AskToSolve words asked = Asks words (to_solve (codes "d") (codes "p") asked)
 
@@ -34,16 +34,16 @@ pub record AreRead : Type 0 where
   pub instances : AskToSolve (words (codes "--instances" ∷ codes "5" ∷ [])) (record plain { instances = 5 })
   pub in_json : AskToSolve (words (codes "--json" ∷ [])) (record plain { json = true })
   pub progress : AskToSolve (words (codes "--progress" ∷ [])) (record plain { progress = true })
-  -- a value may occur in the option's word, and then begin with a hyphen
+  -- a value may be part of the option's word, and may then begin with a hyphen
   pub in_one_word : AskToSolve (words (codes "--states=5" ∷ codes "--plan=-x=y" ∷ [])) (record plain { states = 5; plan = Some (codes "-x=y") })
   -- options come before, between and after the files
   pub around : AskToSolve (solve_words (codes "--json" ∷ []) (codes "--plan" ∷ codes "x" ∷ []) (codes "--states" ∷ codes "5" ∷ []))
       (record plain { states = 5; plan = Some (codes "x"); json = true })
-  -- what comes after two hyphens is the name of a file, and one hyphen is one
+  -- a word after two hyphens is a file name, and a single hyphen is one
   pub after_hyphens : Asks (codes "solve" ∷ codes "--json" ∷ codes "--" ∷ codes "-d" ∷ codes "--states" ∷ [])
       (to_solve (codes "-d") (codes "--states") (record plain { json = true }))
   pub one_hyphen : Asks (codes "solve" ∷ codes "-" ∷ codes "p" ∷ []) (to_solve (codes "-") (codes "p") plain)
-  -- a plus may occur before the digits, and noughts
+  -- a plus and zeros may come before the digits
   pub plus : AskToSolve (words (codes "--states" ∷ codes "+016777216" ∷ [])) (record plain { states = 16777216 })
   pub to_validate : Asks (codes "validate" ∷ codes "d" ∷ codes "p" ∷ codes "l" ∷ codes "--json" ∷ []) (to_validate (codes "d") (codes "p") (codes "l") true)
   pub to_check_with_progress : Asks (codes "check" ∷ codes "--progress" ∷ codes "d" ∷ codes "p" ∷ codes "c" ∷ [])
@@ -55,7 +55,7 @@ pub record AreRead : Type 0 where
       (to_explain (codes "d") (codes "p") (record { instances = 7; plan = Some (codes "l"); json = false }))
   pub an_explanation_in_json : Asks (codes "explain" ∷ codes "--json" ∷ codes "d" ∷ codes "p" ∷ [])
       (to_explain (codes "d") (codes "p") (record { instances = 1000000; plan = None; json = true }))
-  -- what is refused
+  -- refusals
   pub no_word : AreRefused [] (DisplayHelpOnMissingArgumentOrSubcommand ∷ [])
   pub help : AreRefused (words (codes "--help" ∷ [])) (DisplayHelp ∷ [])
   pub version : AreRefused (codes "-V" ∷ []) (DisplayVersion ∷ [])

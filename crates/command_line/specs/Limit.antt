@@ -1,7 +1,7 @@
--- Which numbers may be limits.
+-- Which numbers are valid limits.
 use Rattle.std.specs.Prelude.{ℕ, Bool, ◌&&◌, nat_le}
 
--- the most that a limit may be
+-- the maximum value of a limit
 abbrev pub most : ℕ
 most = 16777216
 

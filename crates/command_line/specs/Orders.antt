@@ -1,4 +1,4 @@
--- What the words of a command line ask for.
+-- The order given by the words of a command line.
 use Rattle.std.specs.Prelude.{◌≡◌, ℕ, Bool, false, List, [], codes, Option, Some, None, if◌then◌else◌, option_and_then}
 use Rattle.std.specs.Option.{option_map_or}
 use Rattle.std.specs.Str.{bytes_eq}
@@ -10,8 +10,8 @@ use Rattle.clap.specs.ValueTests.{is_unsigned_in}
 use Rattle.command_line.specs.Description.{optplan}
 use Rattle.command_line.specs.Limit.{most}
 
--- what `solve` is asked for: how many states and instances are allowed, the files that the plan and the certificate are to be written
--- to, if any, whether the answer is reported as JSON, and whether it is said on the way how far the search is
+-- the options of `solve`: the limits of states and instances, the files to write the plan and the certificate to, if any, whether
+-- the answer is printed as JSON, and whether the progress of the search is reported
 pub record Asked : Type 0 where
   pub states : ℕ
   pub instances : ℕ
@@ -20,45 +20,46 @@ pub record Asked : Type 0 where
   pub json : Bool
   pub progress : Bool
 
--- what `check` is asked for: how many instances are allowed, the file that the plan is read from, if any, whether the answer is reported as JSON, and
--- whether it is said on the way how much of the certificate is read
+-- the options of `check`: the limit of instances, the file to read the plan from, if any, whether the answer is printed as JSON,
+-- and whether the progress of reading the certificate is reported
 pub record AskedOfCheck : Type 0 where
   pub instances : ℕ
   pub plan : Option Text
   pub json : Bool
   pub progress : Bool
 
--- what `explain` is asked for: how many instances are allowed, the file that the plan is read from, if any, and whether the explanation is reported as JSON
+-- the options of `explain`: the limit of instances, the file to read the plan from, if any, and whether the explanation is
+-- printed as JSON
 pub record AskedOfExplain : Type 0 where
   pub instances : ℕ
   pub plan : Option Text
   pub json : Bool
 
--- what is asked for, by the names of the files that are read
+-- an order, with the names of the input files
 pub data Wanted : Type 0 where
   to_solve : (domain problem : Text) → Asked → Wanted
   to_validate : (domain problem plan : Text) (json : Bool) → Wanted
   to_check : (domain problem cert : Text) → AskedOfCheck → Wanted
   to_explain : (domain problem : Text) → AskedOfExplain → Wanted
 
--- the number that the text writes in decimal digits, which a plus may precede, where it is from 1 to 16,777,216
+-- the number that the text denotes in decimal digits after an optional plus, if it is from 1 to 16,777,216
 abbrev pub limit_of : Text → Option ℕ
 limit_of text = if is_unsigned_in 1 most text then Some (digits_value 10 (without_leading_plus text)) else None
 
--- the limit that the value of an argument is
+-- the value of an argument, as a limit
 abbrev pub limit_in : Text → List Row → Option ℕ
 limit_in name rows = option_and_then limit_of (first_of name rows)
 
--- the option without a value is given: `clap` gives it the value `true` then, and else `false`
+-- the flag is given: `clap` then gives it the value `true`, and otherwise `false`
 abbrev pub is_given : Text → List Row → Bool
 is_given name rows = option_map_or (λ value. bytes_eq value (codes "true")) (first_of name rows) false
 
--- In a `do`, `x ← o` stands for an o whose value is x; where it has none, there is none of the whole.
+-- In a `do`, `x ← o` stands for an o whose value is x; if it has none, neither has the whole.
 infixl 10 ◌>>=◌
 abbrev pub ◌>>=◌ : {A B : Type 0} → Option A → (A → Option B) → Option B
 o >>= f = option_and_then f o
 
--- what the values of the arguments of a command ask for: its files and limits are there, and the options that are given
+-- the order given by the values of a command's arguments: its files and limits are there, and the given options
 abbrev pub solve_in : List Row → Option Wanted
 solve_in rows = do
   domain ← first_of (codes "DOMAIN") rows
@@ -101,7 +102,7 @@ explain_in rows = do
   instances ← limit_in (codes "instances") rows
   Some (to_explain domain problem (record { instances = instances; plan = first_of (codes "PLAN") rows; json = is_given (codes "json") rows }))
 
--- what a command with these values asks for
+-- the order of a command with these values
 abbrev pub wanted_in : Text × List Row → Option Wanted
 wanted_in used =
     if bytes_eq used.0 (codes "solve") then solve_in used.1
@@ -109,7 +110,7 @@ wanted_in used =
     else (if bytes_eq used.0 (codes "check") then check_in used.1
     else (if bytes_eq used.0 (codes "explain") then explain_in used.1 else None)))
 
--- The words are taken, and ask for this.
+-- The words are accepted and give this order.
 abbrev pub Asks : List Text → Wanted → Type 0
 Asks words wanted = (fault_of optplan words ≡ []) × (option_and_then wanted_in (subcommand_of optplan words) ≡ Some wanted)
 

@@ -1,4 +1,4 @@
--- An order of the code as what is asked for.
+-- The code's orders, in the definitions' terms.
 use Rattle.std.specs.Prelude.{List, map, Option}
 use Rattle.std.specs.Borrow.{Bor}
 use Rattle.std.specs.Option.{option_map}
@@ -9,7 +9,7 @@ use Rattle.command_line.specs.declared.order.Order.TheVariants.{Solve, Validate,
 use Rattle.command_line.specs.declared.fault.WordsFault.{WordsFault}
 use Rattle.command_line.specs.declared.fault.WordsFault.TheVariants.{Words, NoMemory}
 
--- the text that is lent, where one is
+-- the borrowed text, if there is one
 abbrev pub text_in : Option (Bor Text) → Option Text
 text_in = option_map (λ (text : Bor Text). text.now)
 
@@ -17,7 +17,7 @@ text_in = option_map (λ (text : Bor Text). text.now)
 abbrev pub texts : List (Bor Text) → List Text
 texts = map (λ (word : Bor Text). word.now)
 
--- what the order asks for
+-- the order
 abbrev pub wanted_of : Order → Wanted
 wanted_of (Solve domain problem plan cert states instances json progress) =
     to_solve domain.now problem.now (record { states = states.number; instances = instances.number; plan = text_in plan; cert = text_in cert; json = json; progress = progress })
@@ -27,7 +27,7 @@ wanted_of (Check domain problem cert plan instances json progress) =
 wanted_of (Explain domain problem plan instances json) =
     to_explain domain.now problem.now (record { instances = instances.number; plan = text_in plan; json = json })
 
--- the fault is one of the words, and not running out of memory
+-- the fault is one of the words, not running out of memory
 abbrev pub IsOfWords : WordsFault → Type 0
 IsOfWords (Words error) = Unit {0}
 IsOfWords NoMemory = ⊥

@@ -1,4 +1,4 @@
-//! The command line, as it is described to `clap`.
+//! The command line, described for `clap`.
 ghost use Rattle.std.specs.Prelude.{◌≡◌, IfOk, List, OnOk};
 ghost use Rattle.clap.specs.Walk.{Rule};
 ghost use Rattle.clap.specs.Simple.{app_of};
@@ -178,7 +178,7 @@ fn add_explain<'a>(alloc: Global, commands: &mut Vec<Command<'a>>) -> Result<(),
     add_command(alloc, commands, "explain", about, EXPLAIN_HELP, arguments)
 }
 
-/// Adds a command of this name with these arguments.
+/// Adds a command with this name and these arguments.
 fn add_command<'a>(
     alloc: Global,
     commands: &mut Vec<Command<'a>>,
@@ -197,14 +197,14 @@ fn add_command<'a>(
     Ok(commands.push(command)?)
 }
 
-/// The name of a file, which must be there.
+/// A required file name.
 fn file<'a>(alloc: Global, name: &'a str, help: &'a str) -> Arg<'a>
     ensures { HasRule result (description.file name.entry.now) }
 {
     Arg::new(alloc, name).help(help).required(true)
 }
 
-/// The name of a file, which may be missing.
+/// An optional file name.
 fn optional_file<'a>(alloc: Global, name: &'a str, help: &'a str) -> Arg<'a>
     ensures { HasRule result (description.optional_file name.entry.now) }
 {
@@ -237,14 +237,14 @@ fn json<'a>(alloc: Global) -> Arg<'a>
     flag(alloc, "json", "Print the answer as a line of JSON")
 }
 
-/// The option for lines that say on the way how far a command is.
+/// The option for progress reports.
 fn progress<'a>(alloc: Global, help: &'a str) -> Arg<'a>
     ensures { HasRule result description.progress }
 {
     flag(alloc, "progress", help)
 }
 
-/// An option without a value.
+/// A flag: an option without a value.
 fn flag<'a>(alloc: Global, name: &'a str, help: &'a str) -> Arg<'a>
     ensures { HasRule result (description.flag name.entry.now) }
 {

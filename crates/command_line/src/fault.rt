@@ -1,15 +1,15 @@
-//! Why words are no order.
+//! Why the words are not an order.
 use clap::Error;
 use clap::error::ErrorKind;
 use std::alloc::AllocError;
 
-/// Why words are no order.
+/// Why the words are not an order.
 #[derive(Debug, Drop, thiserror::Error)]
 pub enum WordsFault {
-    /// They are no command, or ask for help or the version. The error's text says so, and how the program is used.
+    /// They are not a command, or ask for help or the version. The error's text says which, and how the program is used.
     #[error("{0}")]
     Words(Error),
-    /// Memory was refused.
+    /// An allocation failed.
     #[error("no memory")]
     NoMemory,
 }

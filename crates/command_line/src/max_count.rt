@@ -1,8 +1,8 @@
-//! Numbers that are limits.
+//! Numbers used as limits.
 ghost use Rattle.std.specs.Prelude.{◌≡◌, IsTrue};
 ghost use Rattle.command_line.specs.Limit.{is_limit};
 
-/// The most that a limit may be.
+/// The maximum value of a limit.
 pub const MAX_LIMIT: u32 = 16_777_216;
 
 /// A number from 1 to 16,777,216.
@@ -15,7 +15,7 @@ pub struct MaxCount {
 impl MaxCount {
     ghost use Rattle.std.specs.Prelude.{is_some, IfSome};
 
-    /// This number, and `None` where it is out of range.
+    /// This number; `None` if it is out of range.
     ///
     /// ```
     /// MaxCount::new(1)             // Some

@@ -1,29 +1,29 @@
-//! What the program is asked for.
+//! What the program is asked to do.
 use crate::max_count::MaxCount;
 
-/// What the program is asked for.
+/// What the program is asked to do.
 #[derive(Clone, Copy)]
 pub enum Order<'a> {
-    /// A cheapest plan for the task of two files.
+    /// Find an optimal plan for the task of two files.
     Solve {
         /// The name of the domain file.
         domain: &'a str,
         /// The name of the problem file.
         problem: &'a str,
-        /// The name of the file that the plan is written to, if any.
+        /// The name of the file to write the plan to, if any.
         plan: Option<&'a str>,
-        /// The name of the file that the certificate is written to, if any.
+        /// The name of the file to write the certificate to, if any.
         cert: Option<&'a str>,
-        /// How many states may be listed.
+        /// The maximum number of states that may be listed.
         states: MaxCount,
-        /// How many instances may be kept.
+        /// The maximum number of instances that may be kept.
         instances: MaxCount,
-        /// Whether the answer is reported as JSON.
+        /// Whether the answer is printed as JSON.
         json: bool,
-        /// Whether it is said on the way how far the search is.
+        /// Whether the progress of the search is reported.
         progress: bool,
     },
-    /// Whether the plan of a file solves the task of two files.
+    /// Judge whether the plan in a file solves the task of two files.
     Validate {
         /// The name of the domain file.
         domain: &'a str,
@@ -31,10 +31,10 @@ pub enum Order<'a> {
         problem: &'a str,
         /// The name of the plan file.
         plan: &'a str,
-        /// Whether the answer is reported as JSON.
+        /// Whether the answer is printed as JSON.
         json: bool,
     },
-    /// What the certificate of a file shows of the task of two files.
+    /// Check what the certificate in a file shows about the task of two files.
     Check {
         /// The name of the domain file.
         domain: &'a str,
@@ -44,14 +44,14 @@ pub enum Order<'a> {
         cert: &'a str,
         /// The name of the plan file, if any.
         plan: Option<&'a str>,
-        /// How many instances may be kept.
+        /// The maximum number of instances that may be kept.
         instances: MaxCount,
-        /// Whether the answer is reported as JSON.
+        /// Whether the answer is printed as JSON.
         json: bool,
-        /// Whether it is said on the way how much of the certificate is read.
+        /// Whether the progress of reading the certificate is reported.
         progress: bool,
     },
-    /// What is wrong with two files or with the plan of a third; without a plan, what the task holds.
+    /// Explain what is wrong with two files or with the plan in a third; without a plan, summarize the task.
     Explain {
         /// The name of the domain file.
         domain: &'a str,
@@ -59,9 +59,9 @@ pub enum Order<'a> {
         problem: &'a str,
         /// The name of the plan file, if any.
         plan: Option<&'a str>,
-        /// How many instances may be kept.
+        /// The maximum number of instances that may be kept.
         instances: MaxCount,
-        /// Whether the explanation is reported as JSON.
+        /// Whether the explanation is printed as JSON.
         json: bool,
     },
 }

@@ -1,4 +1,4 @@
-//! What the words ask for.
+//! From words to an order.
 ghost use Rattle.std.specs.Prelude.{◌≡◌, IfErr, IfOk, option_and_then, option_map};
 ghost use Rattle.clap.specs.Matches.{found_of};
 ghost use Rattle.clap.specs.Simple.{subcommand_rows_of};
@@ -15,7 +15,7 @@ use clap::error::ErrorKind;
 use clap::{ArgMatches, Error};
 use std::alloc::{AllocError, Global};
 
-/// What the words ask for: those after the program's name.
+/// The order given by the words after the program's name.
 ///
 /// ```text
 /// optplan solve DOMAIN PROBLEM [--plan FILE] [--cert FILE] [--states N] [--instances N] [--json] [--progress]
@@ -24,9 +24,9 @@ use std::alloc::{AllocError, Global};
 /// optplan explain DOMAIN PROBLEM [PLAN] [--instances N] [--json]
 /// ```
 ///
-/// Options are in any order, each at most once, before, between and after the files, as `--states 5` or `--states=5`. What
-/// follows `--` is the name of a file, even if it begins with a hyphen. A number is from 1 to 16,777,216 in decimal digits, which
-/// a plus may precede; the default is 1,000,000. Words that ask for help or the version are no order: the fault's text is what
+/// Options may come in any order, each at most once, before, between and after the files, as `--states 5` or `--states=5`. A word
+/// after `--` is a file name, even if it begins with a hyphen. A number is from 1 to 16,777,216, in decimal digits after an
+/// optional plus; the default is 1,000,000. Words that ask for help or the version are not an order: the fault's text is what
 /// they ask for.
 pub fn read_words<'a>(alloc: Global, words: &'a [&str]) -> Result<Order<'a>, WordsFault>
     ensures asks { IfOk result (λ order. Asks (texts words.entry.now) (wanted_of order)) }
@@ -39,12 +39,12 @@ pub fn read_words<'a>(alloc: Global, words: &'a [&str]) -> Result<Order<'a>, Wor
     }
 }
 
-/// The worked examples of what words ask for. They are proved; the call does nothing.
+/// The worked examples of words and their orders, proved. The function does nothing.
 pub fn examples_are_read()
     ensures { AreRead }
 {}
 
-/// What is reported for a match that is no order. `clap` finds none without a command and its files.
+/// The fault for a match that is not an order. `clap` makes no match without a command and its files.
 fn no_order(alloc: Global) -> WordsFault {
     match missing(alloc) {
         Ok(error) => WordsFault::Words(error),
@@ -52,13 +52,13 @@ fn no_order(alloc: Global) -> WordsFault {
     }
 }
 
-/// That a command, or a file of it, is missing.
+/// The error for a missing command or file.
 fn missing(alloc: Global) -> Result<Error, AllocError> {
     let text = "a command or one of its files is missing";
     program(alloc)?.error(ErrorKind::MissingRequiredArgument, text)
 }
 
-/// What a match asks for.
+/// The order of a match.
 fn order_in<'a>(matches: &ArgMatches<'a>) -> Option<Order<'a>>
     ensures { option_map wanted_of result ≡ option_and_then wanted_in (subcommand_rows_of matches.now) }
 {
@@ -72,7 +72,7 @@ fn order_in<'a>(matches: &ArgMatches<'a>) -> Option<Order<'a>>
     }
 }
 
-/// The order of the command `solve` with these values.
+/// The order of the command `solve`, with these values.
 fn solve_in<'a>(matches: &ArgMatches<'a>) -> Option<Order<'a>>
     ensures { option_map wanted_of result ≡ solve_in (rows_of (found_of matches.now)) }
 {
@@ -92,7 +92,7 @@ fn solve_in<'a>(matches: &ArgMatches<'a>) -> Option<Order<'a>>
     })
 }
 
-/// The order of the command `validate` with these values.
+/// The order of the command `validate`, with these values.
 fn validate_in<'a>(matches: &ArgMatches<'a>) -> Option<Order<'a>>
     ensures { option_map wanted_of result ≡ validate_in (rows_of (found_of matches.now)) }
 {
@@ -107,7 +107,7 @@ fn validate_in<'a>(matches: &ArgMatches<'a>) -> Option<Order<'a>>
     })
 }
 
-/// The order of the command `check` with these values.
+/// The order of the command `check`, with these values.
 fn check_in<'a>(matches: &ArgMatches<'a>) -> Option<Order<'a>>
     ensures { option_map wanted_of result ≡ check_in (rows_of (found_of matches.now)) }
 {
@@ -126,7 +126,7 @@ fn check_in<'a>(matches: &ArgMatches<'a>) -> Option<Order<'a>>
     })
 }
 
-/// The order of the command `explain` with these values.
+/// The order of the command `explain`, with these values.
 fn explain_in<'a>(matches: &ArgMatches<'a>) -> Option<Order<'a>>
     ensures { option_map wanted_of result ≡ explain_in (rows_of (found_of matches.now)) }
 {
@@ -149,14 +149,14 @@ fn value_of<'a>(matches: &ArgMatches<'a>, name: &str) -> Option<&'a str>
     matches.get_str(name)
 }
 
-/// The limit that the value of an argument is.
+/// The value of an argument, as a limit.
 fn limit_in(matches: &ArgMatches<'_>, name: &str) -> Option<MaxCount>
     ensures { option_map (λ limit. limit.number) result ≡ limit_in name.now (rows_of (found_of matches.now)) }
 {
     limit_of(value_of(matches, name)?)
 }
 
-/// The limit that a text writes.
+/// The limit that a text denotes.
 fn limit_of(text: &str) -> Option<MaxCount>
     ensures { option_map (λ limit. limit.number) result ≡ limit_of text.now }
 {
@@ -166,7 +166,7 @@ fn limit_of(text: &str) -> Option<MaxCount>
     }
 }
 
-/// Whether an option without a value is given.
+/// Whether a flag is given.
 fn is_given(matches: &ArgMatches<'_>, name: &str) -> bool
     ensures { result ≡ is_given name.now (rows_of (found_of matches.now)) }
 {

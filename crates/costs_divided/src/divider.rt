@@ -1,4 +1,4 @@
-//! Which orders give states great values.
+//! The search for orders that give states great values.
 use crate::costs::Costs;
 use crate::division::Division;
 use crate::goal_distances::{NO_WAY, distance_of, distances, taken};
@@ -8,27 +8,27 @@ use potentials_drafted::Chance;
 use reached_rows::RowGraph;
 use std::alloc::Global;
 
-/// The rows of a state, by the places of tables.
+/// The rows of a state, by table index.
 pub type StateRows = Vec<u32>;
 
-/// What orders are looked for by: tables, what instances cost, and states whose values are to be raised.
+/// The search for orders: tables, costs of instances, and the states whose values are to be raised.
 #[derive(Drop)]
 pub struct Divider<'a> {
     graphs: &'a [RowGraph],
     costs: &'a Costs,
-    /// The first one is the initial state.
+    /// The first is the initial state.
     states: &'a [StateRows],
-    /// What each table gives each state where it takes first.
+    /// For each table, the value of each state if it comes first in the order.
     alone: Vec<Vec<i64>>,
-    /// And what it takes then.
+    /// The saturated costs of each table in that case.
     taken: Vec<i64>,
     chance: Chance,
-    /// About how many arcs, rows and instances were looked at, and may be before an order is moved no further.
+    /// Work counter (arcs, rows and instances), and its limit, after which no order is modified any more.
     work: u64,
     max_work: u64,
 }
 
-/// How good a division is: the initial state's value, and the sum of all states'.
+/// The quality of a partition: the value of the given state, and the sum of the values of all states.
 #[derive(Clone, Copy, Debug, PartialEq, Eq, PartialOrd, Ord)]
 struct Merit {
     first: i64,
@@ -36,7 +36,7 @@ struct Merit {
 }
 
 impl<'a> Divider<'a> {
-    /// That of these tables, costs and states.
+    /// A search for these tables, costs and states.
     pub fn new(
         alloc: Global,
         graphs: &'a [RowGraph],
@@ -59,7 +59,7 @@ impl<'a> Divider<'a> {
         Ok(divider)
     }
 
-    /// Notes what the table gives and takes where it takes first.
+    /// Records the values and the saturated costs of the table if it comes first.
     fn add(&mut self, alloc: Global, table: usize, graph: &RowGraph) -> Result<(), NoMemory> {
         let distances = distances(alloc, graph, self.costs)?;
         let mut given = Vec::with_capacity(alloc, self.states.len())?;
@@ -76,17 +76,17 @@ impl<'a> Divider<'a> {
         Ok(())
     }
 
-    /// Lets orders be moved until about so many arcs, rows and instances more were looked at.
+    /// Allows this much further work.
     pub fn allow(&mut self, more: u64) {
         self.max_work = self.work.saturating_add(more);
     }
 
-    /// Whether as many were looked at as may be.
+    /// Whether the work limit is reached.
     pub fn is_done(&self) -> bool {
         self.work > self.max_work
     }
 
-    /// Counts the arcs, rows and instances of the table as looked at.
+    /// Counts the table's arcs, rows and instances as work.
     fn count(&mut self, graph: &RowGraph) {
         let looks = graph
             .arc_count()
@@ -95,7 +95,7 @@ impl<'a> Divider<'a> {
         self.work = self.work.saturating_add(looks as u64);
     }
 
-    /// How good each table is for the state at this place, of those that give some state something.
+    /// The worth of each table for the state at this index, for the tables with a positive value in some state.
     fn worths(&self, alloc: Global, state: usize) -> Result<Vec<Worth>, NoMemory> {
         let mut worths = Vec::new(alloc);
         for (table, (given, taken)) in self.alone.iter().zip(&self.taken).enumerate() {
@@ -113,12 +113,12 @@ impl<'a> Divider<'a> {
         Ok(worths)
     }
 
-    /// An order that is good for the state at this place.
+    /// The greedy order for the state at this index.
     pub fn greedy(&self, alloc: Global, state: usize) -> Result<Order, NoMemory> {
         Order::by_worth(alloc, self.worths(alloc, state)?)
     }
 
-    /// The division in this order.
+    /// The partition by this order.
     pub fn divide(&mut self, alloc: Global, order: &Order) -> Result<Division, NoMemory> {
         for table in order.tables() {
             if let Some(graph) = self.graphs.get(*table) {
@@ -128,7 +128,7 @@ impl<'a> Divider<'a> {
         Division::new(alloc, self.graphs, order, self.costs)
     }
 
-    /// The value of each state by the division, 0 where it is known to be a dead end.
+    /// The value of each state by the partition; 0 if the state is a known dead end.
     pub fn values(&self, alloc: Global, division: &Division) -> Result<Vec<i64>, NoMemory> {
         let mut values = Vec::with_capacity(alloc, self.states.len())?;
         for rows in self.states {
@@ -137,8 +137,8 @@ impl<'a> Divider<'a> {
         Ok(values)
     }
 
-    /// An order in which the value of the initial state is great, and after it those of all: the best of two, with tables
-    /// moved as long as that is no worse, in at most so many trials.
+    /// An order that gives the initial state a great value, and among equals one with a great sum over all states: the better of
+    /// two orders, improved by hill climbing within this many trials.
     pub fn best_order(&mut self, alloc: Global, trials: u32) -> Result<Order, NoMemory> {
         let mut order = self.greedy(alloc, 0)?;
         let mut merit = self.merit(alloc, &order, 0)?;
@@ -151,7 +151,7 @@ impl<'a> Divider<'a> {
         self.climb(alloc, order, merit, 0, trials)
     }
 
-    /// An order in which the value of the state at this place is great.
+    /// An order with a great value of the state at this index.
     pub fn order_for(
         &mut self,
         alloc: Global,
@@ -163,7 +163,7 @@ impl<'a> Divider<'a> {
         self.climb(alloc, order, merit, state, trials)
     }
 
-    /// The order with tables moved, as long as that is no worse, in at most so many trials.
+    /// Hill climbing: moves tables within the order as long as that is no worse, within this many trials.
     fn climb(
         &mut self,
         alloc: Global,
@@ -190,7 +190,7 @@ impl<'a> Divider<'a> {
         Ok(order)
     }
 
-    /// How good the order is for the state at this place, and for all.
+    /// The quality of the order for the state at this index and for all states.
     fn merit(&mut self, alloc: Global, order: &Order, state: usize) -> Result<Merit, NoMemory> {
         let division = self.divide(alloc, order)?;
         let mut merit = Merit { first: 0, all: 0 };
@@ -205,7 +205,7 @@ impl<'a> Divider<'a> {
     }
 }
 
-/// The distance, and 0 where there is no way.
+/// The distance; 0 if there is no path.
 fn or_nothing(distance: i64) -> i64 {
     if distance == NO_WAY { 0 } else { distance }
 }

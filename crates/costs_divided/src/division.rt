@@ -1,4 +1,4 @@
-//! Costs divided among tables.
+//! Cost partitions over tables.
 use crate::costs::Costs;
 use crate::goal_distances::{NO_WAY, distance_of, distances, take};
 use crate::orders::Order;
@@ -6,26 +6,26 @@ use faults::NoMemory;
 use reached_rows::RowGraph;
 use std::alloc::Global;
 
-/// What a table has of a division: the value of each of its rows.
+/// A table's part of a partition: the value of each of its rows.
 #[derive(Drop)]
 pub struct Part {
-    /// The table's place.
+    /// The index of the table.
     pub table: usize,
-    /// For each row its distance from the goal by what is taken of costs.
+    /// The goal distance of each row under the table's share of the costs.
     pub distances: Vec<i64>,
 }
 
-/// A division of costs among tables.
+/// A cost partition over tables.
 #[derive(Drop)]
 pub struct Division {
-    /// What the tables have, in the order in which they took it. Those that need nothing are left out.
+    /// The parts, in the order of the tables. Tables in which all distances are 0 are left out.
     pub parts: Vec<Part>,
-    /// What is left of the costs.
+    /// The remaining costs.
     pub left: Costs,
 }
 
 impl Division {
-    /// That in which the tables take what they need in this order.
+    /// The partition in which the tables take their saturated costs in this order.
     pub fn new(
         alloc: Global,
         graphs: &[RowGraph],
@@ -51,7 +51,7 @@ impl Division {
         Ok(division)
     }
 
-    /// The value of a state that has these rows, by the places of tables; none where a row has no way to the goal.
+    /// The value of a state with these rows, indexed by table; `None` if one of the rows has no path to the goal.
     pub fn value(&self, rows: &[u32]) -> Option<i64> {
         let mut value = 0i64;
         for part in &self.parts {

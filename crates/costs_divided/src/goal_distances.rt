@@ -1,4 +1,4 @@
-//! How far rows are from the goal, and what of the costs that needs.
+//! Goal distances of rows, and the saturated costs that they need.
 use crate::costs::Costs;
 use atom_groups::place_of;
 use faults::NoMemory;
@@ -7,13 +7,13 @@ use std::alloc::Global;
 use std::cmp::Reverse;
 use std::collections::BinaryHeap;
 
-/// The distance of a row from which no way leads to the goal.
+/// The distance of a row without a path to the goal.
 pub const NO_WAY: i64 = i64::MAX;
 
-/// Rows that wait, the nearest to the goal first.
+/// The open list: rows ordered by goal distance.
 type Waiting = BinaryHeap<Reverse<(i64, u32)>>;
 
-/// What the ways of each row to the goal cost at least, by what is left of costs: by Dijkstra's algorithm, from the goal backwards.
+/// The goal distance of each row under the remaining costs, by Dijkstra's algorithm backwards from the goal.
 pub fn distances(alloc: Global, graph: &RowGraph, costs: &Costs) -> Result<Vec<i64>, NoMemory> {
     let costs = class_costs(alloc, graph, costs)?;
     let mut distances = vec![in alloc; NO_WAY; graph.row_count()]?;
@@ -37,7 +37,7 @@ pub fn distances(alloc: Global, graph: &RowGraph, costs: &Costs) -> Result<Vec<i
     Ok(distances)
 }
 
-/// Brings the rows nearer that lead to this one, which is so far from the goal.
+/// Relaxes the arcs that lead to this row, which has this goal distance.
 fn relax(
     graph: &RowGraph,
     costs: &[Option<i64>],
@@ -60,7 +60,7 @@ fn relax(
     Ok(())
 }
 
-/// The distance of the row of this number.
+/// The distance of the row with this number.
 pub(crate) fn distance_of(distances: &[i64], row: u32) -> i64 {
     match distances.get(place_of(row)) {
         Some(distance) => *distance,
@@ -68,7 +68,7 @@ pub(crate) fn distance_of(distances: &[i64], row: u32) -> i64 {
     }
 }
 
-/// What is left of the cost of each class, none where nothing is asked of its instances.
+/// The remaining cost of each class; `None` if all its instances are shut out.
 fn class_costs(
     alloc: Global,
     graph: &RowGraph,
@@ -81,8 +81,8 @@ fn class_costs(
     Ok(found)
 }
 
-/// Takes from the costs what the distances need: of each class the most that is lost from a row to the next. It may be negative,
-/// and the cost grows then.
+/// Subtracts the saturated costs from the costs: for each class the greatest decrease of the distance along its arcs. It may be
+/// negative, in which case the cost grows.
 pub(crate) fn take(
     alloc: Global,
     graph: &RowGraph,
@@ -102,7 +102,7 @@ pub(crate) fn take(
     Ok(())
 }
 
-/// How much the distances need of all costs, those of instances of which nothing is asked left out.
+/// The sum of the saturated costs, without the instances that are shut out.
 pub fn taken(
     alloc: Global,
     graph: &RowGraph,
@@ -122,7 +122,7 @@ pub fn taken(
     Ok(sum)
 }
 
-/// What is taken of the cost of each class, none where it makes no difference.
+/// The saturated cost of each class; `None` if it has no effect.
 pub(crate) fn shares(
     alloc: Global,
     graph: &RowGraph,
@@ -144,8 +144,8 @@ pub(crate) fn shares(
     Ok(shares)
 }
 
-/// What is lost from a row so far from the goal to another; none where only the other has no way there. Two rows without a way
-/// have one value.
+/// The decrease from one distance to another; `None` if only one of the rows has no path to the goal. Two rows without one count
+/// as equal.
 fn lost(from: i64, to: i64) -> Option<i64> {
     match (from == NO_WAY, to == NO_WAY) {
         (false, false) => Some(from.saturating_sub(to)),

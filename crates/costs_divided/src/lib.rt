@@ -1,8 +1,8 @@
-//! Divides the costs of instances among tables, in an order: saturated cost partitioning.
+//! Partitions the costs of instances among tables, in a given order: saturated cost partitioning.
 //!
 //! Seipp, Keller & Helmert 2020, "Saturated Cost Partitioning for Optimal Classical Planning", JAIR 67.
 //!
-//! Nothing is claimed of a division. Which order is good is found out by states whose values are to be raised.
+//! Nothing is claimed about a partition. Orders are judged by the values of given states.
 #![tactic(auto)]
 
 mod costs;

@@ -1,14 +1,15 @@
-//! Orders in which tables take what they need.
+//! Orders of tables for saturated cost partitioning, among them the greedy order by value per stolen cost (Seipp, Keller &
+//! Helmert 2020, "Saturated Cost Partitioning for Optimal Classical Planning").
 use faults::NoMemory;
 use std::alloc::Global;
 
-/// An order of tables, by their places.
+/// An order of tables, by index.
 #[derive(Drop)]
 pub struct Order {
     tables: Vec<usize>,
 }
 
-/// How good a table is for a state: what it gives, and what it takes for that.
+/// The worth of a table for a state: the value that it gives, and the cost that it takes for that.
 #[derive(Clone, Copy, Debug)]
 pub(crate) struct Worth {
     pub(crate) table: usize,
@@ -17,17 +18,17 @@ pub(crate) struct Worth {
 }
 
 impl Order {
-    /// These, one after another.
+    /// The order with these tables.
     pub fn new(tables: Vec<usize>) -> Order {
         Order { tables }
     }
 
-    /// The tables, one after another.
+    /// The tables, in order.
     pub fn tables(&self) -> &[usize] {
         &self.tables
     }
 
-    /// The tables by what they give for what they take, the best ones first; of equal ones those that give more.
+    /// The tables by value per taken cost, the best first; among equals, the one with the greater value first.
     pub(crate) fn by_worth(alloc: Global, mut worths: Vec<Worth>) -> Result<Order, NoMemory> {
         worths.sort_unstable_by(|one, other| {
             other
@@ -39,7 +40,7 @@ impl Order {
         Order::of(alloc, &worths)
     }
 
-    /// The tables by what they give, the best ones first.
+    /// The tables by value, the best first.
     pub(crate) fn by_given(alloc: Global, mut worths: Vec<Worth>) -> Result<Order, NoMemory> {
         worths.sort_unstable_by(|one, other| {
             other
@@ -59,7 +60,7 @@ impl Order {
         Ok(Order { tables })
     }
 
-    /// The order with the table at one place moved to another.
+    /// The order with the table at one index moved to another.
     pub(crate) fn moved(&self, alloc: Global, from: usize, to: usize) -> Result<Order, NoMemory> {
         let mut tables = Vec::from_slice(alloc, &self.tables)?;
         if from < tables.len() {
@@ -75,7 +76,7 @@ impl Order {
 }
 
 impl Worth {
-    /// A thousand times what it gives, by one more than what it takes.
+    /// The value times 1000, divided by the taken cost plus one.
     fn ratio(self) -> i64 {
         self.given.saturating_mul(1000).saturating_add(1) / self.taken.max(0).saturating_add(1)
     }

@@ -1,12 +1,12 @@
--- What `fill` puts into some room, and what it leaves of the bytes.
+-- What `fill` writes into a buffer, and the rest of the bytes.
 use Rattle.std.proofs.Common.{◌≡◌, ℕ, ◌+◌, ◌-◌, List, ◌++◌, ◌∙◌, length, take, drop, min, sym, ap, length-take}
 use Rattle.std.proofs.lemmas.List.{drop-drop, drop_min, take_rest, take_at, drop_at}
 
--- `&items[place..]` as the prover reads it, of a slice that has the items
+-- `&items[place..]` as the prover sees it, for a slice with these items
 pub from_place : (slice items : List ℕ) (place : ℕ) → slice ≡ items → take (length slice - place) (drop place slice) ≡ drop place items
 from_place slice items place same = take_rest slice place ∙ ap (drop place) same
 
--- what is in the room that was filled, and past it
+-- the contents of the filled part of the buffer, and past it
 pub past : (into bytes new : List ℕ) (count : ℕ) → count ≡ min (length into) (length bytes)
     → new ≡ take (length into) bytes ++ drop (length bytes) into
     → (take count new ≡ take (length into) bytes) × (drop count new ≡ drop (length bytes) into)
@@ -16,7 +16,7 @@ past into bytes new count counted room =
       ap (drop count) room ∙ drop_at (take (length into) bytes) (drop (length bytes) into) count long,
     )
 
--- what is left past the bytes that filled the room
+-- the rest after the bytes that filled the buffer
 pub rest_of : (bytes : List ℕ) (place count room : ℕ) → count ≡ min room (length (drop place bytes)) → drop (place + count) bytes ≡ drop room (drop place bytes)
 rest_of bytes place count room counted =
     sym (drop-drop count place bytes) ∙ ap (λ k. drop k (drop place bytes)) counted ∙ drop_min room (drop place bytes)

@@ -1,4 +1,4 @@
--- What was read of a source whose bytes are known, and how a failed read counts.
+-- What was read from a source with known bytes, and how a failed read is counted.
 use Rattle.std.proofs.Common.{◌≡◌, ℕ, ◌<◌, ◌≤◌, inl, inr, List, ◌++◌, ◌∙◌, length, take, sym, ap, subst, arith, append-nil, take_at}
 use Rattle.std.proofs.lemmas.List.{take_all}
 use Rattle.std.proofs.lemmas.Bool.{cases_lt}
@@ -9,7 +9,7 @@ use Rattle.devices.specs.declared.device.IoFault.{IoFault}
 use Rattle.devices.specs.declared.device.IoFault.TheVariants as device
 use Rattle.devices.specs.Devices.{CountsDevice, IsKept, IsReading, one_more}
 
--- what was read is the beginning of what there was: all of it where that is shorter than the limit
+-- what was read is a prefix of the source: all of it if that is within the limit
 beginning : (limit : ℕ) (bytes : List ℕ) (after : Option (List ℕ)) (text : List ℕ) → Consumes (Some bytes) after text
     → length text ≤ limit → (length text < limit → IsAtEnd after) → text ≡ take limit bytes
 beginning limit bytes None text consumed within whole = absurd consumed
@@ -29,13 +29,13 @@ reading_of_known limit None before after text kept reading = tt
 reading_of_known limit (Some bytes) before after text kept reading =
     beginning limit bytes after text (subst (λ known. Consumes known after text) kept reading.consumed) reading.within reading.whole
 
--- the same of what a call answered
+-- the same for the result of a call
 pub answered_reading : {E : Type 0} (limit : ℕ) (known before after : Option (List ℕ)) (answer : Result (Vec ℕ) E) → IsKept known before
     → IfOk answer (λ text. IsReading limit before after text.items) → IfOk answer (λ text. IfSome known (λ bytes. text.items ≡ take limit bytes))
 answered_reading limit known before after (Ok text) kept reading = reading_of_known limit known before after text.items kept reading
 answered_reading limit known before after (Err fault) kept reading = tt
 
--- A failed read of a file that was opened counts once among the failures of the files.
+-- A failed read of an opened file counts as one failure of the files.
 pub reading_counted : {T : Type 0} (before opened after input input_after : ℕ) (r : Result T IoFault) → opened ≡ before → input ≡ 0
     → CountsDevice input input_after r → (input_after ≡ 0 → after ≡ opened) → (0 < input_after → after ≡ one_more opened) → CountsDevice before after r
 reading_counted before opened after input input_after (Ok text) same fresh counted unfailed failed = unfailed (counted ∙ fresh) ∙ same

@@ -1,4 +1,4 @@
--- What a file holds once it was made, written and closed.
+-- The contents of a file after it was created, written and closed.
 use Rattle.std.proofs.Common.{◌≡◌, ◌≢◌, ℕ, inl, inr, List, [], ◌∷◌, ◌++◌, ◌∙◌, refl, sym, ap, subst, Bool, true, false}
 use Rattle.std.proofs.lemmas.List.{append_assoc}
 use Rattle.std.specs.Prelude.{Option, None, Some, IfSome, IsTrue, Result, Ok, Err, OnOk, if◌then◌else◌}
@@ -8,7 +8,7 @@ use Rattle.std.specs.Io.KnownBytes.{Appends}
 use Rattle.devices.specs.Devices.{AppendsBeginning}
 use Rattle.devices.specs.Written.{HoldsBeginning, NamedText, AreWritten, AreWrittenPartly}
 
--- A beginning of what was made and then of what was written is one of what was written.
+-- A prefix of what was created and then written is a prefix of what was written.
 still_beginning : (before made after : Option (List ℕ)) (front rest : List ℕ) → HoldsBeginning before made [] → HoldsBeginning made after front
     → HoldsBeginning before after (front ++ rest)
 still_beginning before made after front rest started (inr (a, b, is, held)) =
@@ -22,7 +22,7 @@ taken_all : (after : Option (List ℕ)) (bytes : List ℕ) → Appends (Some [])
 taken_all None bytes appended = absurd appended
 taken_all (Some taken) bytes appended = search
 
--- What a file of this name holds that was made, written and closed: what is said of the file that is closed is said of it.
+-- The contents of the file with this name that was created, written and closed: what holds of the closed file holds of it.
 module _ (before made after : List ℕ → Option (List ℕ)) (name closed : List ℕ) (same : closed ≡ name) where
   pub written_partly : (taken taken_after : Option (List ℕ)) (bytes : List ℕ) → taken ≡ Some [] → AppendsBeginning taken taken_after bytes
       → HoldsBeginning (before name) (made name) [] → IfSome taken_after (HoldsBeginning (made closed) (after closed))
@@ -33,20 +33,20 @@ module _ (before made after : List ℕ → Option (List ℕ)) (name closed : Lis
       (still_beginning (before name) (made name) (after name) front rest started
       (subst (λ n. HoldsBeginning (made n) (after n) front) same (subst (λ t. IfSome t (HoldsBeginning (made closed) (after closed))) all held)))
 
-  -- what was written whole is what the file holds
+  -- if all was written, that is what the file holds
   pub whole_if_written : {E : Type 0} (taken taken_after : Option (List ℕ)) (bytes : List ℕ) (written : Result (Unit {0}) E) → taken ≡ Some []
       → OnOk written (Appends taken taken_after bytes) → after closed ≡ taken_after → OnOk written (after name ≡ Some bytes)
   whole_if_written taken taken_after bytes (Ok done) empty appended held =
       ap after (sym same) ∙ held ∙ taken_all taken_after bytes (subst (λ t. Appends t taken_after bytes) empty appended)
   whole_if_written taken taken_after bytes (Err fault) empty appended held = tt
 
-  -- Each other file is as it was.
+  -- Each other file is unchanged.
   pub others_kept : ((other : List ℕ) → other ≢ name → made other ≡ before other) → ((other : List ℕ) → other ≢ closed → after other ≡ made other)
       → (other : List ℕ) → other ≢ name → after other ≡ before other
   others_kept at_making at_closing other differs =
       at_closing other (λ is. differs (is ∙ same)) ∙ at_making other differs
 
--- One file is written, whole or in part, and each other file is as it was.
+-- One file is written, wholly or partly, and each other file is unchanged.
 module _ (before after : List ℕ → Option (List ℕ)) (file : NamedText) where
   one_file : after file.name ≡ Some file.text → ((other : List ℕ) → other ≢ file.name → after other ≡ before other)
       → (is_it : Bool) (other : List ℕ) → (is_it ≡ true → other ≡ file.name) → (is_it ≡ false → other ≢ file.name)

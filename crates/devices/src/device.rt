@@ -1,4 +1,4 @@
-//! Devices: where bytes come from, and where they go. A device may fail at any call.
+//! Devices: sources and sinks of bytes. Any call may fail.
 ghost use Rattle.std.specs.Prelude.{◌≡◌, ℕ, ◌<◌, Bool, false, true, List, [], Option, length, Err, IfOk, IfSome, IsErr, IsTrue, OnErr, OnOk, None};
 ghost use Rattle.std.specs.Io.{ReadsAtMost, WritesAtMost};
 ghost use Rattle.std.specs.Io.KnownBytes.{Appends, ReadConsumes, WriteAppends};
@@ -12,13 +12,13 @@ use thiserror::Error;
 #[error("device failed")]
 pub struct DeviceFault;
 
-/// Why a write, or a call on files, did not succeed.
+/// Why a write, or an operation on files, failed.
 #[derive(Clone, Copy, Debug, PartialEq, Eq, Error)]
 pub enum IoFault {
     /// The device failed in this call.
     #[error("device failed")]
     Device,
-    /// Memory that was asked for was refused. The device did not fail.
+    /// An allocation failed. The device did not fail.
     #[error("out of memory")]
     NoMemory,
 }
@@ -56,22 +56,22 @@ impl<T: Drop> From<AllocFailed<T>> for IoFault {
     }
 }
 
-/// Where bytes come from.
+/// A source of bytes.
 pub trait Source {
-    /// How often the device has failed. At 18446744073709551615 the count stays.
+    /// How often the device has failed. The count saturates at 18446744073709551615.
     ghost failures: { Self → ℕ };
 
-    /// The bytes that reads will give from here on, where the device reports them.
+    /// The bytes that later reads will give, if the device reports them.
     ghost remaining: { Self → Option (List ℕ) } = { λ _. None };
 
-    /// How many bytes a read that succeeds gives into room of a length, where the device reports it.
+    /// The number of bytes that a successful read gives for a buffer of a given length, if the device reports it.
     ghost read_count: { Self → ℕ → Option ℕ } = { λ _ _. None };
 
-    /// Whether the next read fails, where that is known.
+    /// Whether the next read fails, if that is known.
     ghost is_failing: { Self → Bool } = { λ _. false };
 
-    /// Reads some bytes into the room that is lent, and says how many. 0 for room that is not empty means
-    /// the end. An interrupted call has failed. Where the call fails, the room is as it was.
+    /// Reads some bytes into the buffer, and returns how many. 0 for a non-empty buffer means the end. An interrupted call counts
+    /// as failed. If the call fails, the buffer is unchanged.
     fn read(&mut self, into: &mut [u8]) -> Result<usize, DeviceFault>
         ensures bound { ReadsAtMost result into.new }
         ensures unchanged { OnErr result (into.new ≡ into.old) }
@@ -81,25 +81,25 @@ pub trait Source {
         ensures failures { Counts (failures self.old) (failures self.new) result };
 }
 
-/// Where bytes go.
+/// A sink for bytes.
 pub trait Sink {
-    /// How often the device has failed. At 18446744073709551615 the count stays.
+    /// How often the device has failed. The count saturates at 18446744073709551615.
     ghost failures: { Self → ℕ };
 
-    /// The bytes that it has taken, where the device reports them.
+    /// The bytes that it has taken, if the device reports them.
     ghost taken: { Self → Option (List ℕ) } = { λ _. None };
 
-    /// How many bytes a write that succeeds takes of a piece of a length, where the device reports it.
+    /// The number of bytes that a successful write takes of a piece of a given length, if the device reports it.
     ghost write_count: { Self → ℕ → Option ℕ } = { λ _ _. None };
 
-    /// Whether a write may be refused for running out of memory.
+    /// Whether a write may fail for want of memory.
     ghost wants_memory: { Bool } = { true };
 
-    /// The name of the file that it writes, where that is known.
+    /// The name of the file that it writes, if that is known.
     ghost name: { Self → List ℕ } = { λ _. [] };
 
-    /// Takes some of the bytes, and says how many. A device that takes nothing of a piece that is not empty
-    /// has failed, and so has an interrupted call.
+    /// Takes some of the bytes, and returns how many. Taking nothing of a non-empty piece counts as a failure, and so does an
+    /// interrupted call.
     fn write(&mut self, piece: &[u8]) -> Result<usize, IoFault>
         ensures bound { WritesAtMost result piece.now }
         ensures progress { 0 < length piece.now → IfOk result (λ count. 0 < count) }
@@ -110,7 +110,7 @@ pub trait Sink {
         ensures name { name self.new ≡ name self.old };
 }
 
-/// Writes all of the bytes. A sink that fails has taken some beginning of them.
+/// Writes all of the bytes. If the sink fails, it has taken a prefix of them.
 pub fn write_all<S: Sink>(sink: &mut S, bytes: &[u8]) -> Result<(), IoFault>
     ensures ok { OnOk result (Appends (S.taken sink.old) (S.taken sink.new) bytes.now) }
     ensures beginning { AppendsBeginning (S.taken sink.old) (S.taken sink.new) bytes.now }

@@ -1,4 +1,4 @@
-//! Files by name, and those of the machine. How a text is read, and how one is written.
+//! Files by name, those of the machine, and how texts are read and written.
 ghost use Rattle.std.specs.Prelude.{◌≡◌, ◌≢◌, ℕ, ◌<◌, Bool, false, List, [], Option, None, Some, Err, IfOk, IfSome, IsTrue, OnErr, OnOk};
 ghost use Rattle.devices.specs.declared.device.IoFault.TheVariants.{Device};
 ghost use Rattle.devices.specs.Devices.{CountsDevice, IsKept, one_more};
@@ -13,30 +13,30 @@ pub use reading::read_file;
 pub use system::SystemFiles;
 pub use writing::{Bytes, Document, write_file};
 
-/// Files by name. A name that cannot be opened or created is a failure, and so is a file of which a write has failed.
+/// Files by name. A name that cannot be opened or created counts as a failure, and so does a file with a failed write.
 pub trait Files {
-    /// A file that is open for reading.
+    /// A file open for reading.
     type Input: Source + Drop;
 
-    /// A file that is open for writing.
+    /// A file open for writing.
     type Output: Sink + Drop;
 
-    /// How often a call has failed. At 18446744073709551615 the count stays.
+    /// How often a call has failed. The count saturates at 18446744073709551615.
     ghost failures: { Self → ℕ };
 
-    /// The bytes of the file of a name, where they are known.
+    /// The bytes of the file with a name, if they are known.
     ghost contents: { Self → List ℕ → Option (List ℕ) } = { λ _ _. None };
 
-    /// Whether there is no file of a name, where that is known.
+    /// Whether there is no file with a name, if that is known.
     ghost is_missing: { Self → List ℕ → Bool } = { λ _ _. false };
 
-    /// Whether the first read of the file of a name fails, where that is known.
+    /// Whether the first read of the file with a name fails, if that is known.
     ghost is_unreadable: { Self → List ℕ → Bool } = { λ _ _. false };
 
     /// Whether the bytes of files that are written here are known.
     ghost is_known: { Bool } = { false };
 
-    /// Opens the file of this name for reading, from its first byte on. No read of it has failed yet.
+    /// Opens the file with this name for reading, from its first byte. No read of it has failed yet.
     fn open(&mut self, name: &str) -> Result<Self::Input, IoFault>
         ensures failures { CountsDevice (failures self.old) (failures self.new) result }
         ensures missing { IsTrue (is_missing self.old name.now) → result ≡ Err Device }
@@ -47,7 +47,7 @@ pub trait Files {
         ensures still { (other : List ℕ) → is_missing self.new other ≡ is_missing self.old other }
         ensures as_readable { (other : List ℕ) → is_unreadable self.new other ≡ is_unreadable self.old other };
 
-    /// Ends the reading of a file. A file of which a read has failed is one failure.
+    /// Ends the reading of a file. A file with failed reads counts as one failure.
     fn finish(&mut self, input: Self::Input)
         ensures unfailed { Self.Input.failures input ≡ 0 → failures self.new ≡ failures self.old }
         ensures failed { 0 < Self.Input.failures input → failures self.new ≡ one_more (failures self.old) }
@@ -55,9 +55,9 @@ pub trait Files {
         ensures still { (other : List ℕ) → is_missing self.new other ≡ is_missing self.old other }
         ensures as_readable { (other : List ℕ) → is_unreadable self.new other ≡ is_unreadable self.old other };
 
-    /// Makes an empty file of this name, in place of one that is there, and opens it for writing. No write of it has
-    /// failed yet. Until it is closed the file is as it was, or empty; each other file is as it was, and where the call
-    /// is refused each file is.
+    /// Creates an empty file with this name, replacing any that is there, and opens it for writing. No write of it has failed
+    /// yet. Until it is closed, the file is unchanged or empty. All other files are unchanged, and if the call is refused, every
+    /// file is.
     fn create(&mut self, name: &str) -> Result<Self::Output, IoFault>
         ensures failures { CountsDevice (failures self.old) (failures self.new) result }
         ensures fresh { IfOk result (λ output. Self.Output.failures output ≡ 0) }
@@ -67,9 +67,9 @@ pub trait Files {
         ensures kept { (other : List ℕ) → other ≢ name.now → contents self.new other ≡ contents self.old other }
         ensures refused { OnErr result (contents self.new name.now ≡ contents self.old name.now) };
 
-    /// Ends the writing of a file. A file of which a write has failed is a failure. Where contents are known, the file then
-    /// holds what was written; of the machine's files std loses an error that the system reports only at the close. Where
-    /// the call fails, the file is as it was or holds a beginning of what was written; each other file is as it was.
+    /// Ends the writing of a file. A file with a failed write counts as a failure. If contents are known, the file then holds
+    /// what was written; for the machine's files, std loses an error that the system reports only at close. If the call fails,
+    /// the file is unchanged or holds a prefix of what was written. All other files are unchanged.
     fn close(&mut self, output: Self::Output) -> Result<(), IoFault>
         ensures failures { CountsDevice (failures self.old) (failures self.new) result }
         ensures failed { 0 < Self.Output.failures output → result ≡ Err Device }

@@ -1,4 +1,4 @@
-//! Where bytes come from and go to: files and streams of the machine, and memory. Any call may fail.
+//! Sources and sinks of bytes: files, streams and memory. Any call may fail.
 #![tactic(auto)]
 
 mod device;

@@ -1,10 +1,10 @@
-//! A device over memory.
+//! A device in memory.
 ghost use Rattle.std.specs.Prelude.{◌≡◌, ◌≤◌, ◌++◌, drop, length, min, take, vec_len, Some, []};
 
 use crate::device::{DeviceFault, IoFault, Sink, Source};
 use std::alloc::Global;
 
-/// A device over bytes in memory: reads give what is left of them, and writes go to their end. It never fails.
+/// A device over bytes in memory: reads give the rest of them, and writes append. It never fails.
 #[derive(Drop)]
 pub struct Memory {
     bytes: Vec<u8>,
@@ -21,21 +21,21 @@ impl Memory {
         Memory { bytes, next: 0 }
     }
 
-    /// A sink that holds nothing yet.
+    /// An empty sink.
     pub fn empty(alloc: Global) -> Memory
         ensures { ⟦<Memory as Sink>⟧.taken result ≡ Some [] }
     {
         Memory::new(Vec::new(alloc))
     }
 
-    /// All bytes that it holds, those that were read too.
+    /// All its bytes, including those already read.
     pub fn as_slice(&self) -> &[u8]
         ensures { Some result.now ≡ ⟦<Memory as Sink>⟧.taken self.now }
     {
         self.bytes.as_slice()
     }
 
-    /// All bytes that it holds, those that were read too.
+    /// All its bytes, including those already read.
     pub fn into_vec(self) -> Vec<u8>
         ensures { Some result.items ≡ ⟦<Memory as Sink>⟧.taken self }
     {
@@ -72,7 +72,7 @@ impl Sink for Memory {
     }
 }
 
-/// Copies as many of the bytes as there is room for, to its beginning, and says how many. What else is in the room stays.
+/// Copies as many of the bytes as fit to the beginning of the buffer, and returns how many. The rest of the buffer is unchanged.
 pub fn fill(into: &mut [u8], bytes: &[u8]) -> usize
     ensures count { result ≡ min (length into.old) (length bytes.now) }
     ensures room { into.new ≡ take (length into.old) bytes.now ++ drop (length bytes.now) into.old }

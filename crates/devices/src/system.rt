@@ -5,10 +5,10 @@ ghost use Rattle.devices.specs.Devices.{one_more};
 use crate::device::{DeviceFault, IoFault, Sink, Source};
 use std::io::{Read, Write};
 
-/// The most bytes that come at a read.
+/// The maximum number of bytes per read.
 const PIECE: usize = 8192;
 
-/// A reader or a writer of the standard library, with a count of its failures.
+/// A reader or a writer of the standard library, with a count of failures.
 #[derive(Drop)]
 pub struct Device<T> {
     inner: T,
@@ -24,14 +24,14 @@ impl<W: Write> Device<W> {
         Device { inner, failures: 0 }
     }
 
-    /// How often a write of it has failed.
+    /// How often writing has failed.
     pub fn failed_writes(&self) -> u64
         ensures { result ≡ ⟦<Device<W> as Sink>⟧.failures self.now }
     {
         self.failures
     }
 
-    /// What it is over.
+    /// The reader or writer inside.
     pub fn into_inner(self) -> W
         ensures { W.contents result ≡ ⟦<Device<W> as Sink>⟧.taken self }
     {
@@ -51,7 +51,7 @@ impl<R: Read> Device<R> {
         }
     }
 
-    /// How often a read of it has failed.
+    /// How often reading has failed.
     pub fn failed_reads(&self) -> u64
         ensures { result ≡ ⟦<Device<R> as Source>⟧.failures self.now }
     {
@@ -74,7 +74,7 @@ impl<R: Read> Source for Device<R> {
     ghost remaining = { λ device. R.remaining device.inner };
 
     fn read(&mut self, into: &mut [u8]) -> Result<usize, DeviceFault> {
-        // std says nothing of room that a read fails in, so bytes come into other room first
+        // std does not say what a failed read leaves in its buffer, so bytes go into another one first.
         let mut piece = [0u8; PIECE];
         let room = PIECE.min(into.len());
         match self.inner.read(&mut piece[..room]) {
@@ -82,7 +82,7 @@ impl<R: Read> Source for Device<R> {
                 into[..count].copy_from_slice(&piece[..count]);
                 Ok(count)
             }
-            // `ErrorKind::Interrupted` too: an interrupted call is counted, and not made again
+            // Also for `ErrorKind::Interrupted`: an interrupted call is counted and not repeated.
             Err(_) => {
                 self.count_failure();
                 Err(DeviceFault)
@@ -101,7 +101,7 @@ impl<W: Write> Sink for Device<W> {
     fn write(&mut self, piece: &[u8]) -> Result<usize, IoFault> {
         match self.inner.write(piece) {
             Ok(count) if count > 0 || piece.is_empty() => Ok(count),
-            // nothing was taken, or an error, `ErrorKind::Interrupted` too: counted, and not tried again
+            // Nothing was taken, or an error occurred, possibly `ErrorKind::Interrupted`: counted and not retried.
             _ => {
                 self.count_failure();
                 Err(IoFault::Device)

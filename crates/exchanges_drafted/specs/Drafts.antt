@@ -1,4 +1,4 @@
--- What is known of the exchanges that are given.
+-- Properties of the exchanges returned.
 use Rattle.std.specs.Prelude.{ℕ, ◌≤◌, List, length, map, IsTrue}
 use Rattle.std.specs.List.{list_all}
 use Rattle.model.specs.Task.{Task}
@@ -6,11 +6,11 @@ use Rattle.symmetries.specs.Symmetries.{is_symmetry}
 use Rattle.task_symmetries.specs.declared.exchange.Exchange.{Exchange}
 use Rattle.task_symmetries.specs.Exchange.{exchange_of}
 
--- how many are given at most
+-- the maximum number of exchanges returned
 abbrev pub most : ℕ
 most = 1048576
 
--- each is a symmetry of the task, and they are not too many
+-- each is a symmetry of the task, and the limit is respected
 pub record AreTested (task : Task) (exchanges : List Exchange) : Type 0 where
   pub symmetries : IsTrue (list_all (is_symmetry task) (map exchange_of exchanges))
   pub few : length exchanges ≤ most

@@ -1,13 +1,14 @@
-//! Numbers of objects by what is said of them: objects that a symmetry takes to each other have the same ones.
+//! Colours of objects by what is stated about them: objects that a symmetry maps to each other have the same colour. Computed by
+//! colour refinement, the one-dimensional Weisfeiler-Leman algorithm (Weisfeiler & Leman 1968), on hashes.
 use crate::facts::{Fact, Facts, Source};
 use faults::NoMemory;
 use std::alloc::Global;
 use task::{ObjectId, Task};
 
-/// How often colours are refined by those of the objects that are named together.
+/// The number of rounds of colour refinement.
 const ROUNDS: usize = 3;
 
-/// The object of this number, and the greatest one where it is beyond.
+/// The object with this number; the greatest object number if it is too large.
 pub(crate) fn object_at(number: usize) -> ObjectId {
     match u32::try_from(number) {
         Ok(number) => ObjectId(number),
@@ -15,15 +16,15 @@ pub(crate) fn object_at(number: usize) -> ObjectId {
     }
 }
 
-/// The hash of a word after others.
+/// Extends a hash by a word.
 fn mixed(hash: u64, word: u64) -> u64 {
     (hash ^ word)
         .wrapping_mul(0x9E37_79B9_7F4A_7C15)
         .rotate_left(29)
 }
 
-/// For each object its colour, by its declared type and by the facts that name it, with the colours of the others that these name:
-/// a symmetry takes an object to one of its own colour.
+/// The colour of each object: computed from its declared type and the facts that name it, with the colours of the other objects
+/// in these facts. A symmetry maps an object to one of the same colour.
 pub(crate) fn colours_of(alloc: Global, task: &Task, facts: &Facts) -> Result<Vec<u64>, NoMemory> {
     let mut colours = Vec::new(alloc);
     for number in 0..task.object_count() {
@@ -35,7 +36,7 @@ pub(crate) fn colours_of(alloc: Global, task: &Task, facts: &Facts) -> Result<Ve
     Ok(colours)
 }
 
-/// A colour for the type that the object is declared with.
+/// The initial colour: that of the object's declared type.
 fn type_colour(task: &Task, object: ObjectId) -> u64 {
     match task.declared_type(object) {
         Some(declared) => mixed(1, u64::from(declared.0)),
@@ -51,7 +52,7 @@ pub(crate) fn colour_of(colours: &[u64], object: ObjectId) -> u64 {
     }
 }
 
-/// The colours, told apart by those of the objects that are named together.
+/// One round of refinement: the colours, split by the colours of objects that occur in the same facts.
 fn refined(alloc: Global, facts: &Facts, colours: &[u64]) -> Result<Vec<u64>, NoMemory> {
     let mut refined = Vec::new(alloc);
     for (number, colour) in colours.iter().enumerate() {
@@ -61,7 +62,7 @@ fn refined(alloc: Global, facts: &Facts, colours: &[u64]) -> Result<Vec<u64>, No
     Ok(refined)
 }
 
-/// A number for the facts that name the object, in whatever order.
+/// A hash of the facts that name the object, independent of their order.
 fn colour_by_facts(facts: &Facts, colours: &[u64], object: ObjectId) -> u64 {
     let mut sum: u64 = 0;
     for place in facts.places_of(object) {
@@ -72,7 +73,7 @@ fn colour_by_facts(facts: &Facts, colours: &[u64], object: ObjectId) -> u64 {
     sum
 }
 
-/// A number for the fact, in which the object is marked, and others have their colours.
+/// A hash of the fact in which the object itself is marked and the others are represented by their colours.
 fn colour_by_fact(fact: &Fact, colours: &[u64], object: ObjectId) -> u64 {
     let mut hash = begun(fact);
     for other in &fact.objects {
@@ -86,7 +87,7 @@ fn colour_by_fact(fact: &Fact, colours: &[u64], object: ObjectId) -> u64 {
     hash
 }
 
-/// A number for the fact's source and predicate.
+/// A hash of the fact's source and predicate.
 fn begun(fact: &Fact) -> u64 {
     let source = match fact.source {
         Source::Start => 1,
@@ -96,8 +97,8 @@ fn begun(fact: &Fact) -> u64 {
     mixed(source, fact.predicate.0 as u64)
 }
 
-/// For each object its key, by its colour and by the facts that name it, with the others by themselves, but for those of its own
-/// colour: a symmetry that exchanges two objects alone takes an object to one of its own key.
+/// The key of each object: computed from its colour and the facts that name it, with the other objects themselves, except those
+/// of its own colour. A symmetry that swaps just two objects maps an object to one with the same key.
 pub(crate) fn keys_of(alloc: Global, facts: &Facts, colours: &[u64]) -> Result<Vec<u64>, NoMemory> {
     let mut keys = Vec::new(alloc);
     for (number, colour) in colours.iter().enumerate() {
@@ -107,7 +108,7 @@ pub(crate) fn keys_of(alloc: Global, facts: &Facts, colours: &[u64]) -> Result<V
     Ok(keys)
 }
 
-/// A number for the facts that name the object, in whatever order.
+/// A hash of the facts that name the object, independent of their order.
 fn key_by_facts(facts: &Facts, colours: &[u64], object: ObjectId) -> u64 {
     let mut sum: u64 = 0;
     for place in facts.places_of(object) {
@@ -118,7 +119,8 @@ fn key_by_facts(facts: &Facts, colours: &[u64], object: ObjectId) -> u64 {
     sum
 }
 
-/// A number for the fact, in which the object is marked, those of its colour have one mark, and others have their numbers.
+/// A hash of the fact in which the object is marked, objects of its colour share one mark, and others are represented by their
+/// numbers.
 fn key_by_fact(fact: &Fact, colours: &[u64], object: ObjectId) -> u64 {
     let mut hash = begun(fact);
     for other in &fact.objects {

@@ -1,4 +1,4 @@
-//! The exchanges that are given.
+//! The exchanges that the search for symmetries returns.
 ghost use Rattle.std.specs.Prelude.{◌≤◌, IfOk, IsTrue, OnOk, length, map};
 ghost use Rattle.std.specs.List.{list_all};
 ghost use Rattle.task.specs.Task.{task_of};
@@ -13,14 +13,14 @@ use std::alloc::Global;
 use task::Task;
 use task_symmetries::{Exchange, SymmetryTest};
 
-/// The most exchanges that are given: as many as a certificate may have.
+/// The maximum number of exchanges returned: as many as a certificate may have.
 pub const MAX_EXCHANGES: usize = 1_048_576;
 
-/// Exchanges of objects that are symmetries of the task: of neighbours in each class of objects of one type that are alike, and of
-/// objects together with those that belong to them. The same task has the same ones in the same order.
+/// Exchanges of objects that are symmetries of the task: swaps of neighbours in each class of interchangeable objects of a type,
+/// and swaps of objects together with the objects that belong to them. The result is deterministic.
 ///
 /// # Errors
-/// Memory was refused, which says nothing of the task.
+/// An allocation failed, which says nothing about the task.
 pub fn drafted_exchanges(alloc: Global, task: &Task) -> Result<Vec<Exchange>, NoMemory>
     ensures symmetries { IfOk result (λ found. IsTrue (list_all (is_symmetry (task_of task.now)) (map exchange_of found.items))) }
     ensures few { IfOk result (λ found. length found.items ≤ MAX_EXCHANGES) }
@@ -30,7 +30,7 @@ pub fn drafted_exchanges(alloc: Global, task: &Task) -> Result<Vec<Exchange>, No
     tested(alloc, &test, drafts)
 }
 
-/// Those of the exchanges that pass the test, in order, as many as may be given.
+/// The exchanges that pass the test, in order, up to the limit.
 fn tested(
     alloc: Global,
     test: &SymmetryTest<'_>,
@@ -45,7 +45,7 @@ fn tested(
     Ok(passed)
 }
 
-/// Adds the exchange, if it passes the test and one more may be given.
+/// Adds the exchange if it passes the test and the limit is not reached.
 fn add_tested(
     test: &SymmetryTest<'_>,
     exchange: Exchange,

@@ -1,22 +1,21 @@
-//! What a task says of its objects that no action changes: the static atoms of the start, the values of functions, and the atoms of
-//! the goal.
+//! What a task states about its objects that no action changes: static initial atoms, values of functions, and atoms of the goal.
 use faults::NoMemory;
 use formulas::FluentPredicates;
 use std::alloc::Global;
 use task::{Atom, Formula, LiftedAtom, ObjectId, PredicateId, Task, Term};
 
-/// Where a fact is from.
+/// The origin of a fact.
 #[derive(Clone, Copy, Debug, PartialEq, Eq, PartialOrd, Ord)]
 pub(crate) enum Source {
-    /// It is a static atom of the start.
+    /// A static initial atom.
     Start,
-    /// It is a function, which has this value.
+    /// A function with this value.
     Value(u32),
-    /// It is an atom of the goal.
+    /// An atom of the goal.
     Goal,
 }
 
-/// A predicate, or a function, of some objects.
+/// A predicate or a function, applied to objects.
 #[derive(Debug, PartialEq, Eq, PartialOrd, Ord, Drop)]
 pub(crate) struct Fact {
     pub(crate) source: Source,
@@ -24,17 +23,17 @@ pub(crate) struct Fact {
     pub(crate) objects: Vec<ObjectId>,
 }
 
-/// All of a task.
+/// All facts of a task.
 #[derive(Drop)]
 pub(crate) struct Facts {
-    /// Rising, each once.
+    /// In ascending order, without repetition.
     all: Vec<Fact>,
-    /// For each object, by its number, the places of those that name it.
+    /// For each object, by number, the indices of the facts that name it.
     rows: Vec<Vec<usize>>,
 }
 
 impl Facts {
-    /// Those of the task.
+    /// The facts of the task.
     pub(crate) fn new(alloc: Global, task: &Task) -> Result<Facts, NoMemory> {
         let mut all = Vec::new(alloc);
         add_start(alloc, task, &mut all)?;
@@ -46,7 +45,7 @@ impl Facts {
         Ok(Facts { all, rows })
     }
 
-    /// The places of those that name the object.
+    /// The indices of the facts that name the object.
     pub(crate) fn places_of(&self, object: ObjectId) -> &[usize] {
         match self.rows.get(object.0 as usize) {
             Some(row) => row.as_slice(),
@@ -54,23 +53,23 @@ impl Facts {
         }
     }
 
-    /// How many there are.
+    /// The number of facts.
     pub(crate) fn count(&self) -> usize {
         self.all.len()
     }
 
-    /// The fact at the place.
+    /// The fact at this index.
     pub(crate) fn at(&self, place: usize) -> Option<&Fact> {
         self.all.get(place)
     }
 
-    /// Whether this is one of them.
+    /// Whether this is a fact of the task.
     pub(crate) fn contain(&self, fact: &Fact) -> bool {
         self.all.binary_search(fact).is_ok()
     }
 }
 
-/// Adds the static atoms of the start.
+/// Adds the static initial atoms.
 fn add_start(alloc: Global, task: &Task, all: &mut Vec<Fact>) -> Result<(), NoMemory> {
     let fluents = FluentPredicates::new(alloc, task)?;
     for atom in task.init() {
@@ -81,7 +80,7 @@ fn add_start(alloc: Global, task: &Task, all: &mut Vec<Fact>) -> Result<(), NoMe
     Ok(())
 }
 
-/// Adds the functions that have values.
+/// Adds the functions with values.
 fn add_values(alloc: Global, task: &Task, all: &mut Vec<Fact>) -> Result<(), NoMemory> {
     for (function, value) in task.values() {
         add(alloc, Source::Value(*value), function, all)?;
@@ -101,7 +100,7 @@ fn add(alloc: Global, source: Source, atom: &Atom, all: &mut Vec<Fact>) -> Resul
     Ok(())
 }
 
-/// Adds the atoms of the formula that name nothing but objects.
+/// Adds the ground atoms of the formula.
 fn add_goal(alloc: Global, formula: &Formula, all: &mut Vec<Fact>) -> Result<(), NoMemory> {
     match formula {
         Formula::Atom(atom) => add_lifted(alloc, atom, all),
@@ -122,7 +121,7 @@ fn add_goal(alloc: Global, formula: &Formula, all: &mut Vec<Fact>) -> Result<(),
     }
 }
 
-/// Adds the atom, if it names nothing but objects.
+/// Adds the atom if it is ground.
 fn add_lifted(alloc: Global, atom: &LiftedAtom, all: &mut Vec<Fact>) -> Result<(), NoMemory> {
     let mut objects = Vec::new(alloc);
     for term in &atom.terms {
@@ -139,7 +138,7 @@ fn add_lifted(alloc: Global, atom: &LiftedAtom, all: &mut Vec<Fact>) -> Result<(
     Ok(())
 }
 
-/// For each of so many objects the places of the facts that name it, rising, each once.
+/// For each of `count` objects, the indices of the facts that name it, in ascending order and without repetition.
 fn rows_of(alloc: Global, count: usize, all: &[Fact]) -> Result<Vec<Vec<usize>>, NoMemory> {
     let mut rows: Vec<Vec<usize>> = Vec::new(alloc);
     for _ in 0..count {
@@ -153,7 +152,7 @@ fn rows_of(alloc: Global, count: usize, all: &[Fact]) -> Result<Vec<Vec<usize>>,
     Ok(rows)
 }
 
-/// Adds the place to the object's row, unless it is its last one.
+/// Adds the index to the object's row, unless it is the row's last one.
 fn note(rows: &mut [Vec<usize>], object: ObjectId, place: usize) -> Result<(), NoMemory> {
     if let Some(row) = rows.get_mut(object.0 as usize) {
         if row.last() != Some(&place) {

@@ -1,7 +1,7 @@
-//! The classes of objects that are alike.
+//! The classes of interchangeable objects.
 //!
-//! Objects are gone through in order, and each is tried with the last one of each class of its key. So there are about as many
-//! tests as objects times classes, and neighbours in a class change places.
+//! Each object, in order, is tested against the last object of each class with its key. The number of tests is therefore about
+//! the number of objects times that of classes, and the exchanges swap neighbours in a class.
 use crate::colours::{colours_of, keys_of, object_at};
 use crate::facts::Facts;
 use crate::partners::Partners;
@@ -11,36 +11,36 @@ use std::alloc::Global;
 use task::{ObjectId, Task};
 use task_symmetries::{Exchange, SymmetryTest};
 
-/// With how many classes of its key an object is tried, at most: the ones that were begun last.
+/// The maximum number of classes that an object is tested against: the most recently begun ones with its key.
 const MAX_CLASSES: usize = 16;
 
-/// And of how many it is looked up before whether it is known to be one.
+/// Classes searched for a known pair.
 const MAX_KNOWN: usize = 256;
 
-/// The last objects of the classes so far, by the keys of their objects.
+/// The last object of each class so far, by key.
 type Classes = IndexMap<u64, Vec<ObjectId>>;
 
-/// What the exchanges are found by.
+/// The state of the search for exchanges.
 #[derive(Drop)]
 struct Finder<'f, 'x, 't> {
     task: &'x Task,
     test: &'x SymmetryTest<'t>,
     partners: Partners<'f>,
-    /// Those that change places in some exchange that was found.
+    /// The pairs that some exchange found so far swaps.
     alike: IndexSet<(ObjectId, ObjectId)>,
     found: Vec<Exchange>,
 }
 
-/// How two objects are tried.
+/// The kind of exchange that is tried for two objects.
 #[derive(Clone, Copy)]
 enum Trial {
-    /// They change places, and no others do.
+    /// Just the two objects are swapped.
     Alone,
-    /// They change places with their partners.
+    /// The two objects are swapped together with their partners.
     WithPartners,
 }
 
-/// Exchanges that are symmetries of the task, which the test is of.
+/// Exchanges that are symmetries of the task; `test` is for this task.
 pub(crate) fn found_exchanges<'x>(
     alloc: Global,
     task: &'x Task,
@@ -63,7 +63,7 @@ pub(crate) fn found_exchanges<'x>(
 }
 
 impl Finder<'_, '_, '_> {
-    /// Puts all objects into classes, each among those of its key.
+    /// Puts every object into a class, among those with its key.
     fn file_all(&mut self, alloc: Global, keys: &[u64], trial: Trial) -> Result<(), NoMemory> {
         let mut classes: Classes = IndexMap::new(alloc);
         for (number, key) in keys.iter().enumerate() {
@@ -77,7 +77,7 @@ impl Finder<'_, '_, '_> {
         Ok(())
     }
 
-    /// Puts the object into one of the classes of these last objects, or begins one.
+    /// Puts the object into one of the classes with these last objects, or begins a new class.
     fn file(
         &mut self,
         alloc: Global,
@@ -101,7 +101,7 @@ impl Finder<'_, '_, '_> {
         Ok(())
     }
 
-    /// Whether an exchange of the objects is found that is a symmetry.
+    /// Whether an exchange that swaps the objects is found to be a symmetry.
     fn are_alike(
         &mut self,
         alloc: Global,
@@ -121,7 +121,7 @@ impl Finder<'_, '_, '_> {
         self.try_exchange(alloc, &objects)
     }
 
-    /// Takes the exchange of these objects, if it is a symmetry. Whether it is.
+    /// Keeps the exchange of these objects if it is a symmetry. Returns whether it is.
     fn try_exchange(&mut self, alloc: Global, objects: &[ObjectId]) -> Result<bool, NoMemory> {
         let Some(exchange) = Exchange::new(alloc, self.task, objects)? else {
             return Ok(false);
@@ -137,7 +137,7 @@ impl Finder<'_, '_, '_> {
     }
 }
 
-/// The two objects, the lower one first.
+/// The pair with the lower object first.
 fn ordered(one: ObjectId, other: ObjectId) -> (ObjectId, ObjectId) {
     if one <= other {
         (one, other)
@@ -146,7 +146,7 @@ fn ordered(one: ObjectId, other: ObjectId) -> (ObjectId, ObjectId) {
     }
 }
 
-/// The objects of the pairs, two by two.
+/// The objects of the pairs, in order.
 fn objects_in(alloc: Global, pairs: &[(ObjectId, ObjectId)]) -> Result<Vec<ObjectId>, NoMemory> {
     let mut objects = Vec::new(alloc);
     for (one, other) in pairs {

@@ -1,4 +1,4 @@
-//! Finds exchanges of interchangeable objects and tests each. Nothing is claimed of those that it misses.
+//! Finds exchanges of interchangeable objects and tests each. It may miss some.
 #![tactic(auto)]
 
 mod colours;

@@ -1,32 +1,32 @@
-//! Objects that have to change places together: the facts that an exchange breaks say which further ones it needs.
+//! Objects that must be swapped together: the facts that an exchange violates show which further swaps it needs.
 use crate::colours::colour_of;
 use crate::facts::{Fact, Facts};
 use faults::NoMemory;
 use std::alloc::Global;
 use task::ObjectId;
 
-/// The most pairs of an exchange.
+/// The maximum number of pairs in an exchange.
 const MAX_PAIRS: usize = 32;
 
-/// How often facts are looked at for partners in all, at most, beside some times for each of them.
+/// The budget of fact lookups: this many in all, plus a number for each fact.
 const MAX_LOOKS: usize = 5_000;
 
-/// And how often for each of them.
+/// The number of lookups for each fact.
 const LOOKS_AT_EACH: usize = 8;
 
-/// What partners are found by.
+/// The search for partners.
 #[derive(Drop)]
 pub(crate) struct Partners<'f> {
     facts: &'f Facts,
     colours: &'f [u64],
-    /// The pairs of the exchange that is tried.
+    /// The pairs of the current exchange.
     pairs: Vec<(ObjectId, ObjectId)>,
-    /// How often facts may still be looked at.
+    /// The remaining number of fact lookups.
     looks_left: usize,
 }
 
 impl<'f> Partners<'f> {
-    /// Nothing is tried yet.
+    /// A search before its first use.
     pub(crate) fn new(alloc: Global, facts: &'f Facts, colours: &'f [u64]) -> Partners<'f> {
         Partners {
             facts,
@@ -39,12 +39,13 @@ impl<'f> Partners<'f> {
         }
     }
 
-    /// The pairs that were found last.
+    /// The pairs of the last successful search.
     pub(crate) fn pairs(&self) -> &[(ObjectId, ObjectId)] {
         &self.pairs
     }
 
-    /// Whether pairs are found that change places with the two objects, so that the facts that name any of them are kept.
+    /// Extends the swap of the two objects until all facts that name a swapped object are preserved. Returns whether that
+    /// succeeds.
     pub(crate) fn find(
         &mut self,
         alloc: Global,
@@ -66,7 +67,7 @@ impl<'f> Partners<'f> {
         Ok(false)
     }
 
-    /// Adds pairs until the facts that name the object are kept, where the other one is its image. Whether that was done.
+    /// Adds pairs until the facts that name the object, whose image is given, are preserved. Returns whether that succeeds.
     fn keep(&mut self, alloc: Global, object: ObjectId, image: ObjectId) -> Result<bool, NoMemory> {
         let facts = self.facts;
         for place in facts.places_of(object) {
@@ -79,7 +80,7 @@ impl<'f> Partners<'f> {
         Ok(true)
     }
 
-    /// Adds pairs until the image of the fact, which names this object, is a fact. Whether that was done.
+    /// Adds pairs until the image of the fact, which names the object, is a fact. Returns whether that succeeds.
     fn keep_fact(&mut self, alloc: Global, fact: &Fact, image: ObjectId) -> Result<bool, NoMemory> {
         if self.is_kept(alloc, fact)? {
             return Ok(true);
@@ -98,8 +99,8 @@ impl<'f> Partners<'f> {
         Ok(false)
     }
 
-    /// Adds pairs by which the second fact is the image of the first. Whether there are such, and the second is not the image of
-    /// another one.
+    /// Adds pairs that make the second fact the image of the first. Returns whether there are such pairs and the second fact is
+    /// not the image of another one.
     fn match_up(&mut self, alloc: Global, fact: &Fact, other: &Fact) -> Result<bool, NoMemory> {
         let may_be = fact.source == other.source
             && fact.predicate == other.predicate
@@ -117,8 +118,8 @@ impl<'f> Partners<'f> {
         Ok(true)
     }
 
-    /// Makes the second object the image of the first, unless one of them has another image, or they cannot be alike. Whether it is
-    /// its image then.
+    /// Makes the second object the image of the first, unless one of them has another image or their colours differ. Returns
+    /// whether it is the image then.
     fn pair(&mut self, object: ObjectId, image: ObjectId) -> Result<bool, NoMemory> {
         if self.image_of(object) == image {
             return Ok(true);
@@ -131,7 +132,7 @@ impl<'f> Partners<'f> {
         Ok(true)
     }
 
-    /// The object that comes into the place of this one.
+    /// The image of this object.
     fn image_of(&self, object: ObjectId) -> ObjectId {
         for (one, other) in &self.pairs {
             if *one == object {
@@ -144,7 +145,7 @@ impl<'f> Partners<'f> {
         object
     }
 
-    /// Whether the image of the fact is a fact, as a look shows.
+    /// Whether the image of the fact is a fact; counts as a lookup.
     fn is_kept(&mut self, alloc: Global, fact: &Fact) -> Result<bool, NoMemory> {
         self.looks_left = self.looks_left.saturating_sub(1);
         let mut objects = Vec::new(alloc);

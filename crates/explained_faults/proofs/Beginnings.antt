@@ -1,4 +1,4 @@
--- Words begin a file just where a reader's refusal of them is reported for no bytes.
+-- Words are a prefix of a file exactly if the parser's refusal of them is reported for an empty span.
 use Rattle.std.specs.Prelude.{◌≡◌, ◌+◌, ◌<◌, Bool, true, ◌&&◌, IsTrue, List, [], ◌∷◌, ◌++◌, length, map, Result, Ok, Err, IfOk, IfSome}
 use Rattle.std.specs.Bool.{Decides}
 use Rattle.std.specs.List.{All, list_all}
@@ -19,17 +19,17 @@ use Rattle.model.specs.Refusals.{Begins, IsWhole, IsRefused, at_word, at_end}
 use Rattle.model.proofs.GrammarBegins.{fewer}
 use Rattle.explained_faults.specs.Expected.{Answers, has_bytes, ReportsEnd, HaveBytes, MayFollow}
 
--- a whole file begins with its words
+-- a whole file is a prefix of a file
 pub whole_begins : (file : TaskFile) (words : List Word) → IsWhole file (tokens_of words) → Begins file (tokens_of words)
 whole_begins file words whole = ([], subst (λ (w : List Token). IsWhole file w) (sym (append-nil (tokens_of words))) whole)
 
--- a word among words that have bytes has bytes
+-- a word among non-empty words is not empty
 has_some : (before after : List Word) (word : Word) → list_all has_bytes (before ++ word ∷ after) ≡ true → 0 < length word.text
 has_some before after word full =
     let both = and_parts (list_all has_bytes before) (list_all has_bytes (word ∷ after)) (sym (list_all-append has_bytes before (word ∷ after)) ∙ full) in
     ltb-true 0 (length word.text) (and_parts (has_bytes word) (list_all has_bytes after) both.1).0
 
--- words that are refused at a place without bytes run out
+-- words refused at an empty span end too early
 pub runs_out : (file : TaskFile) (words : List Word) (fault : Fault) → IsTrue (list_all has_bytes words) → IsRefused file words fault
     → fault.span.start ≡ fault.span.end → Begins file (tokens_of words)
 runs_out file words fault full (at_word before after word occurs begins not_more reported span) empty =
@@ -39,7 +39,7 @@ runs_out file words fault full (at_word before after word occurs begins not_more
     absurd (omega arith)
 runs_out file words fault full (at_end begins not_whole code span) empty = begins
 
--- a file that begins with words begins with those of them up to any one
+-- each prefix of a prefix of a file is one too
 begins_so_far : (file : TaskFile) (words before after : List Word) (word : Word) → words ≡ before ++ word ∷ after → Begins file (tokens_of words)
     → Begins file (tokens_of before ++ token_of word ∷ [])
 begins_so_far file words before after word occurs begins =
@@ -47,14 +47,14 @@ begins_so_far file words before after word occurs begins =
     ap tokens_of occurs ∙ map-append token_of before (word ∷ after) ∙ sym (append_assoc (tokens_of before) (token_of word ∷ []) (tokens_of after)) in
     fewer file (tokens_of before ++ token_of word ∷ []) (tokens_of after) (subst (λ (w : List Token). Begins file w) tokens begins)
 
--- words that begin a file are refused at a place without bytes alone
+-- a prefix of a file is refused only at an empty span
 is_without_bytes : (file : TaskFile) (words : List Word) (fault : Fault) → IsRefused file words fault → Begins file (tokens_of words)
     → fault.span.start ≡ fault.span.end
 is_without_bytes file words fault (at_word before after word occurs begins not_more reported span) begun =
     absurd (not_more (begins_so_far file words before after word occurs begun))
 is_without_bytes file words fault (at_end begins not_whole code span) begun = ap (λ (s : Span). s.start) span ∙ sym (ap (λ (s : Span). s.end) span)
 
--- whether a refusal of theirs is reported for no bytes says whether they begin a file
+-- whether their refusal is reported for an empty span decides whether words are a prefix of a file
 pub refused_begins : {E : Type 0} (file : TaskFile) (words : List Word) (fault : reported.Fault) (r : Result Bool E)
     → IsTrue (list_all has_bytes words) → IfSome (reported.reported_by fault) (IsRefused file words) → IfOk r (ReportsEnd fault)
     → IfOk r (λ answer. Decides answer (Begins file (tokens_of words)))
@@ -74,7 +74,7 @@ of_decides have_bytes claim (Err e) decides = tt
 one_more_token : (before : List code.Word) (word : code.Word) → tokens_of (map word_of (before ++ word ∷ [])) ≡ tokens_of (map word_of before) ++ token_of (word_of word) ∷ []
 one_more_token before word = ap tokens_of (map-append word_of before (word ∷ [])) ∙ map-append token_of (map word_of before) (word_of word ∷ [])
 
--- whether a file begins with words and one more says whether that one may follow
+-- whether words with one more are a prefix of a file decides whether that word may follow
 pub follows : {E : Type 0} (file : TaskFile) (before words : List code.Word) (word : code.Word) (r : Result Bool E) → words ≡ before ++ word ∷ []
     → IfOk r (Answers (HaveBytes words) (Begins file (tokens_of (map word_of words))))
     → IfOk r (Answers (HaveBytes before × IsTrue (has_bytes (word_of word))) (MayFollow file before word))
@@ -90,7 +90,7 @@ follows file before words word (Ok answer) are answers =
           (subst (λ (w : List Token). Begins file w) (sym tokens) holds),
     )
 
--- words each of which has bytes, in the model's terms
+-- non-empty words, in the model's terms
 pub all_have : (words : List code.Word) → HaveBytes words → IsTrue (list_all has_bytes (map word_of words))
 all_have words all = list_all-map has_bytes word_of words ∙ all
 

@@ -1,4 +1,4 @@
--- Of candidates those are told with which a file may go on, and the words of a text have bytes.
+-- The reported candidates are those that may follow in a file, and the words of a text are not empty.
 use Rattle.std.specs.Prelude.{◌≡◌, ℕ, suc, ◌+◌, ◌<◌, Bool, true, IsTrue, nat_lt, List, [], ◌∷◌, ◌++◌, length, get_or, map, take, drop, Result, Ok, Err, IfOk}
 use Rattle.std.specs.List.{All, list_all, position_or_len}
 use Rattle.std.specs.Global.{Vec}
@@ -14,7 +14,7 @@ use Rattle.model.specs.Words.{Part, bytes, size, IsWordAt, AreGapsAndWords, Read
 use Rattle.model.specs.Trees.{TaskFile}
 use Rattle.explained_faults.specs.Expected.{AreAll, AreTold, IsOfKeyword, AreSome, no_more, taken, passed_over, AreThose, none, kept, left_out, HaveBytes, MayFollow, candidates_text, has_bytes, begins_from, words_before}
 
--- ---- the words of a text have bytes
+-- ---- the words of a text are not empty
 
 word_has : (start : ℕ) (part : Part) (word : text.Word) → IsWordAt start part word → has_bytes word ≡ true
 word_has start part word is = let long : length word.text ≡ suc (length part.others) = ap length is.text in lt-ltb 0 (length word.text) (omega arith)
@@ -34,7 +34,7 @@ parts_have start (part ∷ parts) (word ∷ words) are =
 pub read_have : (text : List ℕ) (words : List Word) → ReadsAs text (map word_of words) → HaveBytes words
 read_have text words reads = sym (list_all-map has_bytes word_of words) ∙ parts_have 0 reads.parts (map word_of words) reads.in_turn
 
--- so do those of them before an offset
+-- neither are those before an offset
 pub before_have : (offset : ℕ) (words : List Word) → HaveBytes words → HaveBytes (words_before offset words)
 before_have offset words have = front_have (position_or_len (begins_from offset) words)
   where
@@ -46,7 +46,7 @@ before_have offset words have = front_have (position_or_len (begins_from offset)
         (and_parts (list_all test (take n words)) (list_all test (drop n words))
         (sym (list_all-append test (take n words) (drop n words)) ∙ ap (list_all test) (take-append-drop n words) ∙ have)).0
 
--- ---- those for which a claim holds, one word after another
+-- ---- the words that satisfy a claim, one after another
 
 module _ (P : Word → Type 0) where
   pub one_told : (words those : List Word) (word : Word) → AreThose P words those → P word → AreThose P (words ++ word ∷ []) (those ++ word ∷ [])
@@ -59,13 +59,13 @@ module _ (P : Word → Type 0) where
   one_left_out words those word (kept first rest others here more) fails = kept first (rest ++ word ∷ []) others here (one_left_out rest others word more fails)
   one_left_out words those word (left_out first rest others not_here more) fails = left_out first (rest ++ word ∷ []) others not_here (one_left_out rest others word more fails)
 
-  -- what holds for each of some words holds for some of them
+  -- what holds of each of some words holds of a selection of them
   pub some_hold : (words some : List Word) → AreSome words some → All P words → All P some
   some_hold words some no_more all = All-nil P
   some_hold words some (taken first rest others more) all = All-cons P first others (All-head P first rest all) (some_hold rest others more (All-tail P first rest all))
   some_hold words some (passed_over first rest others more) all = some_hold rest others more (All-tail P first rest all)
 
--- one word more that is taken, or passed over
+-- one more word, taken or skipped
 pub one_taken : (words some : List Word) (word : Word) → AreSome words some → AreSome (words ++ word ∷ []) (some ++ word ∷ [])
 one_taken words some word no_more = taken word [] [] no_more
 one_taken words some word (taken first rest others more) = taken first (rest ++ word ∷ []) (others ++ word ∷ []) (one_taken rest others word more)
@@ -82,7 +82,7 @@ one_passed_over words some word (passed_over first rest others more) = passed_ov
 so_far : (words : List Word) (k : ℕ) (word : Word) → k < length words → word ≡ get_or words k word → take (k + 1) words ≡ take k words ++ word ∷ []
 so_far words k word below is = take_more words k word below ∙ ap (λ (w : Word). take k words ++ w ∷ []) (sym is)
 
--- the word at an index has bytes
+-- the word at an index is not empty
 pub has_at : (words : List Word) (k : ℕ) (word : Word) → k < length words → word ≡ get_or words k word → HaveBytes words → IsTrue (has_bytes (word_of word))
 has_at words k word below is have = ap test is ∙ (and_parts (test (get_or words k word)) (list_all test (drop (k + 1) words)) from_it.1).0
   where
@@ -118,7 +118,7 @@ module _ (words found more : List Word) (k : ℕ) (word : Word) (below : k < len
       subst (λ (w : List Word). AreSome w more) (sym (so_far words k word below is))
       (subst (AreSome (take k words ++ word ∷ [])) (sym items) (one_passed_over (take k words) found word some))
 
--- ---- what is told
+-- ---- reported words
 
 -- those of the candidates are all
 pub all_told : {E : Type 0} (file : TaskFile) (before candidates given : List Word) (text : List ℕ) (r : Result (Vec Word) E) → text ≡ candidates_text → given ≡ candidates
@@ -132,7 +132,7 @@ all_told file before candidates given text (Ok found) is_text same reads those =
     }
 all_told file before candidates given text (Err e) is_text same reads those = tt
 
--- where all are told, or some of them and not none, that is what is to be told
+-- if all are reported, or a non-empty selection, the report is as specified
 module _ (file : TaskFile) (before all : List Word) (reported : List ℕ) where
   pub told_all : AreAll file before all → AreTold file before reported all
   told_all are_all = record { all = all; are_all = are_all; are_told = inl refl }

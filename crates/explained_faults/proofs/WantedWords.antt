@@ -31,7 +31,7 @@ module _ (file : TaskFile) (text : List ℕ) (offset : ℕ) (words items before 
       record { words = words; reads = reads; are_told = subst (λ b. AreTold file b reported found.items) occur (told have) }
   are_told reported (Err e) told = tt
 
--- what is told at a place of one text is told of its file
+-- what is reported at a place of a text is reported for its file
 module _ {E : Type 0} (texts : NamedTexts) (fault : FileRefusal) (reported : List ℕ) (same : reported ≡ reported_in (text_in texts fault.file) fault.span.start fault.span.end) where
   pub whole_in_domain : (r : Result (Vec Word) E) → fault.file ≡ Domain
       → (Reads (text_in texts Domain) → IfOk r (λ wanted. AreToldIn domain_file (text_in texts Domain) fault.span.start reported wanted.items))

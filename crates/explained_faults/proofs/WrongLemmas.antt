@@ -1,11 +1,11 @@
--- Where a text whose parentheses do not match goes wrong.
+-- Where a text with unbalanced parentheses goes wrong.
 use Rattle.std.specs.Prelude.{◌≡◌, ℕ, List, ◌++◌, ◌<◌, ◌≤◌, length, take, Option, None, Some, IfSome}
 use Rattle.std.proofs.Common.{subst}
 use Rattle.faults.specs.declared.refused.TextRefusal.{TextRefusal}
 use Rattle.model.specs.Trees.{TaskFile}
 use Rattle.explained_faults.specs.Wrong.{GoesWrong, IsRefusedIn}
 
--- a text goes wrong where a beginning of it with an ending is refused, for a word of the beginning
+-- a text goes wrong where a prefix of it with an ending is refused at a word of the prefix
 pub goes_wrong : (file : TaskFile) (text whole ending : List ℕ) (kept : ℕ) (found result : Option TextRefusal)
     → kept ≤ length text → whole ≡ take kept text ++ ending → IfSome found (IsRefusedIn file whole)
     → IfSome result (λ r. (found ≡ Some r) × (r.span.start < r.span.end) × (r.span.end ≤ kept))

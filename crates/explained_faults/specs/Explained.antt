@@ -1,4 +1,4 @@
--- What is reported for a fault: the fault as it was given, and its place in its file.
+-- The explanation of a fault: the fault as given, and its place in its file.
 use Rattle.std.specs.Prelude.{◌≡◌, ℕ, ◌⊎◌, List, [], ◌++◌, codes}
 use Rattle.std.specs.Fmt.{decimal}
 use Rattle.faults.specs.Fault.{number_of}
@@ -18,7 +18,7 @@ use Rattle.tokens.specs.declared.word.Word.{Word}
 use Rattle.model.specs.Words.{Reads}
 use Rattle.model.specs.Trees.{domain_file, problem_file}
 
--- the first line of what is reported for a fault: the file, the line and the column, and the number and the name of what is wrong
+-- the first line of the report: the file, the line and the column, and the number and name of the fault
 abbrev pub heading : (name : List ℕ) → LineColumn → Code → List ℕ
 heading name place code =
     name ++ (codes ":" ++ (decimal place.line ++ (codes ":" ++ (decimal place.column ++ (codes ": fault " ++ (decimal (number_of code)
@@ -28,19 +28,19 @@ heading name place code =
 abbrev pub BeginsWith : (text beginning : List ℕ) → Type 0
 BeginsWith text beginning = (rest : List ℕ) × (text ≡ beginning ++ rest)
 
--- the words may occur where a domain or a problem is at fault; of a plan none are reported
+-- the words may occur at the fault of a domain or a problem; none are reported for a plan
 abbrev pub AreWanted : NamedTexts → FileRefusal → List Word → Type 0
 AreWanted texts fault wanted =
     (fault.file ≡ Domain → MayOccur domain_file (text_in texts Domain) fault.span.start wanted)
     × (fault.file ≡ Problem → MayOccur problem_file (text_in texts Problem) fault.span.start wanted)
     × (fault.file ≡ Plan → wanted ≡ [])
 
--- a word is refused since no file goes on with it, and not for what it says
+-- a word was unexpected
 abbrev pub IsOfWords : Code → Type 0
 IsOfWords code = (code ≡ BadForm) ⊎ (code ≡ UnknownSection) ⊎ (code ≡ UnknownRequirement)
 
--- For such a fault of a domain or a problem that reads as words, all candidates are told with which a file may go on at its
--- place, or for a keyword some of them, and not none.
+-- For such a fault of a domain or a problem that reads as words, all candidates are reported that may occur at its place, or for
+-- a keyword a non-empty selection of them.
 abbrev pub AreWhole : NamedTexts → FileRefusal → List Word → Type 0
 AreWhole texts fault wanted =
     (fault.file ≡ Domain → Reads (text_in texts Domain)
@@ -48,8 +48,8 @@ AreWhole texts fault wanted =
     × (fault.file ≡ Problem → Reads (text_in texts Problem)
     → AreToldIn problem_file (text_in texts Problem) fault.span.start (reported_in (text_in texts Problem) fault.span.start fault.span.end) wanted)
 
--- it is reported for this fault, the place is that of the first byte of its span, and the words that are reported may occur there,
--- and none is left out
+-- the explanation is of this fault, the place is that of the first byte of its span, and the reported words are exactly those
+-- that may occur there
 pub record IsExplained (texts : NamedTexts) (fault : FileRefusal) (explanation : FaultExplanation) : Type 0 where
   pub is_fault : explanation.fault ≡ fault
   pub is_place : IsPlace (text_in texts fault.file) fault.span.start explanation.place

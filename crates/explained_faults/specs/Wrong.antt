@@ -1,4 +1,4 @@
--- Where a text whose parentheses do not match goes wrong as a file.
+-- Where a text with unbalanced parentheses goes wrong as a file.
 use Rattle.std.specs.Prelude.{◌≡◌, ℕ, List, ◌++◌, ◌<◌, ◌≤◌, length, map, take}
 use Rattle.faults.specs.declared.refused.TextRefusal.{TextRefusal}
 use Rattle.tokens.specs.Reported.{refusal_of}
@@ -12,14 +12,14 @@ use Rattle.source_text.specs.declared.texts.File as texts
 use Rattle.source_text.specs.declared.texts.File.TheVariants.{Domain, Problem, Plan}
 use Rattle.source_text.specs.declared.texts.NamedTexts.{NamedTexts}
 
--- the text reads as words, and they are refused so as those of a file of this kind
+-- the text reads as words, but not as a file of this kind, for this reason
 pub record IsRefusedIn (file : TaskFile) (text : List ℕ) (refusal : TextRefusal) : Type 0 where
   pub words : List code.Word
   pub reads : ReadsAs text (map word_of words)
   pub is_refused : IsRefused file (map word_of words) (refusal_of refusal)
 
--- A beginning of the text, with an ending that closes its lists, is refused so, for a word of the beginning: the first with which
--- no file of this kind goes on, so whatever follows it in the text, the text goes wrong there.
+-- A prefix of the text, with an ending that closes its lists, is refused at a word of the prefix: the first that no file of this
+-- kind has there. So whatever follows it in the text, the text goes wrong there.
 pub record GoesWrong (file : TaskFile) (text : List ℕ) (refusal : TextRefusal) : Type 0 where
   pub kept : ℕ
   pub ending : List ℕ
@@ -28,7 +28,7 @@ pub record GoesWrong (file : TaskFile) (text : List ℕ) (refusal : TextRefusal)
   pub has_bytes : refusal.span.start < refusal.span.end
   pub within : refusal.span.end ≤ kept
 
--- so goes the text of this file, which is no plan
+-- the text of this file, which is not the plan, goes wrong there
 abbrev pub GoesWrongAt : NamedTexts → texts.File → TextRefusal → Type 0
 GoesWrongAt texts Domain refusal = GoesWrong domain_file (text_in texts Domain) refusal
 GoesWrongAt texts Problem refusal = GoesWrong problem_file (text_in texts Problem) refusal

@@ -1,5 +1,5 @@
-//! What may occur at a refused word. The reader itself says so: of the words before the refused one with another word
-//! after them, it refuses that word, or takes it and reports only that the words run out.
+//! The words that may occur in place of a refused one. The reader itself decides: it is given the words before the refused one
+//! and a candidate, and either refuses the candidate, or accepts it and reports only an unexpected end.
 ghost use Rattle.std.specs.Prelude.{◌≡◌, map, All, IfOk, IsTrue};
 ghost use Rattle.std.specs.List.{list_all};
 ghost use Rattle.std.specs.Bool.{Decides};
@@ -16,7 +16,7 @@ use pddl_tree::{TaskFile, domain, problem};
 use std::alloc::Global;
 use tokens::{Word, scan};
 
-/// A word of each kind that the grammar distinguishes, and all that stand for themselves.
+/// One word for each kind that the grammar distinguishes, and all words with a meaning of their own.
 const CANDIDATES: &[u8] =
     b"name ?variable 0 - = preference define domain problem number minimize and or not imply \
     exists forall either when increase total-cost :requirements :types :constants :predicates :functions :action :domain \
@@ -24,21 +24,21 @@ const CANDIDATES: &[u8] =
     :disjunctive-preconditions :existential-preconditions :universal-preconditions :quantified-preconditions \
     :conditional-effects :adl :action-costs :fluents :numeric-fluents ()";
 
-/// Whether a word has bytes.
+/// Whether the word is not empty.
 fn has_bytes(word: &Word<'_>) -> bool
     ensures { result ≡ has_bytes (word_of word.now) }
 {
     !word.text().is_empty()
 }
 
-/// Whether each word has bytes.
+/// Whether no word is empty.
 fn have_bytes(words: &[Word<'_>]) -> bool
     ensures { result ≡ list_all (λ word. has_bytes (word_of word)) words.now }
 {
     words.iter().all(|word| has_bytes(word))
 }
 
-/// Whether it is reported for the end of words that they run out.
+/// Whether the fault is "unexpected end of input".
 fn reports_end(fault: Fault) -> Result<bool, NoMemory>
     ensures { IfOk result (λ answer. ReportsEnd fault answer) }
 {
@@ -48,7 +48,7 @@ fn reports_end(fault: Fault) -> Result<bool, NoMemory>
     }
 }
 
-/// Whether a file of this kind begins with these words; no is also answered of words without bytes, which no text has.
+/// Whether these words are a prefix of a file of this kind. False for empty words, which no text has.
 fn begins(alloc: Global, file: TaskFile, words: &[Word<'_>]) -> Result<bool, NoMemory>
     ensures { IfOk result (Answers (HaveBytes words.now) (Begins (file_of file) (tokens_of (map word_of words.now)))) }
 {
@@ -61,7 +61,7 @@ fn begins(alloc: Global, file: TaskFile, words: &[Word<'_>]) -> Result<bool, NoM
     }
 }
 
-/// Whether a domain begins with these words, which have bytes.
+/// Whether these words, none of them empty, are a prefix of a domain.
 fn begins_domain(alloc: Global, words: &[Word<'_>]) -> Result<bool, NoMemory>
     requires { HaveBytes words.now }
     ensures { IfOk result (λ answer. Decides answer (Begins domain_file (tokens_of (map word_of words.now)))) }
@@ -73,7 +73,7 @@ fn begins_domain(alloc: Global, words: &[Word<'_>]) -> Result<bool, NoMemory>
     reports_end(fault)
 }
 
-/// Whether a problem begins with these words, which have bytes.
+/// Whether these words, none of them empty, are a prefix of a problem.
 fn begins_problem(alloc: Global, words: &[Word<'_>]) -> Result<bool, NoMemory>
     requires { HaveBytes words.now }
     ensures { IfOk result (λ answer. Decides answer (Begins problem_file (tokens_of (map word_of words.now)))) }
@@ -85,7 +85,7 @@ fn begins_problem(alloc: Global, words: &[Word<'_>]) -> Result<bool, NoMemory>
     reports_end(fault)
 }
 
-/// Whether a file of this kind begins with some words and this one.
+/// Whether some words and then this one are a prefix of a file of this kind.
 fn may_follow<'a>(
     alloc: Global,
     file: TaskFile,
@@ -107,8 +107,8 @@ fn candidate_bytes() -> &'static [u8]
     CANDIDATES
 }
 
-/// The words with which a file of this kind may go on after these, of one for each kind that the grammar distinguishes. A name
-/// stands for all others that stand for nothing else, and so do a variable and a number.
+/// The words that may follow these in a file of this kind, one for each kind that the grammar distinguishes. One name stands for
+/// all names without a meaning of their own, one variable for all variables, and one number for all numbers.
 pub(crate) fn expected<'a>(
     alloc: Global,
     file: TaskFile,
@@ -124,7 +124,7 @@ pub(crate) fn expected<'a>(
     those_expected(alloc, file, before, &candidates)
 }
 
-/// Those of some words with which a file of this kind may go on after the words before.
+/// Those of some words that may follow the words before them in a file of this kind.
 fn those_expected<'a>(
     alloc: Global,
     file: TaskFile,

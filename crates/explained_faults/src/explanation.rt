@@ -1,4 +1,4 @@
-//! A fault that is explained.
+//! A fault with its explanation.
 ghost use Rattle.std.specs.Prelude.{IfOk, IsTrue};
 ghost use Rattle.explained_faults.specs.Explained.{AreWanted, AreWhole, IsExplained, IsOfWords};
 
@@ -11,29 +11,29 @@ use source_text::{File, LineColumn, NamedTexts, place_of};
 use std::alloc::Global;
 use tokens::Word;
 
-/// A fault, where it is, and what helps with it.
+/// A fault, its place, and the help for it.
 #[derive(Drop)]
 pub struct FaultExplanation<'a> {
-    /// The fault, as it was given.
+    /// The fault, as given.
     pub fault: FileRefusal,
     /// Where its span begins, as an editor shows it.
     pub place: LineColumn,
-    /// The words that may occur in the place of a refused one, one for each kind: a name is reported for all names, and so are a
-    /// variable and a number. For a keyword those alone that are like it, if there are any.
+    /// The words that may occur in place of a refused one, one for each kind: one name stands for all names, one variable for all
+    /// variables, one number for all numbers. For a keyword, only the similar ones if there are any.
     pub wanted: Vec<Word<'a>>,
-    /// What else helps with it.
+    /// Other help.
     pub help: Help<'a>,
-    /// Where the text goes wrong before the fault, if its parentheses do not match.
+    /// Where the text goes wrong before the fault, if its parentheses are unbalanced.
     pub wrong: Option<WrongPlace>,
-    /// The mistake that it comes of, if it is one that is often made.
+    /// The common mistake behind it, if there is one.
     pub hint: Option<Hint>,
 }
 
-/// What helps with a fault of some texts. That it is the first is the caller's to say; where it is none that is reported for
-/// these texts, what helps is found as far as the words around its span allow.
+/// Explains a fault of these texts. The caller is responsible for it being the first fault; for a fault that these texts do not
+/// have, the help is whatever the words around its span allow.
 ///
 /// # Errors
-/// Memory was refused.
+/// An allocation failed.
 pub fn explain_fault<'a>(
     alloc: Global,
     texts: &NamedTexts<'a>,
@@ -56,7 +56,7 @@ pub fn explain_fault<'a>(
     })
 }
 
-/// The words that may occur in the place of a refused one; none where another help is reported.
+/// The words that may occur in place of a refused one; none if other help is reported.
 fn wanted_words<'a>(
     alloc: Global,
     texts: &NamedTexts<'a>,
@@ -77,7 +77,7 @@ fn wanted_words<'a>(
     }
 }
 
-/// Whether a word is refused by this code since no file goes on with it.
+/// Whether this code means that a word was unexpected.
 fn is_of_words(code: Code) -> bool
     ensures { IsOfWords code → IsTrue result }
 {

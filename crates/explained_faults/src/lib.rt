@@ -1,4 +1,4 @@
-//! Explains a fault of a text: its place, the line with a mark, and a sentence that helps.
+//! Explains a fault of a text: its place, the line with marks, and a sentence of help.
 #![tactic(auto)]
 
 mod expected;

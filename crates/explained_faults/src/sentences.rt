@@ -1,4 +1,4 @@
-//! A fault as it is reported: its heading, its line with a mark, and a sentence.
+//! The report of a fault: its heading, its line with marks, and a sentence.
 ghost use Rattle.std.specs.Prelude.{◌≡◌, IfOk};
 ghost use Rattle.std.specs.String.{string_bytes};
 ghost use Rattle.source_text.specs.Files.{name_in};
@@ -17,8 +17,8 @@ use std::alloc::{AllocError, Global};
 use tokens::{LONGEST_TEXT, Word};
 
 impl FaultExplanation<'_> {
-    /// What is reported for the fault: a line with its place, number and name, the line of the text that it is in with its
-    /// bytes marked below, and a sentence. Each line ends with LF.
+    /// The report of the fault: a line with its place, number and name; the line of the text with the faulty bytes marked below;
+    /// and a sentence. Each line ends with LF.
     ///
     /// ```text
     /// domain.pddl:12:27: fault 19 WrongType (columns count bytes)
@@ -28,7 +28,7 @@ impl FaultExplanation<'_> {
     /// ```
     ///
     /// # Errors
-    /// Memory was refused.
+    /// An allocation failed.
     pub fn text(&self, alloc: Global, texts: &NamedTexts<'_>) -> Result<String, NoMemory>
         ensures { IfOk result (λ text. BeginsWith (string_bytes text) (heading (name_in texts.now self.now.fault.file) self.now.place self.now.fault.code)) }
     {
@@ -48,11 +48,11 @@ impl FaultExplanation<'_> {
         Ok(out)
     }
 
-    /// What is said beside the sentence, a text each, without LF: of the mistake that the fault comes of, of what rewrites the
-    /// file, and of the place where the text goes wrong before the fault.
+    /// Further hints, each without LF: the common mistake behind the fault, the tool that rewrites the file, and the place where
+    /// the text goes wrong before the fault.
     ///
     /// # Errors
-    /// Memory was refused.
+    /// An allocation failed.
     pub fn hints(&self, alloc: Global, texts: &NamedTexts<'_>) -> Result<Vec<String>, NoMemory> {
         let mut hints = Vec::new(alloc);
         for aside in self.asides(texts) {
@@ -66,7 +66,7 @@ impl FaultExplanation<'_> {
         Ok(hints)
     }
 
-    /// The sentences that come after the one of the fault, if there are any.
+    /// The sentences after the one of the fault, if there are any.
     fn asides(&self, texts: &NamedTexts<'_>) -> [Option<&'static str>; 2] {
         let word = reported_bytes(texts, self.fault);
         let mistake = match self.hint {
@@ -81,7 +81,7 @@ impl FaultExplanation<'_> {
         [mistake, rewriter]
     }
 
-    /// The place where the text goes wrong, with its sentence.
+    /// The place where the text goes wrong, with a sentence.
     fn wrong_hint(
         &self,
         alloc: Global,
@@ -96,7 +96,7 @@ impl FaultExplanation<'_> {
         Ok(hint)
     }
 
-    /// Adds the sentence of where the text goes wrong.
+    /// Appends the sentence about where the text goes wrong.
     fn add_wrong(
         &self,
         texts: &NamedTexts<'_>,
@@ -111,7 +111,8 @@ impl FaultExplanation<'_> {
         add_nesting(texts, shown, wrong.nesting, out)
     }
 
-    /// The lines of where the text goes wrong before the fault, if it does: its place, its line with a mark, and a sentence.
+    /// The lines for the place where the text goes wrong before the fault, if there is one: the place, its line with marks, and a
+    /// sentence.
     fn wrong_lines(&self, alloc: Global, texts: &NamedTexts<'_>) -> Result<String, NoMemory> {
         let Some(wrong) = self.wrong else {
             return Ok(String::new(alloc));
@@ -127,12 +128,12 @@ impl FaultExplanation<'_> {
         Ok(out)
     }
 
-    /// Whether another keyword is asked for in the place of this word, since it is like it.
+    /// Whether a similar keyword is suggested in place of this word.
     fn asks_for_another(&self, word: &[u8]) -> bool {
         !self.wanted.is_empty() && are_near(word, self.wanted.as_slice())
     }
 
-    /// Whether `tools/ipc-files` knows another form for what competitions' files have here, and the language has not.
+    /// Whether `tools/ipc-files` can rewrite this construct of competition files, which the language does not have.
     fn is_rewritable(&self, word: &[u8]) -> bool {
         match self.fault.code {
             Code::NegativeInit | Code::Shadowed => true,
@@ -150,7 +151,7 @@ impl FaultExplanation<'_> {
         }
     }
 
-    /// Adds the sentence, with the mark at its end.
+    /// Appends the sentence, with the full stop or question mark at its end.
     fn add_sentence(
         &self,
         alloc: Global,
@@ -192,7 +193,7 @@ impl FaultExplanation<'_> {
     }
 }
 
-/// The first line: the file, the place, the number and the name of what is wrong.
+/// The first line: the file, the place, the fault's number and name.
 fn heading(alloc: Global, name: &str, place: LineColumn, code: Code) -> Result<String, AllocError>
     ensures { IfOk result (λ line. string_bytes line ≡ heading name.now place code) }
 {
@@ -202,7 +203,7 @@ fn heading(alloc: Global, name: &str, place: LineColumn, code: Code) -> Result<S
     format!(in alloc; "{name}:{line}:{column}: fault {number} {code} (columns count bytes)\n")
 }
 
-/// Adds a sentence, if it is one, after those that are there.
+/// Appends a sentence, if there is one, after the sentences already there.
 fn add_aside(aside: Option<&str>, out: &mut String) -> Result<(), AllocError> {
     match aside {
         Some(text) => write!(out, " {text}"),
@@ -210,7 +211,7 @@ fn add_aside(aside: Option<&str>, out: &mut String) -> Result<(), AllocError> {
     }
 }
 
-/// Adds the sentence on how a word that is not expected is within the lists of its text.
+/// Appends the sentence about where an unexpected word is within the lists of its text.
 fn add_nesting(
     texts: &NamedTexts<'_>,
     shown: FileRefusal,
@@ -247,11 +248,11 @@ fn add_nesting(
     }
 }
 
-/// What is left out here, and said in other words by `tools/ipc-files`.
+/// Unsupported words for whose constructs `tools/ipc-files` has another form.
 static REWRITABLE: [&[u8]; 5] = [b":derived", b":length", b"total-time", b"forall", b"when"];
 
-/// Whether a word that is none here is a name or a number in other planners' files: it has `#` or `.`, or begins with a digit or
-/// an underscore, and begins no comment.
+/// Whether a run that is not a word here is a name or a number in other planners' files: it contains `#` or `.`, or begins with a
+/// digit or an underscore, and begins no comment.
 fn is_name_elsewhere(word: &[u8]) -> bool {
     let is_number_first = word
         .first()
@@ -260,12 +261,12 @@ fn is_name_elsewhere(word: &[u8]) -> bool {
     is_number_first || (is_marked && !is_comment_elsewhere(word))
 }
 
-/// Whether the word is a keyword, and all of these are like it.
+/// Whether the word is a keyword, and all of these are similar to it.
 fn are_near(word: &[u8], wanted: &[Word<'_>]) -> bool {
     word.starts_with(b":") && wanted.iter().all(|other| is_near(word, other.text()))
 }
 
-/// Adds the words that may occur in the place of this one. Keywords that are like it are reported as a question.
+/// Appends the words that may occur in place of this one. Similar keywords are offered as a question.
 fn add_wanted(
     alloc: Global,
     word: &[u8],
@@ -282,7 +283,7 @@ fn add_wanted(
     out.push_str(if are_near { "?" } else { "." })
 }
 
-/// Adds what a number alone says of some bytes.
+/// Appends the sentence that follows from the code and the bytes alone.
 fn add_plain(code: Code, word: &[u8], out: &mut String) -> Result<(), AllocError> {
     match code {
         Code::Unbalanced => out.push_str("this `)` closes no list."),
@@ -300,7 +301,7 @@ fn add_plain(code: Code, word: &[u8], out: &mut String) -> Result<(), AllocError
     }
 }
 
-/// What a number says of the bytes before it.
+/// What a code says about the bytes named before it.
 fn after_word(code: Code) -> &'static str {
     match code {
         Code::BadByte => "is not printable ASCII and may appear only in comments",

@@ -1,17 +1,17 @@
-//! Names, places and words as they are reported.
+//! Names, places and words in reports.
 use fault_help::FileOffset;
 use source_text::{LineColumn, NamedTexts, place_of};
 use std::alloc::{AllocError, Global};
 use std::fmt;
 use tokens::{Kind, Word};
 
-/// How many bytes of a name or run are shown.
+/// The maximum number of bytes shown of a name or run.
 const LONGEST: usize = 80;
 
-/// How many names of a chain are shown at most.
+/// The maximum number of names shown of a chain.
 const MOST_LINKS: usize = 12;
 
-/// A name in backquotes: bytes that are not printable ASCII as `\xNN`, and what is long without its end.
+/// A name in backquotes. Bytes that are not printable ASCII are shown as `\xNN`, and a long name is cut at the end.
 #[derive(Clone, Copy)]
 pub(crate) struct Name<'a>(pub(crate) &'a [u8]);
 
@@ -23,12 +23,12 @@ impl fmt::Display for Name<'_> {
     }
 }
 
-/// Names with commas between them, and a word before the last.
+/// Names separated by commas, with a word before the last.
 #[derive(Clone, Copy)]
 pub(crate) struct NameList<'n, 'a> {
     /// The names.
     pub(crate) names: &'n [&'a [u8]],
-    /// What comes before the last, as ` and `.
+    /// The separator before the last name, such as ` and `.
     pub(crate) last: &'static str,
 }
 
@@ -42,7 +42,7 @@ impl fmt::Display for NameList<'_, '_> {
     }
 }
 
-/// What is between the items of a list, before the one of this index.
+/// The separator before the item with this index.
 fn separator(index: usize, count: usize, last: &'static str) -> &'static str {
     if index == 0 {
         ""
@@ -53,7 +53,7 @@ fn separator(index: usize, count: usize, last: &'static str) -> &'static str {
     }
 }
 
-/// The names of a chain with arrows between them: all, or the first ones and the last where they are too many to be read.
+/// The names of a chain with arrows between them: all of them, or the first ones and the last if the chain is too long.
 #[derive(Clone, Copy)]
 pub(crate) struct Chain<'n, 'a>(pub(crate) &'n [&'a [u8]]);
 
@@ -72,7 +72,7 @@ impl fmt::Display for Chain<'_, '_> {
     }
 }
 
-/// A place of a file with its name, as `domain.pddl:12:27`.
+/// A place in a named file, shown like `domain.pddl:12:27`.
 #[derive(Clone, Copy)]
 pub(crate) struct FilePlace<'t> {
     name: &'t str,
@@ -96,7 +96,7 @@ impl fmt::Display for FilePlace<'_> {
     }
 }
 
-/// Adds the words that may occur at a place, as far as none is reported by another.
+/// Appends the words that may occur at a place, except those that another one stands for.
 pub(crate) fn add_words(
     alloc: Global,
     words: &[Word<'_>],
@@ -121,7 +121,7 @@ fn has(words: &[Word<'_>], text: &[u8]) -> bool {
     words.iter().any(|word| word.text() == text)
 }
 
-/// Whether a word that may occur at a place is reported: a name is not where any name may occur, or any that is not reserved.
+/// Whether a word that may occur at a place is reported: a name is not if any name may occur, or any unreserved one.
 fn is_reported(word: &Word<'_>, any_name: bool, free_name: bool) -> bool {
     match word.text() {
         b"name" => true,

@@ -1,4 +1,4 @@
-//! What may occur in the place of a word with which no file goes on.
+//! The words that may occur in place of an unexpected one.
 ghost use Rattle.std.specs.Prelude.{◌≡◌, All, IfOk, position};
 ghost use Rattle.model.specs.Words.{Reads};
 ghost use Rattle.syntax_tree.specs.Tree.{file_of};
@@ -11,11 +11,11 @@ use pddl_tree::TaskFile;
 use std::alloc::Global;
 use tokens::{Word, scan};
 
-/// The words that may occur at an offset of a file's text in the place of the reported ones: for a keyword those that are like
-/// it, if there are any. Where the text does not read as words, there are none.
+/// The words that may occur at an offset of a file's text in place of the reported ones: for a keyword only the similar ones, if
+/// there are any. None if the text does not read as words.
 ///
 /// # Errors
-/// Memory was refused.
+/// An allocation failed.
 pub(crate) fn words_at<'a>(
     alloc: Global,
     file: TaskFile,
@@ -34,7 +34,7 @@ pub(crate) fn words_at<'a>(
     words_after(alloc, file, words_before(&words, offset), reported)
 }
 
-/// The words that may occur after these in the place of the reported bytes.
+/// The words that may occur after these in place of the reported bytes.
 fn words_after<'a>(
     alloc: Global,
     file: TaskFile,
@@ -55,7 +55,7 @@ fn words_after<'a>(
     Ok(near)
 }
 
-/// Those of some words that are like a keyword.
+/// Those of some words that are similar to a keyword.
 fn those_near<'a>(
     alloc: Global,
     keyword: &[u8],
@@ -73,7 +73,7 @@ fn those_near<'a>(
     Ok(near)
 }
 
-/// The words up to the first that does not begin before an offset.
+/// The words before the first one that begins at or after an offset.
 fn words_before<'w, 'a>(words: &'w [Word<'a>], offset: usize) -> &'w [Word<'a>]
     ensures { result.now ≡ words_before offset words.now }
 {
@@ -83,7 +83,7 @@ fn words_before<'w, 'a>(words: &'w [Word<'a>], offset: usize) -> &'w [Word<'a>]
     }
 }
 
-/// Which word is the first that does not begin before an offset.
+/// The index of the first word that begins at or after an offset.
 fn first_from(words: &[Word<'_>], offset: usize) -> Option<usize>
     ensures { result ≡ position (begins_from offset) words.now }
 {

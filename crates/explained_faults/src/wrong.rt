@@ -1,5 +1,5 @@
-//! Where a text whose parentheses do not match goes wrong as a file: mostly beside the one that is missing or too many, and
-//! long before the place of the fault.
+//! Where a text with unbalanced parentheses goes wrong as a file: usually next to the missing or surplus parenthesis, long before
+//! the place of the fault.
 ghost use Rattle.std.specs.Prelude.{◌≡◌, ◌++◌, ◌<◌, ◌≤◌, IfOk, IfSome, Some, length, map};
 ghost use Rattle.faults.specs.declared.refused.Refused.TheVariants.{At};
 ghost use Rattle.tokens.specs.Reported.{refusal_of};
@@ -16,37 +16,37 @@ use source_text::{File, NamedTexts, Piece, Shape, index_at, opening_of, pieces};
 use std::alloc::Global;
 use tokens::{Word, scan};
 
-/// A line feed, which ends a comment, and as many `)` as lists may be open.
+/// A line feed, which ends any comment, and as many `)` as lists may be open.
 const CLOSING: &[u8] = b"\n))))))))))))))))))))))))))))))))))))))))))))))))))))))))))))))))";
 
-/// How a word that is not expected is within the lists of its text.
+/// Where an unexpected word is within the lists of its text.
 #[derive(Clone, Copy, Debug, PartialEq, Eq)]
 pub enum Nesting {
-    /// It is in the list whose `(` has this offset: a `)` may be missing before it.
+    /// In the list whose `(` is at this offset: a `)` may be missing before the word.
     Inside(usize),
-    /// It is right after the list whose `(` has this offset and whose `)` the second one: that may be one too many.
+    /// Right after the list whose `(` is at the first offset and whose `)` is at the second: that `)` may be surplus.
     After(usize, usize),
-    /// It is the `)` of the list whose `(` has this offset, in which something is missing: it may be one too many.
+    /// It is the `)` of the list whose `(` is at this offset. The list is incomplete: the `)` may be surplus.
     Closes(usize),
-    /// None of these, or something else is wrong with the word.
+    /// None of these, or the word has another fault.
     Elsewhere,
 }
 
-/// Where a text whose parentheses do not match goes wrong as a file.
+/// Where a text with unbalanced parentheses goes wrong as a file.
 #[derive(Clone, Copy, Debug, PartialEq, Eq)]
 pub struct WrongPlace {
-    /// The first word with which no file goes on, and what is wrong with it.
+    /// The first unexpected word, and its fault.
     pub refusal: TextRefusal,
-    /// This word, with the `(` before it, or with the word at the head of the list that it begins.
+    /// That word with the `(` before it, or with the head of the list that it begins.
     pub shown: Span,
-    /// Where it is within the lists.
+    /// Its place within the lists.
     pub nesting: Nesting,
 }
 
-/// Where the text of a fault goes wrong as a file before the fault; none where it does not, or its parentheses match.
+/// Where a faulty text goes wrong as a file before the fault; `None` if it does not, or if its parentheses match.
 ///
 /// # Errors
-/// Memory was refused.
+/// An allocation failed.
 pub(crate) fn wrong_place(
     alloc: Global,
     texts: &NamedTexts<'_>,
@@ -63,7 +63,7 @@ pub(crate) fn wrong_place(
     }
 }
 
-/// The same of a text and the place of the fault in it.
+/// The same for a text and the place of its fault.
 fn in_text(
     alloc: Global,
     file: TaskFile,
@@ -80,7 +80,7 @@ fn in_text(
     }
 }
 
-/// How many lists are open at the end of a text whose other parentheses match.
+/// The number of lists open at the end of a text whose parentheses match otherwise.
 fn open_lists(pieces: &[Piece<'_>]) -> usize {
     let mut count: usize = 0;
     for piece in pieces {
@@ -93,8 +93,8 @@ fn open_lists(pieces: &[Piece<'_>]) -> usize {
     count
 }
 
-/// The first word of a text with which no file goes on: of what is before the fault, or of all of it with so many lists closed
-/// where the fault is that they are open.
+/// The first unexpected word of a text: of the part before the fault, or of the whole text with its open lists closed if that is
+/// the fault.
 fn first_wrong(
     alloc: Global,
     file: TaskFile,
@@ -113,7 +113,7 @@ fn first_wrong(
     }
 }
 
-/// The first word with which no file goes on, of so many bytes of a text with this ending.
+/// The first unexpected word of a text that is cut at this length and continued by this ending.
 fn wrong_in(
     alloc: Global,
     file: TaskFile,
@@ -129,7 +129,7 @@ fn wrong_in(
     Ok(if_within(found, kept))
 }
 
-/// A refusal whose span has bytes, all of them among so many.
+/// The refusal, if its span is non-empty and ends by `kept`.
 fn if_within(found: Option<TextRefusal>, kept: usize) -> Option<TextRefusal>
     ensures { IfSome result (λ r. (found ≡ Some r) × (r.span.start < r.span.end) × (r.span.end ≤ kept)) }
 {
@@ -141,7 +141,7 @@ fn if_within(found: Option<TextRefusal>, kept: usize) -> Option<TextRefusal>
     }
 }
 
-/// Some bytes, and others after them.
+/// The bytes, followed by the others.
 fn joined(alloc: Global, text: &[u8], ending: &[u8]) -> Result<Vec<u8>, NoMemory>
     ensures { IfOk result (λ all. all.items ≡ text.now ++ ending.now) }
 {
@@ -151,7 +151,7 @@ fn joined(alloc: Global, text: &[u8], ending: &[u8]) -> Result<Vec<u8>, NoMemory
     Ok(all)
 }
 
-/// What is wrong with the words of a text as those of a file; none where it is one, or does not read as words.
+/// What is wrong with the words of a text as a file of this kind; `None` if nothing is, or if the text does not read as words.
 fn refused_in(alloc: Global, file: TaskFile, text: &[u8]) -> Result<Option<TextRefusal>, NoMemory>
     ensures { IfOk result (λ found. IfSome found (IsRefusedIn (file_of file) text.now)) }
 {
@@ -166,7 +166,7 @@ fn refused_in(alloc: Global, file: TaskFile, text: &[u8]) -> Result<Option<TextR
     }
 }
 
-/// What is wrong with words as those of a domain.
+/// What is wrong with words as a domain.
 fn refused_domain(alloc: Global, words: &[Word<'_>]) -> Result<Option<TextRefusal>, NoMemory>
     ensures { IfOk result (λ found. IfSome found (λ r. IsRefused domain_file (map word_of words.now) (refusal_of r))) }
 {
@@ -177,7 +177,7 @@ fn refused_domain(alloc: Global, words: &[Word<'_>]) -> Result<Option<TextRefusa
     refusal_in(fault)
 }
 
-/// What is wrong with words as those of a problem.
+/// What is wrong with words as a problem.
 fn refused_problem(alloc: Global, words: &[Word<'_>]) -> Result<Option<TextRefusal>, NoMemory>
     ensures { IfOk result (λ found. IfSome found (λ r. IsRefused problem_file (map word_of words.now) (refusal_of r))) }
 {
@@ -188,7 +188,7 @@ fn refused_problem(alloc: Global, words: &[Word<'_>]) -> Result<Option<TextRefus
     refusal_in(fault)
 }
 
-/// The refusal that a fault is.
+/// The refusal in a fault.
 fn refusal_in(fault: Fault) -> Result<Option<TextRefusal>, NoMemory>
     ensures { IfOk result (λ found. IfSome found (λ refusal. fault ≡ At refusal)) }
 {
@@ -198,7 +198,7 @@ fn refusal_in(fault: Fault) -> Result<Option<TextRefusal>, NoMemory>
     }
 }
 
-/// A word that is not expected, with its place within the lists of the text. A fault without bytes is that lists are open.
+/// An unexpected word, with its place within the lists of the text. An empty span means that lists are open.
 fn placed(pieces: &[Piece<'_>], refusal: TextRefusal, fault: Span) -> WrongPlace
     ensures { result.refusal ≡ refusal }
 {
@@ -224,7 +224,7 @@ fn placed(pieces: &[Piece<'_>], refusal: TextRefusal, fault: Span) -> WrongPlace
     }
 }
 
-/// The index of the `(` right before the piece of this index, or else its own.
+/// The index of the `(` right before the piece with this index, or its own index if there is none.
 fn first_shown(pieces: &[Piece<'_>], at: usize) -> usize {
     let before = at.saturating_sub(1);
     match pieces.get(before) {
@@ -233,7 +233,7 @@ fn first_shown(pieces: &[Piece<'_>], at: usize) -> usize {
     }
 }
 
-/// The span of the piece of this index, with the head of the list that it begins.
+/// The span of the piece with this index, with the head of the list that it begins.
 fn shown_from(pieces: &[Piece<'_>], first: usize) -> Span {
     let Some(piece) = pieces.get(first) else {
         return Span { start: 0, end: 0 };
@@ -247,7 +247,7 @@ fn shown_from(pieces: &[Piece<'_>], first: usize) -> Span {
     }
 }
 
-/// The list that the piece of this index is in.
+/// The list that contains the piece with this index.
 fn inside(pieces: &[Piece<'_>], at: usize) -> Nesting {
     match opening_of(pieces, at).and_then(|open| pieces.get(open)) {
         Some(open) => Nesting::Inside(open.span.start),
@@ -255,7 +255,7 @@ fn inside(pieces: &[Piece<'_>], at: usize) -> Nesting {
     }
 }
 
-/// The list that ends right before the piece of this index.
+/// The list that ends right before the piece with this index.
 fn after(pieces: &[Piece<'_>], at: usize) -> Nesting {
     let before = at.saturating_sub(1);
     let open = opening_of(pieces, before).and_then(|open| pieces.get(open));
@@ -267,7 +267,7 @@ fn after(pieces: &[Piece<'_>], at: usize) -> Nesting {
     }
 }
 
-/// The list that the piece of this index closes.
+/// The list that the piece with this index closes.
 fn closes(pieces: &[Piece<'_>], at: usize) -> Nesting {
     match opening_of(pieces, at).and_then(|open| pieces.get(open)) {
         Some(open) => Nesting::Closes(open.span.start),

@@ -1,4 +1,4 @@
--- Things that have names, counted by their numbers.
+-- Counting named entities by number.
 use Rattle.std.specs.Prelude.{◌≡◌, ℕ, ◌<◌, ◌≤◌, Bool, true, false, not, List, length, slice_get, Option, None, Some, is_some}
 use Rattle.std.proofs.Common.{sym, ◌∙◌, ap, inl, inr, true≢false}
 use Rattle.std.specs.Borrow.{Bor}

@@ -1,4 +1,4 @@
--- What the false parts of a formula report.
+-- Properties of the false parts of a formula.
 use Rattle.std.specs.Prelude.{◌≡◌, ℕ, Bool, true, false, ◌&&◌, ◌||◌, not, if◌then◌else◌, List, [], ◌∷◌, ◌++◌, drop, All, refl}
 use Rattle.std.proofs.Common.{ap, subst}
 use Rattle.std.specs.Cmp.{first_so, second_so}
@@ -29,7 +29,7 @@ All-flat_map : {X Y : Type 0} (P : Y → Type 0) (f : X → List Y) → ((x : X)
 All-flat_map P f each [] = All-nil P
 All-flat_map P f each (x ∷ xs) = All-append P (f x) (flat_map f xs) (each x) (All-flat_map P f each xs)
 
--- ---- a formula that is its own part
+-- ---- a formula that is its own minimal part
 
 module _ (t : Task) (s : State) (f : Formula) (objects : List ℕ) (names : List Name) where
   abbrev itself : Part

@@ -1,4 +1,4 @@
--- Forms that are found part by part are those of the whole.
+-- The features found part by part are those of the whole.
 use Rattle.std.specs.Prelude.{◌≡◌, ℕ, ◌+◌, ◌<◌, ◌≤◌, Bool, true, false, ◌||◌, List, [], ◌∷◌, ◌++◌, length, take, get_or, slice_get, Option, Some, None, refl}
 use Rattle.std.proofs.Common.{sym, ◌∙◌, ap, inl, inr, arith}
 use Rattle.std.specs.Borrow.{Bor}
@@ -47,13 +47,13 @@ forms_by_both e parts items is same =
     ap (λ g. forms_in_effect (effect_of g)) is ∙ ap forms_in_effect (effect_of-And parts) ∙ forms_in_effects-list parts.items
     ∙ ap (flat_map (λ part. forms_in_effect (effect_of part))) (sym same)
 
--- no form at all
+-- no feature
 abbrev pub none : Forms
 none = record { conditional_effects = false; quantifiers = false; negations = false; disjunctions = false }
 
 -- ---- one part after another
 
--- those of the parts so far, and those of the next one
+-- the features of the parts so far, and those of the next one
 pub added_next : {X : Type 0} (f : X → List Form) (xs : List X) (i : ℕ) (x : X) (forms : Forms) → i < length xs → x ≡ get_or xs i x
     → added (added forms (flat_map f (take i xs))) (f x) ≡ added forms (flat_map f (take (i + 1) xs))
 added_next f xs i x forms within is =
@@ -103,7 +103,7 @@ all_schemas t number forms past is =
     is ∙ added_all forms_of_schema t.schemas number (added none (forms_in t.goal)) past
     ∙ sym (fold-append with_form none (forms_in t.goal) (flat_map forms_of_schema t.schemas))
 
--- ---- which forms were added
+-- ---- which features were added
 
 or-false : (b : Bool) → (b || false) ≡ b
 or-false true = refl

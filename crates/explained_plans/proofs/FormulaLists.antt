@@ -14,7 +14,7 @@ in_a_list : (parts : List Formula) → formulas_in parts ≡ formulas (map formu
 in_a_list [] = refl
 in_a_list (part ∷ rest) = ap (task.more_formulas (formula_of part)) (in_a_list rest)
 
--- what is left of the parts, of which this is the first
+-- the remaining parts, of which this is the first
 pub next_left : {Y : Type 0} (F : List Formula → Y) (parts : List Formula) (i : ℕ) (part : Formula) → i < length parts → part ≡ get_or parts i part
     → F (drop i parts) ≡ F (part ∷ drop (i + 1) parts)
 next_left F parts i part lt at = at_drop_more F parts i part lt ∙ ap (λ x. F (x ∷ drop (i + 1) parts)) (sym at)

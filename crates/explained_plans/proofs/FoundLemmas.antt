@@ -1,4 +1,4 @@
--- False parts that are found one after another.
+-- False parts found one after another.
 use Rattle.std.specs.Prelude.{◌≡◌, ℕ, ◌+◌, ◌<◌, ◌≤◌, Bool, true, false, nat_lt, if◌then◌else◌, List, [], ◌∷◌, ◌++◌, drop, length, map, take, get_or, All, refl}
 use Rattle.std.proofs.Common.{sym, ◌∙◌, ap, subst, inl, inr, arith}
 use Rattle.std.specs.Global.{Vec}
@@ -22,7 +22,7 @@ use Rattle.model.specs.Meaning.{State, holds}
 abbrev pub as_part : task.Formula → List ℕ → List task.Name → Part
 as_part f objects names = record { formula = f; objects = objects; names = names }
 
--- ---- the first of some parts, and one more
+-- ---- the first few parts, and one more
 
 below : (count : ℕ) → nat_lt most_reported count ≡ true → most_reported < count
 below count lt = grind (arith, nat_tests)
@@ -34,7 +34,7 @@ is_not_below : (count : ℕ) → count ≤ most_reported → nat_lt most_reporte
 is_not_below count le = grind (arith, nat_tests)
 
 module _ (before : List Part) (reported : List part.Part) (more : Bool) (is : AreFirst before reported more) where
-  -- where there are more already, others change nothing
+  -- if there are already more, further ones change nothing
   pub first_of_more : (xs : List Part) → more ≡ true → AreFirst (before ++ xs) reported more
   first_of_more xs full =
       let over = below (length before) (sym is.others ∙ full) in
@@ -44,7 +44,7 @@ module _ (before : List Part) (reported : List part.Part) (more : Bool) (is : Ar
         others = full ∙ sym (is_below (length (before ++ xs)) (omega (arith, over, counts)));
       }
 
-  -- where there is no room
+  -- if there is no room
   pub first_without : (x : Part) → length reported ≡ most_reported → AreFirst (before ++ x ∷ []) reported true
   first_without x full =
       elim (cases_lt (length before) most_reported) [
@@ -59,7 +59,7 @@ module _ (before : List Part) (reported : List part.Part) (more : Bool) (is : Ar
             }
       ]
 
-  -- where there is room
+  -- if there is room
   pub first_with : (p : part.Part) (new : List part.Part) → new ≡ reported ++ p ∷ [] → (length reported ≡ most_reported → ⊥) → AreFirst (before ++ part_of p ∷ []) new more
   first_with p new here room =
       elim (cases_lt (length before) most_reported) [
@@ -100,7 +100,7 @@ module _ (t : task.Task) (s : State) where
     are_false = is.are_false;
   }
 
-  -- one part more, for which there is no room
+  -- one more part, for which there is no room
   finds_without : (p : Part) (old new : Found) → new.parts ≡ old.parts → new.more ≡ true → length old.parts.items ≡ most_reported → Finds t s (p ∷ []) old new
   finds_without p old new kept full no_room before is =
       let same = ap (λ (v : Vec part.Part). v.items) kept in
@@ -111,7 +111,7 @@ module _ (t : task.Task) (s : State) where
         are_false = subst (All (IsFalseIn t s)) (sym same) is.are_false;
       }
 
-  -- and one for which there is
+  -- and one for which there is room
   finds_with : (p : part.Part) (old new : Found) → new.parts.items ≡ old.parts.items ++ p ∷ [] → new.more ≡ old.more → (length old.parts.items ≡ most_reported → ⊥)
       → FitsPart t p → IsFalseIn t s p → Finds t s (part_of p ∷ []) old new
   finds_with p old new here kept room fits is_false before is = record {
@@ -143,18 +143,18 @@ module _ (t : task.Task) (s : State) where
 
   -- ---- objects
 
-  -- what is found for the next one, and for those left after it
+  -- what is found for the next object, and for the remaining ones
   pub finds_next : (f : ℕ → List Part) (left rest : List ℕ) (x : ℕ) → left ≡ x ∷ rest → (a b c : Found) → Finds t s (f x) a b → Finds t s (flat_map f rest) b c → Finds t s (flat_map f left) a c
   finds_next f left rest x steps a b c here later = subst (λ l. Finds t s (flat_map f l) a c) (sym steps) (finds_more (f x) (flat_map f rest) a b c here later)
 
-  -- once none is left
+  -- at the end
   pub finds_end : (f : ℕ → List Part) (left : List ℕ) → left ≡ [] → (found : Found) → Finds t s (flat_map f left) found found
   finds_end f left none found = subst (λ l. Finds t s (flat_map f l) found found) (sym none) (finds_none found)
 
 -- ---- conjunctions
 
 module _ (t : task.Task) (s : State) (objects : List ℕ) (names : List task.Name) (parts : List Formula) (i : ℕ) where
-  -- what is found for the next part, and for those left after it
+  -- what is found for the next part, and for the remaining ones
   pub finds_next_part : (part : Formula) → i < length parts → part ≡ get_or parts i part → (left : List task.Name) → left ≡ behind (formula_of part) names
       → (a b c : Found) → Finds t s (false_parts t (formula_of part) objects names s) a b
       → Finds t s (false_parts_of_all t (formulas (map formula_of (drop (i + 1) parts))) objects left s) b c
@@ -165,12 +165,12 @@ module _ (t : task.Task) (s : State) (objects : List ℕ) (names : List task.Nam
       (finds_more t s (false_parts t (formula_of part) objects names s) (others (behind (formula_of part) names)) a b c here
       (subst (λ ns. Finds t s (others ns) b c) is later))
 
-  -- once none is left
+  -- at the end
   pub finds_last_part : length parts ≤ i → (found : Found) → Finds t s (false_parts_of_all t (formulas (map formula_of (drop i parts))) objects names s) found found
   finds_last_part past found =
       subst (λ l. Finds t s l found found) (sym (at_drop_all (λ l. false_parts_of_all t (formulas (map formula_of l)) objects names s) parts i past)) (finds_none t s found)
 
--- the parts of the formulas by the list of them
+-- the parts of the formulas, by the list of them
 pub parts_by_all : (f : Formula) (parts : Vec Formula) (items : List Formula) → f ≡ formula.And parts → items ≡ parts.items
     → (t : task.Task) (objects : List ℕ) (names : List task.Name) (s : State) → false_parts t (formula_of f) objects names s ≡ false_parts_of_all t (formulas (map formula_of items)) objects names s
 parts_by_all f parts items is same t objects names s =

@@ -18,14 +18,14 @@ use Rattle.model.specs.Meaning.{State, initial_state, system_of}
 use Rattle.model.specs.Runs.{run}
 
 module _ (task : Task) (steps : List Instance) where
-  -- the step made the part false, as far as the first n states report
+  -- the step made the part false, as far as the first n states show
   pub record IsMadeFalseBefore (part : Part) (n step : ℕ) : Type 0 where
     pub counted_from_one : 1 ≤ step
     pub is_there : step ≤ n
     pub before : IsAfter task steps part (step - 1) true
     pub since : (k : ℕ) → step ≤ k → k < n → IsAfter task steps part k false
 
-  -- the history as far as the first n states report
+  -- the history as far as the first n states show
   abbrev pub IsHistoryBefore : Part → ℕ → History → Type 0
   IsHistoryBefore part n always = (k : ℕ) → k < n → IsAfter task steps part k false
   IsHistoryBefore part n (by_step step) = IsMadeFalseBefore part n step
@@ -33,7 +33,7 @@ module _ (task : Task) (steps : List Instance) where
   pub before_all : (part : Part) → IsHistoryBefore part 0 always
   before_all part k below = absurd (omega (arith, below))
 
-  -- one state more in which the part is false
+  -- one more state in which the part is false
   still_false : (part : Part) (n : ℕ) → IsAfter task steps part n false → (from : ℕ → Type 0)
       → ((k : ℕ) → from k → k < n → IsAfter task steps part k false)
       → (k : ℕ) → from k → k < n + 1 → IsAfter task steps part k false
@@ -43,7 +43,7 @@ module _ (task : Task) (steps : List Instance) where
         | inr other ↦ so_far k above (omega (arith, below, other))
       ]
 
-  -- one state more
+  -- one more state
   pub after_one : (part : Part) (n : ℕ) (h : History) (b : Bool) → IsAfter task steps part n b → IsHistoryBefore part n h
       → IsHistoryBefore part (n + 1) (if b then by_step (n + 1) else h)
   after_one part n h true now so_far =
@@ -72,12 +72,12 @@ module _ (task : Task) (steps : List Instance) where
     since = λ k above within. still_false part (length steps) now (λ m. step ≤ m) so_far.since k above (omega (arith, within));
   }
 
-  -- so of each part at its place
+  -- the same for each part at its index
   abbrev pub AreHistoriesBefore : ℕ → List part.Part → List history.History → Type 0
   AreHistoriesBefore n parts histories =
       (number : ℕ) (one : part.Part) → slice_get parts number ≡ Some one → IsHistoryBefore (part_of one) n (history_of (get_or histories number Always))
 
-  -- after one look more
+  -- after one more state
   pub histories_more : (n : ℕ) (parts : List part.Part) (old new : List history.History) (state : State)
       → run (system_of task) (initial_state task) (take n steps) ≡ Some state → Looked task state (n + 1) parts old new
       → AreHistoriesBefore n parts old → AreHistoriesBefore (n + 1) parts new
@@ -85,7 +85,7 @@ module _ (task : Task) (steps : List Instance) where
       subst (IsHistoryBefore (part_of one) (n + 1)) (sym (looked number one here))
       (after_one (part_of one) n (history_of (get_or old number Always)) (part_holds task state (part_of one)) (state, runs, refl) (so_far number one here))
 
-  -- after the last
+  -- after the last state
   pub histories_whole : (n m : ℕ) (parts : List part.Part) (histories : List history.History) → n ≡ length steps → m ≡ length steps
       → ((number : ℕ) (one : part.Part) → slice_get parts number ≡ Some one → IsAfter task steps (part_of one) m false)
       → AreHistoriesBefore n parts histories → AreHistories task steps parts histories
@@ -93,9 +93,9 @@ module _ (task : Task) (steps : List Instance) where
       history_whole (part_of one) (history_of (get_or histories number Always)) (subst (λ k. IsAfter task steps (part_of one) k false) also (are_false number one here))
       (subst (λ k. IsHistoryBefore (part_of one) k (history_of (get_or histories number Always))) same (so_far number one here))
 
--- ---- one look: the parts one after another
+-- ---- one state: the parts one after another
 
--- the first i parts are looked at, and no other
+-- exactly the first i parts are updated
 pub record IsLookedSoFar (task : Task) (state : State) (step : ℕ) (parts : List part.Part) (i : ℕ) (old new : List history.History) : Type 0 where
   pub counts : length new ≡ length old
   pub done : (number : ℕ) (one : part.Part) → number < i → slice_get parts number ≡ Some one

@@ -14,7 +14,7 @@ use Rattle.explained_plans.proofs.FormulaLists.{conjunction, disjunction, next_l
 use Rattle.explained_plans.specs.PlanLines.{reason_line, reason_lines}
 use Rattle.model.specs.Task.{Task, Instance}
 
--- ---- pieces that are added one after another
+-- ---- pieces added one after another
 
 pub two_added : (old first second x y : List ℕ) → x ≡ old ++ first → y ≡ x ++ second → y ≡ old ++ (first ++ second)
 two_added old first second x y one two = two ∙ ap (λ l. l ++ second) one ∙ append_assoc old first second
@@ -50,7 +50,7 @@ module _ (t : Task) (scope : Scope) (parts : List Formula) (i : ℕ) (text whole
       ∙ ap (λ l. text ++ l) (append_assoc (codes " ") one others ∙ sym (next_left (λ l. parts_text t scope (formulas (map formula_of l))) parts i part lt at))
       ∙ left
 
-  -- once none is left
+  -- at the end
   pub parts_added : length parts ≤ i → text ≡ whole
   parts_added past =
       sym (append-nil text) ∙ ap (λ l. text ++ l) (sym (at_drop_all (λ l. parts_text t scope (formulas (map formula_of l))) parts i past)) ∙ left
@@ -80,7 +80,7 @@ module _ (t : Task) (steps : List Instance) where
   none_left [] = refl
   none_left (x ∷ ps) = refl
 
-  -- once no history is left
+  -- at the end
   pub lines_end : (i : ℕ) (ps : List Part) (hs : List History) → slice_get hs i ≡ None
       → reason_lines t steps (take i ps) hs ≡ reason_lines t steps ps hs
   lines_end i ps [] none = none_left (take i ps) ∙ sym (none_left ps)

@@ -1,4 +1,4 @@
--- Lists of actions that run, one action after another.
+-- Lists of actions that are applicable in order, one action after another.
 use Rattle.std.specs.Prelude.{◌≡◌, ℕ, ◌+◌, ◌<◌, IsTrue, List, [], ◌∷◌, length, map, take, get_or, slice_get, Option, None, Some, IsSome, refl}
 use Rattle.std.proofs.Common.{sym, ◌∙◌, ap, zero, suc}
 use Rattle.std.specs.List.{list_all}
@@ -16,7 +16,7 @@ use Rattle.model.proofs.Tests.{passes_got}
 use Rattle.validator.proofs.VerdictRuns.{occurs, run_more}
 
 module _ {S A : Type 0} (t : System S A) where
-  -- where a list runs, each of its actions is applicable in its turn
+  -- if a list runs, each of its actions is applicable in turn
   pub goes_on : (s now last : S) (plan : List A) (i : ℕ) (a : A) → slice_get plan i ≡ Some a → run t s (take i plan) ≡ Some now → run t s plan ≡ Some last
       → (next : S) × (t.step now a ≡ Some next)
   goes_on s now last [] i a here so whole = absurd (none-some a here)
@@ -38,13 +38,13 @@ module _ (t : task.Task) (steps : List Instance) (i : ℕ) (item : Instance) (lt
   here : slice_get (map instance_of steps) i ≡ Some (instance_of item)
   here = occurs steps (map instance_of steps) i item refl lt at
 
-  -- which is an instance of the task where each is
+  -- the step is an instance of the task if all are
   pub is_one : IsTrue (list_all (is_instance t) (map instance_of steps)) → IsTrue (is_instance t (instance_of item))
   is_one all = passes_got (is_instance t) (map instance_of steps) i (instance_of item) here all
 
   module _ (now : meaning.State) (runs : run (system_of t) (initial_state t) (take i (map instance_of steps)) ≡ Some now)
       (o : Option State) (is : option_map state_of o ≡ step t now (instance_of item)) where
-    -- it is applicable, and one more has run
+    -- it is applicable, and one more step has run
     pub is_applicable : DoRun t (map instance_of steps) → IsSome o
     is_applicable whole =
         let next = goes_on (system_of t) (initial_state t) now whole.0 (map instance_of steps) i (instance_of item) here runs whole.1 in

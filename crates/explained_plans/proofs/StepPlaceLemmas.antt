@@ -1,4 +1,4 @@
--- Where the steps of a plan text are: the parts of a text one after another, and the steps of its words.
+-- The places of steps in a plan text: the parts of a text one after another, and the steps of its words.
 use Rattle.std.specs.Prelude.{◌≡◌, ℕ, ◌+◌, ◌-◌, ◌<◌, ◌≤◌, ◌==◌, Bool, true, false, cond, ◌&&◌, if◌then◌else◌, List, [], ◌∷◌, ◌++◌, length, drop, get_or, Option, None, Some, IsSomeAnd, refl}
 use Rattle.std.proofs.Common.{sym, ◌∙◌, ap, subst, zero, suc, arith, ⊎_elim, append_assoc, true≢false}
 use Rattle.std.specs.Char.{is_ascii_alphabetic}
@@ -17,7 +17,7 @@ use Rattle.model.specs.PlanText.{Placed, placed_from, Step, AreNames, AreSteps, 
 use Rattle.tokens.proofs.Cut.{cut, cut_unique, PartBetween, part_between}
 use Rattle.explained_plans.specs.StepPlaces.{IsStepPlace, closes, opens, place_from, span_of}
 
--- ---- one part of the text more
+-- ---- one more part of the text
 
 module _ (text : List ℕ) (start end : ℕ) (f : Form) (inside : start < length text) (f_is : f ≡ form_of (get_or text start 0))
     (longest : end ≡ start + 1 + prefix_len (goes_on f) (drop (start + 1) text)) (n opened last : ℕ) where
@@ -151,7 +151,7 @@ module _ (n : ℕ) where
       ∙ ap (λ f. if opens f then place_from n (k + 1 + 1) is.last.start rest
       else (if closes f && (k + 1) == n then Some (record { start = is.first.start; end = is.last.start + size is.last.part }) else place_from n (k + 1) is.first.start rest)) is.closes
 
-  -- the step before which so many are
+  -- the step that comes after this many
   record IsPlaced (words : List Placed) (m : ℕ) (span : Span) : Type 0 where
     before : List Placed
     these : List Placed
@@ -212,7 +212,7 @@ module _ (n : ℕ) where
         },
       )
 
--- what is found is the step's place
+-- the span found is that of the step
 pub place_is_found : (text : List ℕ) (n : ℕ) (found : Option code.Span) → option_map span_of found ≡ place_from n 0 0 (placed_from 0 (cut text))
     → (parts : List Part) (steps : List Step) → AreParts text parts → AreSteps (placed_from 0 parts) steps → 1 ≤ n → n ≤ length steps
     → IsSomeAnd found (λ s. IsStepPlace (placed_from 0 parts) n (span_of s))
@@ -239,11 +239,11 @@ place_is_found text n found is parts steps are_parts are_steps low high =
 
 -- ---- the loop
 
--- the text is passed over
+-- the text is skipped
 pub nothing_here : (text : List ℕ) (start n opened last : ℕ) → length text ≤ start → place_from n opened last (placed_from start (cut (drop start text))) ≡ None
 nothing_here text start n opened last past = ap (λ rest. place_from n opened last (placed_from start (cut rest))) (drop_all start text past)
 
--- a part that changes nothing else is passed over
+-- a part that changes nothing else is skipped
 pub kept_same : (text : List ℕ) (n end opened last : ℕ) (counted begun : ℕ) → opened ≡ counted → last ≡ begun
     → {whole : Option Span} → whole ≡ place_from n counted begun (placed_from end (cut (drop end text)))
     → place_from n opened last (placed_from end (cut (drop end text))) ≡ whole

@@ -19,7 +19,7 @@ use Rattle.model.specs.Runs.{StopsAt, run}
 use Rattle.model.proofs.Tests.{passes_got}
 use Rattle.validator.proofs.VerdictRuns.{occurs}
 
--- the first elements of a list of which each passes
+-- the first elements of a list whose elements all pass
 passes_first : {X : Type 0} (p : X → Bool) (n : ℕ) (xs : List X) → list_all p xs ≡ true → list_all p (take n xs) ≡ true
 passes_first p zero xs all = refl
 passes_first p (suc n) [] all = refl
@@ -29,7 +29,7 @@ pub turned : (a b : Bool) → a ≡ not b → b ≡ not a
 turned a true e = sym (ap not e)
 turned a false e = sym (ap not e)
 
--- an instance's schema is there
+-- an instance's schema exists
 schema_there : (t : task.Task) (i : task.Instance) → IsTrue (is_instance t i) → (s : task.Schema) × (slice_get t.schemas i.schema ≡ Some s)
 schema_there t i is =
     elim (slice_get t.schemas i.schema) as (λ o. slice_get t.schemas i.schema ≡ o → option_map_or (λ s. fits t s i.objects) o false ≡ true
@@ -39,7 +39,7 @@ schema_there t i is =
     ] refl is
 
 module _ (t : task.Task) (steps : List Instance) (plan : List task.Instance) (same : map instance_of steps ≡ plan) (n : ℕ) (h : StopsAt (system_of t) plan n) where
-  -- the step is there
+  -- the step exists
   pub within : n - 1 < length steps
   within =
       let lt = slice_get_within plan (n - 1) h.next h.found_there in
@@ -49,7 +49,7 @@ module _ (t : task.Task) (steps : List Instance) (plan : List task.Instance) (sa
   pub is_there : (item : Instance) → item ≡ get_or steps (n - 1) item → slice_get plan (n - 1) ≡ Some (instance_of item)
   is_there item at = occurs steps plan (n - 1) item same within at
 
-  -- those before it, which run
+  -- the steps before it, which run
   firsts : map instance_of (take (n - 1) steps) ≡ take (n - 1) plan
   firsts = sym (take-map instance_of (n - 1) steps) ∙ ap (take (n - 1)) same
 

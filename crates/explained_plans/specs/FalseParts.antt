@@ -1,12 +1,12 @@
--- Why a formula does not hold: the smallest of its parts that are false and make it so.
+-- Why a formula does not hold: its minimal false parts, which make it false.
 use Rattle.std.specs.Prelude.{◌≡◌, ℕ, Bool, false, IsTrue, List, [], ◌∷◌, ◌++◌, drop, slice_get, Some, ◌↔◌, if◌then◌else◌}
 use Rattle.std.specs.List.{flat_map}
 use Rattle.explained_plans.specs.VariableNames.{behind}
 use Rattle.model.specs.Task.{Task, Name, Formula, Formulas, and, imply, forall, no_formula, more_formulas}
 use Rattle.model.specs.Meaning.{State, holds, objects_of}
 
--- a part of a formula, where the variables in its scope have these objects, and those of quantifiers in it the first of these
--- names
+-- a part of a formula, with a binding of the variables in its scope, and names whose first ones are those of its quantified
+-- variables
 pub record Part : Type 0 where
   pub formula : Formula
   pub objects : List ℕ
@@ -16,15 +16,15 @@ pub record Part : Type 0 where
 abbrev pub part_holds : Task → State → Part → Bool
 part_holds task state p = holds task p.formula p.objects state
 
--- the formula itself, and nothing where it holds
+-- the formula itself; nothing if it holds
 abbrev pub itself_if_false : Task → Formula → List ℕ → List Name → State → List Part
 itself_if_false task formula objects names state =
     if holds task formula objects state then [] else record { formula = formula; objects = objects; names = names } ∷ []
 
--- The smallest false parts of a formula in a state, from the left, where its variables have these objects: those of each part of
--- an `and`, of the conclusion of an `imply` whose premise holds, of the part of a `forall` for each object of its variable's
--- types. Every other formula is false by all that is in it, and is its own. The names are those of the variables of its quantifiers,
--- and others behind them; each part has them from its own on.
+-- The minimal false parts of a formula in a state, from the left, under a binding: those of each part of an `and`, of the
+-- conclusion of an `imply` whose premise holds, and of the part of a `forall` for each object of its variable's types. Every
+-- other false formula is false as a whole and is its own minimal part. The names begin with those of its quantified variables;
+-- each part gets them from its own on.
 abbrev mutual
   pub false_parts : Task → Formula → List ℕ → List Name → State → List Part
   false_parts task (and parts) objects names state = false_parts_of_all task parts objects names state
@@ -39,7 +39,7 @@ abbrev mutual
   false_parts_of_all task (more_formulas first rest) objects names state =
       false_parts task first objects names state ++ false_parts_of_all task rest objects (behind first names) state
 
--- a formula holds where it has no false part, and each false part is false
+-- a formula holds if it has no false part, and each false part is false
 pub record FalsePartsReport : Type 0 where
   pub none : (task : Task) (formula : Formula) (objects : List ℕ) (names : List Name) (state : State)
       → IsTrue (holds task formula objects state) ↔ (false_parts task formula objects names state ≡ [])

@@ -1,11 +1,11 @@
--- Which forms are in the formulas and effects of a task.
+-- The language features used in the formulas and effects of a task.
 use Rattle.std.specs.Prelude.{◌≡◌, Bool, true, false, List, [], ◌∷◌, ◌++◌}
 use Rattle.std.specs.List.{flat_map, fold, list_any}
 use Rattle.model.specs.Task.{Task, Schema, Formula, Formulas, atom, equal, and, or, not, imply, exists, forall, no_formula, more_formulas, Effect, Effects, literal, both, each, when, no_effect, more_effects}
 use Rattle.explained_plans.specs.declared.forms.Forms.{Forms}
 
--- Forms of formulas and effects, each of which has requirements of its own (PDDL 1.2 manual, "Requirements"; of negations Fox &
--- Long 2003, PDDL 2.1).
+-- Language features, each with a requirement of its own (PDDL 1.2 manual, "Requirements"; for negations Fox & Long 2003, PDDL
+-- 2.1).
 pub data Form : Type 0 where
   conditional_effect : Form
   quantifier : Form
@@ -13,7 +13,7 @@ pub data Form : Type 0 where
   disjunction : Form
 
 abbrev mutual
-  -- the forms of a formula and of its parts; an `imply` is a disjunction
+  -- the features of a formula and its parts; an `imply` is a disjunction
   pub forms_in : Formula → List Form
   forms_in (atom a) = []
   forms_in (equal t u) = []
@@ -29,7 +29,7 @@ abbrev mutual
   forms_in_all (more_formulas first rest) = forms_in first ++ forms_in_all rest
 
 abbrev mutual
-  -- the forms of an effect, of its parts and of its conditions
+  -- the features of an effect, its parts and its conditions
   pub forms_in_effect : Effect → List Form
   forms_in_effect (literal l) = []
   forms_in_effect (both parts) = forms_in_effects parts
@@ -40,11 +40,11 @@ abbrev mutual
   forms_in_effects no_effect = []
   forms_in_effects (more_effects first rest) = forms_in_effect first ++ forms_in_effects rest
 
--- the forms in the precondition and the effect of a schema
+-- the features of the precondition and the effect of a schema
 abbrev pub forms_of_schema : Schema → List Form
 forms_of_schema s = forms_in s.precondition ++ forms_in_effect s.effect
 
--- the forms in the goal and in the schemas of a task
+-- the features of the goal and the schemas of a task
 abbrev pub forms_of_task : Task → List Form
 forms_of_task t = forms_in t.goal ++ flat_map forms_of_schema t.schemas
 
@@ -55,18 +55,18 @@ is_same negation negation = true
 is_same disjunction disjunction = true
 is_same _ _ = false
 
--- whether the form is somewhere in the task
+-- whether the task uses the feature
 abbrev pub has : Task → Form → Bool
 has t form = list_any (is_same form) (forms_of_task t)
 
--- those that are reported for are those that the task has
+-- the reported features are exactly those of the task
 pub record AreForms (t : Task) (forms : Forms) : Type 0 where
   pub conditional_effects : forms.conditional_effects ≡ has t conditional_effect
   pub quantifiers : forms.quantifiers ≡ has t quantifier
   pub negations : forms.negations ≡ has t negation
   pub disjunctions : forms.disjunctions ≡ has t disjunction
 
--- ---- on the way
+-- ---- intermediate definitions
 
 abbrev pub with_form : Forms → Form → Forms
 with_form forms conditional_effect = record forms { conditional_effects = true }
@@ -74,6 +74,6 @@ with_form forms quantifier = record forms { quantifiers = true }
 with_form forms negation = record forms { negations = true }
 with_form forms disjunction = record forms { disjunctions = true }
 
--- these forms are reported for too
+-- these features are added to the report
 abbrev pub added : Forms → List Form → Forms
 added = fold with_form

@@ -1,5 +1,4 @@
--- The text of a formula, as PDDL writes it in lower case, with objects in place of the variables that have them, and the
--- variables of its quantifiers by their names.
+-- The text of a formula, in lower-case PDDL, with objects in place of bound variables, and names for quantified ones.
 use Rattle.std.specs.Char.{to_ascii_lowercase}
 use Rattle.std.specs.Prelude.{ℕ, ◌+◌, ◌-◌, List, [], ◌∷◌, ◌++◌, codes, drop, length, map, slice_get}
 use Rattle.std.specs.Fmt.{decimal}
@@ -9,7 +8,7 @@ use Rattle.model.specs.Task.{Task, Name, ObjectType, Predicate, Union, Term, For
 use Rattle.explained_plans.specs.VariableNames.{behind}
 use Rattle.model.specs.PlanWriting.{object_text}
 
--- ---- names by their numbers, and no bytes where there is none
+-- ---- names by number, empty if there is none
 
 abbrev pub type_name : Task → ℕ → Name
 type_name task number = option_map_or (λ (t : ObjectType). t.name) (slice_get task.types number) []
@@ -22,18 +21,18 @@ function_name task number = option_map_or (λ (f : Predicate). f.name) (slice_ge
 
 -- ---- variables
 
--- what has a place in scope: the objects of the variables that have one, and the names of those behind them; and the names that
--- the variables of quantifiers get, in the order of the text
+-- scope for printing: the objects of bound variables, the names of the others, and the names still to be given to quantified
+-- variables, in textual order
 pub record Scope : Type 0 where
   pub objects : List ℕ
   pub names : List Name
   pub coming : List Name
 
--- the variables that have objects, and no other
+-- only the bound variables
 abbrev pub scope_at : List ℕ → (coming : List Name) → Scope
 scope_at objects coming = record { objects = objects; names = []; coming = coming }
 
--- the name that the next variable gets: the first one, in lower case; where none is left, `?1`, `?2` and so on
+-- the name of the next variable: the first one, in lower case; when none is left, `?1`, `?2` and so on
 abbrev pub named_next : List Name → (place : ℕ) → Name
 named_next [] place = codes "?" ++ decimal (place + 1)
 named_next (name ∷ others) place = map to_ascii_lowercase name
@@ -41,17 +40,17 @@ named_next (name ∷ others) place = map to_ascii_lowercase name
 abbrev pub next_name : Scope → Name
 next_name scope = named_next scope.coming (length scope.names)
 
--- the scope within the next variable's quantifier
+-- the scope inside the next variable's quantifier
 abbrev pub with_next : Scope → Scope
 with_next scope = record { objects = scope.objects; names = scope.names ++ next_name scope ∷ []; coming = drop 1 scope.coming }
 
--- the scope behind a formula, whose variables got their names
+-- the scope after a formula, whose quantified variables have used up their names
 abbrev pub scope_behind : Scope → Formula → Scope
 scope_behind scope formula = record { objects = scope.objects; names = scope.names; coming = behind formula scope.coming }
 
 -- ---- terms, types and formulas
 
--- a blank and a variable's object, or its name where it has none
+-- a blank, and a variable's object, or its name if it is unbound
 abbrev pub variable_text : Task → Scope → ℕ → List ℕ
 variable_text task scope number =
     option_map_or (object_text task) (slice_get scope.objects number)
@@ -62,16 +61,16 @@ abbrev pub term_text : Task → Scope → Term → List ℕ
 term_text task scope (variable number) = variable_text task scope number
 term_text task scope (object number) = object_text task number
 
--- an atom of this name, or a function of terms
+-- an atom with this name, or a function of terms
 abbrev pub atom_text : Task → Scope → Name → List Term → List ℕ
 atom_text task scope name terms = codes "(" ++ (name ++ (flat_map (term_text task scope) terms ++ codes ")"))
 
--- the name of the type, or `(either ..)` where there are several
+-- the name of the type, or `(either ..)` if there are several
 abbrev pub union_text : Task → Union → List ℕ
 union_text task (only ∷ []) = type_name task only
 union_text task types = codes "(either" ++ (flat_map (λ number. codes " " ++ type_name task number) types ++ codes ")")
 
--- the variable of a quantifier, and what it has to be
+-- the variable of a quantifier, and its types
 abbrev pub variable_declared : Task → Scope → Union → List ℕ
 variable_declared task scope types = next_name scope ++ (codes " - " ++ (union_text task types ++ codes ") "))
 

@@ -6,7 +6,7 @@ use Rattle.explained_plans.specs.VariableNames.{VariableNames}
 use Rattle.explained_plans.specs.declared.variable_names.VariableNames as code
 use Rattle.model.specs.Task.{Name}
 
--- names that are lent
+-- borrowed names
 abbrev pub names_in : List (Bor (List ℕ)) → List Name
 names_in = map (λ (name : Bor (List ℕ)). name.now)
 

@@ -22,7 +22,7 @@ pub record IsStepPlace (words : List Placed) (n : ℕ) (span : Span) : Type 0 wh
   pub start : span.start ≡ is_step.first.start
   pub end : span.end ≡ is_step.last.start + size is_step.last.part
 
--- ---- on the way
+-- ---- intermediate definitions
 
 abbrev pub opens : Form → Bool
 opens opening = true
@@ -32,8 +32,8 @@ abbrev pub closes : Form → Bool
 closes closing = true
 closes _ = false
 
--- Where the n-th step of these words is, after so many opening parentheses of which the last is at this offset: what comes
--- to the n-th one's closing parenthesis.
+-- The span of the n-th step of these words, given the number of opening parentheses before them and the offset of the last one:
+-- it extends to the n-th one's closing parenthesis.
 abbrev pub place_from : ℕ → ℕ → ℕ → List Placed → Option Span
 place_from n opened last [] = None
 place_from n opened last (word ∷ words) =

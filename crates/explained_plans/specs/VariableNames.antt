@@ -1,18 +1,18 @@
--- The names of the variables of quantifiers, in the order of the text: the task has numbers for variables, and no names.
+-- The names of quantified variables, in textual order: the task itself has only numbers for variables.
 use Rattle.std.specs.Prelude.{ℕ, List, [], ◌∷◌, drop, slice_get}
 use Rattle.std.specs.Option.{option_map_or}
 use Rattle.model.specs.Task.{Name, Formula, Formulas, atom, equal, and, or, not, imply, exists, forall, no_formula, more_formulas}
 
--- those in the precondition of each action, in the order of the actions, and those in the goal; a name begins with its `?`
+-- the names in the precondition of each action, in the order of the actions, and those in the goal; a name begins with `?`
 pub record VariableNames : Type 0 where
   pub actions : List (List Name)
   pub goal : List Name
 
--- those of the action of this number
+-- the names of the action with this number
 abbrev pub names_of_action : VariableNames → ℕ → List Name
 names_of_action names number = option_map_or (λ (those : List Name). those) (slice_get names.actions number) []
 
--- Of names that begin with those of a formula's variables, the ones behind these.
+-- The names left over after those of a formula's variables, which come first.
 abbrev mutual
   pub behind : Formula → List Name → List Name
   behind (atom a) names = names

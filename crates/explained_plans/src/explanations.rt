@@ -1,4 +1,4 @@
-//! What is said of a plan for people.
+//! Explanations of a plan for people.
 ghost use Rattle.std.specs.Prelude.{◌≡◌, ◌-◌, IsTrue, IfOk, Some, map, take};
 ghost use Rattle.std.specs.List.{list_all};
 ghost use Rattle.task.specs.Task.{task_of};
@@ -18,48 +18,47 @@ use std::alloc::Global;
 use task::{Formula, Task};
 use validator::{Run, Verdict, run_plan};
 
-/// Why a formula does not hold after some steps of a plan: the first of its smallest false parts, at most 20, from the left.
+/// Why a formula does not hold after some steps of a plan: the first, from the left, of its minimal false parts, at most 20.
 #[derive(Drop)]
 pub struct Reasons<'t> {
-    /// The parts, each of which is false.
+    /// The false parts.
     pub parts: Vec<Part<'t>>,
     /// Since when each of them has been false.
     pub histories: Vec<History>,
-    /// Whether there are more than these.
+    /// Whether there are more.
     pub more: bool,
 }
 
-/// What is said of a plan.
+/// An explanation of a plan.
 #[derive(Drop)]
 pub enum PlanExplanation<'t> {
-    /// It solves the task.
+    /// The plan solves the task.
     Solves {
-        /// What each step costs.
+        /// The cost of each step.
         costs: Vec<u32>,
-        /// The sum of these.
+        /// The sum of the costs.
         total: u64,
     },
-    /// A step is not applicable in its turn.
+    /// A step is not applicable when its turn comes.
     NotApplicable {
         /// The first such step, counted from 1.
         step: usize,
-        /// Whether what its action increases the total cost by has no value for its objects.
+        /// Whether the action's cost increase has no value for the step's objects.
         lacks_cost: bool,
-        /// Why its precondition does not hold; none where it does.
+        /// Why its precondition does not hold; empty if it does.
         reasons: Reasons<'t>,
     },
-    /// It runs, and the goal does not hold at its end.
+    /// All steps are applicable, but the goal does not hold at the end.
     GoalMissed {
-        /// Why.
+        /// Why the goal does not hold.
         reasons: Reasons<'t>,
     },
 }
 
-/// What is true of the plan, each instance of which is one of the task's, and why. The variables of quantifiers have these
-/// names.
+/// The verdict on a plan, whose instances belong to the task, with its reasons. The variables of quantifiers have these names.
 ///
 /// # Errors
-/// Memory was refused, which says nothing of the plan.
+/// An allocation failed, which says nothing about the plan.
 pub fn explain_plan<'t>(
     alloc: Global,
     task: &'t Task,
@@ -80,7 +79,7 @@ pub fn explain_plan<'t>(
     }
 }
 
-/// What each step of a plan that solves the task costs.
+/// The costs of the steps of a plan that solves the task.
 fn why_valid<'t>(
     alloc: Global,
     task: &Task,
@@ -97,7 +96,7 @@ fn why_valid<'t>(
     Ok(PlanExplanation::Solves { costs, total })
 }
 
-/// What each of the steps costs.
+/// The cost of each step.
 fn costs_of(alloc: Global, task: &Task, steps: &[Instance]) -> Result<Vec<u32>, NoMemory>
     ensures { IfOk result (λ costs. costs.items ≡ map (λ i. cost_of (task_of task.now) (instance_of i)) steps.now) }
 {
@@ -108,7 +107,7 @@ fn costs_of(alloc: Global, task: &Task, steps: &[Instance]) -> Result<Vec<u32>, 
     Ok(costs)
 }
 
-/// Why the step of this number is not applicable in the state that those before it lead to.
+/// Why the step with this number is not applicable in the state that the steps before it lead to.
 fn why_not_applicable<'t>(
     alloc: Global,
     task: &'t Task,
@@ -165,8 +164,8 @@ fn why_missed<'t>(
     Ok(PlanExplanation::GoalMissed { reasons })
 }
 
-/// Why the formula does not hold in the state that the steps lead to, where its variables have these objects, and those of its
-/// quantifiers these names.
+/// Why the formula does not hold in the state that the steps lead to, under this binding of its variables and with these names
+/// for the variables of quantifiers.
 fn why_false<'t>(
     alloc: Global,
     task: &Task,

@@ -1,4 +1,4 @@
-//! Why a formula does not hold: the smallest of its parts that are false and make it so.
+//! Why a formula does not hold: its minimal false parts, which make it false.
 ghost use Rattle.std.specs.Prelude.{map, IfOk, OnOk};
 ghost use Rattle.task.specs.Task.{task_of};
 ghost use Rattle.task.specs.TaskParts.{object_of, formula_of, union_of};
@@ -15,31 +15,31 @@ use formulas::{Binding, State, copied, holds, objects_of, with_object};
 use std::alloc::Global;
 use task::{Formula, Task, TypeUnion};
 
-/// How many false parts of a formula are reported at most.
+/// The maximum number of false parts of a formula that are reported.
 pub const MOST_REPORTED: usize = 20;
 
-/// A part of a formula, where the variables in its scope have these objects.
+/// A part of a formula, with a binding of the variables in its scope.
 #[derive(Drop)]
 pub struct Part<'t> {
     /// The part.
     pub formula: &'t Formula,
     /// The objects of the variables in its scope, in order.
     pub objects: Binding,
-    /// The names of variables of quantifiers, in the order of the text: those in the part come first.
+    /// The names of the variables of quantifiers, in the order of the text, those in the part first.
     pub names: &'t [&'t [u8]],
 }
 
-/// The first of some false parts.
+/// The first few of a list of false parts.
 #[derive(Drop)]
 pub(crate) struct Found<'t> {
-    /// These, from the left.
+    /// The parts, from the left.
     pub parts: Vec<Part<'t>>,
     /// Whether there are more.
     pub more: bool,
 }
 
-/// The first of the smallest parts that are false in the state, where the variables in scope have these objects, and those of
-/// quantifiers these names. The formula is well-typed for variables of some types that the objects are of.
+/// The first of the minimal parts that are false in the state, under this binding and with these names for the variables of
+/// quantifiers. The formula is well-typed for variables of some types that the objects are of.
 pub(crate) fn first_false_parts<'t>(
     alloc: Global,
     task: &Task,
@@ -59,8 +59,7 @@ pub(crate) fn first_false_parts<'t>(
     Ok(found)
 }
 
-/// Finds the false parts of the formula, after those that were found before. Once there are more than are reported, none is
-/// looked for.
+/// Appends the false parts of the formula to those found before. The search ends once there are more than are reported.
 #[cycle(find)]
 fn find<'t>(
     task: &Task,
@@ -93,7 +92,7 @@ fn find<'t>(
     }
 }
 
-/// The same in each of the formulas.
+/// The same for each of the formulas.
 #[cycle(find)]
 fn find_in_each<'t>(
     task: &Task,
@@ -114,7 +113,7 @@ fn find_in_each<'t>(
     Ok(())
 }
 
-/// The same for each object of these types, as that of the next variable.
+/// The same for each object of these types as the next variable.
 #[cycle(find)]
 fn find_for_each<'t>(
     task: &Task,
@@ -171,8 +170,7 @@ impl<'t> Found<'t> {
     }
 }
 
-/// A formula holds where it has no false part, and each false part is false. It is stated of all formulas, and proved; the
-/// call does nothing.
+/// A formula holds if it has no false part, and each reported part is false. Proved for all formulas; the function does nothing.
 pub fn false_parts_report()
     ensures { FalsePartsReport }
 {}

@@ -1,4 +1,4 @@
-//! Which forms are in the formulas and effects of a task.
+//! The language features used in the formulas and effects of a task.
 ghost use Rattle.std.specs.Prelude.{◌≡◌, IfOk, Some, slice_get};
 ghost use Rattle.std.specs.String.{string_bytes};
 ghost use Rattle.std.specs.List.{flat_map};
@@ -12,12 +12,12 @@ use crate::summary::yes_or_no;
 use std::alloc::{AllocError, Global};
 use task::{Effect, Formula, SchemaId, Task};
 
-/// Which forms are in some formulas and effects.
+/// The language features used in formulas and effects.
 #[derive(Clone, Copy, Debug, Default, PartialEq, Eq)]
 pub struct Forms {
     /// An effect under a condition.
     pub conditional_effects: bool,
-    /// An `exists` or a `forall`, of a formula or of an effect.
+    /// An `exists` or a `forall` in a formula or an effect.
     pub quantifiers: bool,
     /// A `not` in a formula.
     pub negations: bool,
@@ -26,7 +26,7 @@ pub struct Forms {
 }
 
 impl Forms {
-    /// The forms in the task's preconditions and effects and in its goal.
+    /// The features used in the task's preconditions, effects and goal.
     pub(crate) fn of(task: &Task) -> Forms
         ensures { AreForms (task_of task.now) result }
     {
@@ -38,7 +38,7 @@ impl Forms {
         forms
     }
 
-    /// Adds those in the precondition and the effect of the action schema of this number.
+    /// Adds the features of the action schema with this number: of its precondition and its effect.
     fn look_at_schema(&mut self, task: &Task, number: usize)
         ensures { (s : Schema) → slice_get (task_of task.now).schemas number ≡ Some s → self.new ≡ added self.old (forms_of_schema s) }
     {
@@ -48,7 +48,7 @@ impl Forms {
         }
     }
 
-    /// Adds those in the formula.
+    /// Adds the features of the formula.
     #[cycle(look)]
     fn look_at(&mut self, formula: &Formula)
         ensures { self.new ≡ added self.old (forms_in (formula_of formula.now)) }
@@ -76,7 +76,7 @@ impl Forms {
         }
     }
 
-    /// Adds those in each of the formulas.
+    /// Adds the features of each of the formulas.
     #[cycle(look)]
     fn look_at_each(&mut self, parts: &[Formula])
         ensures { self.new ≡ added self.old (flat_map (λ part. forms_in (formula_of part)) parts.now) }
@@ -86,7 +86,7 @@ impl Forms {
         }
     }
 
-    /// Adds those in the effect.
+    /// Adds the features of the effect.
     fn look_at_effect(&mut self, effect: &Effect)
         ensures { self.new ≡ added self.old (forms_in_effect (effect_of effect.now)) }
     {
@@ -108,7 +108,7 @@ impl Forms {
         }
     }
 
-    /// Which of them there are, in words.
+    /// The features in words.
     pub(crate) fn text(self, alloc: Global) -> Result<String, AllocError>
         ensures { IfOk result (λ text. string_bytes text ≡ forms_text self) }
     {

@@ -1,4 +1,4 @@
-//! Formulas as texts, with objects in place of the variables that have them.
+//! Formulas as texts, with objects in place of bound variables.
 ghost use Rattle.std.specs.Prelude.{◌≡◌, ◌++◌, ◌∷◌, [], ℕ, List, codes, map, slice_get, IfOk, OnOk};
 ghost use Rattle.std.specs.Borrow.{Bor};
 ghost use Rattle.std.specs.Fmt.{decimal};
@@ -17,20 +17,20 @@ use crate::variable_names::{names_behind, without_first};
 use std::alloc::{AllocError, Global};
 use task::{Formula, LiftedAtom, ObjectId, PredicateId, Task, Term, TypeId, TypeUnion};
 
-/// What has a place in scope: the objects of the variables that have one, and the names of those behind them. And the names
-/// that the variables of quantifiers get.
+/// Scope for printing: bound variables print as objects, others by name. The names still to be given to quantified variables come
+/// in textual order.
 #[derive(Clone, Copy)]
 pub(crate) struct Scope<'a> {
-    /// The objects, in order.
+    /// The objects of the bound variables, in order.
     pub objects: &'a [ObjectId],
-    /// The names, the outermost quantifier's first.
+    /// The names of the variables without an object, the outermost quantifier's first.
     pub names: &'a [&'a [u8]],
-    /// The names of variables that are not in scope yet, in the order of the text.
+    /// The names of variables that are not in scope yet, in textual order.
     pub coming: &'a [&'a [u8]],
 }
 
 impl<'a> Scope<'a> {
-    /// A scope of variables that all have objects, where those of quantifiers get these names.
+    /// A scope in which all variables have objects. Quantified variables get these names.
     pub(crate) fn of(objects: &'a [ObjectId], coming: &'a [&'a [u8]]) -> Scope<'a>
         ensures { scope_of result ≡ scope_at (map object_of objects.now) (names_in coming.now) }
     {
@@ -41,7 +41,7 @@ impl<'a> Scope<'a> {
         }
     }
 
-    /// The scope behind the formula, whose variables got their names.
+    /// The scope after the formula, whose quantified variables have used up their names.
     fn behind(self, formula: &Formula) -> Scope<'a>
         ensures { scope_of result ≡ scope_behind (scope_of self.entry) (formula_of formula.now) }
     {
@@ -53,8 +53,8 @@ impl<'a> Scope<'a> {
     }
 }
 
-/// Adds the text of the formula. A variable of a quantifier in it is reported by the first name that no other has yet; where
-/// none is left, as `?1`, `?2` and so on, by its place in scope behind those that have objects.
+/// Adds the text of the formula. A quantified variable in it gets the first unused name; when none is left it is printed as `?1`,
+/// `?2` and so on, by its place in scope after the variables that have objects.
 #[cycle(formula)]
 pub(crate) fn add_formula(
     alloc: Global,
@@ -123,7 +123,7 @@ fn add_negation(
     text.extend_from_slice(b")")
 }
 
-/// Adds the word of a conjunction or a disjunction and its parts.
+/// Adds the keyword of a conjunction or a disjunction, and its parts.
 #[cycle(formula)]
 fn add_parts(
     alloc: Global,
@@ -145,7 +145,7 @@ fn add_parts(
     text.extend_from_slice(b")")
 }
 
-/// Adds a quantifier of this beginning: its variable, what this has to be, and its part.
+/// Adds a quantifier with this keyword: its variable, the variable's types, and its part.
 #[cycle(formula)]
 fn add_quantified(
     alloc: Global,
@@ -172,7 +172,7 @@ fn add_quantified(
     text.extend_from_slice(b")")
 }
 
-/// The name of the next variable, in lower case, as the task has all names.
+/// The name of the next variable, in lower case like all names of a task.
 fn next_name(alloc: Global, scope: Scope<'_>) -> Result<Vec<u8>, AllocError>
     ensures { IfOk result (λ name. name.items ≡ next_name (scope_of scope.entry)) }
 {
@@ -185,14 +185,14 @@ fn next_name(alloc: Global, scope: Scope<'_>) -> Result<Vec<u8>, AllocError>
     }
 }
 
-/// The name of a variable of this number, where no name is left.
+/// The name of the variable with this number, when no name is left.
 fn numbered_name(alloc: Global, number: usize) -> Result<String, AllocError>
     ensures { IfOk result (λ name. string_bytes name ≡ codes "?" ++ decimal number) }
 {
     format!(in alloc; "?{number}")
 }
 
-/// The names, and one more.
+/// The names, with one appended.
 fn with_name<'a>(
     alloc: Global,
     names: &[&'a [u8]],
@@ -206,7 +206,7 @@ fn with_name<'a>(
     Ok(all)
 }
 
-/// Adds the name of a quantifier's variable, and what this has to be.
+/// Adds the name of a quantified variable and its types.
 fn add_declared(
     task: &Task,
     name: &[u8],
@@ -221,7 +221,7 @@ fn add_declared(
     text.extend_from_slice(b") ")
 }
 
-/// Adds the name of the type, or `(either ..)` where there are several.
+/// Adds the name of the type, or `(either ..)` if there are several.
 fn add_types(task: &Task, types: &TypeUnion, text: &mut Vec<u8>) -> Result<(), AllocError>
     ensures { OnOk result (text.new.items ≡ text.old.items ++ union_text (task_of task.now) (union_of types.now)) }
 {
@@ -244,7 +244,7 @@ fn add_either(task: &Task, types: &[TypeId], text: &mut Vec<u8>) -> Result<(), A
     text.extend_from_slice(b")")
 }
 
-/// Adds an atom of this name, or a function of terms.
+/// Adds an atom with this name, or a function of terms.
 pub(crate) fn add_atom(
     task: &Task,
     name: &[u8],
@@ -275,7 +275,7 @@ fn add_term(
     text.extend_from_slice(term_name(task, term, scope))
 }
 
-/// The name of an object, of the object of a variable, or of a variable that has none.
+/// The name of an object, of a bound variable's object, or of a variable without one.
 fn term_name<'a>(task: &'a Task, term: &Term, scope: Scope<'a>) -> &'a [u8]
     ensures { codes " " ++ result.now ≡ term_text (task_of task.now) (scope_of scope.entry) (term_of term.now) }
 {
@@ -285,7 +285,7 @@ fn term_name<'a>(task: &'a Task, term: &Term, scope: Scope<'a>) -> &'a [u8]
     }
 }
 
-/// The name of the object of the variable of this number, or the variable's where it has none.
+/// The name of the object bound to the variable with this number, or of the variable itself if it is unbound.
 fn variable_name<'a>(task: &'a Task, number: usize, scope: Scope<'a>) -> &'a [u8]
     ensures { codes " " ++ result.now ≡ variable_text (task_of task.now) (scope_of scope.entry) number }
 {
@@ -295,7 +295,7 @@ fn variable_name<'a>(task: &'a Task, number: usize, scope: Scope<'a>) -> &'a [u8
     }
 }
 
-/// The name at this place; no bytes where there is none.
+/// The name at this index; empty if there is none.
 fn inner_name<'a>(names: &[&'a [u8]], place: usize) -> &'a [u8]
     ensures { result.now ≡ option_map_or (λ (name : Bor (List ℕ)). name.now) (slice_get names.now place) [] }
 {
@@ -305,7 +305,7 @@ fn inner_name<'a>(names: &[&'a [u8]], place: usize) -> &'a [u8]
     }
 }
 
-/// The object's name; no bytes where there is no such object.
+/// The object's name; empty if there is no such object.
 fn object_name(task: &Task, object: ObjectId) -> &[u8]
     ensures { result.now ≡ object_name (task_of task.now) object.0 }
 {
@@ -315,7 +315,7 @@ fn object_name(task: &Task, object: ObjectId) -> &[u8]
     }
 }
 
-/// The type's name; no bytes where there is no such type.
+/// The type's name; empty if there is no such type.
 fn type_name(task: &Task, id: TypeId) -> &[u8]
     ensures { result.now ≡ type_name (task_of task.now) id.0 }
 {
@@ -325,7 +325,7 @@ fn type_name(task: &Task, id: TypeId) -> &[u8]
     }
 }
 
-/// The predicate's name; no bytes where there is no such predicate.
+/// The predicate's name; empty if there is no such predicate.
 fn predicate_name(task: &Task, predicate: PredicateId) -> &[u8]
     ensures { result.now ≡ predicate_name (task_of task.now) predicate.0 }
 {
@@ -335,7 +335,7 @@ fn predicate_name(task: &Task, predicate: PredicateId) -> &[u8]
     }
 }
 
-/// The function's name; no bytes where there is no such function.
+/// The function's name; empty if there is no such function.
 pub(crate) fn function_name(task: &Task, function: PredicateId) -> &[u8]
     ensures { result.now ≡ function_name (task_of task.now) function.0 }
 {

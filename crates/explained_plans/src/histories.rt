@@ -1,4 +1,4 @@
-//! Since when parts of a formula have been false, on the way along the steps of a plan.
+//! Since when parts of a formula have been false along a plan.
 ghost use Rattle.std.specs.Prelude.{◌≡◌, ◌+◌, ℕ, ◌≤◌, IsTrue, All, IfOk, Some, length, map, if◌then◌else◌, slice_get, false};
 ghost use Rattle.std.specs.List.{list_all};
 ghost use Rattle.task.specs.Task.{task_of};
@@ -17,14 +17,14 @@ use task::Task;
 /// Since when a part of a formula has been false.
 #[derive(Clone, Copy, Debug, PartialEq, Eq)]
 pub enum History {
-    /// From the start.
+    /// From the initial state on.
     Always,
-    /// This step made it so, counted from 1.
+    /// This step, counted from 1, made it false.
     ByStep(usize),
 }
 
 impl History {
-    /// What it is after one state more, the one before the step of this number: whether the part holds there.
+    /// The history after one more state, the one before the step with this number, given whether the part holds there.
     fn after(self, holds: bool, step: usize) -> History
         ensures { history_of result ≡ (if holds then by_step step else history_of self) }
     {
@@ -32,7 +32,7 @@ impl History {
     }
 }
 
-/// Since when each of the parts has been false, which are so after the steps.
+/// Since when each of the parts, all false after the steps, has been false.
 pub(crate) fn histories(
     alloc: Global,
     task: &Task,
@@ -56,7 +56,7 @@ pub(crate) fn histories(
     Ok(histories)
 }
 
-/// Looks which of the parts hold in the state before the step of this number.
+/// Updates the histories by the state before the step with this number.
 fn look(task: &Task, state: &State, step: usize, parts: &[Part<'_>], histories: &mut Vec<History>)
     requires fit { All (FitsPart (task_of task.now)) parts.now }
     requires one_each { length histories.old.items ≡ length parts.now }

@@ -1,4 +1,4 @@
-//! Explains a plan: why it fails, or what each step costs. Also counts what a task holds.
+//! Explains a plan: why it fails, or what each step costs. Also summarizes a task.
 #![tactic(auto)]
 
 mod explanations;

@@ -1,4 +1,4 @@
-//! What is said of a plan, as lines of text.
+//! Explanations of a plan as lines of text.
 ghost use Rattle.std.specs.Prelude.{◌≡◌, ◌++◌, ◌-◌, ◌==◌, [], codes, if◌then◌else◌, map, slice_get, None, IfOk, OnOk};
 ghost use Rattle.std.specs.Borrow.{Bor};
 ghost use Rattle.std.specs.Fmt.{decimal};
@@ -25,10 +25,10 @@ use plan_file::step_text;
 use std::alloc::Global;
 use task::{Formula, Increase, ObjectId, Task};
 
-/// The line that says what is true of the plan, with LF at its end.
+/// The verdict on the plan as a line, with LF.
 ///
 /// # Errors
-/// Memory was refused.
+/// An allocation failed.
 ///
 /// # Examples
 /// ```text
@@ -51,14 +51,14 @@ pub fn report_verdict(
     }
 }
 
-/// The line of a plan that solves the task at this cost.
+/// The line for a plan that solves the task at this cost.
 fn cost_line(alloc: Global, total: u64) -> Result<String, NoMemory>
     ensures { IfOk result (λ line. string_bytes line ≡ codes "valid, cost " ++ (decimal total ++ codes "\n")) }
 {
     Ok(format!(in alloc; "valid, cost {total}\n")?)
 }
 
-/// The line of a plan that misses the goal.
+/// The line for a plan that misses the goal.
 fn missed_line(alloc: Global) -> Result<String, NoMemory>
     ensures { IfOk result (λ line. string_bytes line ≡ codes "every step is applicable, but the goal is not reached\n") }
 {
@@ -68,7 +68,7 @@ fn missed_line(alloc: Global) -> Result<String, NoMemory>
     )?)
 }
 
-/// The line of the step of this number, which is not applicable.
+/// The line for the inapplicable step with this number.
 fn step_line(alloc: Global, task: &Task, plan: &Plan, step: usize) -> Result<String, NoMemory>
     ensures { IfOk result (λ line. string_bytes line ≡ verdict_line (task_of task.now) (plan_of plan.now) (not_applicable step)) }
 {
@@ -76,20 +76,20 @@ fn step_line(alloc: Global, task: &Task, plan: &Plan, step: usize) -> Result<Str
     numbered_line(alloc, step, words.as_str())
 }
 
-/// The same of these words for the step.
+/// The same for a step given in these words.
 fn numbered_line(alloc: Global, step: usize, words: &str) -> Result<String, NoMemory>
     ensures { IfOk result (λ line. string_bytes line ≡ codes "step " ++ (decimal step ++ (codes ", " ++ (words.now ++ codes ", is not applicable\n")))) }
 {
     Ok(format!(in alloc; "step {step}, {words}, is not applicable\n")?)
 }
 
-/// The lines that say why, each with LF at its end.
+/// The lines that give the reasons, each with LF.
 ///
-/// A plan that solves the task has a line for each step, with what it costs and what it and those before it cost. Of a step that
-/// is not applicable, and of a goal that is missed, each part that is false has a line, with the step that made it so.
+/// For a plan that solves the task, a line for each step with its cost and the accumulated cost. For an inapplicable step or a
+/// missed goal, a line for each false part, with the step that made it false.
 ///
 /// # Errors
-/// Memory was refused.
+/// An allocation failed.
 ///
 /// # Examples
 /// ```text
@@ -110,7 +110,7 @@ pub fn report_details(
     Ok(String::from_utf8_lossy(alloc, text.as_slice())?)
 }
 
-/// Adds the lines that say why.
+/// Adds the lines that give the reasons.
 fn add_details(
     alloc: Global,
     task: &Task,
@@ -131,7 +131,7 @@ fn add_details(
     }
 }
 
-/// Adds a line for each step: its number, its text, what it costs and what the steps so far cost.
+/// Adds a line for each step: its number, its text, its cost and the accumulated cost.
 fn add_steps(
     alloc: Global,
     task: &Task,
@@ -150,7 +150,7 @@ fn add_steps(
     Ok(())
 }
 
-/// Adds why the step of this number is not applicable.
+/// Adds why the step with this number is not applicable.
 fn add_step_reasons(
     alloc: Global,
     task: &Task,
@@ -169,7 +169,7 @@ fn add_step_reasons(
     Ok(())
 }
 
-/// Adds a line for each reason, and one where there are more.
+/// Adds a line for each reason, and one if there are more.
 fn add_reasons(
     alloc: Global,
     task: &Task,
@@ -186,7 +186,7 @@ fn add_reasons(
     Ok(())
 }
 
-/// Adds a line for each part, with the history at its place.
+/// Adds a line for each part, with the history at its index.
 fn add_each(
     alloc: Global,
     task: &Task,
@@ -206,7 +206,7 @@ fn add_each(
     Ok(())
 }
 
-/// The history at this place.
+/// The history at this index.
 fn history_at(histories: &[History], place: usize) -> Option<History>
     ensures { option_map history_of result ≡ slice_get (map history_of histories.now) place }
 {
@@ -216,7 +216,7 @@ fn history_at(histories: &[History], place: usize) -> Option<History>
     }
 }
 
-/// Adds the line of a part that is false, with its history.
+/// Adds the line of a false part, with its history.
 fn add_reason(
     alloc: Global,
     task: &Task,
@@ -241,7 +241,7 @@ fn add_reason(
     Ok(())
 }
 
-/// Adds how it came that the formula is false.
+/// Adds how the formula became false.
 fn add_why(
     alloc: Global,
     task: &Task,
@@ -260,7 +260,7 @@ fn add_why(
     }
 }
 
-/// Adds how it came that the negation of this part is false.
+/// Adds how the negation of this part became false.
 fn add_negation(
     alloc: Global,
     task: &Task,
@@ -278,7 +278,7 @@ fn add_negation(
     }
 }
 
-/// Adds how it came that an atom, which was to be true, is false.
+/// Adds how an atom that should be true became false.
 fn add_deleted(
     alloc: Global,
     task: &Task,
@@ -294,7 +294,7 @@ fn add_deleted(
     }
 }
 
-/// Adds how it came that an atom, which was to be false, is true.
+/// Adds how an atom that should be false became true.
 fn add_added(
     alloc: Global,
     task: &Task,
@@ -321,7 +321,7 @@ fn add_added(
     }
 }
 
-/// Adds since which step another formula is false.
+/// Adds which step made another kind of formula false.
 fn add_made(
     alloc: Global,
     task: &Task,
@@ -337,7 +337,7 @@ fn add_made(
     }
 }
 
-/// Adds that the step of this number did it.
+/// Adds that the step with this number is the cause.
 fn add_cause(
     alloc: Global,
     task: &Task,
@@ -355,7 +355,7 @@ fn add_cause(
     Ok(())
 }
 
-/// The words `step 3, (hop a b),`, where steps are counted from 1.
+/// The words `step 3, (hop a b),`; steps are counted from 1.
 fn step_words(alloc: Global, task: &Task, plan: &Plan, step: usize) -> Result<String, NoMemory>
     ensures { IfOk result (λ words. string_bytes words ≡ codes "step " ++ (decimal step ++ (codes ", " ++ (step_name (task_of task.now) (plan_of plan.now) step ++ codes ",")))) }
 {
@@ -363,14 +363,14 @@ fn step_words(alloc: Global, task: &Task, plan: &Plan, step: usize) -> Result<St
     numbered_words(alloc, step, words.as_str())
 }
 
-/// The same of these words for the step.
+/// The same for a step given in these words.
 fn numbered_words(alloc: Global, step: usize, words: &str) -> Result<String, NoMemory>
     ensures { IfOk result (λ text. string_bytes text ≡ codes "step " ++ (decimal step ++ (codes ", " ++ (words.now ++ codes ",")))) }
 {
     Ok(format!(in alloc; "step {step}, {words},")?)
 }
 
-/// The step of this number as a plan has it, and nothing where there is none.
+/// The step with this number in plan syntax; empty if there is none.
 fn step_name(alloc: Global, task: &Task, plan: &Plan, step: usize) -> Result<String, NoMemory>
     ensures { IfOk result (λ name. string_bytes name ≡ step_name (task_of task.now) (plan_of plan.now) step) }
 {
@@ -380,7 +380,7 @@ fn step_name(alloc: Global, task: &Task, plan: &Plan, step: usize) -> Result<Str
     }
 }
 
-/// The step of this number, counted from 1.
+/// The step with this number, counted from 1.
 fn step_at(plan: &Plan, step: usize) -> Option<&Instance>
     ensures { option_map (λ (i : Bor Instance). instance_of i.now) result ≡ (if step == 0 then None else slice_get (plan_of plan.now) (step - 1)) }
 {
@@ -390,7 +390,7 @@ fn step_at(plan: &Plan, step: usize) -> Option<&Instance>
     plan.steps().get(step - 1)
 }
 
-/// Adds the line that says that what the step's action increases the total cost by has no value.
+/// Adds the line that says that the action's cost increase has no value for this step.
 fn add_lacking_cost(
     task: &Task,
     plan: &Plan,
@@ -405,7 +405,7 @@ fn add_lacking_cost(
     }
 }
 
-/// The same of this instance.
+/// The same for this instance.
 fn add_lacking_value(task: &Task, instance: &Instance, text: &mut Vec<u8>) -> Result<(), NoMemory>
     ensures { OnOk result (text.new.items ≡ text.old.items ++ instance_increase_text (task_of task.now) (instance_of instance.now)) }
 {
@@ -415,7 +415,7 @@ fn add_lacking_value(task: &Task, instance: &Instance, text: &mut Vec<u8>) -> Re
     }
 }
 
-/// Adds the line of what has no value for these objects.
+/// Adds the line about a function without a value for these objects.
 fn add_increase(
     task: &Task,
     increase: &Increase,

@@ -1,4 +1,4 @@
-//! Where the steps of a plan text are.
+//! The places of steps in a plan text.
 ghost use Rattle.std.specs.Prelude.{◌≡◌, ◌+◌, ◌<◌, ◌≤◌, ◌^◌, ◌&&◌, ◌==◌, List, IsSomeAnd, if◌then◌else◌, length};
 ghost use Rattle.std.specs.Option.{option_map};
 ghost use Rattle.tokens.specs.Cut.{cut};
@@ -10,19 +10,19 @@ ghost use Rattle.model.specs.Words.{AreParts, Part};
 use faults::Span;
 use tokens::{Form, part_end};
 
-/// Where the step of this number, counted from 1, is in the text of a plan: from its `(` to its `)`.
+/// The span of the step with this number, counted from 1, in a plan text: from its `(` to its `)`.
 ///
 /// # Examples
 /// The second step of `(hop a b) ; there\n(hop b a)` is at `18..27`.
 pub fn step_place(text: &[u8], step: usize) -> Option<Span>
-    // Where the text is a list of so many steps and more, the place is the step's.
+    // If the text is a list with at least this many steps, the span is that of the step.
     ensures { (parts : List Part) (steps : List Step) → AreParts text.now parts → AreSteps (placed_from 0 parts) steps
         → 1 ≤ step → step ≤ length steps → IsSomeAnd result (λ s. IsStepPlace (placed_from 0 parts) step (span_of s)) }
 {
     closed_at(text, step)
 }
 
-/// From the opening parenthesis of this number, counted from 1, to the next closing one.
+/// From the opening parenthesis with this number, counted from 1, to the next closing one.
 fn closed_at(text: &[u8], step: usize) -> Option<Span>
     ensures { option_map span_of result ≡ place_from step 0 0 (placed_from 0 (cut text.now)) }
 {
@@ -43,17 +43,17 @@ fn closed_at(text: &[u8], step: usize) -> Option<Span>
     None
 }
 
-/// The opening parentheses of a text, up to some place.
+/// The opening parentheses of a text up to some place.
 #[derive(Clone, Copy)]
 struct Opened {
-    /// How many there are.
+    /// Their number.
     count: usize,
-    /// The offset of the last one; 0 where there is none.
+    /// The offset of the last one; 0 if there is none.
     last: usize,
 }
 
 impl Opened {
-    /// Whether what begins here closes the one of this number, which is the last.
+    /// Whether this part closes the opening parenthesis with this number, which is the last one.
     fn is_closed(self, form: Form, number: usize) -> bool
         ensures { result ≡ (closes (view form) && self.count == number) }
     {
@@ -63,7 +63,7 @@ impl Opened {
         }
     }
 
-    /// These, and what begins at this offset, if it is one.
+    /// The same after this part, which is counted if it is an opening parenthesis.
     fn after(self, form: Form, start: usize) -> Opened
         requires { self.count + 1 < 2 ^ 64 }
         ensures count { result.count ≡ (if opens (view form) then self.count + 1 else self.count) }

@@ -1,4 +1,4 @@
-//! What a task holds, in a few lines.
+//! The size and features of a task, in a few lines.
 ghost use Rattle.std.specs.Prelude.{◌≡◌, IfOk};
 ghost use Rattle.std.specs.String.{string_bytes};
 ghost use Rattle.task.specs.Task.{task_of};
@@ -9,27 +9,27 @@ use faults::NoMemory;
 use std::alloc::{AllocError, Global};
 use task::Task;
 
-/// What a task holds.
+/// The size and features of a task.
 #[derive(Clone, Copy, Debug, PartialEq, Eq)]
 pub struct Summary {
-    /// How many types there are, `object` among them.
+    /// The number of types, including `object`.
     pub types: usize,
-    /// How many objects there are.
+    /// The number of objects.
     pub objects: usize,
-    /// How many predicates there are.
+    /// The number of predicates.
     pub predicates: usize,
-    /// How many functions there are, `total-cost` among them where it is declared.
+    /// The number of functions, including `total-cost` if it is declared.
     pub functions: usize,
-    /// How many action schemas there are.
+    /// The number of action schemas.
     pub actions: usize,
-    /// Whether the total cost is to be least.
+    /// Whether the total cost is minimized.
     pub has_costs: bool,
-    /// What is in the preconditions, the effects and the goal.
+    /// The language features used in the preconditions, the effects and the goal.
     pub forms: Forms,
 }
 
 impl Summary {
-    /// What the task holds.
+    /// Summarizes the task.
     pub fn of(task: &Task) -> Summary
         ensures { IsSummaryOf (task_of task.now) result }
     {
@@ -44,10 +44,10 @@ impl Summary {
         }
     }
 
-    /// The lines that report it, each with LF at its end.
+    /// The summary as lines, each with LF.
     ///
     /// # Errors
-    /// Memory was refused.
+    /// An allocation failed.
     pub fn text(&self, alloc: Global) -> Result<String, NoMemory>
         ensures { IfOk result (λ text. string_bytes text ≡ summary_text self.now) }
     {
@@ -57,7 +57,7 @@ impl Summary {
         Ok(text)
     }
 
-    /// The line of the numbers.
+    /// The line with the numbers.
     fn numbers_line(&self, alloc: Global) -> Result<String, AllocError>
         ensures { IfOk result (λ line. string_bytes line ≡ numbers_line self.now) }
     {
@@ -68,7 +68,7 @@ impl Summary {
         )
     }
 
-    /// The line of the costs and the forms.
+    /// The line with the costs and the features.
     fn forms_line(&self, alloc: Global) -> Result<String, AllocError>
         ensures { IfOk result (λ line. string_bytes line ≡ forms_line self.now) }
     {

@@ -1,4 +1,4 @@
-//! The names of the variables of quantifiers. A task has numbers for variables, so what reads its files hands them in.
+//! The names of the variables of quantifiers. A task has numbers for variables, so the caller supplies the names.
 ghost use Rattle.std.specs.Prelude.{◌≡◌, drop, map};
 ghost use Rattle.task.specs.TaskParts.{formula_of};
 ghost use Rattle.explained_plans.specs.NamesView.{names_in, names_of};
@@ -6,18 +6,17 @@ ghost use Rattle.explained_plans.specs.VariableNames.{behind, behind_all, formul
 
 use task::{Formula, SchemaId};
 
-/// The names of the variables of the quantifiers of a task, as its files spell them, in the order of the text. A name begins
-/// with its `?`.
+/// The names of the quantified variables of a task, as spelled in its files, in textual order. A name begins with `?`.
 #[derive(Drop)]
 pub struct VariableNames<'a> {
-    /// Those in the precondition of each action, in the order of the actions.
+    /// The names in the precondition of each action, in the order of the actions.
     pub actions: Vec<Vec<&'a [u8]>>,
-    /// Those in the goal.
+    /// The names in the goal.
     pub goal: Vec<&'a [u8]>,
 }
 
 impl<'a> VariableNames<'a> {
-    /// Those in the precondition of the action of this number.
+    /// The names in the precondition of the action with this number.
     pub(crate) fn of_action(&'a self, schema: SchemaId) -> &'a [&'a [u8]]
         ensures { names_in result.now ≡ names_of_action (names_of self.now) schema.0 }
     {
@@ -28,7 +27,7 @@ impl<'a> VariableNames<'a> {
     }
 }
 
-/// The names behind those of the formula's variables, which come first.
+/// The names left over after those of the formula's variables, which come first.
 #[cycle(behind)]
 pub(crate) fn names_behind<'n, 'a>(formula: &Formula, names: &'n [&'a [u8]]) -> &'n [&'a [u8]]
     ensures { names_in result.now ≡ behind (formula_of formula.now) (names_in names.now) }
@@ -47,7 +46,7 @@ pub(crate) fn names_behind<'n, 'a>(formula: &Formula, names: &'n [&'a [u8]]) -> 
     }
 }
 
-/// The same of each of the formulas.
+/// The same for each of the formulas.
 #[cycle(behind)]
 fn names_behind_each<'n, 'a>(parts: &[Formula], names: &'n [&'a [u8]]) -> &'n [&'a [u8]]
     ensures { names_in result.now ≡ behind_all (formulas (map formula_of parts.now)) (names_in names.now) }
@@ -59,7 +58,7 @@ fn names_behind_each<'n, 'a>(parts: &[Formula], names: &'n [&'a [u8]]) -> &'n [&
     left
 }
 
-/// The names but the first.
+/// The names without the first.
 pub(crate) fn without_first<'n, 'a>(names: &'n [&'a [u8]]) -> &'n [&'a [u8]]
     ensures { names_in result.now ≡ drop 1 (names_in names.now) }
 {

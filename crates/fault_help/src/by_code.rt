@@ -1,4 +1,4 @@
-//! What helps with a fault, by what is wrong.
+//! The help for a fault, by its code.
 use crate::context::Context;
 use crate::help::Help;
 use crate::refusal::FileRefusal;
@@ -8,11 +8,11 @@ use source_text::NamedTexts;
 use std::alloc::Global;
 use tokens::LONGEST_TEXT;
 
-/// What helps with a fault of some texts beside the words that may occur there. Where it is none that is reported for these texts,
-/// what helps is found as far as the words around its span allow.
+/// The help for a fault of these texts, other than the words that may occur at its place. For a fault that these texts do not
+/// have, the help is whatever the words around its span allow.
 ///
 /// # Errors
-/// Memory was refused.
+/// An allocation failed.
 pub fn help_with<'a>(
     alloc: Global,
     texts: &NamedTexts<'a>,
@@ -32,12 +32,12 @@ pub fn help_with<'a>(
     }
 }
 
-/// How many bytes the reported ones are.
+/// The length of the reported bytes.
 fn length_of<'a>(fault: FileRefusal) -> Help<'a> {
     Help::Length(fault.span.end.saturating_sub(fault.span.start))
 }
 
-/// What helps with a fault, by the pieces of the texts.
+/// The help for a fault, from the pieces of the texts.
 fn help_in<'a>(alloc: Global, context: &Context<'a>) -> Result<Help<'a>, NoMemory> {
     match context.fault.code {
         Code::Unbalanced | Code::PlanForm => Ok(of_words::unbalanced(context)),

@@ -1,4 +1,4 @@
-//! A refused file in pieces, with those of the other files, and the names that are known there.
+//! A refused file in pieces, the pieces of the other files, and the names known at the fault.
 use crate::help::{FileOffset, Help};
 use crate::refusal::{FileRefusal, reported_bytes};
 use faults::NoMemory;
@@ -8,23 +8,23 @@ use source_text::{
 };
 use std::alloc::Global;
 
-/// A fault with the pieces of the texts.
+/// A fault with the pieces of all texts.
 #[derive(Drop)]
 pub(crate) struct Context<'a> {
     /// The fault.
     pub(crate) fault: FileRefusal,
-    /// The bytes that it is reported for.
+    /// The bytes that the fault is reported for.
     pub(crate) word: &'a [u8],
     /// The pieces of the domain file.
     pub(crate) domain: Vec<Piece<'a>>,
-    /// Those of the problem file.
+    /// The pieces of the problem file.
     pub(crate) problem: Vec<Piece<'a>>,
-    /// Those of the plan file.
+    /// The pieces of the plan file.
     pub(crate) plan: Vec<Piece<'a>>,
 }
 
 impl<'a> Context<'a> {
-    /// The pieces of the texts, with a fault of them.
+    /// Cuts the texts into pieces, for this fault.
     pub(crate) fn of(
         alloc: Global,
         texts: &NamedTexts<'a>,
@@ -56,7 +56,7 @@ impl<'a> Context<'a> {
         index_at(self.here(), self.fault.span.start)
     }
 
-    /// The index of the `(` of the list that this piece is in.
+    /// The index of the `(` of the list that contains this piece.
     pub(crate) fn open(&self) -> Option<usize> {
         match self.at() {
             Some(at) => opening_of(self.here(), at),
@@ -64,7 +64,7 @@ impl<'a> Context<'a> {
         }
     }
 
-    /// The list that this piece is in, with its parentheses; no pieces where it is in none.
+    /// The list that contains this piece, with its parentheses; empty if it is in none.
     pub(crate) fn list(&self) -> &[Piece<'a>] {
         match self.open() {
             Some(open) => list_from(self.here(), open),
@@ -85,7 +85,7 @@ impl<'a> Context<'a> {
         }
     }
 
-    /// That the same is at this piece of the file at fault, if there is one.
+    /// Help that points to the same thing at this piece of the faulty file, if there is one.
     pub(crate) fn earlier(&self, piece: Option<&Piece<'a>>) -> Help<'a> {
         match piece {
             Some(piece) => Help::Earlier(self.offset_of(piece)),
@@ -93,7 +93,7 @@ impl<'a> Context<'a> {
         }
     }
 
-    /// What the domain declares in the section of this keyword, as `:types`.
+    /// The declarations in the domain's section with this keyword, such as `:types`.
     pub(crate) fn declared(
         &self,
         alloc: Global,
@@ -103,7 +103,7 @@ impl<'a> Context<'a> {
         declared_after_head(alloc, list)
     }
 
-    /// The objects that may be named in a file: the domain's constants, and in the problem and a plan its objects too.
+    /// The objects that a file may name: the domain's constants, and in the problem and the plan the problem's objects too.
     pub(crate) fn objects(
         &self,
         alloc: Global,
@@ -118,7 +118,7 @@ impl<'a> Context<'a> {
         Ok(found)
     }
 
-    /// The variables in scope at the piece, or the objects that may be named there, as it is a variable or a name.
+    /// The candidates for the piece: variables in scope if it is a variable, objects otherwise.
     pub(crate) fn terms(&self, alloc: Global) -> Result<Vec<TypedName<'_, 'a>>, NoMemory> {
         match self.at() {
             Some(at) if self.is_variable() => in_scope(alloc, self.here(), at),
@@ -126,8 +126,8 @@ impl<'a> Context<'a> {
         }
     }
 
-    /// Whether the list whose `(` has this index is a function of objects: it comes after `(total-cost)` in an increase, or
-    /// after the `=` of a value in `:init`.
+    /// Whether the list whose `(` has this index is a function of objects: it follows `(total-cost)` in an increase, or the `=`
+    /// of a value in `:init`.
     pub(crate) fn is_function(&self, open: usize) -> bool {
         let here = self.here();
         match opening_of(here, open) {
@@ -140,7 +140,7 @@ impl<'a> Context<'a> {
     }
 }
 
-/// The names that are declared.
+/// The declared names.
 pub(crate) fn names_of<'a>(
     alloc: Global,
     declared: &[TypedName<'_, 'a>],
@@ -152,7 +152,7 @@ pub(crate) fn names_of<'a>(
     Ok(found)
 }
 
-/// The bytes of pieces.
+/// The bytes of the pieces.
 pub(crate) fn bytes_of<'a>(alloc: Global, pieces: &[Piece<'a>]) -> Result<Vec<&'a [u8]>, NoMemory> {
     let mut found: Vec<&'a [u8]> = Vec::new(alloc);
     for piece in pieces {

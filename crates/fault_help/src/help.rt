@@ -1,4 +1,4 @@
-//! What helps with a fault, by kinds of help.
+//! The kinds of help for a fault.
 use crate::near::Others;
 use source_text::File;
 
@@ -11,7 +11,7 @@ pub struct FileOffset {
     pub offset: usize,
 }
 
-/// What a name that is not known was to name.
+/// What an unknown name was meant to name.
 #[derive(Clone, Copy)]
 pub enum Named {
     /// A type.
@@ -28,7 +28,7 @@ pub enum Named {
     Action,
 }
 
-/// What there may be only so many of.
+/// The limits that a task may exceed.
 #[derive(Clone, Copy)]
 pub enum Limit {
     /// Declared types.
@@ -54,56 +54,56 @@ pub enum CostFault {
     BeginsTwice,
 }
 
-/// A count of arguments that differs from the one that is wanted.
+/// A wrong number of arguments.
 #[derive(Clone, Copy)]
 pub struct Counts {
-    /// How many are wanted.
+    /// How many are required.
     pub wanted: usize,
     /// How many are there.
     pub given: usize,
 }
 
-/// The types of a term, and those that are wanted of it. One that is declared without a type is of `object`.
+/// The types of a term and the types that its place requires. A term declared without a type is of type `object`.
 #[derive(Drop)]
 pub struct Types<'a> {
-    /// The predicate, the function or the action whose argument it is.
+    /// The predicate, function or action that has the term as an argument.
     pub user: &'a [u8],
-    /// Of one of which types the term is.
+    /// The term is of one of these types.
     pub given: Vec<&'a [u8]>,
-    /// Of one of which types it has to be.
+    /// It must be of one of these types.
     pub wanted: Vec<&'a [u8]>,
 }
 
-/// What helps with a fault.
+/// Help for a fault.
 #[derive(Drop)]
 pub enum Help<'a> {
-    /// Nothing more than the number says.
+    /// Nothing beyond what the fault's number says.
     Plain,
-    /// How many bytes the reported ones are.
+    /// The length of the reported bytes.
     Length(usize),
-    /// The `(` of the list that is open at the end of the text.
+    /// The `(` of the list that is still open at the end of the text.
     Open(FileOffset),
-    /// Where the same is that may occur only once, or where the list ends that nothing may follow.
+    /// Where something that may occur only once occurred before, or where the list ends that nothing may follow.
     Earlier(FileOffset),
-    /// Where `:init` gives the same function of the same objects a value before.
+    /// Where `:init` gave a value to the same function of the same objects before.
     Valued(FileOffset),
-    /// It is built into the language.
+    /// The name is built into the language.
     BuiltIn,
     /// The sections or parts that are missing.
     Missing(Vec<&'static [u8]>),
-    /// A name that is not known, and those that may be meant.
+    /// An unknown name, and candidates for what was meant.
     Unknown(Named, Others<'a>),
-    /// Where the problem declares the object, which the domain may not name.
+    /// Where the problem declares this object, which the domain cannot name.
     OfProblem(FileOffset),
-    /// A type, its parent, and so on up to the type itself.
+    /// A cycle of types: a type, its parent, and so on up to the type itself.
     Chain(Vec<&'a [u8]>),
-    /// Of arguments.
+    /// A wrong number of arguments.
     Counts(Counts),
-    /// Of a term and its place.
+    /// A term of the wrong type.
     Types(Types<'a>),
     /// The domain's name.
     Domain(&'a [u8]),
-    /// A limit that is passed.
+    /// The limit that is exceeded.
     Limit(Limit),
     /// What is wrong with a total cost.
     Cost(CostFault),

@@ -1,12 +1,11 @@
-//! What else is said of mistakes that are often made: in which encoding a file is, which file it is, and what else has to be
-//! written for forms of other planners' files.
+//! Hints for common mistakes: a file's encoding, the wrong file, and how to rewrite constructs that other planners accept.
 use crate::context::Context;
 use crate::refusal::{FileRefusal, reported_bytes};
 use faults::{Code, NoMemory};
 use source_text::{File, NamedTexts, Piece, Shape, head_of, pieces};
 use std::alloc::Global;
 
-/// A mistake that is often made.
+/// A common mistake.
 #[derive(Clone, Copy, Debug, PartialEq, Eq)]
 pub enum Hint {
     /// The file begins with the byte order mark of UTF-8.
@@ -15,18 +14,18 @@ pub enum Hint {
     Utf16,
     /// The file has no bytes.
     Empty,
-    /// The file has blanks and comments alone.
+    /// The file has only blanks and comments.
     NoWords,
-    /// The text is one for this file.
+    /// The text is meant for this file.
     Swapped(File),
-    /// The text does not begin as a domain or a problem does.
+    /// The text does not begin like a domain or a problem.
     NoDefine,
-    /// Something that is said of a word or a form.
+    /// A remark about a word or a construct.
     Said(&'static str),
 }
 
 impl Hint {
-    /// The sentence that says it.
+    /// The sentence for the user.
     pub fn text(self) -> &'static str {
         match self {
             Hint::ByteOrderMark => {
@@ -46,23 +45,23 @@ impl Hint {
     }
 }
 
-/// What is said of `-4` and `4.5`.
+/// The remark for `-4` and `4.5`.
 const WHOLE: &str = "A cost is a whole number of 0 or more.";
 
-/// What is said of `(+ ..)`.
+/// The remark for `(+ ..)`.
 const ARITHMETIC: &str =
     "A cost is a number or a function of objects; sums and products are not supported.";
 
-/// What is said of two formulas where one is wanted.
+/// The remark for two formulas where one is required.
 const TWO_FORMULAS: &str = "Put the formulas into one `(and ..)`.";
 
-/// What is said of two effects under a `when` or a `forall`.
+/// The remark for two effects under a `when` or a `forall`.
 const TWO_EFFECTS: &str = "Put the effects into one `(and ..)`.";
 
-/// The mistake that a fault comes of, where it is one that is often made.
+/// The common mistake that explains a fault, if there is one.
 ///
 /// # Errors
-/// Memory was refused.
+/// An allocation failed.
 pub fn hint_of(
     alloc: Global,
     texts: &NamedTexts<'_>,
@@ -92,7 +91,7 @@ pub fn hint_of(
     }
 }
 
-/// The encoding that a file is in, by the first byte that is refused.
+/// The encoding of a file, judged by the first refused byte.
 fn encoding(text: &[u8], at: usize, word: &[u8]) -> Option<Hint> {
     if text.starts_with(b"\xff\xfe") || text.starts_with(b"\xfe\xff") {
         Some(Hint::Utf16)
@@ -105,7 +104,7 @@ fn encoding(text: &[u8], at: usize, word: &[u8]) -> Option<Hint> {
     }
 }
 
-/// What may be meant by a run of bytes that is no word.
+/// What a run of bytes that is not a word may mean.
 fn of_word(word: &[u8]) -> Option<Hint> {
     if is_comment_elsewhere(word) {
         return Some(Hint::Said("A comment begins with `;`."));
@@ -122,13 +121,13 @@ fn of_word(word: &[u8]) -> Option<Hint> {
     }
 }
 
-/// Whether a run of bytes begins a comment in other languages, by `//` or `/*`, or is nothing but `#`.
+/// Whether a run of bytes begins a comment of other languages, `//` or `/*`, or consists of `#` only.
 pub fn is_comment_elsewhere(word: &[u8]) -> bool {
     let begins = word.starts_with(b"//") || word.starts_with(b"/*");
     begins || word.iter().all(|byte| *byte == b'#')
 }
 
-/// Whether a run of bytes is a number elsewhere: digits, with a point among them or a sign before them.
+/// Whether a run of bytes is a number elsewhere: digits with a point among them or a sign before them.
 fn is_number_elsewhere(word: &[u8]) -> bool {
     let digits = match word {
         [b'-' | b'+', rest @ ..] => rest,
@@ -140,7 +139,7 @@ fn is_number_elsewhere(word: &[u8]) -> bool {
             .all(|byte| byte.is_ascii_digit() || *byte == b'.')
 }
 
-/// What may be meant by a word with which no file goes on.
+/// What an unexpected word may mean.
 fn of_form(text: &[u8], context: &Context<'_>) -> Option<Hint> {
     let here = context.here();
     if here.is_empty() {
@@ -157,7 +156,7 @@ fn of_form(text: &[u8], context: &Context<'_>) -> Option<Hint> {
     }
 }
 
-/// What a text is that does not begin as this file does, by its first words: `(define (domain` or `(define (problem`.
+/// Which file a text really is, if it does not begin like this file: by its first words, `(define (domain` or `(define (problem`.
 fn of_beginning(here: &[Piece<'_>], file: File) -> Option<Hint> {
     match kind_of(here) {
         Some(kind) if kind != file => Some(Hint::Swapped(kind)),
@@ -166,7 +165,7 @@ fn of_beginning(here: &[Piece<'_>], file: File) -> Option<Hint> {
     }
 }
 
-/// The same of a text whose parentheses do not match, where it begins with a list.
+/// The same for a text with unbalanced parentheses that begins with a list.
 fn of_lists(here: &[Piece<'_>], file: File) -> Option<Hint> {
     match here {
         [first, _, _, _, ..] if first.shape == Shape::Open => of_beginning(here, file),
@@ -174,7 +173,7 @@ fn of_lists(here: &[Piece<'_>], file: File) -> Option<Hint> {
     }
 }
 
-/// Which file a text is for, where it begins as one.
+/// The file that a text is, if it begins like one.
 fn kind_of(here: &[Piece<'_>]) -> Option<File> {
     match here {
         [_, define, _, kind, ..] if define.is(b"define") && kind.is(b"domain") => {
@@ -187,7 +186,7 @@ fn kind_of(here: &[Piece<'_>]) -> Option<File> {
     }
 }
 
-/// What may be meant by a piece that is not expected in a list with this head.
+/// What an unexpected piece may mean in a list with this head.
 fn of_list(here: &[Piece<'_>], at: usize, head: &[u8]) -> Option<Hint> {
     let piece = here.get(at)?;
     let before = here.get(at.saturating_sub(1))?;
@@ -198,7 +197,7 @@ fn of_list(here: &[Piece<'_>], at: usize, head: &[u8]) -> Option<Hint> {
     }
 }
 
-/// What is said of a second list where one is wanted.
+/// The remark for a second list where one is required.
 fn second_in(here: &[Piece<'_>], at: usize, head: &[u8]) -> Option<Hint> {
     if head.eq_ignore_ascii_case(b":goal") || head.eq_ignore_ascii_case(b"exists") {
         Some(Hint::Said(TWO_FORMULAS))
@@ -213,7 +212,7 @@ fn second_in(here: &[Piece<'_>], at: usize, head: &[u8]) -> Option<Hint> {
     }
 }
 
-/// What is said of a second list in a part of an action, by the last keyword before it.
+/// The remark for a second list in a part of an action, by the last keyword before it.
 fn second_in_part(here: &[Piece<'_>], at: usize) -> Option<Hint> {
     let before = here.get(..at)?;
     let part = before
@@ -229,7 +228,7 @@ fn second_in_part(here: &[Piece<'_>], at: usize) -> Option<Hint> {
     }
 }
 
-/// What a text is that is no plan.
+/// What a text is that is not a plan.
 fn of_plan(here: &[Piece<'_>]) -> Option<Hint> {
     let kind = kind_of(here)?;
     Some(Hint::Swapped(kind))

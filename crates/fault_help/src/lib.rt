@@ -1,4 +1,4 @@
-//! Finds what helps with a fault: names meant, words allowed, and the mistake that it may come of.
+//! Finds what helps to fix a fault: similar names, allowed words, and the likely mistake.
 #![tactic(auto)]
 
 mod by_code;

@@ -1,4 +1,4 @@
-//! Help with names that are not known, and with names that are declared twice (14 to 17, 20, 32).
+//! Help for unknown names and for names declared twice (codes 14 to 17, 20, 32).
 use crate::context::{Context, names_of};
 use crate::help::{FileOffset, Help, Named};
 use crate::near::meant_by;
@@ -9,7 +9,7 @@ use source_text::{
 };
 use std::alloc::Global;
 
-/// A name that is not known, with those of its kind that may be meant.
+/// An unknown name, with the names of its kind that may be meant.
 fn unknown<'a>(
     alloc: Global,
     context: &Context<'a>,
@@ -20,14 +20,14 @@ fn unknown<'a>(
     Ok(Help::Unknown(named, others))
 }
 
-/// The types that may be meant.
+/// The types that may be meant by an unknown one.
 pub(crate) fn unknown_type<'a>(alloc: Global, context: &Context<'a>) -> Result<Help<'a>, NoMemory> {
     let types = context.declared(alloc, b":types")?;
     let known = names_of(alloc, types.as_slice())?;
     unknown(alloc, context, Named::Type, known.as_slice())
 }
 
-/// The predicates, functions, variables or objects that may be meant.
+/// The predicates, functions, variables or objects that may be meant by an unknown name.
 pub(crate) fn unknown_name<'a>(alloc: Global, context: &Context<'a>) -> Result<Help<'a>, NoMemory> {
     let Some(at) = context.at() else {
         return Ok(Help::Plain);
@@ -46,7 +46,7 @@ pub(crate) fn unknown_name<'a>(alloc: Global, context: &Context<'a>) -> Result<H
     }
 }
 
-/// Where the problem declares an object that the domain names, or the objects that may be meant.
+/// Where the problem declares an object that the domain names; otherwise the objects that may be meant.
 fn unknown_object<'a>(alloc: Global, context: &Context<'a>) -> Result<Help<'a>, NoMemory> {
     if context.fault.file == File::Domain {
         let objects = context.objects(alloc, File::Problem)?;
@@ -81,7 +81,7 @@ fn unknown_head<'a>(
     unknown(alloc, context, named, known.as_slice())
 }
 
-/// The actions that may be meant.
+/// The actions that may be meant by an unknown one.
 pub(crate) fn unknown_action<'a>(
     alloc: Global,
     context: &Context<'a>,
@@ -90,7 +90,7 @@ pub(crate) fn unknown_action<'a>(
     unknown(alloc, context, Named::Action, known.as_slice())
 }
 
-/// The names of the actions.
+/// The names of all actions.
 fn actions<'a>(alloc: Global, domain: &[Piece<'a>]) -> Result<Vec<Piece<'a>>, NoMemory> {
     let lists = children(alloc, domain)?;
     let mut found = Vec::new(alloc);
@@ -102,7 +102,7 @@ fn actions<'a>(alloc: Global, domain: &[Piece<'a>]) -> Result<Vec<Piece<'a>>, No
     Ok(found)
 }
 
-/// The name of an action's list, where it is one.
+/// The name of an action, if the list is one.
 pub(crate) fn action_name<'a>(list: &[Piece<'a>]) -> Option<Piece<'a>> {
     if head_of(list).eq_ignore_ascii_case(b":action") {
         list.get(2).copied()
@@ -111,7 +111,7 @@ pub(crate) fn action_name<'a>(list: &[Piece<'a>]) -> Option<Piece<'a>> {
     }
 }
 
-/// The chain of parents of a type, from itself on, up to the type that is in it again.
+/// The chain of parents of a type, from the type itself up to the first repetition.
 pub(crate) fn type_cycle<'a>(alloc: Global, context: &Context<'a>) -> Result<Help<'a>, NoMemory> {
     let declared = context.declared(alloc, b":types")?;
     let mut chain: Vec<&'a [u8]> = Vec::new(alloc);
@@ -134,7 +134,7 @@ pub(crate) fn type_cycle<'a>(alloc: Global, context: &Context<'a>) -> Result<Hel
     Ok(Help::Chain(chain))
 }
 
-/// Where a variable of the same name comes into scope before.
+/// Where a variable of the same name came into scope before.
 pub(crate) fn shadowed<'a>(alloc: Global, context: &Context<'a>) -> Result<Help<'a>, NoMemory> {
     let Some(at) = context.at() else {
         return Ok(Help::Plain);
@@ -149,7 +149,7 @@ pub(crate) fn shadowed<'a>(alloc: Global, context: &Context<'a>) -> Result<Help<
     ))
 }
 
-/// Where a name is declared before.
+/// Where the name was declared before.
 pub(crate) fn duplicate<'a>(alloc: Global, context: &Context<'a>) -> Result<Help<'a>, NoMemory> {
     if let Some(constant) = repeated_constant(alloc, context)? {
         return Ok(Help::Earlier(FileOffset {
@@ -169,7 +169,7 @@ pub(crate) fn duplicate<'a>(alloc: Global, context: &Context<'a>) -> Result<Help
     })
 }
 
-/// Whether the fault is reported for a function that `:init` gives a value.
+/// Whether the fault is about a function that `:init` gives a value.
 fn is_value(context: &Context<'_>) -> bool {
     match context.open() {
         Some(open) => context.is_function(open),
@@ -177,7 +177,7 @@ fn is_value(context: &Context<'_>) -> bool {
     }
 }
 
-/// The constant of the domain whose name an object of the problem has.
+/// The domain's constant with the same name as an object of the problem.
 fn repeated_constant<'a>(
     alloc: Global,
     context: &Context<'a>,
@@ -194,8 +194,8 @@ fn repeated_constant<'a>(
     }
 }
 
-/// The names of the same kind that are declared beside the one at fault: the other names of a typed list, the other
-/// predicates or functions, or the other actions; for a value in `:init` the functions of those of the same objects.
+/// The declared names of the same kind beside the faulty one: the other names of a typed list, the other predicates or functions,
+/// or the other actions; for a value in `:init`, the functions in values of the same objects.
 fn names_beside<'a>(alloc: Global, context: &Context<'a>) -> Result<Vec<Piece<'a>>, NoMemory> {
     let list = context.list();
     let head = head_of(list);
@@ -212,8 +212,7 @@ fn names_beside<'a>(alloc: Global, context: &Context<'a>) -> Result<Vec<Piece<'a
     }
 }
 
-/// The heads of the lists beside the one that the fault is in, in the list around it; of values in `:init` those of the
-/// same objects.
+/// The heads of the lists beside the faulty one, in the list around it; for values in `:init`, only those of the same objects.
 fn heads_beside<'a>(alloc: Global, context: &Context<'a>) -> Result<Vec<Piece<'a>>, NoMemory> {
     let here = context.here();
     let Some(outer) = context.open().and_then(|open| opening_of(here, open)) else {
@@ -229,7 +228,7 @@ fn heads_beside<'a>(alloc: Global, context: &Context<'a>) -> Result<Vec<Piece<'a
     }
 }
 
-/// The heads of a function of the same objects where `:init` gives it a value.
+/// The heads of the values that `:init` gives a function of the same objects.
 fn values_of<'a>(
     alloc: Global,
     init: &[Piece<'a>],
@@ -248,7 +247,7 @@ fn values_of<'a>(
     Ok(found)
 }
 
-/// Whether two lists are of the same words; case does not matter.
+/// Whether two lists consist of the same words, regardless of case.
 fn is_same(list: &[Piece<'_>], other: &[Piece<'_>]) -> bool {
     list.len() == other.len()
         && list

@@ -1,4 +1,4 @@
-//! Help with counts and types of arguments (18, 19, 33, 34), limits, costs, and the domain's name.
+//! Help for wrong numbers and types of arguments (codes 18, 19, 33, 34), limits, costs, and the domain's name.
 use crate::context::{Context, bytes_of};
 use crate::help::{CostFault, Counts, Help, Limit, Named, Types};
 use crate::of_names::{action_name, unknown_term};
@@ -9,8 +9,8 @@ use source_text::{
 };
 use std::alloc::Global;
 
-/// What the arguments are of the atom or the step at fault, whose `(` has this index: the variables of its declaration. None
-/// where it is not declared.
+/// The parameters in the declaration that the faulty atom or step, whose `(` has this index, refers to. None if there is no such
+/// declaration.
 fn arguments<'w, 'a>(
     alloc: Global,
     context: &'w Context<'a>,
@@ -36,7 +36,7 @@ fn arguments<'w, 'a>(
     }
 }
 
-/// The action of this name.
+/// The action with this name.
 fn action_named<'w, 'a>(
     alloc: Global,
     context: &'w Context<'a>,
@@ -51,7 +51,7 @@ fn action_named<'w, 'a>(
     Ok(None)
 }
 
-/// How many arguments are wanted and given.
+/// The required and the given number of arguments.
 pub(crate) fn counts<'a>(alloc: Global, context: &Context<'a>) -> Result<Help<'a>, NoMemory> {
     let Some(open) = context.open() else {
         return Ok(Help::Plain);
@@ -66,7 +66,7 @@ pub(crate) fn counts<'a>(alloc: Global, context: &Context<'a>) -> Result<Help<'a
     }
 }
 
-/// The types of a term and those that its argument asks for.
+/// The types of a term and the types that its place requires.
 pub(crate) fn types<'a>(alloc: Global, context: &Context<'a>) -> Result<Help<'a>, NoMemory> {
     let Some(at) = context.at() else {
         return Ok(Help::Plain);
@@ -101,7 +101,7 @@ fn types_of<'a>(
     }))
 }
 
-/// The names of the types; `object` where there is none.
+/// The names of the types; `object` if there is none.
 fn type_names<'a>(alloc: Global, types: &[Piece<'a>]) -> Result<Vec<&'a [u8]>, NoMemory> {
     let mut found = bytes_of(alloc, types)?;
     if found.is_empty() {
@@ -111,7 +111,7 @@ fn type_names<'a>(alloc: Global, types: &[Piece<'a>]) -> Result<Vec<&'a [u8]>, N
     Ok(found)
 }
 
-/// What there are too many of.
+/// The limit that is exceeded.
 pub(crate) fn passed_limit<'a>(context: &Context<'a>) -> Help<'a> {
     let here = context.here();
     let Some(open) = context.open() else {
@@ -135,7 +135,7 @@ pub(crate) fn passed_limit<'a>(context: &Context<'a>) -> Help<'a> {
     })
 }
 
-/// What is wrong with a total cost, by the word that is reported.
+/// What is wrong with a total cost, by the reported word.
 pub(crate) fn cost_fault<'a>(alloc: Global, context: &Context<'a>) -> Result<Help<'a>, NoMemory> {
     let list = section(alloc, context.domain.as_slice(), b":functions")?;
     let functions = heads(alloc, list)?;

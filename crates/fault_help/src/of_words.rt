@@ -1,20 +1,20 @@
-//! Help with texts that do not read as words (1 to 6), and with words with which no file goes on (7 to 13).
+//! Help for texts that do not read as words (codes 1 to 6), and for unexpected words (codes 7 to 13).
 use crate::context::Context;
 use crate::help::Help;
 use faults::NoMemory;
 use source_text::{File, Piece, Shape, head_of, heads, list_from, opening_of};
 use std::alloc::Global;
 
-/// What a domain needs.
+/// The required sections of a domain.
 static IN_DOMAIN: [&[u8]; 1] = [b":predicates"];
 
-/// What a problem needs.
+/// The required sections of a problem.
 static IN_PROBLEM: [&[u8]; 3] = [b":domain", b":init", b":goal"];
 
-/// What an action needs.
+/// The required parts of an action.
 static IN_ACTION: [&[u8]; 1] = [b":parameters"];
 
-/// The `(` of the list that is open at the end of a text. Of a `)` without one nothing more is reported.
+/// The `(` of the list that is open at the end of the text. There is no help for a `)` without a `(`.
 pub(crate) fn unbalanced<'a>(context: &Context<'a>) -> Help<'a> {
     if context.fault.span.start < context.fault.span.end {
         return Help::Plain;
@@ -33,7 +33,7 @@ pub(crate) fn trailing<'a>(context: &Context<'a>) -> Help<'a> {
     context.earlier(list_from(here, first.unwrap_or(0)).last())
 }
 
-/// Where the section or part is already.
+/// Where the section or part occurred before.
 pub(crate) fn repeated<'a>(context: &Context<'a>) -> Help<'a> {
     let start = context.fault.span.start;
     context.earlier(
@@ -45,7 +45,7 @@ pub(crate) fn repeated<'a>(context: &Context<'a>) -> Help<'a> {
     )
 }
 
-/// What is missing in the list that the reported `)` closes.
+/// What is missing from the list that the reported `)` closes.
 pub(crate) fn missing<'a>(alloc: Global, context: &Context<'a>) -> Result<Help<'a>, NoMemory> {
     let list = context.list();
     if list.is_empty() {
@@ -63,7 +63,7 @@ pub(crate) fn missing<'a>(alloc: Global, context: &Context<'a>) -> Result<Help<'
     Ok(Help::Missing(missing))
 }
 
-/// The sections of these keywords that do not occur in a file's list.
+/// Those of these section keywords that do not occur in the file's list.
 fn absent(
     alloc: Global,
     list: &[Piece<'_>],

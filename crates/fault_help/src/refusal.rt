@@ -1,4 +1,4 @@
-//! A fault of a file, and the bytes that it is reported for.
+//! A fault of a file, and the bytes it is reported for.
 ghost use Rattle.std.specs.Prelude.{◌≡◌};
 ghost use Rattle.source_text.specs.Files.{text_in};
 ghost use Rattle.fault_help.specs.ReportedBytes.{reported_in};
@@ -6,7 +6,7 @@ ghost use Rattle.fault_help.specs.ReportedBytes.{reported_in};
 use faults::{Code, Span};
 use source_text::{File, NamedTexts};
 
-/// A file is refused by this code, for what is at this place of it.
+/// The refusal of a file: its code and its place.
 #[derive(Clone, Copy, Debug, PartialEq, Eq)]
 pub struct FileRefusal {
     /// The file that the place is in.
@@ -17,7 +17,7 @@ pub struct FileRefusal {
     pub span: Span,
 }
 
-/// The bytes that a fault is reported for, as far as they are within the text.
+/// The bytes that a fault is reported for, clipped to the text.
 pub fn reported_bytes<'a>(texts: &NamedTexts<'a>, fault: FileRefusal) -> &'a [u8]
     ensures { result.now ≡ reported_in (text_in texts.now fault.file) fault.span.start fault.span.end }
 {

@@ -1,4 +1,4 @@
--- How what is gathered grows.
+-- How the gathered faults grow.
 use Rattle.std.proofs.Common.{◌≡◌, ◌∙◌, ℕ, zero, suc, ◌<◌, ◌+◌, List, [], ◌∷◌, ◌++◌, map, drop, length, get_or, Option, None, Some, inl, inr, refl, sym, ap, subst, arith, if◌then◌else◌, Result, OnOk}
 use Rattle.std.specs.Prelude.{All, Contains}
 use Rattle.std.specs.List.{flat_map, insert}
@@ -22,7 +22,7 @@ use Rattle.model.proofs.TypingFaultsLemmas.{on_left, on_right}
 pub none_added : (gathered : List TaskRefusal) (faults : List TypingFault) → Adds gathered gathered faults
 none_added gathered faults = λ all includes among. among
 
--- one of the faults is
+-- one of the faults is gathered
 pub one_added : (before after : List TaskRefusal) (fault : TaskRefusal) (faults : List TypingFault) → GathersAtMost before after fault → Contains faults (refusal_of fault) → Adds before after faults
 one_added before after fault faults (inl same) at = λ all includes among. subst (AreAmong all) (sym same) among
 one_added before after fault faults (inr (place, more)) at = λ all includes among.
@@ -33,13 +33,13 @@ one_added before after fault faults (inr (place, more)) at = λ all includes amo
     with_one all here among zero r below = here
     with_one all here among (suc k) r below = among k r (omega (arith, below))
 
--- the least that a walk found is
+-- the least fault that a walk found is gathered
 pub gathers : {A E : Type 0} (r : Result A E) (least : TaskRefusal) (walk : Walk) (before after : List TaskRefusal) → walk.least ≡ Some least → OnOk r (GathersAtMost before after least)
     → OnOk r ((faults : List TypingFault) → least_of walk ≡ found None faults → Adds before after faults)
 gathers r least walk before after is at_most =
     on_ok_weaker r (λ adds faults finds. one_added before after least faults adds (found-Some faults (refusal_of least) (sym finds ∙ ap (option_map refusal_of) is)).is_fault) at_most
 
--- and of a walk that began with nothing, what it found
+-- and for a walk that began without a fault, what it found
 pub gathers_of : {A E : Type 0} (r : Result A E) (before after : List TaskRefusal) (start least : Option TypingFault) (faults : List TypingFault) → start ≡ None → least ≡ found start faults
     → OnOk r ((faults : List TypingFault) → least ≡ found None faults → Adds before after faults) → OnOk r (Adds before after faults)
 gathers_of r before after start least faults none finds adds = on_ok_weaker r (λ gives. gives faults (finds ∙ ap (λ o. found o faults) none)) adds
@@ -48,31 +48,31 @@ gathers_of r before after start least faults none finds adds = on_ok_weaker r (�
 pub adds_among : (before after : List TaskRefusal) (faults whole : List TypingFault) → Includes whole faults → Adds before after faults → Adds before after whole
 adds_among before after faults whole into adds = λ all includes among. adds all (λ f at. includes f (into f at)) among
 
--- one after another
+-- one list after another
 pub adds_again : (before middle after : List TaskRefusal) (faults : List TypingFault) → Adds before middle faults → Adds middle after faults → Adds before after faults
 adds_again before middle after faults first second = λ all includes among. second all includes (first all includes among)
 
--- of two lists in turn
+-- two lists in sequence
 pub adds_both : (before middle after : List TaskRefusal) (first rest : List TypingFault) → Adds before middle first → Adds middle after rest → Adds before after (first ++ rest)
 adds_both before middle after first rest adds more = λ all includes among.
     more all (λ f at. includes f (on_right first rest at)) (adds all (λ f at. includes f (on_left first rest at)) among)
 
--- and where a call added the second
+-- and if a call added the second
 pub then_adds : {A E : Type 0} (r : Result A E) (before middle after : List TaskRefusal) (first rest : List TypingFault) → Adds before middle first → OnOk r (Adds middle after rest)
     → OnOk r (Adds before after (first ++ rest))
 then_adds r before middle after first rest adds more = on_ok_weaker r (adds_both before middle after first rest adds) more
 
--- the same faults, said otherwise
+-- the same faults, stated differently
 pub adds_as : {A E : Type 0} (r : Result A E) (before after : List TaskRefusal) (faults same : List TypingFault) → faults ≡ same → OnOk r (Adds before after faults) → OnOk r (Adds before after same)
 adds_as r before after faults same is adds = subst (λ fs. OnOk r (Adds before after fs)) is adds
 
--- of one element of a list
+-- one element of a list
 pub adds_each : {X : Type 0} (F : X → List TypingFault) (xs : List X) (i : ℕ) (x : X) → i < length xs → x ≡ get_or xs i x
     → (before middle after : List TaskRefusal) → Adds before middle (flat_map F xs) → Adds middle after (F x) → Adds before after (flat_map F xs)
 adds_each F xs i x below is before middle after adds more = λ all includes among.
     more all (λ f at. includes f (Contains-flat_map F xs x f (i, below, sym is) at)) (adds all includes among)
 
--- one declaration more: what is to come of the names that are declared again, and this one
+-- one more declaration: the remaining repeated names, and this one
 pub repeated_step : {X : Type 0} (placed_as : X → Placed) (xs : List X) (i : ℕ) (x : X) → i < length xs → x ≡ get_or xs i x
     → (before after : List task.Name) (whole : List TypingFault) → after ≡ with_name before (placed_as x).word
     → Includes whole (refused 16 (repeated_after before (map placed_as (drop i xs))))
@@ -88,7 +88,7 @@ repeated_step placed_as xs i x below is before after whole names includes =
       λ f at. both f (on_left (refused 16 first) (refused 16 later) at),
     )
 
--- the same, reported by the place of the declaration
+-- the same, by the index of the declaration
 pub repeated_step_at : {X : Type 0} (placed_as : X → Placed) (xs : List X) (i : ℕ) (d : X) → i < length xs
     → (before after : List task.Name) (whole : List TypingFault) → after ≡ with_name before (placed_as (get_or xs i d)).word
     → Includes whole (refused 16 (repeated_after before (map placed_as (drop i xs))))

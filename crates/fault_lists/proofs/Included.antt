@@ -1,4 +1,4 @@
--- Which faults are those of a pair.
+-- Which faults are faults of a pair.
 use Rattle.std.proofs.Common.{◌≡◌, ◌∙◌, ℕ, zero, suc, List, [], ◌∷◌, ◌++◌, drop, map, take, inl, inr, refl, sym, ap, subst, arith}
 use Rattle.std.specs.Prelude.{Contains}
 use Rattle.std.specs.List.{flat_map}
@@ -24,13 +24,13 @@ use Rattle.model.proofs.ListLemmas.{Contains-none}
 use Rattle.model.proofs.TypingFaultsLemmas.{on_left, on_right}
 use Rattle.model.proofs.TypingFaultsPhases.{listed_reported, phase_faults}
 
--- a fault that is listed of a phase
+-- a listed fault of a phase
 pub fault_of : (d : Domain) (p : Problem) (phase : Phase) (f : TypingFault) → Contains (phase_faults d p phase) f → IsFaultOf d p f
 fault_of d p phase f at =
     let there = listed_reported d p phase f at in
     subst (IsFaultOf d p) there.is (record { phase = phase; word = there.word; is_fault = there.is_fault; file = refl; span = refl })
 
--- or of one of the three phases of what is used
+-- or of one of the three phases of uses
 pub use_fault : (d : Domain) (p : Problem) (f : TypingFault) → Contains (phase_faults d p of_actions ++ phase_faults d p of_init ++ phase_faults d p of_goal) f → IsFaultOf d p f
 use_fault d p f at =
     elim (Contains-append_cases (phase_faults d p of_actions ++ phase_faults d p of_init) (phase_faults d p of_goal) f at) [
@@ -42,7 +42,7 @@ use_fault d p f at =
       | inr here ↦ fault_of d p of_goal f here
     ]
 
--- those that were gathered of such faults, where none was before
+-- faults gathered from such lists, starting with none
 pub are_faults : (d : Domain) (p : Problem) (faults : List TypingFault) → ((f : TypingFault) → Contains faults f → IsFaultOf d p f)
     → (found : FoundFaults) (before : List TaskRefusal) → before ≡ [] → Adds before found.gathered.items faults → AreFaultsOf d p found
 are_faults d p faults each found before empty adds =
@@ -71,7 +71,7 @@ effects-joined : (file : TaskFile) (known : Known) (parts : List effect.Effect) 
 effects-joined file known [] = refl
 effects-joined file known (part ∷ rest) = ap (λ faults. effect_faults file known (read.effect_of part) ++ faults) (effects-joined file known rest)
 
--- the faults of the parts of a conjunction, a disjunction and an effect of several are its own
+-- the faults of the parts of a conjunction, a disjunction or a compound effect are its own
 pub of_and : (file : TaskFile) (known : Known) (whole : formula.Formula) (parts : Vec formula.Formula) (items : List formula.Formula) → items ≡ parts.items → whole ≡ formula.And parts
     → flat_map (λ x. formula_faults file known (read.formula_of x)) items ≡ formula_faults file known (read.formula_of whole)
 of_and file known whole parts items same is =
@@ -90,7 +90,7 @@ of_several file known whole parts items same is =
     ap (flat_map (λ x. effect_faults file known (read.effect_of x))) same ∙ effects-joined file known parts.items
     ∙ ap (effect_faults file known) (sym (ap read.effect_of is ∙ rows.effect_of-And parts))
 
--- what is said of a part of a list is said of the list
+-- what holds of a part of a list holds of the list
 included_drop : {X : Type 0} (of : X → List TypingFault) (xs : List X) (i : ℕ) (f : TypingFault) → Contains (flat_map of (drop i xs)) f → Contains (flat_map of xs) f
 included_drop of [] zero f at = at
 included_drop of [] (suc i) f at = at

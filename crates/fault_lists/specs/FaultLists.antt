@@ -1,4 +1,4 @@
--- The faults of a pair that are listed.
+-- The listed faults of a pair.
 use Rattle.std.specs.Prelude.{◌≡◌, ◌⊎◌, ℕ, List, map, All, Contains}
 use Rattle.std.specs.List.{insert}
 use Rattle.std.specs.Global.{Vec}
@@ -15,7 +15,7 @@ use Rattle.model.specs.Trees.{Domain, Problem}
 use Rattle.model.specs.Resolution.{Placed, TypingFault, functions_of, predicates_of}
 use Rattle.model.specs.TypingFaults.{Phase, IsFaultIn}
 
--- the fault is one of the pair: of some phase, a word of one of its files is refused so
+-- the fault is one of the pair: in some phase, a word of one of its files is refused like this
 pub record IsFaultOf (d : Domain) (p : Problem) (f : TypingFault) : Type 0 where
   pub phase : Phase
   pub word : Placed
@@ -23,25 +23,25 @@ pub record IsFaultOf (d : Domain) (p : Problem) (f : TypingFault) : Type 0 where
   pub file : f.file ≡ word.file
   pub span : f.fault.span ≡ word.word.span
 
--- each of those that were gathered is one of the pair
+-- every gathered fault is a fault of the pair
 abbrev pub AreFaultsOf : Domain → Problem → FoundFaults → Type 0
 AreFaultsOf d p found = All (λ r. IsFaultOf d p (refusal_of r)) found.gathered.items
 
--- ---- on the way
+-- ---- intermediate definitions
 
 -- each is one of these faults
 abbrev pub AreAmong : List TypingFault → List TaskRefusal → Type 0
 AreAmong faults gathered = All (λ r. Contains faults (refusal_of r)) gathered
 
--- the one list includes the other
+-- one list includes the other
 abbrev pub Includes : (all faults : List TypingFault) → Type 0
 Includes all faults = (f : TypingFault) → Contains faults f → Contains all f
 
--- What is gathered after, and was not before, is of these faults: whatever includes them and had all before has all after.
+-- Everything gathered in between is among these faults: whatever includes them and everything before includes everything after.
 abbrev pub Adds : (before after : List TaskRefusal) → List TypingFault → Type 0
 Adds before after faults = (all : List TypingFault) → Includes all faults → AreAmong all before → AreAmong all after
 
--- nothing is gathered, or this fault is, in some place
+-- nothing is gathered, or this fault is, at some place
 abbrev pub GathersAtMost : (before after : List TaskRefusal) → TaskRefusal → Type 0
 GathersAtMost before after fault = (after ≡ before) ⊎ ((place : ℕ) × (after ≡ insert before place fault))
 
@@ -49,7 +49,7 @@ GathersAtMost before after fault = (after ≡ before) ⊎ ((place : ℕ) × (aft
 abbrev pub ArePredicatesOf : Domain → List (Vec ℕ × Predicate) → Type 0
 ArePredicatesOf d entries = map predicate_of entries ≡ predicates_of d
 
--- and its functions, and the types and the objects of the pair
+-- and its functions, with the types and objects of the pair
 pub record AreDeclarationsOf (d : Domain) (p : Problem) (types : TypeTable) (objects : DeclaredObjects) (predicates functions : List (Vec ℕ × Predicate)) : Type 0 where
   pub types_are : AreTypesOf d types
   pub objects_are : AreObjectsOf d p objects

@@ -38,7 +38,7 @@ fn of_increases(
     found.gather(&walk)
 }
 
-/// The faults of what an action says below its parameters, if these are right.
+/// The faults of an action apart from its parameters, if these are valid.
 fn of_body(
     alloc: Global,
     found: &mut FoundFaults,
@@ -58,7 +58,7 @@ fn of_body(
     of_increases(alloc, found, globals, variables, action)
 }
 
-/// The faults of an action: those of its parameters, or else those of what it says below them.
+/// The faults of an action: those of its parameters, or if they have none, those of the rest.
 fn of_action(
     alloc: Global,
     found: &mut FoundFaults,
@@ -79,7 +79,7 @@ fn of_action(
     of_body(alloc, found, &inner, &mut variables, are_right, action)
 }
 
-/// The actions that are declared before.
+/// The actions that were declared before.
 fn declared_again(
     alloc: Global,
     found: &mut FoundFaults,
@@ -95,7 +95,7 @@ fn declared_again(
     Ok(())
 }
 
-/// The faults of each of some actions.
+/// The faults of each of these actions.
 fn of_each(
     alloc: Global,
     found: &mut FoundFaults,
@@ -111,7 +111,7 @@ fn of_each(
     Ok(())
 }
 
-/// The faults of actions, where this may be named in them.
+/// The faults of actions, given the names visible in them.
 pub(crate) fn of_actions(
     alloc: Global,
     found: &mut FoundFaults,

@@ -1,4 +1,4 @@
-//! The faults of declarations: of the types of each the first, and each that is declared again.
+//! The faults of declarations: the first unknown type of each, and each repeated name.
 ghost use Rattle.std.specs.Prelude.{◌≡◌, ◌<◌, [], ◌∷◌, ◌++◌, codes, drop, fold, if◌then◌else◌, length, map, take, IfOk, OnOk};
 ghost use Rattle.std.specs.List.{flat_map};
 ghost use Rattle.task_parts.specs.TypedLists.{declared_of};
@@ -35,7 +35,7 @@ fn first_type(
     found.gather(&walk)
 }
 
-/// One of some declarations, alone.
+/// A single one of some declarations.
 fn alone<'s, 't>(declared: &'s [Declared<'t>], index: usize) -> &'s [Declared<'t>]
     requires { index < length declared.now }
     ensures { result.now ≡ take 1 (drop index declared.now) }
@@ -59,7 +59,7 @@ pub(crate) fn unknown_types(
     Ok(())
 }
 
-/// Declares a name, and gathers it if it was declared before.
+/// Declares a name, and gathers a fault if it was declared before.
 pub(crate) fn declare_one(
     alloc: Global,
     found: &mut FoundFaults,
@@ -76,7 +76,7 @@ pub(crate) fn declare_one(
     found.gather(&walk)
 }
 
-/// Declares names, and gathers those that were declared before.
+/// Declares names, and gathers a fault for each that was declared before.
 fn declare_all(
     alloc: Global,
     found: &mut FoundFaults,
@@ -93,7 +93,7 @@ fn declare_all(
     Ok(())
 }
 
-/// That the problem is for another domain.
+/// Gathers the fault that the problem is for another domain.
 fn other_domain(
     alloc: Global,
     found: &mut FoundFaults,
@@ -109,7 +109,7 @@ fn other_domain(
     found.gather(&walk)
 }
 
-/// The name `object` alone.
+/// A table with the name `object` only.
 fn root(alloc: Global) -> Result<IndexMap<Vec<u8>, Vec<TypeId>>, NoMemory>
     ensures { IfOk result (λ m. keys_in m.entries ≡ codes "object" ∷ []) }
 {
@@ -118,7 +118,7 @@ fn root(alloc: Global) -> Result<IndexMap<Vec<u8>, Vec<TypeId>>, NoMemory>
     Ok(types)
 }
 
-/// The faults of the types that are declared.
+/// The faults of the declared types.
 fn of_types(
     alloc: Global,
     found: &mut FoundFaults,
@@ -132,7 +132,7 @@ fn of_types(
     unknown_types(alloc, found, &names, declared)
 }
 
-/// The faults of the first phase: that the problem is for another domain, and those of the types that are declared.
+/// The faults of the first phase: a problem for another domain, and those of the declared types.
 pub(crate) fn of_names(
     alloc: Global,
     found: &mut FoundFaults,
@@ -148,7 +148,7 @@ pub(crate) fn of_names(
     of_types(alloc, found, list.as_slice())
 }
 
-/// The faults of some constants and objects, where these are the types.
+/// The faults of constants and objects, given the types.
 fn of_declared(
     alloc: Global,
     found: &mut FoundFaults,
@@ -163,7 +163,7 @@ fn of_declared(
     declare_all(alloc, found, &mut names, declared)
 }
 
-/// The faults of the constants and the objects of two lists, where these are the types.
+/// The faults of the constants and objects of two lists, given the types.
 fn of_lists<'t>(
     alloc: Global,
     found: &mut FoundFaults,
@@ -181,7 +181,7 @@ fn of_lists<'t>(
     of_declared(alloc, found, types, list.as_slice())
 }
 
-/// The faults of the constants and the objects, where these are the types.
+/// The faults of the constants and the objects, given the types.
 pub(crate) fn of_objects(
     alloc: Global,
     found: &mut FoundFaults,
@@ -197,7 +197,7 @@ pub(crate) fn of_objects(
     of_lists(alloc, found, types, constants, objects)
 }
 
-/// The faults of the types of the arguments of a predicate or a function.
+/// The faults of the argument types of a predicate or a function.
 fn of_arguments(
     alloc: Global,
     found: &mut FoundFaults,
@@ -212,7 +212,7 @@ fn of_arguments(
     unknown_types(alloc, found, &types.by_name, list.as_slice())
 }
 
-/// The predicates or functions that are declared before.
+/// The predicates or functions that were declared before.
 fn declared_again(
     alloc: Global,
     found: &mut FoundFaults,
@@ -234,7 +234,7 @@ fn declared_again(
     Ok(())
 }
 
-/// The faults of the types of the arguments of predicates or functions.
+/// The faults of the argument types of predicates or functions.
 fn of_all_arguments(
     alloc: Global,
     found: &mut FoundFaults,
@@ -250,7 +250,7 @@ fn of_all_arguments(
     Ok(())
 }
 
-/// The faults of the predicates or functions of a list, where these are the types.
+/// The faults of the predicates or functions of a list, given the types.
 pub(crate) fn of_declarations(
     alloc: Global,
     found: &mut FoundFaults,

@@ -1,4 +1,4 @@
-//! The faults of effects: of each literal and of each atom of a condition the first.
+//! The faults of effects: the first of each literal and of each atom of a condition.
 ghost use Rattle.std.specs.Prelude.{◌≡◌, ◌++◌, map, OnOk};
 ghost use Rattle.std.specs.List.{flat_map};
 ghost use Rattle.task_parts.specs.Scope.{known_over};
@@ -68,7 +68,7 @@ fn of_literals(
     Ok(())
 }
 
-/// The faults of a condition, and those of the literals under it.
+/// The faults of a condition and of the literals under it.
 fn conditional(
     alloc: Global,
     found: &mut FoundFaults,
@@ -87,7 +87,7 @@ fn conditional(
     of_literals(alloc, found, globals, variables, given)
 }
 
-/// The faults of a `forall`: those of its variables, or else those of its part.
+/// The faults of a `forall`: those of its variables, or if they have none, those of its part.
 #[cycle(effects)]
 fn each(
     alloc: Global,
@@ -110,7 +110,7 @@ fn each(
     Ok(())
 }
 
-/// The faults of the part of a `forall`, if its variables are right.
+/// The faults of the part of a `forall`, if its variables are valid.
 #[cycle(effects)]
 fn part_of(
     alloc: Global,
@@ -131,7 +131,7 @@ fn part_of(
     }
 }
 
-/// The faults of several effects together.
+/// The faults of several effects.
 #[cycle(effects)]
 fn of_parts(
     alloc: Global,
@@ -150,7 +150,7 @@ fn of_parts(
     Ok(())
 }
 
-/// The faults of an effect, where these variables are in scope. They are in scope after it again, and no other.
+/// The faults of an effect under these variables. Afterwards exactly the same variables are in scope again.
 #[cycle(effects)]
 pub(crate) fn of_effect(
     alloc: Global,

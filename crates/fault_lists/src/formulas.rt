@@ -1,4 +1,4 @@
-//! The faults of formulas: of each atom and each equality the first.
+//! The faults of formulas: the first of each atom and each equality.
 ghost use Rattle.std.specs.Prelude.{◌≡◌, ◌++◌, [], OnOk};
 ghost use Rattle.std.specs.List.{flat_map};
 ghost use Rattle.task_parts.specs.Scope.{known_over, BeginsWith};
@@ -51,8 +51,8 @@ fn types_of(
     unknown_types(alloc, found, &globals.types.by_name, list.as_slice())
 }
 
-/// Brings variables into scope, and gathers the faults of their types and the first of their other faults. It gives whether they
-/// have none.
+/// Brings variables into scope, and gathers the faults of their types and the first of their other faults. Returns whether there
+/// were none.
 pub(crate) fn bring(
     alloc: Global,
     found: &mut FoundFaults,
@@ -73,7 +73,7 @@ pub(crate) fn bring(
     Ok(walk.least.is_none())
 }
 
-/// The faults of a quantifier: those of its variables, or else those of its part.
+/// The faults of a quantifier: those of its variables, or if they have none, those of its part.
 #[cycle(formulas)]
 fn quantifier(
     alloc: Global,
@@ -96,7 +96,7 @@ fn quantifier(
     Ok(())
 }
 
-/// The faults of the part of a quantifier, if its variables are right.
+/// The faults of the part of a quantifier, if its variables are valid.
 #[cycle(formulas)]
 fn part_of(
     alloc: Global,
@@ -136,7 +136,7 @@ fn of_parts(
     Ok(())
 }
 
-/// The faults of a precondition or a goal, where these variables are in scope. They are in scope after it again, and no other.
+/// The faults of a precondition or a goal under these variables. Afterwards exactly the same variables are in scope again.
 #[cycle(formulas)]
 pub(crate) fn of_formula(
     alloc: Global,

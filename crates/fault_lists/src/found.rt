@@ -1,4 +1,4 @@
-//! Faults are gathered, walk by walk.
+//! A sorted collection of faults, filled walk by walk.
 ghost use Rattle.std.specs.Prelude.{◌≡◌, ◌≤◌, List, [], None, length, OnOk};
 ghost use Rattle.task_parts.specs.Walk.{found, least_of};
 ghost use Rattle.fault_lists.specs.FaultLists.{Adds, GathersAtMost};
@@ -9,13 +9,13 @@ use std::alloc::Global;
 use task_parts::Walk;
 use typing::{TaskFile, TaskRefusal};
 
-/// The most faults that are gathered.
+/// The maximum number of faults that are gathered.
 pub const MOST: usize = 1000;
 
-/// Faults of a pair of files, each once.
+/// Faults of a pair of files, without repetition.
 #[derive(Drop)]
 pub struct FoundFaults {
-    /// Those that are gathered, the domain's before the problem's, in the order of the text.
+    /// The faults: the domain's before the problem's, in the order of the text.
     pub gathered: Vec<TaskRefusal>,
 }
 
@@ -29,7 +29,7 @@ impl FoundFaults {
         }
     }
 
-    /// Gathers the least fault of a walk that began with none, if it found one that is not there yet.
+    /// Gathers the least fault of a walk that began without one, unless it is there already.
     pub(crate) fn gather(&mut self, walk: &Walk) -> Result<(), NoMemory>
         ensures { OnOk result ((faults : List TypingFault) → least_of walk.now ≡ found None faults → Adds self.old.gathered.items self.new.gathered.items faults) }
     {
@@ -39,7 +39,7 @@ impl FoundFaults {
         }
     }
 
-    /// Gathers a fault in its place, if it is not there yet and there is room.
+    /// Inserts a fault at its place, unless it is there already or the limit is reached.
     fn add(&mut self, fault: TaskRefusal) -> Result<(), NoMemory>
         ensures { OnOk result (GathersAtMost self.old.gathered.items self.new.gathered.items fault) }
     {
@@ -52,7 +52,7 @@ impl FoundFaults {
     }
 }
 
-/// The place before the first of the faults that comes after this one.
+/// The index before the first fault that comes after this one.
 fn place_of(gathered: &[TaskRefusal], fault: &TaskRefusal) -> usize
     ensures { result ≤ length gathered.now }
 {
@@ -62,7 +62,7 @@ fn place_of(gathered: &[TaskRefusal], fault: &TaskRefusal) -> usize
     }
 }
 
-/// Whether a fault comes before another: the domain's before the problem's, then by their starts, then by their numbers.
+/// The order of faults: the domain's before the problem's, then by start, then by number.
 fn comes_before(fault: &TaskRefusal, other: &TaskRefusal) -> bool {
     if fault.file != other.file {
         return fault.file == TaskFile::Domain;

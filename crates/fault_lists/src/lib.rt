@@ -1,6 +1,6 @@
-//! Lists the faults of a pair of files that do not follow from one another.
+//! Lists the independent faults of a pair of files.
 //!
-//! They are those of the first phase of typing that has any. Only `explain` needs more than the first.
+//! They are the faults of the first typing phase that has any. Only `explain` needs more than the first fault.
 #![tactic(auto)]
 
 mod actions;

@@ -17,7 +17,7 @@ use task::Predicate;
 use task_parts::{Globals, TypeTable};
 use typing::{DeclaredObjects, TaskFile, chains, declarations, functions, objects};
 
-/// The faults of actions, of the initial state and of the goal, where these are the declarations of the pair.
+/// The faults of actions, of the initial state and of the goal, given the declarations of the pair.
 fn of_uses(
     alloc: Global,
     types: &TypeTable,
@@ -51,7 +51,7 @@ fn of_uses(
     Ok(found)
 }
 
-/// The faults of the functions, or where they have none, those of what comes after them.
+/// The faults of the functions, or if they have none, those of the later phases.
 fn from_functions(
     alloc: Global,
     types: &TypeTable,
@@ -89,7 +89,7 @@ fn of_functions(
     Ok(found)
 }
 
-/// The faults of the predicates, or where they have none, those of what comes after them.
+/// The faults of the predicates, or if they have none, those of the later phases.
 fn from_predicates(
     alloc: Global,
     types: &TypeTable,
@@ -123,7 +123,7 @@ fn of_predicates(
     Ok(found)
 }
 
-/// The faults of the constants and the objects, or where they have none, those of what comes after them.
+/// The faults of the constants and objects, or if they have none, those of the later phases.
 fn from_objects(
     alloc: Global,
     types: &TypeTable,
@@ -168,19 +168,19 @@ fn of_types(
     Ok(found)
 }
 
-/// The faults of a pair that do not follow from one another. They are those of the first phase of typing that has any, where the
-/// actions, the initial state and the goal are one phase, since none of them rests on another:
+/// The independent faults of a pair: those of the first typing phase that has any. The actions, the initial state and the goal
+/// are a single phase, since they do not depend on each other:
 ///
-/// - of each declaration the first type that is not known, and each name that is declared again;
-/// - of the parameters of an action or the variables of a quantifier the first fault, and of each of them the first type that is not
-///   known; what is wrong below them only where they have none;
-/// - of each atom, equality and fact the first fault, and one of the increases of an action.
+/// - for each declaration the first unknown type, and each name that is declared again;
+/// - for the parameters of an action or the variables of a quantifier the first fault, and for each of them the first unknown
+///   type; faults below them only if they have none;
+/// - for each atom, equality and fact the first fault, and for the increases of an action one.
 ///
-/// Left out, though they may be the fault that is reported first, are cycles of types, what is one too many, the metric, and in
-/// the initial state a second start of the total cost and another value of a function. At most [`MOST`](crate::MOST) are gathered.
+/// Not listed, though any of them may be the first fault: cycles of types, exceeded limits, the metric, a second initial total
+/// cost, and a second value of a function. At most [`MOST`](crate::MOST) faults are gathered.
 ///
 /// # Errors
-/// Memory was refused.
+/// An allocation failed.
 pub fn listed_faults(
     alloc: Global,
     domain: &Domain<'_>,

@@ -29,7 +29,7 @@ fn of_ground_atom(
     found.gather(&walk)
 }
 
-/// That an atom is negated.
+/// Gathers the fault that an atom is negated.
 fn of_negated(
     alloc: Global,
     found: &mut FoundFaults,
@@ -43,7 +43,7 @@ fn of_negated(
     found.gather(&walk)
 }
 
-/// The first fault of the total cost at the start.
+/// The first fault of the initial total cost.
 fn of_initial_cost(
     alloc: Global,
     found: &mut FoundFaults,
@@ -89,7 +89,7 @@ fn of_fact(
     }
 }
 
-/// The first fault of each of some facts.
+/// The first fault of each of these facts.
 fn of_facts(
     alloc: Global,
     found: &mut FoundFaults,
@@ -105,7 +105,7 @@ fn of_facts(
     Ok(())
 }
 
-/// The faults of the initial state: of each of its facts the first.
+/// The faults of the initial state: the first of each fact.
 pub(crate) fn of_init(
     alloc: Global,
     found: &mut FoundFaults,

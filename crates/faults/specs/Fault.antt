@@ -70,7 +70,7 @@ names =
     (34, codes "StepType") ∷
     []
 
--- the name of this number in a list of names
+-- the name that a list of names has for this number
 abbrev pub name_in : List (ℕ × List ℕ) → ℕ → List ℕ
 name_in [] number = codes ""
 name_in ((n, name) ∷ rest) number = if n == number then name else name_in rest number

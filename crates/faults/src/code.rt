@@ -1,71 +1,71 @@
-//! What is wrong with a text: its number and its name.
+//! What is wrong with a text: fault codes, their numbers and names.
 ghost use Rattle.std.specs.Prelude.{◌≡◌};
 ghost use Rattle.faults.specs.Fault.{name_in, names, number_of};
 
 use std::fmt;
 
-/// What is wrong with a text. The number of a code is the one that the program prints.
+/// What is wrong with a text. The discriminant is the number that the program prints.
 #[derive(Clone, Copy, Debug, PartialEq, Eq, Drop)]
 pub enum Code {
     /// A byte that is neither blank nor printable ASCII, outside comments.
     BadByte = 1,
-    /// A run of printable bytes that is no word.
+    /// A run of printable bytes that is not a word.
     BadWord = 2,
-    /// A `)` that closes nothing, or a list that is open at the end.
+    /// A `)` without a `(`, or a list still open at the end.
     Unbalanced = 3,
-    /// A `(` that makes the depth 65.
+    /// A `(` that opens a list at depth 65.
     TooDeep = 4,
     /// A text over 16,777,216 bytes, or a run over 255 bytes.
     TooLong = 5,
     /// A word after the parenthesis that closed the first list.
     Trailing = 6,
-    /// A word that no file goes on with, or a text that ends too early.
+    /// An unexpected word, or unexpected end of file.
     BadForm = 7,
-    /// A keyword that is no section or part.
+    /// A keyword that names no section or part.
     UnknownSection = 8,
-    /// A section or part that is a second time.
+    /// A repeated section or part.
     RepeatedSection = 9,
-    /// A list that closes before a section or part that it needs.
+    /// A list that closes before a required section or part.
     MissingSection = 10,
-    /// A keyword in `:requirements` that is not known.
+    /// An unknown keyword in `:requirements`.
     UnknownRequirement = 11,
-    /// A form of PDDL that is left out here.
+    /// A PDDL construct outside the supported language.
     LeftOut = 12,
     /// A number over 2,147,483,647.
     NumberTooLarge = 13,
-    /// A type that is neither `object` nor declared.
+    /// An undeclared type other than `object`.
     UnknownType = 14,
-    /// A type whose chain of parents comes back to it.
+    /// A type that is its own ancestor.
     TypeCycle = 15,
-    /// A name that was declared before.
+    /// A name that is already declared.
     Duplicate = 16,
-    /// A predicate, variable or object that is not known where it is.
+    /// An unknown predicate, variable or object.
     UnknownName = 17,
-    /// A predicate with a count of terms that differs from its declaration.
+    /// A predicate with the wrong number of terms.
     WrongArity = 18,
-    /// A term whose type does not fit its argument.
+    /// A term whose type does not fit the argument.
     WrongType = 19,
-    /// A variable of a quantifier whose name is in scope already.
+    /// A quantified variable whose name is already in scope.
     Shadowed = 20,
-    /// A problem of another domain.
+    /// A problem for another domain.
     DomainMismatch = 21,
-    /// A metric of the total cost, which the domain does not declare.
+    /// A `total-cost` metric where the domain declares no total cost.
     BadMetric = 22,
-    /// A total cost that the domain does not declare, that does not begin at 0, or that is a second time.
+    /// A total cost that is undeclared, does not start at 0, or is set or increased twice.
     BadCost = 23,
     /// A negated fact in the initial state.
     NegativeInit = 24,
-    /// One more than a limit allows.
+    /// The first item beyond a limit.
     TooMany = 25,
-    /// A plan text that is no list of steps.
+    /// A plan text that is not a list of steps.
     PlanForm = 30,
-    /// A time stamp outside of steps: a run that begins with a digit, `.` or `[`.
+    /// A time stamp outside a step: a run that begins with a digit, `.` or `[`.
     TimedStep = 31,
-    /// A step of an action that is not declared.
+    /// A step that names an undeclared action.
     UnknownAction = 32,
-    /// A step whose count of objects is not that of the action's parameters.
+    /// A step with the wrong number of objects for its action.
     StepArity = 33,
-    /// A step of an object that is not declared, or not of its parameter's type.
+    /// A step with an undeclared object, or one that is not of its parameter's type.
     StepType = 34,
 }
 
@@ -77,7 +77,7 @@ impl Code {
         self as u8
     }
 
-    /// The name that the program prints beside the number: that of the variant.
+    /// The name that the program prints beside the number: the variant's name.
     pub fn name(self) -> &'static str
         ensures { result.now ≡ name_in names (number_of self) }
     {

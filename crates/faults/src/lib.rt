@@ -1,4 +1,4 @@
-//! The refusals of texts, with their numbers and places, and running out of memory.
+//! Faults of texts, by number and place, and the error for running out of memory.
 #![tactic(auto)]
 
 mod code;

@@ -1,4 +1,4 @@
-//! What a call says that refuses a text, and running out of memory beside it.
+//! Why a call refuses a text, or cannot answer for want of memory.
 use crate::code::Code;
 use std::alloc::{AllocError, AllocFailed};
 use thiserror::Error;
@@ -12,7 +12,7 @@ pub struct Span {
     pub end: usize,
 }
 
-/// A text is refused by this code, for what is at this place of it.
+/// The refusal of a text: its code and its place.
 #[derive(Clone, Copy, Debug, PartialEq, Eq)]
 pub struct TextRefusal {
     /// What is wrong.
@@ -21,7 +21,7 @@ pub struct TextRefusal {
     pub span: Span,
 }
 
-/// Memory that was asked for was refused. It says nothing about the text.
+/// An allocation failed. This says nothing about the text.
 #[derive(Clone, Copy, Debug, PartialEq, Eq, Error)]
 #[error("out of memory")]
 pub struct NoMemory;
@@ -38,16 +38,16 @@ impl<T: Drop> From<AllocFailed<T>> for NoMemory {
     }
 }
 
-/// Why a call that takes memory did not succeed: it refuses what it was given, or memory was refused.
+/// Why a call that allocates fails: it refuses its input, or memory ran out.
 #[derive(Clone, Copy, Debug, PartialEq, Eq, Drop)]
 pub enum Refused<R> {
-    /// This is refused, and why.
+    /// The input is refused, for this reason.
     At(R),
-    /// Memory that was asked for was refused. It says nothing about what was given.
+    /// An allocation failed. This says nothing about the input.
     NoMemory,
 }
 
-/// Why a text was not read.
+/// Why a text could not be read.
 pub type Fault = Refused<TextRefusal>;
 
 impl<R> From<NoMemory> for Refused<R> {

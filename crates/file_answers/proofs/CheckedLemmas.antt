@@ -1,4 +1,4 @@
--- What is reported for the inputs of a check, and of the plan that is given.
+-- Faults of the inputs of a check, and of the given plan.
 use Rattle.std.proofs.Common.{◌≡◌, ℕ, List, sym, subst}
 use Rattle.std.specs.Prelude.{Option, None, Some, IfSome, Result, Ok, Err, IfErr}
 use Rattle.model.specs.Task.{Task, Instance}
@@ -9,7 +9,7 @@ use Rattle.file_answers.specs.Inputs.{IsGiven, IsInputFault}
 use Rattle.file_answers.specs.Files.{reported_in}
 use Rattle.file_answers.proofs.FilesRead.{none_reported, none_reported_of_task}
 
--- the text of a plan, or none, is given
+-- the text of a plan is given, or none
 pub none_given : (task : Task) (text : Option (List ℕ)) → text ≡ None → IsGiven task text None
 none_given task text is = subst (λ text. IsGiven task text None) (sym is) tt
 
@@ -21,7 +21,7 @@ module _ (domain problem : List ℕ) where
       → IfSome o (IsInputFault domain problem text)
   plan_input text plan handed o h = subst (λ text. IfSome o (IsInputFault domain problem text)) (sym handed) h
 
-  -- nothing is reported where they are a task, and a plan for it if one is given
+  -- no fault is reported for a task, and a plan for it if one is given
   pub none_reported_of_inputs : (plan : Option (List ℕ)) (o : Option FileFault) → IfSome o (IsInputFault domain problem plan)
       → (task : Task) (steps : Option (List Instance)) → IsTaskOf domain problem task → IsGiven task plan steps → o ≡ None
   none_reported_of_inputs None o h task None is handed = none_reported_of_task domain problem o h task is
@@ -29,7 +29,7 @@ module _ (domain problem : List ℕ) where
   none_reported_of_inputs (Some plan) o h task None is handed = absurd handed
   none_reported_of_inputs (Some plan) o h task (Some steps) is handed = none_reported domain problem plan o h task steps (record { is_task = is; is_plan = handed })
 
-  -- the same of what a call answered
+  -- the same for the result of a call
   pub none_reported_of_inputs_in : {T : Type 0} (plan : Option (List ℕ)) (r : Result T file.FileFault) → IfErr r (λ fault. IfSome (reported_in fault) (IsInputFault domain problem plan))
       → (task : Task) (steps : Option (List Instance)) → IsTaskOf domain problem task → IsGiven task plan steps → IfErr r (λ fault. reported_in fault ≡ None)
   none_reported_of_inputs_in plan (Ok checked) h task steps is handed = tt

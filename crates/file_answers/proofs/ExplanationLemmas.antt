@@ -1,4 +1,4 @@
--- What is found out of files is what is explained of them, and the lines say it.
+-- The result for the files is the subject of the explanation, and the lines state it.
 use Rattle.std.proofs.Common.{◌≡◌, ℕ, ◌<◌, ◌≤◌, ◌-◌, List, [], ◌∷◌, get_or, length, map, Option, Some, None, IfSome, refl, ap, sym, ◌∙◌, subst, arith}
 use Rattle.std.proofs.lemmas.Option.{slice_get_within}
 use Rattle.std.specs.Prelude.{All, Result, Ok, Err, IfOk, IsSomeAnd}
@@ -45,14 +45,14 @@ use Rattle.explained_plans.specs.declared.explanations.PlanExplanation.{PlanExpl
 abbrev pub AreAmong : Files → NamedTexts → Type 0
 AreAmong files texts = (file : File) → IfSome (file_in files file) (λ named. named ≡ in_texts texts file)
 
--- no fault is told
+-- no further fault is reported
 none_told : (files : Files) (further : List FurtherFault) → further ≡ [] → All (IsToldIn files) further
 none_told files further none = subst (All (IsToldIn files)) (sym none) (λ k f below. absurd (omega (arith, below)))
 
 -- ---- a fault
 
 module _ (texts : NamedTexts) (files : Files) (among : AreAmong files texts) where
-  -- a fault that is told of the texts is told of the files
+  -- a fault reported for the texts is reported for the files
   told_in : (f : FurtherFault) → IsToldOf texts.domain.text.now texts.problem.text.now (name_in texts f.fault.file) (bytes_in texts f.fault.file) f → IsToldIn files f
   told_in f told = by_file (file_in files f.fault.file) (among f.fault.file)
     where
@@ -106,7 +106,7 @@ all_among texts kind.Domain = refl
 all_among texts kind.Problem = refl
 all_among texts kind.Plan = refl
 
--- the files that are given are among the texts that are made of them
+-- the given files are among the texts made from them
 module _ (texts : NamedTexts) (domain problem : NamedText) (same_domain : texts.domain ≡ domain) (same_problem : texts.problem ≡ problem) where
   plan_among : (plan : Option NamedText) → IfSome plan (λ named. texts.plan ≡ named)
       → IfSome (option_map named_of plan) (λ named. named ≡ in_texts texts kind.Plan)
@@ -144,14 +144,14 @@ module _ (texts : NamedTexts) (domain problem : NamedText) (same_domain : texts.
 
 -- ---- the verdict on a plan
 
--- the steps of a text are as many as the instances that they name
+-- each step of a text names one instance: the two lists have the same length
 all_mean_length : (task : model.Task) (steps : List Step) (plan : List model.Instance) → AllMean task steps plan → length steps ≡ length plan
 all_mean_length task [] [] mean = refl
 all_mean_length task [] (i ∷ plan) mean = absurd mean
 all_mean_length task (step ∷ steps) [] mean = absurd mean
 all_mean_length task (step ∷ steps) (i ∷ plan) mean = let rest = all_mean_length task steps plan mean.1 in cc
 
--- a step that is not applicable is one of the text's
+-- an inapplicable step is a step of the text
 pub step_of_text : (task : model.Task) (text : List ℕ) (plan : List model.Instance) (verdict : runs.Verdict) → IsPlanText task text plan
     → IsVerdict (system_of task) plan verdict → IsStepOf text verdict
 step_of_text task text plan (runs.valid cost) is_plan is = tt
@@ -162,7 +162,7 @@ step_of_text task text plan (runs.not_applicable n) (steps, has, mean) is =
     (steps, has, from_one, omega arith)
 step_of_text task text plan runs.goal_missed is_plan is = tt
 
--- what is found of it is its span
+-- the span found for it is its span
 found_at : (text : List ℕ) (step : ℕ) (parts : List Part) → AreParts text parts → (found : Option Span)
     → IsSomeAnd found (λ span. IsStepPlace (placed_from 0 parts) step (span_of span)) → IsSomeAnd found (IsStepAt text step)
 found_at text step parts cut None is = absurd is
@@ -177,7 +177,7 @@ step_found text verdict step found is within placed =
     subst (λ (v : Verdict). IsStepFound text (verdict_of v) found) (sym is)
     (found_at text step here.1.parts here.1.cut found (placed here.1.parts here.0 here.1.cut here.1.steps_of_parts here.2 here.3))
 
--- and the location is that span's
+-- and the location is that of the span
 pub step_located : (file : Named) (verdict : runs.Verdict) (found : Option Span) (at : Option Location) → IsStepFound file.text verdict found
     → IsLocatedIf file found at → IsStepLocated file verdict at
 step_located file (runs.valid cost) found at is located = tt
@@ -186,7 +186,7 @@ step_located file (runs.not_applicable step) (Some span) at is located = (span, 
 step_located file runs.goal_missed found at is located = tt
 
 module _ (task : model.Task) (names : VariableNames) (steps : List model.Instance) where
-  -- what is told of what is explained is true where that is
+  -- what is reported of the subject is true if the subject is
   pub explained_told : (file : Named) (explained : PlanExplanation) → IsVerdict (system_of task) steps (plans.verdict_of explained)
       → IsExplained task names steps explained → (r : Result Explanation NoMemory) → IfOk r (IsPlanTold task steps file explained)
       → IfOk r (IsVerdictExplained task names steps file)
@@ -254,7 +254,7 @@ module _ (task : model.Task) (most : ℕ) where
     summary_true : (e : Explanation) → IsTaskExplained task most e → IsTrueOf domain problem None most e.subject
     summary_true e is = subst (IsTrueOf domain problem None most) (sym is.subject) (task, is_task, is.is_held)
 
-    -- where no plan is given
+    -- if no plan is given
     pub task_explained : (plan : Option (List ℕ)) → plan ≡ None → (r : Result Explanation NoMemory)
         → IfOk r (IsTaskExplained task most) → IfOk r (λ e. IsTrueOf domain problem plan most e.subject)
     task_explained plan none (Ok e) is = subst (λ (plan : Option (List ℕ)). IsTrueOf domain problem plan most e.subject) (sym none) (summary_true e is)

@@ -1,4 +1,4 @@
--- From texts to their task: what is reported for two texts, and that nothing is reported for two that are a task.
+-- From texts to their task: the fault of two texts, and that there is none for two texts that are a task.
 use Rattle.std.proofs.Common.{◌≡◌, ℕ, List, Option, Some, None, IfSome, sym, refl, ap, ◌∙◌, subst}
 use Rattle.std.specs.Prelude.{Result, Ok, Err, IfErr}
 use Rattle.std.specs.Option.{option_map}
@@ -28,7 +28,7 @@ use Rattle.file_answers.specs.Files.{reported_in, reported_of_pair}
 use Rattle.file_answers.specs.Inputs.{IsInputFault}
 use Rattle.plan_file.proofs.PlanSteps.{no_fault_of_plan}
 
--- what is reported, where it is known
+-- what is reported, if it is known
 pub reported_more_in : (P Q : FileFault → Type 0) (o : Option FileFault) → ((fault : FileFault) → P fault → Q fault) → IfSome o P → IfSome o Q
 reported_more_in P Q None f h = tt
 reported_more_in P Q (Some fault) f h = f fault h
@@ -37,12 +37,12 @@ reported_none_in : (P : FileFault → Type 0) (o : Option FileFault) → IfSome 
 reported_none_in P None h never = refl
 reported_none_in P (Some fault) h never = absurd (never fault h)
 
--- running out of memory is no refusal of a text
+-- running out of memory does not refuse a text
 pub none_refused : {T : Type 0} (P : FileFault → Type 0) (r : Result T file.FileFault) → IfErr r (λ fault. reported_in fault ≡ None) → IfErr r (λ fault. IfSome (reported_in fault) P)
 none_refused P (Ok found) h = tt
 none_refused P (Err fault) h = subst (λ o. IfSome o P) (sym h) tt
 
--- What is reported for one text.
+-- The fault reported for one text.
 pub words_refused : (kind : TaskFile) (text : List ℕ) (o : Option Fault) → IfSome o (IsReported text) → IfSome o (IsTextFault kind text)
 words_refused kind text None h = tt
 words_refused kind text (Some fault) h = of_words h
@@ -69,7 +69,7 @@ problem_of_text : (text : List ℕ) (p q : Problem) → IsProblemText text p →
 problem_of_text text p q h g =
     one_problem (tokens_of g.words) p q (subst (λ ws. IsProblem (tokens_of ws) p) (one_reading_lem text h.words g.words h.reads g.reads) h.tree) g.tree
 
--- Two texts are at most one task, and nothing is reported for two that are one.
+-- Two texts are at most one task, and no fault is reported for texts that are one.
 module _ (domain problem : List ℕ) where
   pub one_task : (task other : Task) → IsTaskOf domain problem task → IsTaskOf domain problem other → task ≡ other
   one_task task other h g =
@@ -96,7 +96,7 @@ module _ (domain problem : List ℕ) where
   pub none_reported : (plan : List ℕ) (o : Option FileFault) → IfSome o (IsFileFault domain problem plan) → (task : Task) (steps : List Instance) → AreRead domain problem plan task steps → o ≡ None
   none_reported plan o h task steps are = reported_none_in (IsFileFault domain problem plan) o h (λ reported. no_file_fault plan task steps reported are)
 
-  -- the same of what a call answered
+  -- the same for the result of a call
   pub none_reported_in : {T : Type 0} (plan : List ℕ) (r : Result T file.FileFault) → IfErr r (λ fault. IfSome (reported_in fault) (IsFileFault domain problem plan)) → (task : Task) (steps : List Instance) → AreRead domain problem plan task steps → IfErr r (λ fault. reported_in fault ≡ None)
   none_reported_in plan (Ok verdict) h task steps are = tt
   none_reported_in plan (Err fault) h task steps are = none_reported plan (reported_in fault) h task steps are

@@ -1,4 +1,4 @@
--- Faults that are told beside the first, and their lines.
+-- Further faults, and their lines.
 use Rattle.std.proofs.Common.{◌≡◌, ◌∙◌, ◌≤◌, ℕ, zero, suc, true, List, [], ◌∷◌, ◌++◌, codes, length, Option, None, Some, IfSome, ap, sym, arith, if◌then◌else◌}
 use Rattle.std.proofs.lemmas.Bool.Decides.{nat_tests}
 use Rattle.std.proofs.lemmas.List.{append_assoc}
@@ -13,17 +13,17 @@ use Rattle.file_answers.specs.FurtherFaults.{AreFurther, IsToldOf, further_text}
 use Rattle.file_answers.specs.declared.explanation.FurtherFault.{FurtherFault}
 use Rattle.file_answers.specs.declared.explanation.Location.{Location}
 
--- a text that goes on begins as before
+-- a text that is extended begins as before
 pub begins_before : (new old beginning more : List ℕ) → new ≡ old ++ more → BeginsWith old beginning → BeginsWith new beginning
 begins_before new old beginning more is (rest, was) = (rest ++ more, is ∙ ap (λ t. t ++ more) was ∙ append_assoc beginning rest more)
 
--- and so says what it said
+-- and so it states what it stated
 pub says_before : (at : Option Location) (beginning : Location → List ℕ) (new old more : List ℕ) → new ≡ old ++ more
     → IfSome at (λ at. BeginsWith old (beginning at)) → IfSome at (λ at. BeginsWith new (beginning at))
 says_before None beginning new old more is says = tt
 says_before (Some at) beginning new old more is says = begins_before new old (beginning at) more is says
 
--- one fault more is told
+-- one more fault is reported
 pub one_more_told : (texts : NamedTexts) (told : List FurtherFault) (f : FurtherFault)
     → IsToldOf texts.domain.text.now texts.problem.text.now (name_in texts f.fault.file) (text_in texts f.fault.file) f
     → AreFurther texts told → AreFurther texts (told ++ f ∷ [])
@@ -34,7 +34,7 @@ one_more_told texts told f here are =
     alone zero d below = here
     alone (suc k) d below = absurd (omega (arith, below))
 
--- the lines of as many faults as are told at most
+-- the lines of the maximum number of faults
 pub many_told : (further : List FurtherFault) (text : List ℕ) → 20 ≤ length further
     → text ≡ flat_map (λ (f : FurtherFault). codes "\n" ++ string_bytes f.text) further ++ codes "\nthere may be more faults: mend these first\n" → text ≡ further_text further
 many_told further text many is =

@@ -1,4 +1,4 @@
--- The exchanges that a certificate can name are the task's, and no line of one is too long.
+-- The exchanges that a certificate can name belong to the task, and none of their lines is too long.
 use Rattle.std.proofs.Common.{◌≡◌, ◌+◌, ◌*◌, ◌≤◌, ◌&&◌, ℕ, Bool, true, List, [], ◌∷◌, length, map, Option, None, Some, refl, ap, ◌∙◌, arith, le-leb, leb-true, length-append, codes}
 use Rattle.std.specs.Prelude.{IsTrue, nat_le, slice_get}
 use Rattle.std.specs.List.{list_all, flat_map}

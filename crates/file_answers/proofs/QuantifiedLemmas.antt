@@ -1,4 +1,4 @@
--- The names of the variables of quantifiers, part by part.
+-- The names of quantified variables, part by part.
 use Rattle.std.proofs.Common.{◌≡◌, ℕ, ◌+◌, ◌<◌, List, [], ◌∷◌, ◌++◌, length, map, take, refl, ap, sym, ◌∙◌, append_assoc, append-nil}
 use Rattle.std.specs.Prelude.{get_or}
 use Rattle.std.proofs.lemmas.Grind.{flat_map-append}
@@ -31,7 +31,7 @@ module _ (f : Formula) (parts : Vec Formula) (items : List Formula) where
       ap (λ g. quantified_names (formula_of g)) is ∙ ap quantified_names (formula_of-Or parts) ∙ each_part parts.items
       ∙ ap (flat_map (λ part. quantified_names (formula_of part))) (sym same)
 
--- ---- what a quantifier declares
+-- ---- the declarations of a quantifier
 
 abbrev texts_in : List Name → List task.Name
 texts_in = map (λ (n : Name). n.text.now)

@@ -1,5 +1,5 @@
--- What is true of a certificate for the task of two texts, and for the plan of a third one if that is given: by what came
--- of the certificate to a reader, and by its whole text.
+-- What holds of a certificate for the task of two texts, and for the plan of a third if that is given: by what a reader has read
+-- of the certificate, and by its whole text.
 use Rattle.std.specs.Prelude.{◌≡◌, ℕ, ◌⊎◌, List, Option, None, Some, Result, Ok, Err, IfOk, IfErr}
 use Rattle.certificate_definitions.specs.CertificateText.{TextLine, text_of}
 use Rattle.certificate_definitions.specs.CertificateNames.{IsTextOf}
@@ -19,7 +19,7 @@ use Rattle.model.specs.Grounding.{exceeded_limit}
 use Rattle.certificate_definitions.specs.Certificates.{Certificate}
 use Rattle.file_answers.specs.Inputs.{IsGiven}
 
--- The answer is true of what came to the reader, for this task and the plan that this text is, if one is given.
+-- The answer is correct for what the reader has read, for this task and the plan in this text, if one is given.
 pub record IsChecked {R : Type 0} (remaining : R → Option (List ℕ)) (task : Task) (first now : CertReader R) (text : Option (List ℕ)) (most : ℕ) (answer : Result Accepted Refusal) : Type 0 where
   pub plan : Option (List Instance)
   pub given : IsGiven task text plan
@@ -28,22 +28,22 @@ pub record IsChecked {R : Type 0} (remaining : R → Option (List ℕ)) (task : 
   pub accepts : (cert : List ℕ) → remaining (source_of first) ≡ Some cert → IsAccepted task cert plan → IfErr answer IsNoFault
   pub refused : IfErr answer (Refuses remaining task first now plan most)
 
--- The text is that of a certificate which is accepted, and the ground task keeps its limits; the answer is the one to the
--- claim, and what it shows is true.
+-- The text is that of an accepted certificate, and the ground task is within its limits; the answer is the one to the claim, and
+-- what it shows is true.
 pub record IsAcceptedAs (task : Task) (text : List ℕ) (plan : Option (List Instance)) (most : ℕ) (answer : Accepted) : Type 0 where
   pub accepted : IsAccepted task text plan
   pub within : exceeded_limit most max_numbered_atoms task accepted.certificate.atoms ≡ None
   pub answers : Answers accepted.certificate.claim plan answer
   pub shown : IsShown task plan answer
 
--- The text is that of this certificate, and nothing is wrong with any of its lines.
+-- The text is that of this certificate, and each of its lines is right.
 pub record IsRightText (task : Task) (text : List ℕ) (c : Certificate) : Type 0 where
   pub is_text : IsTextOf task text c
   pub lines : List TextLine
   pub text_is : text ≡ text_of lines
   pub right : AreRight task lines
 
--- the refusal is that of the text's first line at fault, of which none is reported with a limit
+-- the refusal is that of the text's first faulty line; a limit is reported without its line
 abbrev pub IsAtLine : Task → (text : List ℕ) → Refusal → Type 0
 IsAtLine task text (refusal.Line code line) = IsLineFault task text (number_of code) line
 IsAtLine task text (refusal.Unfair i) = ⊥
@@ -53,13 +53,13 @@ IsAtLine task text refusal.NoMemory = ⊥
 IsAtLine task text refusal.Device = ⊥
 IsAtLine task text refusal.Failed = ⊥
 
--- The refusal is so; or nothing is wrong with any line, and of the certificate the refusal is true, and the first.
+-- This is the refusal; or each line is right, and the refusal is true of the certificate and the first one.
 abbrev pub IsRefusedAs : Task → (text : List ℕ) → Option (List Instance) → (most : ℕ) → Refusal → Type 0
 IsRefusedAs task text plan most refusal =
     IsAtLine task text refusal
     ⊎ ((c : Certificate) × IsRightText task text c × IsTrueRefusal task c plan most refusal × IsFirstRefusal task c plan most refusal)
 
--- the answer is true of this text of a certificate
+-- the answer is correct for this text of a certificate
 abbrev pub IsTrueCheck : Task → (text : List ℕ) → Option (List Instance) → (most : ℕ) → Result Accepted Refusal → Type 0
 IsTrueCheck task text plan most (Ok answer) = IsAcceptedAs task text plan most answer
 IsTrueCheck task text plan most (Err refusal) = IsRefusedAs task text plan most refusal

@@ -1,4 +1,4 @@
--- What the lines of an explanation say of its subject, and which place its location is.
+-- What the lines of an explanation say about its subject, and what its location is.
 use Rattle.std.specs.Prelude.{◌≡◌, ℕ, ◌-◌, List, [], ◌++◌, codes, flat_map, map, unwrap_or, All, Option, Some, IfSome, IsSomeAnd}
 use Rattle.std.specs.Fmt.{decimal}
 use Rattle.std.specs.Option.{option_map}
@@ -35,7 +35,7 @@ use Rattle.model.specs.PlanText.{placed_from}
 use Rattle.model.specs.Runs.{Verdict, valid, not_applicable, goal_missed}
 use Rattle.model.specs.Words.{AreParts, Part}
 
--- a file: its name, as it was given, and its text
+-- a file: its name, as given, and its text
 pub record Named : Type 0 where
   pub name : List ℕ
   pub text : List ℕ
@@ -52,7 +52,7 @@ named_of named = record { name = named.name.now; text = named.text.now }
 abbrev pub files_of : (domain problem : NamedText) → (plan : Option NamedText) → Files
 files_of domain problem plan = record { domain = named_of domain; problem = named_of problem; plan = option_map named_of plan }
 
--- the file of this name that has this text, where one has
+-- the file with this name and this text, if there is one
 abbrev pub named_as : (name text : Option (List ℕ)) → Option Named
 named_as name = option_map (λ (text : List ℕ). record { name = unwrap_or name []; text = text })
 
@@ -61,42 +61,42 @@ file_in files file.Domain = Some files.domain
 file_in files file.Problem = Some files.problem
 file_in files file.Plan = files.plan
 
--- ---- where it is
+-- ---- locations
 
 abbrev pub place_in : Location → LineColumn
 place_in at = record { line = at.line; column = at.column }
 
--- the location is that of this span of the file: its name, the place of the span's first byte, and how many bytes it has
+-- the location is that of this span of the file: its name, the place of the span's first byte, and the span's length
 pub record IsLocated (file : Named) (span : Span) (at : Location) : Type 0 where
   pub name : string_bytes at.file ≡ file.name
   pub place : IsPlace file.text span.start (place_in at)
   pub length : at.length ≡ span.end - span.start
 
--- the span is that of the step of this number, counted from 1, from its `(` to its `)`
+-- the span is that of the step with this number, counted from 1, from its `(` to its `)`
 abbrev pub IsStepAt : (text : List ℕ) → (step : ℕ) → Span → Type 0
 IsStepAt text step span = (parts : List Part) × AreParts text parts × IsStepPlace (placed_from 0 parts) step (span_of span)
 
--- of a step that is not applicable the location is its span's
+-- for an inapplicable step the location is that of its span
 abbrev pub IsStepLocated : Named → Verdict → Option Location → Type 0
 IsStepLocated file (valid cost) at = Unit {0}
 IsStepLocated file (not_applicable step) at = (span : Span) × IsStepAt file.text step span × IsSomeAnd at (IsLocated file span)
 IsStepLocated file goal_missed at = Unit {0}
 
--- of a fault it is its span's
+-- for a fault it is that of its span
 abbrev pub IsSubjectLocated : Files → Subject → Option Location → Type 0
 IsSubjectLocated files (Fault file code span) at = IfSome (file_in files file) (λ named. IsSomeAnd at (IsLocated named span))
 IsSubjectLocated files (Plan verdict) at = IfSome files.plan (λ named. IsStepLocated named (verdict_of verdict) at)
 IsSubjectLocated files (Task holds grounded) at = Unit {0}
 
--- ---- what the lines say
+-- ---- lines
 
--- what comes before a step that is not applicable: the file, the line and the column
+-- what comes before an inapplicable step: the file, the line and the column
 abbrev pub place_text : Location → List ℕ
 place_text at = string_bytes at.file ++ (codes ":" ++ (decimal at.line ++ (codes ":" ++ (decimal at.column ++ codes ": "))))
 
--- What the lines say of these steps of the task, of which this is explained. Of a plan that solves they end with the line of its cost. Of
--- a step that is not applicable they are its place, its line, the line of the file with marks, and why it is not; of a missed goal they
--- are its line and why it is.
+-- The lines for these steps of the task, with this explanation. For a plan that solves the task they end with the line of its
+-- cost. For an inapplicable step they are its place, its line, the line of the file with marks, and the reasons; for a missed
+-- goal they are its line and the reasons.
 abbrev pub SayPlan : Option Location → model.Task → List model.Instance → PlanExplanation → (lines : List ℕ) → Type 0
 SayPlan at task steps (Solves costs total) lines = (before : List ℕ) × (lines ≡ before ++ verdict_line task steps (valid total))
 SayPlan at task steps (NotApplicable step lacks_cost reasons) lines =
@@ -104,8 +104,8 @@ SayPlan at task steps (NotApplicable step lacks_cost reasons) lines =
     ++ (marks ++ utf8_lossy (step_reasons_text task steps step lacks_cost reasons)))))
 SayPlan at task steps (GoalMissed reasons) lines = lines ≡ verdict_line task steps goal_missed ++ utf8_lossy (reasons_text task steps reasons)
 
--- The lines are those of a plan of this text: of its steps, with what is true of them, and why. The variables of quantifiers have the
--- names that they have in the files.
+-- The lines are those for the plan in this text: its steps, the verdict, and the reasons. Quantified variables have their names
+-- from the files.
 pub record IsPlanSaid (files : Files) (text : List ℕ) (verdict : Verdict) (at : Option Location) (lines : List ℕ) : Type 0 where
   pub task : model.Task
   pub steps : List model.Instance
@@ -115,7 +115,7 @@ pub record IsPlanSaid (files : Files) (text : List ℕ) (verdict : Verdict) (at 
   pub same : explained_verdict explained ≡ verdict
   pub says : SayPlan at task steps explained lines
 
--- the line of what grounding makes of a task
+-- the line for the outcome of grounding
 abbrev pub grounded_line : Grounded → List ℕ
 grounded_line (Within instances atoms) =
     codes "instances kept " ++ (decimal instances ++ (codes ", atoms numbered " ++ (decimal atoms ++ codes "\n")))
@@ -126,25 +126,25 @@ grounded_line (Beyond limit.Atoms) = codes "unknown atoms\n"
 abbrev pub on_lines : List (List ℕ) → List ℕ
 on_lines = flat_map (λ (text : List ℕ). text ++ codes "\n")
 
--- The lines say what is explained: of a fault they begin with its file, its line and column, its number and its name; of a plan they
--- have the verdict and why; and of a task they are what it holds, what grounding makes of it, and its notes.
+-- The lines state the explanation: for a fault they begin with its file, its line and column, its number and its name; for a plan
+-- they have the verdict and the reasons; and for a task they are its summary, the outcome of grounding, and its notes.
 abbrev pub SaySubject : Files → Subject → Option Location → (notes : List (List ℕ)) → (lines : List ℕ) → Type 0
 SaySubject files (Fault file code span) at notes lines =
     IfSome at (λ at. BeginsWith lines (heading (string_bytes at.file) (place_in at) code))
 SaySubject files (Plan verdict) at notes lines = IfSome files.plan (λ named. IsPlanSaid files named.text (verdict_of verdict) at lines)
 SaySubject files (Task holds grounded) at notes lines = lines ≡ summary_text holds ++ (grounded_line grounded ++ on_lines notes)
 
--- a fault beside the first is one of the domain and the problem, and its lines say it
+-- a further fault is one of the domain and the problem, and its lines state it
 abbrev pub IsToldIn : Files → FurtherFault → Type 0
 IsToldIn files f = IfSome (file_in files f.fault.file) (λ named. IsToldOf files.domain.text files.problem.text named.name named.text f)
 
--- the lines of a fault end with theirs; of what is no fault, none are told
+-- the lines of a fault end with those of the further faults; there are none for a subject that is not a fault
 abbrev pub SayFurther : Subject → List FurtherFault → (lines : List ℕ) → Type 0
 SayFurther (Fault file code span) further lines = EndsWith lines (further_text further)
 SayFurther (Plan verdict) further lines = further ≡ []
 SayFurther (Task holds grounded) further lines = further ≡ []
 
--- The location is the subject's, and the lines say it. The faults that are told beside a first one are of the files.
+-- The location is that of the subject, and the lines state it. The further faults are faults of the files.
 pub record IsSaidOf (files : Files) (e : Explanation) : Type 0 where
   pub located : IsSubjectLocated files e.subject e.location
   pub lines : SaySubject files e.subject e.location (map string_bytes e.notes.items) (string_bytes e.text)

@@ -1,4 +1,4 @@
--- What an explanation of some files is about.
+-- The subject of an explanation of files.
 use Rattle.std.specs.Prelude.{◌≡◌, ℕ, ◌≤◌, List, [], ◌++◌, length, map, Option, None, Some, IfSome, IsSomeAnd}
 use Rattle.std.specs.Option.{option_map}
 use Rattle.std.specs.String.{string_bytes}
@@ -42,24 +42,24 @@ use Rattle.model.specs.StaticallyFalse.{kept_instances}
 use Rattle.model.specs.NumberedAtoms.{numbered_atoms}
 use Rattle.model.specs.Grounding.{exceeded_limit}
 
--- the bytes of a text, where one is given
+-- the bytes of a text, if one is given
 abbrev pub text_in : Option NamedText → Option (List ℕ)
 text_in = option_map (λ (named : NamedText). named.text.now)
 
--- So many instances of the task are kept and so many atoms have numbers, and no limit is exceeded; or this limit is, where at
--- most so many instances may be kept.
+-- This many instances of the task are kept and this many atoms numbered, within the limits; or this limit is exceeded, if at most
+-- this many instances may be kept.
 abbrev pub IsGrounded : model.Task → (most : ℕ) → Grounded → Type 0
 IsGrounded task most (Within instances atoms) =
     (instances ≡ length (kept_instances task)) × (atoms ≡ length (numbered_atoms task []))
     × (exceeded_limit most max_numbered_atoms task [] ≡ None)
 IsGrounded task most (Beyond limit) = exceeded_limit most max_numbered_atoms task [] ≡ Some (limit_of limit)
 
--- the task holds this, and grounding makes this of it
+-- the summary of the task is this, and the outcome of grounding is this
 abbrev pub IsHeld : model.Task → (most : ℕ) → Summary → Grounded → Type 0
 IsHeld task most holds grounded = IsSummaryOf task holds × IsGrounded task most grounded
 
--- What is explained is true of the texts of a domain and a problem, and of a plan, where one is given: the first fault; or
--- else the verdict on the plan; or else, with no plan, what the task holds and grounding makes of it.
+-- The subject is correct for the texts of a domain and a problem, and of a plan, if one is given: the first fault; or without a
+-- fault the verdict on the plan; or without a plan the summary of the task and the outcome of grounding.
 abbrev pub IsTrueOf : (domain problem : List ℕ) → (plan : Option (List ℕ)) → (most : ℕ) → Subject → Type 0
 IsTrueOf domain problem plan most (Fault file code span) = IsInputFault domain problem plan (fault_at file code span)
 IsTrueOf domain problem (Some plan) most (Plan verdict) = IsVerdictOf domain problem plan (verdict_of verdict)
@@ -67,23 +67,23 @@ IsTrueOf domain problem None most (Plan verdict) = ⊥
 IsTrueOf domain problem (Some plan) most (Task holds grounded) = ⊥
 IsTrueOf domain problem None most (Task holds grounded) = (task : model.Task) × IsTaskOf domain problem task × IsHeld task most holds grounded
 
--- ---- on the way
+-- ---- intermediate definitions
 
 -- a file of these texts
 abbrev pub in_texts : NamedTexts → File → Named
 in_texts texts file = record { name = name_in texts file; text = bytes_in texts file }
 
--- these texts, each the text of a file that is given
+-- these texts, each that of an input file
 abbrev pub files_in : NamedTexts → Files
 files_in texts = files_of texts.domain texts.problem (Some texts.plan)
 
--- the fault is what is explained, at its place
+-- the fault is explained, at its place
 pub record IsExplainedAlone (texts : NamedTexts) (file : File) (code : Code) (span : Span) (e : Explanation) : Type 0 where
   pub subject : e.subject ≡ Fault file code span
   pub located : IsSomeAnd e.location (IsLocated (in_texts texts file) span)
   pub says : IfSome e.location (λ at. BeginsWith (string_bytes e.text) (heading (string_bytes at.file) (place_in at) code))
 
--- and after it the other faults are
+-- the same, followed by the further faults
 pub record IsFaultExplained (texts : NamedTexts) (file : File) (code : Code) (span : Span) (e : Explanation) : Type 0 where
   pub subject : e.subject ≡ Fault file code span
   pub located : IsSomeAnd e.location (IsLocated (in_texts texts file) span)
@@ -91,12 +91,12 @@ pub record IsFaultExplained (texts : NamedTexts) (file : File) (code : Code) (sp
   pub further : AreFurther texts e.further.items
   pub says_further : EndsWith (string_bytes e.text) (further_text e.further.items)
 
--- running out of memory is not
+-- running out of memory is not explained
 abbrev pub IsOfFault : NamedTexts → FileFault → Explanation → Type 0
 IsOfFault texts (refused.At file code span) e = IsFaultExplained texts file code span e
 IsOfFault texts refused.NoMemory e = ⊥
 
--- what is explained of these steps of the task is its verdict, with the place of the step that is not applicable, and the lines say it
+-- for these steps of the task the subject is the verdict, with the place of the inapplicable step, and the lines state it
 pub record IsPlanTold (task : model.Task) (steps : List model.Instance) (file : Named) (explained : PlanExplanation) (e : Explanation) : Type 0 where
   pub code : Verdict
   pub subject : e.subject ≡ Plan code
@@ -105,13 +105,13 @@ pub record IsPlanTold (task : model.Task) (steps : List model.Instance) (file : 
   pub says : SayPlan e.location task steps explained (string_bytes e.text)
   pub no_further : e.further.items ≡ []
 
--- and it is true
+-- and the verdict is true
 abbrev pub IsVerdictExplained : model.Task → VariableNames → List model.Instance → (file : Named) → Explanation → Type 0
 IsVerdictExplained task names steps file e =
     (explained : PlanExplanation) × IsVerdict (system_of task) steps (plans.verdict_of explained) × IsExplained task names steps explained
     × IsPlanTold task steps file explained e
 
--- a step that is not applicable is one of the text's
+-- the inapplicable step is one of the text
 abbrev pub IsStepOf : (text : List ℕ) → runs.Verdict → Type 0
 IsStepOf text (runs.valid cost) = Unit {0}
 IsStepOf text (runs.not_applicable step) = (steps : List Step) × HasSteps text steps × (1 ≤ step) × (step ≤ length steps)
@@ -123,12 +123,12 @@ IsStepFound text (runs.valid cost) found = Unit {0}
 IsStepFound text (runs.not_applicable step) found = IsSomeAnd found (IsStepAt text step)
 IsStepFound text runs.goal_missed found = Unit {0}
 
--- the location is that of a span, if there is one
+-- the location is that of the span, if there is one
 abbrev pub IsLocatedIf : Named → Option Span → Option Location → Type 0
 IsLocatedIf file None at = Unit {0}
 IsLocatedIf file (Some span) at = IsSomeAnd at (IsLocated file span)
 
--- what the task holds and grounding makes of it is what is explained
+-- the subject is the summary of the task and the outcome of grounding
 pub record IsTaskExplained (task : model.Task) (most : ℕ) (e : Explanation) : Type 0 where
   pub holds : Summary
   pub grounded : Grounded

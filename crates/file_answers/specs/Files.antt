@@ -14,25 +14,25 @@ use Rattle.file_answers.specs.declared.files.FileFault.TheVariants.{At, NoMemory
 use Rattle.model.specs.Fault as reported
 use Rattle.model.specs.Files as model
 
--- this code, of what is at this place of this file
+-- the fault with this code at this place of this file
 abbrev pub fault_at : File → Code → Span → model.FileFault
 fault_at file code span = record { file = file_view file; fault = record { code = number_of code; span = record { start = span.start; end = span.end } } }
 
--- the fault that is reported for the files, and None where it is running out of memory
+-- the fault that is reported for the files; None for running out of memory
 abbrev pub reported_in : FileFault → Option model.FileFault
 reported_in (At file code span) = Some (fault_at file code span)
 reported_in NoMemory = None
 
--- what is reported for this file
+-- the fault reported for this file
 abbrev pub in_file : File → Option reported.Fault → Option model.FileFault
 in_file file = option_map (λ (fault : reported.Fault). record { file = file_view file; fault = fault })
 
--- what the fault of a pair says of its files
+-- the fault of a pair, as a fault of a file
 abbrev pub reported_of_pair : TaskFault → Option model.FileFault
 reported_of_pair (refused.At r) =
     Some (record { file = model.of_task (file_of r.file); fault = record { code = number_of r.code; span = record { start = r.span.start; end = r.span.end } } })
 reported_of_pair refused.NoMemory = None
 
--- the bytes of a text that is lent, where one is
+-- the bytes of a borrowed text, if there is one
 abbrev pub text_in : Option (Bor (List ℕ)) → Option (List ℕ)
 text_in = option_map (λ (text : Bor (List ℕ)). text.now)

@@ -1,4 +1,4 @@
--- The faults of two files beside the first, and what their lines say.
+-- The faults of two files after the first, and their lines.
 use Rattle.std.specs.Prelude.{◌≡◌, ℕ, nat_le, List, [], ◌++◌, All, codes, length, flat_map, if◌then◌else◌}
 use Rattle.std.specs.String.{string_bytes}
 use Rattle.explained_faults.specs.Explained.{BeginsWith, heading}
@@ -22,15 +22,15 @@ pub record IsFaultOfTexts (domain problem : List ℕ) (typed : TypingFault) : Ty
   pub problem_reads : IsProblemText problem problem_tree
   pub is_fault : IsFaultOf domain_tree problem_tree typed
 
--- the fault is told of its file
+-- the fault is reported for its file
 abbrev pub IsReportedAt : TypingFault → FileRefusal → Type 0
 IsReportedAt typed fault = IsReportedTyping typed (fault_at fault.file fault.code fault.span)
 
--- the lines of a fault of a file of this name and text: they begin with its file, its line and column, its number and its name
+-- the lines of a fault of a file with this name and text: they begin with its file, its line and column, its number and its name
 abbrev pub SayFault : (name text : List ℕ) → FileRefusal → (lines : List ℕ) → Type 0
 SayFault name text fault lines = (place : LineColumn) × IsPlace text fault.span.start place × BeginsWith lines (heading name place fault.code)
 
--- what is told is a fault of these texts, and its lines say it
+-- the reported fault is one of these texts, and its lines state it
 pub record IsToldOf (domain problem name text : List ℕ) (f : FurtherFault) : Type 0 where
   pub typed : TypingFault
   pub is_fault : IsFaultOfTexts domain problem typed
@@ -41,15 +41,15 @@ pub record IsToldOf (domain problem name text : List ℕ) (f : FurtherFault) : T
 abbrev pub EndsWith : (text ending : List ℕ) → Type 0
 EndsWith text ending = (first : List ℕ) × (text ≡ first ++ ending)
 
--- the lines of such faults, an empty line before each, and after so many a line that there may be more
+-- the lines of these faults, with an empty line before each, and if the limit is reached, a last line that there may be more
 abbrev pub further_text : List FurtherFault → List ℕ
 further_text further =
     flat_map (λ (f : FurtherFault). codes "\n" ++ string_bytes f.text) further
     ++ (if nat_le 20 (length further) then codes "\nthere may be more faults: mend these first\n" else [])
 
--- ---- on the way
+-- ---- intermediate definitions
 
--- each of those that are told beside the first is one of these texts
+-- each of the further faults is one of these texts
 abbrev pub AreFurther : NamedTexts → List FurtherFault → Type 0
 AreFurther texts further =
     All (λ f. IsToldOf texts.domain.text.now texts.problem.text.now (name_in texts f.fault.file) (text_in texts f.fault.file) f) further

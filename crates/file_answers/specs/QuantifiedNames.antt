@@ -1,4 +1,4 @@
--- The names of the variables of quantifiers in the trees of files, in the order of the text.
+-- The names of quantified variables in the trees of files, in textual order.
 use Rattle.std.specs.Prelude.{◌≡◌, ℕ, List, [], ◌++◌, map}
 use Rattle.std.specs.List.{flat_map}
 use Rattle.model.specs.Task as task
@@ -6,11 +6,11 @@ use Rattle.model.specs.Trees.{Action, Domain, Formula, Formulas, Group, Name, Pr
 use Rattle.explained_plans.specs.VariableNames.{VariableNames}
 use Rattle.model.specs.Files.{IsTaskOf}
 
--- the names that a quantifier declares, as they are in the file
+-- the names that a quantifier declares, as written
 abbrev pub declared_names : List Group → List task.Name
 declared_names groups = flat_map (λ (g : Group). map (λ (name : Name). name.text) g.names) groups
 
--- those of the quantifiers in a formula
+-- the names in the quantifiers of a formula
 abbrev mutual
   pub quantified_names : Formula → List task.Name
   quantified_names (atom a) = []
@@ -26,11 +26,11 @@ abbrev mutual
   quantified_names_in_all no_formula = []
   quantified_names_in_all (more_formulas first rest) = quantified_names first ++ quantified_names_in_all rest
 
--- those in the precondition of each action of the domain, and in the goal of the problem
+-- the names in the precondition of each action of the domain, and in the goal of the problem
 abbrev pub variable_names : Domain → Problem → VariableNames
 variable_names d p = record { actions = map (λ (a : Action). quantified_names a.precondition) d.actions; goal = quantified_names p.goal }
 
--- the two texts are this task, and the variables of its quantifiers have these names
+-- the two texts are this task, whose quantified variables have these names
 pub record IsNamedTask (domain problem : List ℕ) (t : task.Task) (names : VariableNames) : Type 0 where
   pub is_task : IsTaskOf domain problem t
   pub are_names : names ≡ variable_names is_task.domain_tree is_task.problem_tree

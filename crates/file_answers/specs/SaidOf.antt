@@ -1,4 +1,4 @@
--- What is said of two texts while their task is solved, or a certificate for it is checked.
+-- Progress reports while the task of two texts is solved, or a certificate for it is checked.
 use Rattle.std.specs.Prelude.{ℕ, List, Option}
 use Rattle.cert_checker.specs.SaidRead.{IsCheckLine}
 use Rattle.model.specs.Task.{Task}
@@ -9,6 +9,6 @@ use Rattle.solver.specs.Said.{IsTrueLine}
 abbrev pub IsTrueLineOf : (domain problem : List ℕ) → List ℕ → Type 0
 IsTrueLineOf domain problem line = (task : Task) × IsTaskOf domain problem task × IsTrueLine task line
 
--- the same of a certificate of which this text is known
+-- the same for a certificate whose text is known to this extent
 abbrev pub IsCheckLineOf : (domain problem : List ℕ) → (known : Option (List ℕ)) → List ℕ → Type 0
 IsCheckLineOf domain problem known line = (task : Task) × IsTaskOf domain problem task × IsCheckLine task known line

@@ -22,7 +22,7 @@ use std::alloc::Global;
 use task::Task;
 use task_certificates::Refusal;
 
-/// A task, whose names are names, with what is reported for a certificate for it.
+/// A task read from files, with the checker's answer to a certificate for it.
 #[derive(Drop)]
 pub struct Checked {
     /// The task of the two files.
@@ -32,11 +32,11 @@ pub struct Checked {
     pub ghost names: { IsTrue (has_names (task_of task)) },
 }
 
-/// What a certificate shows of the task of two files, and of the plan of a third one, if it is given. Nothing was read
-/// of the reader.
+/// What a certificate shows about the task of two files, and about the plan of a third, if it is given. The reader must be a new
+/// one.
 ///
-/// The domain is scanned and read, then the problem, then both are typed together, then the plan is read; the first fault
-/// ends the call, and the certificate is left as it was. Else its lines are taken as they come.
+/// The domain is scanned and parsed, then the problem; then both are typed together, and the plan is read. The first fault ends
+/// the call, and the certificate is not read at all. Otherwise its lines are checked as they are read.
 ///
 /// ```
 /// let mut cert = CertReader::new(alloc, Memory::new(text));
@@ -57,7 +57,7 @@ pub fn check_files<R: Source>(
 ) -> Result<Checked, FileFault>
     requires { IsFresh cert.old }
 
-    // The task is that of the two texts, and the answer is true of it and of what came of the certificate.
+    // The task is that of the two texts, and the answer is correct for it and for what was read of the certificate.
     ensures task { IfOk result (λ c. IsTaskOf domain.now problem.now (task_of c.task)) }
     ensures answer { IfOk result (λ c. IsChecked R.remaining (task_of c.task) cert.old cert.new (text_in plan.entry) max_instances c.answer) }
     ensures names { IfOk result (λ c. IsTrue (has_names (task_of c.task))) }
@@ -65,7 +65,7 @@ pub fn check_files<R: Source>(
     ensures refused { IfErr result (λ fault. IfSome (reported_in fault) (IsInputFault domain.now problem.now (text_in plan.entry))) }
     ensures unread { IsErr result → cert.new ≡ cert.old }
 
-    // Where the texts are a task, and a plan for it if one is given, there is an answer: the only error is running out of memory.
+    // If the texts are a task, and a plan for it if one is given, there is an answer: the only error is running out of memory.
     ensures taken { (task : model.Task) (steps : Option (List model.Instance)) → IsTaskOf domain.now problem.now task
         → IsGiven task (text_in plan.entry) steps → IfErr result (λ fault. reported_in fault ≡ None) }
 {
@@ -80,7 +80,7 @@ pub fn check_files<R: Source>(
     )
 }
 
-/// The same, and on the way it says how much of the certificate is read, as `check_and_say` does.
+/// The same, with progress reports of how much of the certificate has been read, as by `check_and_say`.
 pub fn check_files_and_say<R: Source, E: Sink>(
     alloc: Global,
     domain: &[u8],
@@ -92,7 +92,7 @@ pub fn check_files_and_say<R: Source, E: Sink>(
 ) -> Result<Checked, FileFault>
     requires { IsFresh cert.old }
 
-    // The task is that of the two texts, and the answer is true of it and of what came of the certificate.
+    // The task is that of the two texts, and the answer is correct for it and for what was read of the certificate.
     ensures task { IfOk result (λ c. IsTaskOf domain.now problem.now (task_of c.task)) }
     ensures answer { IfOk result (λ c. IsChecked R.remaining (task_of c.task) cert.old cert.new (text_in plan.entry) max_instances c.answer) }
     ensures names { IfOk result (λ c. IsTrue (has_names (task_of c.task))) }
@@ -100,18 +100,18 @@ pub fn check_files_and_say<R: Source, E: Sink>(
     ensures refused { IfErr result (λ fault. IfSome (reported_in fault) (IsInputFault domain.now problem.now (text_in plan.entry))) }
     ensures unread { IsErr result → cert.new ≡ cert.old }
 
-    // Where the texts are a task, and a plan for it if one is given, there is an answer: the only error is running out of memory.
+    // If the texts are a task, and a plan for it if one is given, there is an answer: the only error is running out of memory.
     ensures taken { (task : model.Task) (steps : Option (List model.Instance)) → IsTaskOf domain.now problem.now task
         → IsGiven task (text_in plan.entry) steps → IfErr result (λ fault. reported_in fault ≡ None) }
 
-    // What is said is so, of the task of the two texts.
+    // Every progress line is true of the task of the two texts.
     ensures said { AreSaid (IsCheckLineOf domain.now problem.now (R.remaining (source_of cert.old))) E.wants_memory (stream (E.failures err.old) (E.taken err.old)) (stream (E.failures err.new) (E.taken err.new)) }
 {
     let task = task_of_files(alloc, domain, problem)?;
     check_task(alloc, task, cert, plan, max_instances, err)
 }
 
-/// The task with what is reported for the certificate.
+/// The task with the checker's answer to the certificate.
 fn check_task<R: Source, E: Sink>(
     alloc: Global,
     task: Task,
@@ -137,7 +137,7 @@ fn check_task<R: Source, E: Sink>(
     }
 }
 
-/// What is reported for the certificate for this task, and for the plan of this text, if one is given.
+/// The checker's answer to the certificate for this task, and for the plan in this text, if one is given.
 fn answer_on<R: Source, E: Sink>(
     alloc: Global,
     task: &Task,

@@ -17,14 +17,14 @@ use of_task::explain_task;
 use source_text::{NamedText, NamedTexts};
 use std::alloc::Global;
 
-/// What is said of a domain file and a problem file, and of a plan file, if one is given.
+/// Explains a domain file and a problem file, and a plan file if one is given.
 ///
-/// The domain is scanned and read, then the problem, then both are typed together, then the plan is read; the first fault is
-/// what is explained. Else it is the plan, or, where none is given, the task, of which at most `max_instances` instances
-/// may be kept.
+/// The domain is scanned and parsed, then the problem; then both are typed together, and the plan is read. The first fault is
+/// explained. Without a fault it is the plan, or without a plan the task, whose grounding may keep at most `max_instances`
+/// instances.
 ///
 /// # Errors
-/// Memory was refused, which says nothing of the files.
+/// An allocation failed, which says nothing about the files.
 ///
 /// # Examples
 /// ```text
@@ -41,7 +41,7 @@ pub fn explain_files(
     max_instances: u32,
 ) -> Result<Explanation, NoMemory>
     ensures subject { IfOk result (λ e. IsTrueOf domain.entry.text.now problem.entry.text.now (text_in plan.entry) max_instances e.subject) }
-    // The lines say it, and the place of a fault or of a step is where it is.
+    // The lines give the explanation, and the location is that of the fault or the step.
     ensures said { IfOk result (IsSaidOf (files_of domain.entry problem.entry plan.entry)) }
 {
     let texts = texts_of(domain, problem, plan);
@@ -55,7 +55,7 @@ pub fn explain_files(
     }
 }
 
-/// The texts that a fault is looked up in. Where no plan is given, its text has no bytes.
+/// The texts in which a fault is looked up. The plan's text is empty if no plan is given.
 fn texts_of<'a>(
     domain: NamedText<'a>,
     problem: NamedText<'a>,

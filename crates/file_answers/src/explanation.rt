@@ -1,4 +1,4 @@
-//! What is said of some files.
+//! Explanations of files.
 ghost use Rattle.std.specs.Prelude.{◌≡◌, ◌-◌, IfOk};
 ghost use Rattle.std.specs.String.{string_bytes};
 ghost use Rattle.file_answers.specs.ExplanationLines.{place_in};
@@ -11,50 +11,50 @@ use source_text::{File, LineColumn};
 use std::alloc::{AllocError, Global};
 use validator::Verdict;
 
-/// What is said of some files, for people.
+/// An explanation of some files, for people.
 #[derive(Drop)]
 pub struct Explanation {
-    /// What it is about.
+    /// Its subject.
     pub subject: Subject,
-    /// The lines that say it, each with LF.
+    /// The explanation as lines, each with LF.
     pub text: String,
-    /// The place of a fault, or of the first step that is not applicable.
+    /// The place of a fault, or of the first inapplicable step.
     pub location: Option<Location>,
-    /// What is said of a fault beside its sentence, a text each, without LF.
+    /// Hints beside a fault's sentence, each without LF.
     pub hints: Vec<String>,
-    /// The faults of the domain and the problem that are told after the one that the explanation is about.
+    /// Further faults of the domain and the problem.
     pub further: Vec<FurtherFault>,
-    /// What is quietly wrong with a task, a line each, without LF.
+    /// Notes on what looks wrong with a task, a line each, without LF.
     pub notes: Vec<String>,
 }
 
-/// A fault beside the first.
+/// A further fault.
 #[derive(Drop)]
 pub struct FurtherFault {
-    /// What is refused, and where.
+    /// The refusal and its place.
     pub fault: FileRefusal,
-    /// The lines that say it, each with LF.
+    /// The explanation as lines, each with LF.
     pub text: String,
 }
 
 /// A place in a file, as an editor shows it.
 #[derive(Drop)]
 pub struct Location {
-    /// The name of the file, as it was given.
+    /// The name of the file, as given.
     pub file: String,
     /// The number of the line, from 1.
     pub line: usize,
     /// The number of the first byte in its line, from 1.
     pub column: usize,
-    /// How many bytes it has.
+    /// Its length in bytes.
     pub length: usize,
 }
 
 impl Location {
-    /// The location of a span of the file of this name, whose first byte is at this place.
+    /// The location of a span in the file with this name; its first byte is at this place.
     ///
     /// # Errors
-    /// Memory was refused.
+    /// An allocation failed.
     pub(crate) fn new(
         alloc: Global,
         name: &str,
@@ -74,10 +74,10 @@ impl Location {
     }
 }
 
-/// What an explanation is about.
+/// The subject of an explanation.
 #[derive(Clone, Copy, Debug, PartialEq, Eq)]
 pub enum Subject {
-    /// This file is refused by this code, for what is at this place of it. It is the first fault.
+    /// The first fault: the refused file, the code and the place.
     Fault {
         /// The file that the place is in.
         file: File,
@@ -86,25 +86,25 @@ pub enum Subject {
         /// Where it is, in bytes.
         span: Span,
     },
-    /// The plan, of which this is true.
+    /// The plan, with its verdict.
     Plan(Verdict),
-    /// The task of two files, where no plan is given.
+    /// The task of two files, if no plan is given.
     Task {
-        /// What it holds.
+        /// Its summary.
         holds: Summary,
-        /// What grounding makes of it.
+        /// The outcome of grounding.
         grounded: Grounded,
     },
 }
 
-/// What grounding makes of a task.
+/// The outcome of grounding a task.
 #[derive(Clone, Copy, Debug, PartialEq, Eq)]
 pub enum Grounded {
     /// It is within the limits.
     Within {
-        /// How many instances are kept.
+        /// The number of kept instances.
         instances: usize,
-        /// How many atoms have numbers.
+        /// The number of numbered atoms.
         atoms: u32,
     },
     /// It would exceed this limit.

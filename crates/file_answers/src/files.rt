@@ -30,10 +30,10 @@ use thiserror::Error;
 use tokens::scan;
 use typing::{FromTrees, TaskFault, TaskFile, TaskRefusal};
 
-/// Why there is no verdict.
+/// Why files have no answer.
 #[derive(Clone, Copy, Debug, PartialEq, Eq, Error)]
 pub enum FileFault {
-    /// This file is refused by this code, for what is at this place of it.
+    /// The refused file, the code and the place.
     #[error("{code} in {file} at {}..{}", .span.start, .span.end)]
     At {
         /// The file that the place is in.
@@ -43,7 +43,7 @@ pub enum FileFault {
         /// Where it is.
         span: Span,
     },
-    /// Memory that was asked for was refused.
+    /// An allocation failed.
     #[error("out of memory")]
     NoMemory,
 }
@@ -53,7 +53,7 @@ impl FileFault {
     ghost use Rattle.tokens.specs.Reported.{reported_by};
     ghost use Rattle.file_answers.specs.Files.{reported_in, in_file};
 
-    /// The fault of a file's text.
+    /// The fault of this file, given the fault of its text.
     fn of(file: File, fault: Fault) -> FileFault
         ensures { reported_in result ≡ in_file file (reported_by fault) }
     {
@@ -95,12 +95,12 @@ impl From<NoMemory> for FileFault {
     }
 }
 
-/// The task of a domain file and a problem file.
+/// Reads the task of a domain file and a problem file.
 ///
-/// The domain is scanned and read, then the problem, then both are typed together; the first fault ends the call.
+/// The domain is scanned and parsed, then the problem; then both are typed together. The first fault ends the call.
 ///
 /// # Errors
-/// The first fault of the two texts, or memory was refused.
+/// The first fault of the two texts, or an allocation failed.
 pub fn task_of_files(alloc: Global, domain: &[u8], problem: &[u8]) -> Result<Task, FileFault>
     ensures task { IfOk result (λ task. IsTaskOf domain.now problem.now (task_of task)) }
     ensures refused { IfErr result (λ fault. IfSome (reported_in fault) (IsTaskFault domain.now problem.now)) }
@@ -109,7 +109,7 @@ pub fn task_of_files(alloc: Global, domain: &[u8], problem: &[u8]) -> Result<Tas
     Ok(Task::new(alloc, domain, problem)?)
 }
 
-/// A task, and the names of the variables of its quantifiers, which it has not itself.
+/// A task with the names of its quantified variables, which the task itself does not have.
 #[derive(Drop)]
 pub(crate) struct NamedTask<'a> {
     /// The task.
@@ -118,7 +118,7 @@ pub(crate) struct NamedTask<'a> {
     pub names: VariableNames<'a>,
 }
 
-/// The task of two files as above, with the names of the variables of its quantifiers.
+/// The task of two files as above, with the names of its quantified variables.
 pub(crate) fn named_task_of_files<'a>(
     alloc: Global,
     domain: &'a [u8],
@@ -133,7 +133,7 @@ pub(crate) fn named_task_of_files<'a>(
     Ok(NamedTask { task, names })
 }
 
-/// The faults of two files that do not follow from one another, where the first is one of typing; else none.
+/// The independent faults of two files, if the first one is a typing fault; otherwise none.
 pub(crate) fn faults_of_files(
     alloc: Global,
     domain: &[u8],
@@ -155,7 +155,7 @@ struct Trees<'a> {
     problem: pddl_tree::Problem<'a>,
 }
 
-/// The trees of two files: the domain is scanned and read, then the problem.
+/// The trees of two files: the domain is scanned and parsed, then the problem.
 fn trees_of_files<'a>(
     alloc: Global,
     domain: &'a [u8],
@@ -176,10 +176,10 @@ fn trees_of_files<'a>(
     Ok(Trees { domain, problem })
 }
 
-/// The plan of a plan file, for this task.
+/// Reads the plan of a plan file, for this task.
 ///
 /// # Errors
-/// The first fault of the text, which is reported for the plan file, or memory was refused.
+/// The first fault of the text, reported for the plan file; or an allocation failed.
 pub fn plan_of_file(alloc: Global, task: &Task, text: &[u8]) -> Result<Plan, FileFault>
     ensures plan { IfOk result (λ plan. IsPlanText (task_of task.now) text.now (plan_of plan)) }
     ensures instances { IfOk result (λ plan. IsTrue (list_all (is_instance (task_of task.now)) (plan_of plan))) }
@@ -208,8 +208,8 @@ fn read_problem(alloc: Global, text: &[u8]) -> Result<pddl_tree::Problem<'_>, Fa
     pddl_tree::problem(alloc, &words)
 }
 
-/// Says that two texts are at most one task, and that no fault is reported for two that are one. It is stated of all texts,
-/// and proved; the call does nothing.
+/// Two texts are at most one task, and no fault is reported for texts that are a task. Proved for all texts; the function does
+/// nothing.
 pub fn one_task()
     ensures one { (domain problem : List ℕ) (task other : model.Task)
         → IsTaskOf domain problem task → IsTaskOf domain problem other → task ≡ other }

@@ -1,4 +1,4 @@
-//! The names of the variables of quantifiers, from the trees of a domain and a problem.
+//! The names of quantified variables, from the trees of a domain and a problem.
 ghost use Rattle.std.specs.Prelude.{◌≡◌, ◌++◌, map, IfOk, OnOk};
 ghost use Rattle.std.specs.List.{flat_map};
 ghost use Rattle.syntax_tree.specs.Tree.{domain_of, formula_of, group_of, problem_of};
@@ -27,7 +27,7 @@ pub(crate) fn variable_names<'a>(
     Ok(VariableNames { actions, goal })
 }
 
-/// The names of the variables of the quantifiers in the formula.
+/// The names of the quantified variables in the formula.
 fn quantified_names<'a>(alloc: Global, formula: &Formula<'a>) -> Result<Vec<&'a [u8]>, AllocError>
     ensures { IfOk result (λ names. names_in names.items ≡ quantified_names (formula_of formula.now)) }
 {
@@ -36,7 +36,7 @@ fn quantified_names<'a>(alloc: Global, formula: &Formula<'a>) -> Result<Vec<&'a 
     Ok(names)
 }
 
-/// Adds them.
+/// Adds the names in the formula.
 #[cycle(quantified)]
 fn add_quantified<'a>(formula: &Formula<'a>, names: &mut Vec<&'a [u8]>) -> Result<(), AllocError>
     ensures { OnOk result (names_in names.new.items ≡ names_in names.old.items ++ quantified_names (formula_of formula.now)) }
@@ -61,7 +61,7 @@ fn add_quantified<'a>(formula: &Formula<'a>, names: &mut Vec<&'a [u8]>) -> Resul
     }
 }
 
-/// Adds those in each of the formulas.
+/// Adds the names in each of the formulas.
 #[cycle(quantified)]
 fn add_quantified_in_each<'a>(
     parts: &[Formula<'a>],
@@ -85,7 +85,7 @@ fn add_declared<'a>(groups: &[Group<'a>], names: &mut Vec<&'a [u8]>) -> Result<(
     Ok(())
 }
 
-/// Adds the texts of the names.
+/// Adds the names as texts.
 fn add_texts<'a>(given: &[Name<'a>], names: &mut Vec<&'a [u8]>) -> Result<(), AllocError>
     ensures { OnOk result (names_in names.new.items ≡ names_in names.old.items ++ map (λ n. n.text.now) given.now) }
 {

@@ -1,4 +1,4 @@
-//! From the bytes of a domain file and a problem file to a cheapest plan.
+//! From the bytes of a domain file and a problem file to an optimal plan.
 ghost use Rattle.std.specs.Prelude.{◌≡◌, ℕ, List, IfOk, IfErr, IfSome, IsTrue, None};
 ghost use Rattle.task.specs.Task.{task_of};
 ghost use Rattle.progress_lines.specs.Said.{GoesOn};
@@ -18,21 +18,21 @@ use solver::{Answer, Limits, solve_and_say};
 use std::alloc::Global;
 use task::Task;
 
-/// A task, whose names are names, with what was found out of it.
+/// A task read from files, with the planner's answer.
 #[derive(Drop)]
 pub struct Solved {
     /// The task of the two files.
     pub task: Task,
-    /// What was found.
+    /// The planner's answer.
     pub answer: Answer,
     pub ghost names: { IsTrue (has_names (task_of task)) },
 }
 
-/// A cheapest plan, or that there is none, from the bytes of the two files.
+/// Finds an optimal plan for the task of two files, or shows that there is none.
 ///
-/// The domain is scanned and read, then the problem, then both are typed together; the first fault ends the call. Where more
-/// states would be listed than the limit allows, the answer is still a claim: each plan costs at least its bound, and its certificate
-/// shows it. Of the other two limits nothing is claimed of plans.
+/// The domain is scanned and parsed, then the problem; then both are typed together. The first fault ends the call. If the state
+/// limit is exceeded, the answer still has a claim: each plan costs at least its bound, and its certificate shows that. At the
+/// other two limits nothing is claimed about plans.
 ///
 /// ```
 /// let Some(limits) = Limits::new(1_000_000, 1_000_000) else { return Ok(()) };
@@ -49,20 +49,20 @@ pub fn solve_files(
     problem: &[u8],
     limits: Limits,
 ) -> Result<Solved, FileFault>
-    // The task is that of the two texts, and the answer is true of it.
+    // The task is that of the two texts, and the answer is correct for it.
     ensures task { IfOk result (λ s. IsTaskOf domain.now problem.now (task_of s.task)) }
     ensures answer { IfOk result (λ s. IsTrueAnswer (task_of s.task) limits.states limits.instances s.answer) }
     ensures names { IfOk result (λ s. IsTrue (has_names (task_of s.task))) }
     ensures refused { IfErr result (λ fault. IfSome (reported_in fault) (IsTaskFault domain.now problem.now)) }
 
-    // Where the two are a task, there is an answer: the only error is running out of memory.
+    // If the two texts are a task, there is an answer: the only error is running out of memory.
     ensures taken { (task : model.Task) → IsTaskOf domain.now problem.now task → IfErr result (λ fault. reported_in fault ≡ None) }
 {
     solve_files_and_say(alloc, domain, problem, limits, &mut Unheard)
 }
 
-/// The same, and on the way it says how far it is, as `solve_and_say` does: each line is true of the task of the two files, and where
-/// the answer has a certificate, the last one says what this lists. Where a text is refused, nothing is said.
+/// The same, with progress reports as by `solve_and_say`: each line is true of the task of the two files, and if the answer has a
+/// certificate, the last line describes its listing. If a text is refused, nothing is reported.
 pub fn solve_files_and_say<E: Sink>(
     alloc: Global,
     domain: &[u8],
@@ -76,7 +76,7 @@ pub fn solve_files_and_say<E: Sink>(
     ensures refused { IfErr result (λ fault. IfSome (reported_in fault) (IsTaskFault domain.now problem.now)) }
     ensures taken { (task : model.Task) → IsTaskOf domain.now problem.now task → IfErr result (λ fault. reported_in fault ≡ None) }
 
-    // What is said is true of the task of the two texts.
+    // Every progress line is true of the task of the two texts.
     ensures said { GoesOn (IsTrueLineOf domain.now problem.now) E.wants_memory (E.failures err.old) (E.taken err.old) (E.failures err.new) (E.taken err.new) }
     ensures ended { IfOk result (λ s. HasEnded E.wants_memory (E.failures err.new) (E.taken err.new) s.answer) }
 {
@@ -84,7 +84,7 @@ pub fn solve_files_and_say<E: Sink>(
     solve_task(alloc, task, limits, err)
 }
 
-/// The task with what is found out of it. The only error is running out of memory.
+/// The task with the planner's answer. The only error is running out of memory.
 fn solve_task<E: Sink>(
     alloc: Global,
     task: Task,

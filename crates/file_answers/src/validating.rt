@@ -11,10 +11,10 @@ use std::alloc::Global;
 use task::Task;
 use validator::{Verdict, validate};
 
-/// What is true of the plan, from the bytes of the three files.
+/// The verdict on the plan, from the bytes of the three files.
 ///
-/// The domain is scanned and read, then the problem, then both are typed together, then the plan is read; the first
-/// fault ends the call.
+/// The domain is scanned and parsed, then the problem; then both are typed together, and the plan is read. The first fault ends
+/// the call.
 ///
 /// ```
 /// match validate_files(alloc, domain, problem, b"(go a b)\n(go b c)\n")? {
@@ -32,7 +32,7 @@ pub fn validate_files(
     ensures verdict { IfOk result (λ verdict. IsVerdictOf domain.now problem.now plan.now (verdict_of verdict)) }
     ensures refused { IfErr result (λ fault. IfSome (reported_in fault) (IsFileFault domain.now problem.now plan.now)) }
 
-    // Where the three are a task and a plan for it, there is a verdict: the only error is running out of memory.
+    // If the three texts are a task and a plan for it, there is a verdict: the only error is running out of memory.
     ensures taken { (task : model.Task) (steps : List model.Instance)
         → AreRead domain.now problem.now plan.now task steps → IfErr result (λ fault. reported_in fault ≡ None) }
 {
@@ -40,7 +40,7 @@ pub fn validate_files(
     verdict_on(alloc, &task, plan)
 }
 
-/// What is true of the plan for this task, from the bytes of the plan's file.
+/// The verdict on the plan for this task, from the bytes of the plan file.
 fn verdict_on(alloc: Global, task: &Task, plan: &[u8]) -> Result<Verdict, FileFault>
     ensures verdict { (domain problem : List ℕ) → IsTaskOf domain problem (task_of task.now)
         → IfOk result (λ verdict. IsVerdictOf domain problem plan.now (verdict_of verdict)) }

@@ -1,4 +1,4 @@
-//! Finds out, by a second look, why a file could not be read.
+//! Finds out, by a second attempt, why a file could not be read.
 #![tactic(auto)]
 
 mod looks;

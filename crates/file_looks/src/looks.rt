@@ -1,4 +1,4 @@
-//! Looks at files.
+//! Why files cannot be read.
 ghost use Rattle.std.specs.Prelude.{◌≡◌, IfOk};
 ghost use Rattle.std.specs.String.{string_bytes};
 ghost use Rattle.file_looks.specs.Looks.{line_of, reason};
@@ -7,21 +7,21 @@ use std::alloc::{AllocError, Global};
 use std::io::ErrorKind;
 use std::{fs, rt};
 
-/// Why a file cannot be read, as far as a look at it shows.
+/// Why a file cannot be read, as far as a second attempt shows.
 #[derive(Clone, Copy, Debug, PartialEq, Eq)]
 pub enum Look {
-    /// There is no file of this name.
+    /// There is no file with this name.
     Missing,
     /// It is a folder.
     Folder,
-    /// The user may not read it.
+    /// The user has no permission to read it.
     Forbidden,
-    /// It cannot be opened, for whatever other reason.
+    /// It cannot be opened for some other reason.
     Unreadable,
 }
 
-/// Why the file of this name cannot be read, and `None` if it can be opened. That says nothing of an earlier call, since the file may
-/// have changed since, and nothing of reads that fail later.
+/// Why the file with this name cannot be read; `None` if it can be opened. This says nothing about an earlier call, since the
+/// file may have changed since, and nothing about later reads.
 pub fn look_at<R: rt::Files>(runtime: &R, name: &str) -> Option<Look> {
     match runtime.metadata(name) {
         Ok(found) if found.is_dir() => Some(Look::Folder),
@@ -33,7 +33,7 @@ pub fn look_at<R: rt::Files>(runtime: &R, name: &str) -> Option<Look> {
     }
 }
 
-/// What an error of this kind shows.
+/// The reason that an error of this kind shows.
 fn of_kind(kind: ErrorKind) -> Look {
     match kind {
         ErrorKind::NotFound => Look::Missing,
@@ -43,10 +43,10 @@ fn of_kind(kind: ErrorKind) -> Look {
     }
 }
 
-/// The line that says it, with LF at its end.
+/// The reason as a line, with LF.
 ///
 /// # Errors
-/// Memory was refused.
+/// An allocation failed.
 ///
 /// # Examples
 /// ```text
@@ -59,7 +59,7 @@ pub fn look_line(alloc: Global, name: &str, look: Look) -> Result<String, AllocE
     format!(in alloc; "{name}: {reason}\n")
 }
 
-/// Why the file cannot be read.
+/// The reason in words.
 fn reason(look: Look) -> &'static str
     ensures { result.now ≡ reason look }
 {

@@ -1,4 +1,4 @@
--- What the passes over changes leave of a state, change by change.
+-- The state after the passes over changes, change by change.
 use Rattle.std.specs.Prelude.{◌≡◌, ℕ, ◌+◌, ◌<◌, ◌≤◌, true, false, cond, List, [], ◌∷◌, ◌++◌, length, map, filter, take, IsTrue, refl}
 use Rattle.std.proofs.Common.{sym, ◌∙◌, ap, get_or}
 use Rattle.std.specs.FinSet.{from_list, union, difference}
@@ -30,7 +30,7 @@ after-append : (pass : Pass) (s : State) (xs ys : List GroundLiteral) → after_
 after-append Deletes s xs ys = ap (λ l. difference s (from_list l)) (deleted_by-append xs ys) ∙ difference-append s (deleted_by xs) (deleted_by ys)
 after-append Adds s xs ys = ap (λ l. union s (from_list l)) (added_by-append xs ys) ∙ union-append s (added_by xs) (added_by ys)
 
--- ---- the literals of changes whose condition holds
+-- ---- the literals of changes whose conditions hold
 
 module _ (t : task.Task) (before : State) where
   abbrev kept : List Change → List Change
@@ -45,7 +45,7 @@ module _ (t : task.Task) (before : State) where
         | false ↦ literals_in-append xs ys
       ]
 
-  -- that of one alone, where its condition holds and where it does not
+  -- the literal of a single change, if its condition holds and if it does not
   pub literal_in : (c : Change) → holds t c.condition c.binding before ≡ true → literals_in t before (c ∷ []) ≡ c.literal ∷ []
   literal_in c held = ap (λ h. map (λ (d : Change). d.literal) (cond h (c ∷ []) [])) held
 
@@ -64,7 +64,7 @@ one_more t before xs i x lt at =
     ap (λ l. literals_in t before (map change_of l)) (take_more xs i x lt ∙ ap (λ y. take i xs ++ y ∷ []) (sym at))
     ∙ ap (literals_in t before) (map-append change_of (take i xs) (x ∷ [])) ∙ literals_in-append t before (map change_of (take i xs)) (change_of x ∷ [])
 
--- one literal more is carried out
+-- one more literal takes effect
 pub carried_more : (pass : Pass) (s : State) (xs : List (Bor code_effects.GroundLiteral)) (i : ℕ) (x : Bor code_effects.GroundLiteral) → i < length xs → x ≡ get_or xs i x
     → (here after : State) → here ≡ after_pass pass s (map lent_literal (take i xs)) → after ≡ after_pass pass here (lent_literal x ∷ [])
     → after ≡ after_pass pass s (map lent_literal (take (i + 1) xs))

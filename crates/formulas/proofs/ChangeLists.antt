@@ -11,7 +11,7 @@ use Rattle.task.specs.TaskParts.{effect_literal_of, effect_of, formula_of}
 use Rattle.model.specs.Task as task
 use Rattle.model.specs.Meaning.{change_under, changes_of}
 
--- one more for each item
+-- one more for each element
 module _ {X Y : Type 0} (f : X → Y) (first : List Y) (xs : List X) (i : ℕ) where
   pub mapped_more : (x : X) (before after : List Y) → i < length xs → x ≡ get_or xs i x → before ≡ first ++ map f (take i xs) → after ≡ before ++ f x ∷ []
       → after ≡ first ++ map f (take (i + 1) xs)
@@ -19,7 +19,7 @@ module _ {X Y : Type 0} (f : X → Y) (first : List Y) (xs : List X) (i : ℕ) w
       here ∙ ap (λ l. l ++ f x ∷ []) so ∙ append_assoc first (map f (take i xs)) (f x ∷ [])
       ∙ ap (λ l. first ++ l) (sym (ap (map f) (take_more xs i x lt ∙ ap (λ y. take i xs ++ y ∷ []) (sym at)) ∙ map-append f (take i xs) (x ∷ [])))
 
-  -- all items
+  -- all elements
   pub mapped_whole : (after : List Y) → length xs ≤ i → after ≡ first ++ map f (take i xs) → after ≡ first ++ map f xs
   mapped_whole after past so = so ∙ ap (λ l. first ++ map f l) (take_all i xs past)
 

@@ -1,4 +1,4 @@
--- The objects of the changes of an instance may stand for the variables in their conditions.
+-- The objects of an instance's changes fit the variables in their conditions.
 use Rattle.std.proofs.Common.{◌≡◌, ℕ, true, false, List, [], ◌∷◌, ◌++◌, length, None, Some, inl, inr, refl, sym, subst, true≢false}
 use Rattle.std.specs.Prelude.{Contains, IsTrue, slice_get, nat_lt}
 use Rattle.std.specs.Cmp.{first_so, second_so}
@@ -42,7 +42,7 @@ mutual
         | inr later ↦ all-changes-fit t rest scope objects (second_so (is_effect t scope first) (are_effects t scope rest) typed) fit c later
       ]
 
--- those of an instance of the task
+-- the changes of an instance of the task
 pub instance-changes-fit : (t : Task) → IsTrue (is_task t) → (i : Instance) → IsTrue (is_instance t i) → FitsChanges t (changes_of_instance t i)
 instance-changes-fit t well i instance c at =
     elim (slice_get t.schemas i.schema) as (λ o. slice_get t.schemas i.schema ≡ o → option_map_or (λ schema. fits t schema i.objects) o false ≡ true

@@ -1,4 +1,4 @@
--- The code's test of equality says exactly of which states the model says that they are one.
+-- The code's test of equality is equality of states in the model.
 use Rattle.std.proofs.Common.{◌≡◌, ◌∙◌, Bool, true, List, [], ◌∷◌, map, refl, sym, ap, subst}
 use Rattle.std.proofs.lemmas.Bool.{and_parts}
 use Rattle.std.proofs.lemmas.Map.Lookups.{btree_set_from_contains, CmpEqualImpliesEq}
@@ -20,7 +20,7 @@ use Rattle.model.proofs.Atoms.{atoms_total, atoms_apart}
 abbrev pub state_eq : code_state.State → code_state.State → Bool
 state_eq = are_equal
 
--- ---- what passes the code's test is one in the model
+-- ---- states that pass the code's test are equal in the model
 
 equal_lists : (xs ys : List Atom) → pointwise atom_eq xs ys ≡ true → map atom_of xs ≡ map atom_of ys
 equal_lists [] [] is = refl
@@ -33,7 +33,7 @@ equal_lists (x ∷ xs) (y ∷ ys) is =
 pub equal_states : (s t : code_state.State) → state_eq s t ≡ true → state_of s ≡ state_of t
 equal_states s t is = ap from_list (equal_lists s.atoms.keys t.atoms.keys is)
 
--- ---- what is one in the model passes the code's test
+-- ---- states that are equal in the model pass the code's test
 
 model_total : IsTotalOrder model_cmp
 model_total = on_total atom_of atoms_total
@@ -41,7 +41,7 @@ model_total = on_total atom_of atoms_total
 model_apart : CmpEqualImpliesEq model_cmp
 model_apart a b tie = one_atom a b (atoms_apart (atom_of a) (atom_of b) tie)
 
--- the atoms of a state are in order, so one state has one list of them
+-- the atoms of a state are in order, so a state has one list of them
 pub one_list : (s t : code_state.State) → state_of s ≡ state_of t → s.atoms.keys ≡ t.atoms.keys
 one_list s t same =
     btree_set_from_contains model_total s.atoms t.atoms s.in_order t.in_order
@@ -51,7 +51,7 @@ pub same_states : (s t : code_state.State) → state_of s ≡ state_of t → sta
 same_states s t same =
     subst (λ keys. pointwise atom_eq s.atoms.keys keys ≡ true) (one_list s t same) (each_itself atom_eq atom_itself s.atoms.keys)
 
--- ---- both ways
+-- ---- both directions
 
 pub Decides-state_eq : (s t : code_state.State) → Decides (state_eq s t) (state_of s ≡ state_of t)
 Decides-state_eq s t = (equal_states s t, same_states s t)

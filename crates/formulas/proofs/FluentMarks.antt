@@ -15,14 +15,14 @@ or_assoc : (a b c : Bool) → ((a || b) || c) ≡ (a || (b || c))
 or_assoc true b c = refl
 or_assoc false b c = refl
 
--- the table with one predicate more, which is not marked
+-- the table with one more predicate, unmarked
 pub longer : (table : List Bool) (predicate : ℕ) → is_marked (table ++ false ∷ []) predicate ≡ is_marked table predicate
 longer [] zero = refl
 longer [] (suc predicate) = refl
 longer (x ∷ xs) zero = refl
 longer (x ∷ xs) (suc predicate) = longer xs predicate
 
--- ---- the predicates of several things
+-- ---- the predicates of several parts
 
 pub marks_none : (table : List Bool) → Marks (λ _. false) table table
 marks_none table n = sym (or_false (is_marked table n))
@@ -42,7 +42,7 @@ marks_by comes other old new same marks n = marks n ∙ ap (λ b. is_marked old 
 
 -- ---- the schemas, one after another
 
--- the predicates that the schemas from this number on touch come to those of the table, and then all are there
+-- the predicates that the schemas from this number on touch are added to the table, and then it is complete
 abbrev pub Lacks : Task → ℕ → List Bool → Type 0
 Lacks t number table = (n : ℕ) → is_fluent t n ≡ (is_marked table n || list_any (schema_touches n) (drop number t.schemas))
 

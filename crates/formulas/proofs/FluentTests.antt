@@ -21,7 +21,7 @@ any_touches-list : (predicate : ℕ) (parts : List Effect) → any_touches predi
 any_touches-list predicate [] = refl
 any_touches-list predicate (part ∷ rest) = ap (λ b. touches predicate (effect_of part) || b) (any_touches-list predicate rest)
 
--- a conjunction of effects touches what one of its parts does
+-- a conjunction of effects touches what some part does
 pub touches_by_parts : (predicate : ℕ) (e : Effect) (parts : Vec Effect) (items : List Effect) → e ≡ effect.And parts → items ≡ parts.items
     → touches predicate (effect_of e) ≡ list_any (λ part. touches predicate (effect_of part)) items
 touches_by_parts predicate e parts items is same =
@@ -58,7 +58,7 @@ pub arguments_found : (o : Option Predicate) (arguments : List Union) → Some a
 arguments_found None arguments is = absurd (cc)
 arguments_found (Some p) arguments is = (p, refl, cc)
 
--- all turns on the objects
+-- only the objects matter
 pub atom_by_objects : (t : Task) (a : Atom) (arguments : List Union) → Some arguments ≡ option_map (λ (p : Predicate). p.arguments) (slice_get t.predicates a.predicate)
     → pointwise (is_of t) arguments a.objects ≡ is_atom t a
 atom_by_objects t a arguments is =

@@ -1,4 +1,4 @@
--- What it means that an instance is the task's, and when objects may occur in a formula.
+-- When an instance belongs to the task, and when objects fit a formula.
 use Rattle.std.specs.Prelude.{◌≡◌, ℕ, ◌≤◌, true, false, List, [], length, slice_get, IsTrue, Some}
 use Rattle.std.proofs.Common.{sym, ◌∙◌, ap, subst}
 use Rattle.std.specs.Cmp.{first_so, second_so}
@@ -17,12 +17,12 @@ module _ (t : task.Task) (schema : ℕ) (shape : Shape) (is_shape : Some shape �
   abbrev it : (s : task.Schema) × (slice_get t.schemas schema ≡ Some s) × (shape ≡ shape_of_schema s)
   it = found (slice_get t.schemas schema) shape is_shape
 
-  -- all turns on the objects
+  -- only the objects matter
   pub instance_by_objects : pointwise (is_of t) shape.0 objects ≡ is_instance t (record { schema = schema; objects = objects })
   instance_by_objects =
       ap (λ (s : Shape). pointwise (is_of t) s.0 objects) it.2 ∙ sym (ap (λ o. option_map_or (λ s. fits t s objects) o false) it.1)
 
-  -- what it increases the cost by is a function of no more terms than it may have arguments
+  -- an increase by a function has no more terms than arguments are allowed
   pub function_few : (f : LiftedAtom) → shape.3 ≡ task.by_function (lifted_atom_of f) → IsTrue (is_task t) → length f.terms.items ≤ max_arguments
   function_few f is well =
       function_terms_few t shape.0 f well
@@ -33,7 +33,7 @@ module _ (t : task.Task) (schema : ℕ) (shape : Shape) (is_shape : Some shape �
     fitting : fits t it.0 objects ≡ true
     fitting = sym (ap (λ o. option_map_or (λ s. fits t s objects) o false) it.1) ∙ instance
 
-    -- an object of its types for each parameter
+    -- one object of the right types for each parameter
     parameters_fit : IsTrue (pointwise (is_of t) shape.0 objects)
     parameters_fit = instance_by_objects ∙ instance
 

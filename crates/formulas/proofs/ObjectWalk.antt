@@ -1,4 +1,4 @@
--- A walk over the objects of a variable's types, object by object: what is left decides what is still to come.
+-- A walk over the objects of a variable's types, object by object: the remaining objects decide the rest.
 use Rattle.std.proofs.Common.{◌≡◌, ℕ, ◌+◌, ◌-◌, ◌<◌, ◌≤◌, Bool, true, false, ◌&&◌, ◌||◌, cond, List, [], ◌∷◌, ◌++◌, length, refl, sym, ap, ◌∙◌, arith, suc, append_assoc, append-nil}
 use Rattle.std.specs.Prelude.{filter}
 use Rattle.std.specs.Cmp.{first_so, second_so}
@@ -40,9 +40,9 @@ filter_passes p (x ∷ xs) =
 pub all_of : (t : task.Task) (types : task.Union) (left : List ℕ) → left ≡ objects_of t types → list_all (is_of t types) left ≡ true
 all_of t types left is = ap (list_all (is_of t types)) is ∙ filter_passes (is_of t types) (range_with_len 0 (length t.objects))
 
--- ---- the next one, and those left after it
+-- ---- the next one, and the rest after it
 
--- what is true of all is true of those that are left
+-- what holds of all holds of the rest
 abbrev pub AreAmong : List ℕ → List ℕ → Type 0
 AreAmong all left = (p : ℕ → Bool) → list_all p all ≡ true → list_all p left ≡ true
 
@@ -74,6 +74,6 @@ module _ (left rest : List ℕ) (x : ℕ) (steps : left ≡ x ∷ rest) where
   added_next f whole before after here so =
       ap (λ l. l ++ flat_map f rest) here ∙ append_assoc before (f x) (flat_map f rest) ∙ ap (λ l. before ++ flat_map f l) (sym steps) ∙ so
 
--- once none is left
+-- at the end
 pub added_all : {Y : Type 0} (f : ℕ → List Y) (whole before : List Y) (left : List ℕ) → left ≡ [] → before ++ flat_map f left ≡ whole → before ≡ whole
 added_all f whole before left none so = sym (append-nil before) ∙ ap (λ l. before ++ flat_map f l) (sym none) ∙ so

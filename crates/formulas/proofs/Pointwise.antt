@@ -1,4 +1,4 @@
--- Two lists of which each pair passes a test, pair by pair.
+-- Two lists whose pairs all pass a test, pair by pair.
 use Rattle.std.proofs.Common.{◌≡◌, ℕ, ◌+◌, ◌<◌, ◌≤◌, Bool, true, false, ◌&&◌, List, [], ◌∷◌, length, map, drop, get_or, refl, sym, ap, ◌∙◌}
 use Rattle.std.specs.Cmp.Lexicographic.{pointwise}
 use Rattle.std.proofs.lemmas.List.{drop_more, drop_all}
@@ -14,7 +14,7 @@ pointwise-both p f g [] (y ∷ ys) = refl
 pointwise-both p f g (x ∷ xs) [] = refl
 pointwise-both p f g (x ∷ xs) (y ∷ ys) = ap (λ b. p (f x) (g y) && b) (pointwise-both p f g xs ys)
 
--- the first of the pairs that are left, and the others
+-- the first of the remaining pairs, and the others
 pub pointwise-drop : {A B : Type 0} (p : A → B → Bool) (xs : List A) (ys : List B) (i : ℕ) (d : A) (e : B) → i < length xs → i < length ys
     → pointwise p (drop i xs) (drop i ys) ≡ (p (get_or xs i d) (get_or ys i e) && pointwise p (drop (i + 1) xs) (drop (i + 1) ys))
 pointwise-drop p xs ys i d e inside within = λ j. pointwise p (drop_more xs i d inside j) (drop_more ys i e within j)
@@ -23,7 +23,7 @@ pointwise-drop p xs ys i d e inside within = λ j. pointwise p (drop_more xs i d
 abbrev pub code_is_of : Task → TypeUnion → ObjectId → Bool
 code_is_of t types object = is_of t (union_of types) (object_of object)
 
--- the pairs up to this place pass, and the one here does not
+-- the pairs before this index pass, and the one here does not
 pub pair_fails : {A B : Type 0} (p : A → B → Bool) (xs : List A) (ys : List B) (i : ℕ) (d : A) (e : B) → i < length xs → i < length ys → pointwise p (drop i xs) (drop i ys) ≡ pointwise p xs ys
     → p (get_or xs i d) (get_or ys i e) ≡ false → false ≡ pointwise p xs ys
 pair_fails p xs ys i d e inside within so here =

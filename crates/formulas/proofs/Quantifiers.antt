@@ -49,7 +49,7 @@ module _ (t : task.Task) (types : task.Union) (part : task.Formula) (objects : L
       let counts = as_long (is_of t) given.scope (map object_of objects) given.fits ∙ length-map objects object_of in
       omega (arith, few, counts)
 
-  -- and where it is of the variable's types, the objects may occur in the formula
+  -- and if it is of the variable's types, the objects fit the formula
   pub extended_fits : (one : ℕ) → is_of t types one ≡ true → FitsFormula t part (map object_of objects ++ one ∷ [])
   extended_fits one is = record {
     scope = given.scope ++ types ∷ [];
@@ -57,7 +57,7 @@ module _ (t : task.Task) (types : task.Union) (part : task.Formula) (objects : L
     fits = pointwise_push (is_of t) given.scope (map object_of objects) types one given.fits is;
   }
 
--- the same of an effect
+-- the same for an effect
 module _ (t : task.Task) (types : task.Union) (part : task.Effect) (objects : List ObjectId) (given : FitsEffect t (task.each types part) (map object_of objects)) where
   pub effect_room : length objects < 16
   effect_room =

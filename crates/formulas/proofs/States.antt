@@ -1,4 +1,4 @@
--- The code's ordered set of atoms and the model's set: both order atoms alike, so what one of them has the other has.
+-- The code's ordered set of atoms and the model's set: both order atoms alike, so they have the same elements.
 use Rattle.std.specs.Prelude.{◌≡◌, ℕ, ◌+◌, ◌<◌, ◌≤◌, Bool, true, false, cond, not, ◌&&◌, ◌||◌, List, [], ◌∷◌, ◌++◌, length, map, take, refl}
 use Rattle.std.proofs.Common.{sym, ◌∙◌, ap, subst, get_or}
 use Rattle.std.specs.declared.cmp.Ordering.{Ordering}
@@ -43,11 +43,11 @@ model_cmp a b = atom_cmp (atom_of a) (atom_of b)
 orders_alike : code_cmp ≡ model_cmp
 orders_alike = λ i a b. order_alike a b i
 
--- what ascends in one of the orders ascends in the other
+-- what ascends in one order ascends in the other
 pub in_order : (keys : List Atom) → IsStrictlySortedBy code_cmp keys → AreInOrder keys
 in_order keys ordered = subst (λ R. IsStrictlySortedBy R keys) orders_alike ordered
 
--- ---- every atom of the model is one of the code's
+-- ---- every atom of the model is one of the code
 
 numbers_at : (xs : List ℕ) → map object_of (map (λ n. record { 0 = n }) xs) ≡ xs
 numbers_at [] = refl
@@ -66,15 +66,15 @@ any_alike : (k : Atom) (keys : List Atom) → list_any (is_at (code_cmp k)) keys
 any_alike k [] = refl
 any_alike k (x ∷ keys) = λ i. is_eq (order_alike k x i) || any_alike k keys i
 
--- what a set of the code has, the model's has
+-- an element of a set of the code is one of the model's set
 pub contains_alike : (keys : List Atom) (k : Atom) → list_any (is_at (code_cmp k)) keys ≡ contains (set_of keys) (atom_of k)
 contains_alike keys k = any_alike k keys ∙ sym (contains-from_list atoms_total (map atom_of keys) (atom_of k))
 
--- as by the model's order
+-- as in the model's order
 pub contains_in_model : (keys : List Atom) (k : Atom) → list_any (is_at (model_cmp k)) keys ≡ contains (set_of keys) (atom_of k)
 contains_in_model keys k = ap (λ R. list_any (is_at (R k)) keys) (sym orders_alike) ∙ contains_alike keys k
 
--- a set of the code that has what a state has is that state
+-- a set of the code with the elements of a state is that state
 pub from_same_atoms : (keys : List Atom) (s : State) → ((q : Atom) → list_any (is_at (code_cmp q)) keys ≡ contains s (atom_of q)) → set_of keys ≡ s
 from_same_atoms keys s same =
     same_state _ s (λ a. subst (λ b. contains (set_of keys) b ≡ contains s b) (atom_of-atom_at a) (sym (contains_alike keys (atom_at a)) ∙ same (atom_at a)))

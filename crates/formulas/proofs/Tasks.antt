@@ -1,4 +1,4 @@
--- What a well-typed task says of its parts.
+-- What well-typedness of a task says about its parts.
 use Rattle.std.specs.Prelude.{◌≡◌, ℕ, ◌+◌, ◌≤◌, ◌<◌, true, false, ◌&&◌, nat_le, nat_lt, List, [], ◌∷◌, ◌++◌, length, map, take, slice_get, IsTrue, None, Some, refl}
 use Rattle.std.proofs.Common.{sym, ◌∙◌, ap, subst, get_or, arith, true≢false}
 use Rattle.std.specs.Cmp.{first_so, second_so}
@@ -28,7 +28,7 @@ few_here : (count : ℕ) → nat_le count max_arguments ≡ true → count ≤ m
 few_here count le = grind (arith, nat_tests)
 
 module _ (declared : List task.Predicate) (few : list_all has_few_arguments declared ≡ true) (t : task.Task) (scope : List task.Union) (a : task.LiftedAtom) where
-  -- well-typed terms of one of these predicates, or functions, are no more than the arguments that it may have
+  -- well-typed terms of one of these predicates, or functions, are no more than the allowed arguments
   lifted_few : IsTrue (is_lifted_of declared t scope a) → length a.terms ≤ max_arguments
   lifted_few typed =
       elim (slice_get declared a.predicate) as (λ o. slice_get declared a.predicate ≡ o
@@ -43,7 +43,7 @@ module _ (t : task.Task) (scope : List task.Union) (a : LiftedAtom) (well : IsTr
   declared_few : (list_all has_few_arguments t.predicates && list_all has_few_arguments t.functions) ≡ true
   declared_few = second_so _ _ (first_so _ _ (first_so _ _ (first_so _ _ well)))
 
-  -- so are those of an atom of the code, and of a function
+  -- the same for an atom of the code, and for a function
   pub terms_few : IsTrue (is_lifted_atom t scope (lifted_atom_of a)) → length a.terms.items ≤ max_arguments
   terms_few typed =
       subst (λ n. n ≤ max_arguments) (length-map a.terms.items term_of) (lifted_few t.predicates (first_so _ _ declared_few) t scope (lifted_atom_of a) typed)
@@ -52,7 +52,7 @@ module _ (t : task.Task) (scope : List task.Union) (a : LiftedAtom) (well : IsTr
   function_terms_few typed =
       subst (λ n. n ≤ max_arguments) (length-map a.terms.items term_of) (lifted_few t.functions (second_so _ _ declared_few) t scope (lifted_atom_of a) typed)
 
--- so of a formula that is an atom, in which objects may stand for the variables
+-- the same for a formula that is an atom, in which objects fit the variables
 module _ (t : task.Task) (f : Formula) (a : LiftedAtom) (objects : List ObjectId) (is : f ≡ formula.Atom a) (given : FitsFormula t (formula_of f) (map object_of objects)) where
   typed_atom : IsTrue (is_lifted_atom t given.scope (lifted_atom_of a))
   typed_atom = ap (λ g. is_formula t given.scope (formula_of g)) (sym is) ∙ given.typed
@@ -60,7 +60,7 @@ module _ (t : task.Task) (f : Formula) (a : LiftedAtom) (objects : List ObjectId
   pub atom_few : IsTrue (is_task t) → length a.terms.items ≤ max_arguments
   atom_few well = terms_few t given.scope a well typed_atom
 
--- ---- the objects that terms name
+-- ---- the objects that terms denote
 
 pub named_more : (binding : List ℕ) (objects : List ObjectId) (terms : List Term) (i : ℕ) (d : Term) (o : ObjectId) → i < length terms
     → map object_of objects ≡ map (λ t. meaning.object_of binding (term_of t)) (take i terms)

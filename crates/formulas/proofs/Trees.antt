@@ -1,4 +1,4 @@
--- The parts of formulas and effects as lists: what they mean, part by part.
+-- The parts of formulas and effects as lists, and their meaning part by part.
 use Rattle.std.specs.Prelude.{◌≡◌, ℕ, Bool, true, ◌&&◌, ◌||◌, List, [], ◌∷◌, ◌++◌, map, IsTrue, refl}
 use Rattle.std.proofs.Common.{sym, ◌∙◌, ap}
 use Rattle.std.specs.Global.{Vec}
@@ -59,7 +59,7 @@ all_sure-list : (t : task.Task) (binding : List ℕ) (parts : List Formula) → 
 all_sure-list t binding [] = refl
 all_sure-list t binding (part ∷ rest) = ap (λ l. sure t (formula_of part) binding ++ l) (all_sure-list t binding rest)
 
--- a formula that is a conjunction, by the list of its parts
+-- a conjunction, by the list of its parts
 module _ (f : Formula) (parts : Vec Formula) (items : List Formula) (is : f ≡ formula.And parts) (same : items ≡ parts.items) where
   conjunction : formula_of f ≡ task.and (formulas_in items)
   conjunction = ap formula_of is ∙ formula_of-And parts ∙ ap (λ l. task.and (formulas_in l)) (sym same)
@@ -73,7 +73,7 @@ module _ (f : Formula) (parts : Vec Formula) (items : List Formula) (is : f ≡ 
   pub sure_by_parts : (t : task.Task) (binding : List ℕ) → sure t (formula_of f) binding ≡ flat_map (λ part. sure t (formula_of part) binding) items
   sure_by_parts t binding = ap (λ g. sure t g binding) conjunction ∙ all_sure-list t binding items
 
--- and one that is a disjunction
+-- and a disjunction
 module _ (f : Formula) (parts : Vec Formula) (items : List Formula) (is : f ≡ formula.Or parts) (same : items ≡ parts.items) where
   disjunction : formula_of f ≡ task.or (formulas_in items)
   disjunction = ap formula_of is ∙ formula_of-Or parts ∙ ap (λ l. task.or (formulas_in l)) (sym same)
@@ -118,7 +118,7 @@ changes_of_all-list t binding (part ∷ rest) = ap (λ l. changes_of t (effect_o
 pub changes_of-And : (t : task.Task) (binding : List ℕ) (parts : Vec Effect) → changes_of t (effect_of (effect.And parts)) binding ≡ flat_map (λ part. changes_of t (effect_of part) binding) parts.items
 changes_of-And t binding parts = ap (λ e. changes_of t e binding) (effect_of-And parts) ∙ changes_of_all-list t binding parts.items
 
--- the same of an effect that is a conjunction
+-- the same for an effect that is a conjunction
 pub changes_by_parts : (t : task.Task) (binding : List ℕ) (e : Effect) (parts : Vec Effect) (items : List Effect) → e ≡ effect.And parts → items ≡ parts.items
     → changes_of t (effect_of e) binding ≡ flat_map (λ part. changes_of t (effect_of part) binding) items
 changes_by_parts t binding e parts items is same =

@@ -5,7 +5,7 @@ use Rattle.formulas.specs.declared.change.Pass.{Pass}
 use Rattle.formulas.specs.declared.change.Pass.TheVariants.{Deletes, Adds}
 use Rattle.model.specs.Meaning.{State, GroundLiteral, added_by, deleted_by}
 
--- the state less what the literals delete, or else with what they add
+-- the state without the deleted atoms, or with the added ones, depending on the pass
 abbrev pub after_pass : Pass → State → List GroundLiteral → State
 after_pass Deletes state literals = difference state (from_list (deleted_by literals))
 after_pass Adds state literals = union state (from_list (added_by literals))

@@ -1,4 +1,4 @@
--- The code's changes one by one, in the model's terms.
+-- The code's changes, in the model's terms.
 use Rattle.std.specs.Prelude.{map, Option}
 use Rattle.std.specs.Borrow.{Bor}
 use Rattle.std.specs.Option.{option_map_or}
@@ -14,7 +14,7 @@ abbrev pub ground_literal_of : GroundLiteral → meaning.GroundLiteral
 ground_literal_of (Adds a) = meaning.adds (atom_of a)
 ground_literal_of (Deletes a) = meaning.deletes (atom_of a)
 
--- the literal that is lent
+-- the borrowed literal
 abbrev pub lent_literal : Bor GroundLiteral → meaning.GroundLiteral
 lent_literal l = ground_literal_of l.now
 

@@ -1,4 +1,4 @@
--- What the code's `==` says of two states.
+-- The meaning of the code's `==` on states.
 use Rattle.std.specs.Prelude.{Bool}
 use Rattle.formulas.specs.declared.state.State.{State}
 use Rattle.formulas.specs.contracts.state.StatePartialEq.TheImpl as of_states

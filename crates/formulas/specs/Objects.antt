@@ -1,4 +1,4 @@
--- The objects that a variable goes over, in the model's terms.
+-- The objects that a variable ranges over, in the model's terms.
 use Rattle.std.specs.Prelude.{ℕ, ◌-◌, List, length, filter}
 use Rattle.std.specs.List.{range_with_len}
 use Rattle.task.specs.Task.{task_of}
@@ -6,7 +6,7 @@ use Rattle.task.specs.TaskParts.{union_of}
 use Rattle.formulas.specs.declared.objects.Objects.{Objects}
 use Rattle.model.specs.Meaning.{is_of}
 
--- those of the types that are still to come, in order
+-- the remaining objects of the types, in order
 abbrev pub objects_left : Objects → List ℕ
 objects_left o =
     let count = length (task_of o.task.now).objects in

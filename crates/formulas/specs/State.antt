@@ -1,4 +1,4 @@
--- States, instances and plans of the code, in the model's terms, and when objects may stand for variables.
+-- States, instances and plans of the code, in the model's terms, and when objects fit variables.
 use Rattle.std.specs.Prelude.{ℕ, Bool, IsTrue, List, map, Contains}
 use Rattle.std.specs.Cmp.Lexicographic.{pointwise}
 use Rattle.std.specs.FinSet.{from_list}
@@ -21,32 +21,32 @@ instance_of i = record { schema = i.schema.0; objects = map object_of i.objects.
 abbrev pub plan_of : Plan → List task.Instance
 plan_of p = map instance_of p.steps.items
 
--- There are types of variables for which something is well-typed, and of which these objects are, one for each.
+-- There are types of variables under which something is well-typed, and these objects are of these types, one for each.
 pub record FitsScope (t : task.Task) (is_typed : List task.Union → Bool) (objects : List ℕ) : Type 0 where
   pub scope : List task.Union
   pub typed : IsTrue (is_typed scope)
   pub fits : IsTrue (pointwise (meaning.is_of t) scope objects)
 
--- these objects may stand for the variables in the formula
+-- these objects fit the variables in the formula
 abbrev pub FitsFormula : task.Task → task.Formula → List ℕ → Type 0
 FitsFormula t formula objects = FitsScope t (λ scope. is_formula t scope formula) objects
 
--- in each of the formulas
+-- the same for each of the formulas
 abbrev pub FitsFormulas : task.Task → List task.Formula → List ℕ → Type 0
 FitsFormulas t formulas objects = FitsScope t (λ scope. list_all (is_formula t scope) formulas) objects
 
--- and in the effect
+-- the same for the effect
 abbrev pub FitsEffect : task.Task → task.Effect → List ℕ → Type 0
 FitsEffect t effect objects = FitsScope t (λ scope. is_effect t scope effect) objects
 
--- in the literal of an effect
+-- the same for the literal of an effect
 abbrev pub FitsLiteral : task.Task → task.EffectLiteral → List ℕ → Type 0
 FitsLiteral t literal objects = FitsScope t (λ scope. is_effect_literal t scope literal) objects
 
--- and in each of the literals
+-- the same for each of the literals
 abbrev pub FitsLiterals : task.Task → List task.EffectLiteral → List ℕ → Type 0
 FitsLiterals t literals objects = FitsScope t (λ scope. list_all (is_effect_literal t scope) literals) objects
 
--- the objects of each of these changes may stand for the variables in its condition
+-- the objects of each of these changes fit the variables in its condition
 abbrev pub FitsChanges : task.Task → List meaning.Change → Type 0
 FitsChanges t changes = (change : meaning.Change) → Contains changes change → FitsFormula t change.condition change.binding

@@ -1,4 +1,4 @@
-//! Change: the state that an instance leads to.
+//! Successors: the state that results from applying an instance.
 ghost use Rattle.std.specs.Prelude.{◌≡◌, ◌∷◌, ◌++◌, [], map, IsTrue, IfOk, OnOk};
 ghost use Rattle.std.specs.Option.{option_map};
 ghost use Rattle.task.specs.Task.{task_of};
@@ -17,7 +17,7 @@ use faults::NoMemory;
 use std::alloc::Global;
 use task::Task;
 
-/// Which literals are carried out.
+/// Which literals are applied.
 #[derive(Clone, Copy)]
 enum Pass {
     /// Those that make an atom false.
@@ -26,12 +26,12 @@ enum Pass {
     Adds,
 }
 
-/// The state that the instance, which is one of the task's, leads to, and `None` where it is not applicable: where its
-/// precondition does not hold, or what it increases the total cost by has no value. All conditions are read in the state
-/// before, and an atom that is both deleted and added is true afterwards.
+/// The successor state of applying an instance of the task; `None` if it is not applicable, that is, if its precondition does not
+/// hold or its cost increase has no value. All conditions are evaluated in the state before. An atom that is both deleted and
+/// added is true afterwards.
 ///
 /// # Errors
-/// Memory was refused, which says nothing of the instance.
+/// An allocation failed, which says nothing about the instance.
 pub fn apply(
     alloc: Global,
     task: &Task,
@@ -44,11 +44,11 @@ pub fn apply(
     advance(alloc, task, instance, state.try_clone()?)
 }
 
-/// What [`apply`] gives, made of the state before: the time goes with the changes of the instance, and not with the atoms
-/// of the state.
+/// The same as [`apply`], but updates the given state in place: the time depends on the number of changes, not on the size of the
+/// state.
 ///
 /// # Errors
-/// Memory was refused, which says nothing of the instance.
+/// An allocation failed, which says nothing about the instance.
 fn advance(
     alloc: Global,
     task: &Task,
@@ -75,7 +75,7 @@ fn advance(
     Ok(Some(next))
 }
 
-/// The literals of those changes whose condition holds in the state.
+/// The literals of the changes whose conditions hold in the state.
 fn literals_made<'a>(
     alloc: Global,
     task: &Task,
@@ -92,7 +92,7 @@ fn literals_made<'a>(
     Ok(made)
 }
 
-/// Adds the literal of the change, if its condition holds in the state.
+/// Adds the literal of the change if its condition holds in the state.
 fn add_if_made<'a>(
     task: &Task,
     change: &'a Change<'_>,
@@ -109,7 +109,7 @@ fn add_if_made<'a>(
     Ok(())
 }
 
-/// Carries out those of the literals that are of the pass.
+/// Applies the literals that belong to the pass.
 fn carry_out(literals: &[&GroundLiteral], pass: Pass, next: &mut State) -> Result<(), NoMemory>
     ensures { OnOk result (state_of next.new ≡ after_pass pass (state_of next.old) (map lent_literal literals.now)) }
 {
@@ -130,7 +130,7 @@ fn is_made(task: &Task, change: &Change, before: &State) -> bool
     }
 }
 
-/// Carries out the literal, if it is one of the pass.
+/// Applies the literal if it belongs to the pass.
 fn carry_out_one(literal: &GroundLiteral, pass: Pass, next: &mut State) -> Result<(), NoMemory>
     ensures { OnOk result (state_of next.new ≡ after_pass pass (state_of next.old) (ground_literal_of literal.now ∷ [])) }
 {

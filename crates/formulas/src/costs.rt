@@ -1,4 +1,4 @@
-//! What instances cost.
+//! The costs of instances.
 ghost use Rattle.std.specs.Prelude.{◌≡◌, slice_get};
 ghost use Rattle.std.specs.Option.{option_and_then};
 ghost use Rattle.task.specs.Task.{task_of};
@@ -9,7 +9,7 @@ use crate::instance::Instance;
 use crate::truth::ground_atom;
 use task::{Increase, Task};
 
-/// What the instance costs: where the total cost is to be least, what its schema increases it by, and else 1.
+/// The cost of the instance: its increase of the total cost if the task minimizes it, otherwise 1.
 pub fn cost(task: &Task, instance: &Instance) -> u32
     ensures { result ≡ cost_of (task_of task.now) (instance_of instance.now) }
 {
@@ -19,8 +19,8 @@ pub fn cost(task: &Task, instance: &Instance) -> u32
     amount(task, instance).unwrap_or(0)
 }
 
-/// What the instance's schema increases the total cost by, with the metric or without it; `None` where it is by a function
-/// that has no value for the instance's objects, or where the task has no such schema. No memory is taken.
+/// The amount by which the instance increases the total cost, whether or not there is a metric; `None` if the amount is a
+/// function without a value for the instance's objects, or if the task has no such schema. Nothing is allocated.
 pub fn amount(task: &Task, instance: &Instance) -> Option<u32>
     ensures { result ≡ option_and_then (λ s. amount_of (task_of task.now) s.increase (instance_of instance.now).objects) (slice_get (task_of task.now).schemas instance.now.schema.0) }
 {

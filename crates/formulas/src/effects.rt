@@ -1,4 +1,4 @@
-//! What an instance changes, and under which conditions.
+//! The changes that an instance makes, and their conditions.
 ghost use Rattle.std.specs.Prelude.{◌≡◌, ◌++◌, ◌∷◌, [], map, IsTrue, IfOk, OnOk};
 ghost use Rattle.task.specs.TaskParts.{object_of, formula_of, effect_literal_of, effect_of};
 ghost use Rattle.task.specs.Task.{task_of};
@@ -22,10 +22,10 @@ pub enum GroundLiteral {
     Deletes(Atom),
 }
 
-/// What an instance changes where a condition holds in the state before.
+/// A change that an instance makes if a condition holds in the state before.
 #[derive(Drop)]
 pub struct Change<'t> {
-    /// The condition, if there is one.
+    /// The condition, if any.
     pub condition: Option<&'t Formula>,
     /// The objects of the variables in the condition's scope.
     pub binding: Binding,
@@ -33,11 +33,11 @@ pub struct Change<'t> {
     pub literal: GroundLiteral,
 }
 
-/// The changes of the instance, which is one of the task's, in the order of its effect: those of a `forall` for each object
-/// of its variable's types.
+/// The changes of an instance of the task, in the order of its effect. A `forall` gives changes for each object of its variable's
+/// types.
 ///
 /// # Errors
-/// Memory was refused, which says nothing of the instance.
+/// An allocation failed, which says nothing about the instance.
 pub fn changes<'t>(
     alloc: Global,
     task: &'t Task,
@@ -100,7 +100,7 @@ fn add_changes_under<'t>(
     Ok(())
 }
 
-/// Adds the change of the literal, under the condition, if there is one.
+/// Adds the change of the literal, under the condition if there is one.
 fn add_change<'t>(
     task: &Task,
     condition: Option<&'t Formula>,
@@ -120,7 +120,7 @@ fn add_change<'t>(
     Ok(())
 }
 
-/// What the literal says, where the variables have these objects.
+/// The literal under this binding of the variables.
 fn grounded(_task: &Task, literal: &EffectLiteral, binding: &Binding) -> GroundLiteral
     requires { FitsLiteral (task_of _task.now) (effect_literal_of literal.now) (map object_of binding.now.items) }
     ensures { ground_literal_of result ≡ ground_literal (map object_of binding.now.items) (effect_literal_of literal.now) }

@@ -11,19 +11,19 @@ use faults::NoMemory;
 use std::alloc::Global;
 use task::{Atom, Effect, EffectLiteral, PredicateId, SchemaId, Task};
 
-/// Which predicates some action of a task adds or deletes atoms of. It is made in one pass over the task's actions, so that
-/// no later question goes through them.
+/// The predicates whose atoms some action adds or deletes, found in one pass over the task's actions so that later queries need
+/// none.
 #[derive(Drop)]
 pub struct FluentPredicates {
-    /// For each predicate, by its number, up to the last that is fluent.
+    /// Indexed by predicate, up to the last fluent one.
     table: Vec<bool>,
 }
 
 impl FluentPredicates {
-    /// Those of the task.
+    /// The fluent predicates of the task.
     ///
     /// # Errors
-    /// Memory was refused, which says nothing of the task.
+    /// An allocation failed, which says nothing about the task.
     pub fn new(alloc: Global, task: &Task) -> Result<FluentPredicates, NoMemory>
         ensures { IfOk result (AreFluentsOf (task_of task.now)) }
     {
@@ -37,7 +37,7 @@ impl FluentPredicates {
         Ok(FluentPredicates { table })
     }
 
-    /// Whether the predicate is one of these.
+    /// Whether the predicate is fluent.
     pub fn contains(&self, predicate: PredicateId) -> bool
         ensures { result ≡ is_marked self.now.table.items predicate.0 }
     {
@@ -47,8 +47,7 @@ impl FluentPredicates {
         }
     }
 
-    /// Whether the atom is well-typed, and some action of the task, whose fluent predicates these are, adds or deletes atoms
-    /// of its predicate.
+    /// Whether the atom is well-typed and its predicate is fluent in the task, whose table this is.
     pub fn is_fluent(&self, task: &Task, atom: &Atom) -> bool
         requires { AreFluentsOf (task_of task.now) self.now }
         ensures { result ≡ defined.is_fluent_atom (task_of task.now) (atom_of atom.now) }
@@ -57,7 +56,7 @@ impl FluentPredicates {
     }
 }
 
-/// Marks the predicates that the effect has literals of.
+/// Marks the predicates of the effect's literals.
 fn mark_touched(effect: &Effect, table: &mut Vec<bool>) -> Result<(), NoMemory>
     ensures { OnOk result (Marks (λ n. defined.touches n (effect_of effect.now)) table.old.items table.new.items) }
 {

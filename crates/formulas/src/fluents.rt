@@ -1,4 +1,4 @@
-//! Which atoms are well-typed, and which predicates the task's actions change.
+//! Which atoms are well-typed, and which predicates are fluent.
 ghost use Rattle.std.specs.Prelude.{◌≡◌, ◌&&◌, map};
 ghost use Rattle.std.specs.List.{list_any};
 ghost use Rattle.task.specs.TaskParts.{atom_of};
@@ -11,7 +11,7 @@ ghost use Rattle.model.specs.Fluents.{touches};
 use crate::instance::are_of;
 use task::{Atom, Effect, EffectLiteral, PredicateId, SchemaId, Task};
 
-/// Whether the atom is well-typed: its predicate is the task's, and it has an object of its types for each argument.
+/// Whether the atom is well-typed: its predicate belongs to the task, and it has one object of the right types for each argument.
 pub fn is_atom(task: &Task, atom: &Atom) -> bool
     ensures { result ≡ well_typed.is_atom (task_of task.now) (atom_of atom.now) }
 {
@@ -21,7 +21,7 @@ pub fn is_atom(task: &Task, atom: &Atom) -> bool
     are_of(task, &predicate.arguments, atom.objects.as_slice())
 }
 
-/// Whether the atom is well-typed, and some action of the task adds or deletes atoms of its predicate.
+/// Whether the atom is well-typed and some action of the task adds or deletes atoms of its predicate.
 pub fn is_fluent(task: &Task, atom: &Atom) -> bool
     ensures { result ≡ (well_typed.is_atom (task_of task.now) (atom_of atom.now) && defined.is_fluent (task_of task.now) (atom_of atom.now).predicate) }
 {
@@ -43,7 +43,7 @@ pub fn is_fluent_predicate(task: &Task, predicate: PredicateId) -> bool
     false
 }
 
-/// Whether the effect has a literal of the predicate.
+/// Whether the effect has a literal with this predicate.
 fn touches(effect: &Effect, predicate: PredicateId) -> bool
     ensures { result ≡ touches predicate.0 (effect_of effect.now) }
 {
@@ -62,7 +62,7 @@ fn touches(effect: &Effect, predicate: PredicateId) -> bool
     }
 }
 
-/// Whether one of the literals is of the predicate.
+/// Whether one of the literals has this predicate.
 fn some_is_literal_of(literals: &[EffectLiteral], predicate: PredicateId) -> bool
     ensures { result ≡ list_any (defined.is_literal_of predicate.0) (map effect_literal_of literals.now) }
 {
@@ -74,7 +74,7 @@ fn some_is_literal_of(literals: &[EffectLiteral], predicate: PredicateId) -> boo
     false
 }
 
-/// Whether the literal is of the predicate.
+/// Whether the literal has this predicate.
 fn is_literal_of(literal: &EffectLiteral, predicate: PredicateId) -> bool
     ensures { result ≡ defined.is_literal_of predicate.0 (effect_literal_of literal.now) }
 {

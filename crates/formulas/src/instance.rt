@@ -9,11 +9,11 @@ ghost use Rattle.model.specs.Meaning as meaning;
 use arrayvec::ArrayVec;
 use task::{MAX_VARIABLES, ObjectId, SchemaId, Task, TypeUnion};
 
-/// The objects of the variables in scope, in order: first those of a schema's parameters, then those of the quantifiers
-/// around.
+/// The objects of the variables in scope, in order: first those of a schema's parameters, then those of the enclosing
+/// quantifiers.
 pub type Binding = ArrayVec<ObjectId, MAX_VARIABLES>;
 
-/// The same objects, to which those of further variables may be added.
+/// A copy of the binding that can be extended.
 pub fn copied(binding: &Binding) -> Binding
     ensures { result.items ≡ binding.now.items }
 {
@@ -24,7 +24,7 @@ pub fn copied(binding: &Binding) -> Binding
     copy
 }
 
-/// These objects, and then one more.
+/// The binding, extended by one object.
 pub fn with_object(objects: &Binding, last: ObjectId) -> Binding
     requires { length objects.now.items < MAX_VARIABLES }
     ensures { result.items ≡ objects.now.items ++ last ∷ [] }
@@ -43,8 +43,8 @@ pub struct Instance {
     pub objects: Binding,
 }
 
-/// Whether the instance is one of the task's: the schema is the task's, and there is an object of its types for each of
-/// its parameters. Two parameters may have the same object.
+/// Whether the instance belongs to the task: its schema does, and it has one object of the right types for each parameter. Two
+/// parameters may have the same object.
 pub fn is_instance(task: &Task, instance: &Instance) -> bool
     ensures { result ≡ meaning.is_instance (task_of task.now) (instance_of instance.now) }
 {
@@ -54,7 +54,7 @@ pub fn is_instance(task: &Task, instance: &Instance) -> bool
     }
 }
 
-/// Whether there are as many objects as unions of types, and each is of one of the types in its place.
+/// Whether there are as many objects as type unions, and each object is of one of the types at its index.
 pub(crate) fn are_of(task: &Task, unions: &[TypeUnion], objects: &[ObjectId]) -> bool
     ensures { result ≡ pointwise (meaning.is_of (task_of task.now)) (map union_of unions.now) (map object_of objects.now) }
 {

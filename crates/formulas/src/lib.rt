@@ -1,4 +1,4 @@
-//! Truth, effects and instances, over states that are sets of atoms.
+//! Truth, effects and instances over states, which are sets of atoms.
 #![tactic(auto)]
 
 mod change;

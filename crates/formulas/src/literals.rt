@@ -1,4 +1,4 @@
-//! What a formula says outright.
+//! The sure literals of a formula: those it implies by conjunction alone.
 ghost use Rattle.std.specs.Prelude.{◌≡◌, ◌++◌, map, IfOk, OnOk};
 ghost use Rattle.task.specs.TaskParts.{object_of, formula_of};
 ghost use Rattle.task.specs.Task.{task_of};
@@ -13,22 +13,22 @@ use faults::NoMemory;
 use std::alloc::Global;
 use task::{Atom, Formula, ObjectId, Task};
 
-/// What a formula says outright of an atom, or of two objects.
+/// A sure literal of a formula, about an atom or about two objects.
 #[derive(Debug, Drop)]
 pub enum Literal {
     /// The atom is true.
     IsTrue(Atom),
     /// The atom is false.
     IsFalse(Atom),
-    /// Both are one object.
+    /// Both are the same object.
     AreSame(ObjectId, ObjectId),
-    /// They are two objects.
+    /// They are different objects.
     AreDifferent(ObjectId, ObjectId),
 }
 
-/// The sure literals of the formula, where the variables in scope have these objects: the atoms, the equalities and the
-/// `not` of one of these under nothing but `and` and `forall`, for each object of the variable of a `forall`. The formula is
-/// well-typed for variables of some types that the objects are of.
+/// The sure literals of the formula under this binding: the atoms, the equalities and their negations that are under nothing but
+/// `and` and `forall`, for each object of a `forall`'s variable. The formula is well-typed for variables of some types that the
+/// objects are of.
 pub fn sure(
     alloc: Global,
     task: &Task,
@@ -75,7 +75,7 @@ fn add_sure(
     Ok(())
 }
 
-/// Adds the literal that says that the formula does not hold, if it is an atom or an equality.
+/// Adds the literal that says that the formula does not hold, if the formula is an atom or an equality.
 fn add_sure_not(
     task: &Task,
     formula: &Formula,

@@ -1,4 +1,4 @@
-//! The objects that a variable goes over.
+//! The objects that a variable ranges over.
 ghost use Rattle.std.specs.Prelude.{◌≡◌};
 ghost use Rattle.task.specs.TaskParts.{object_of, union_of};
 ghost use Rattle.task.specs.Task.{task_of};
@@ -7,16 +7,16 @@ ghost use Rattle.model.specs.Meaning as meaning;
 
 use task::{ObjectId, Task, TypeUnion};
 
-/// The objects of some types, one after another.
+/// An iterator over the objects of some types.
 #[derive(Drop)]
 pub struct Objects<'t> {
     task: &'t Task,
     types: &'t TypeUnion,
-    /// The number from which on they are looked for.
+    /// The number of the next candidate.
     next: usize,
 }
 
-/// The objects that are of one of these types, in the order of their numbers, each once. No memory is taken.
+/// The objects of one of these types, by number and without repetition. Nothing is allocated.
 pub fn objects_of<'t>(task: &'t Task, types: &'t TypeUnion) -> Objects<'t>
     ensures { objects_left result ≡ meaning.objects_of (task_of task.now) (union_of types.now) }
 {

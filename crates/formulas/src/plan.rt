@@ -4,10 +4,10 @@ ghost use Rattle.model.specs.Limits.{max_steps};
 
 use crate::instance::Instance;
 
-/// The most instances that a plan may have.
+/// The maximum number of instances in a plan.
 pub const MAX_STEPS: usize = 16_777_216;
 
-/// A list of at most 16,777,216 instances, run one after another.
+/// A list of at most 16,777,216 instances, to be applied in order.
 #[derive(Drop)]
 pub struct Plan {
     steps: Vec<Instance>,
@@ -18,7 +18,7 @@ impl Plan {
     ghost use Rattle.std.specs.Prelude.{◌≡◌, ◌<◌, ◌↔◌, map, IsNone, IfSome, length};
     ghost use Rattle.formulas.specs.State.{instance_of, plan_of};
 
-    /// The plan of these instances, and `None` where there are more than 16,777,216.
+    /// The plan with these instances; `None` if there are more than 16,777,216.
     pub fn new(steps: Vec<Instance>) -> Option<Plan>
         ensures too_long { IsNone result ↔ (max_steps < vec_len steps) }
         ensures steps { IfSome result (λ p. plan_of p ≡ map instance_of steps.items) }
@@ -29,7 +29,7 @@ impl Plan {
         Some(Plan { steps })
     }
 
-    /// Its instances, in order.
+    /// The instances, in order.
     pub fn steps(&self) -> &[Instance]
         ensures steps { map instance_of result.now ≡ plan_of self.now }
         ensures at_most { length result.now ≤ max_steps }

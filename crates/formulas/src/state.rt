@@ -23,7 +23,7 @@ impl State {
     ghost use Rattle.formulas.specs.State.{state_of};
     ghost use Rattle.model.specs.Meaning.{initial_state};
 
-    /// The state in which no atom is true.
+    /// The state without true atoms.
     pub fn new(alloc: Global) -> State
         ensures { state_of result ≡ empty }
     {
@@ -32,7 +32,7 @@ impl State {
         }
     }
 
-    /// The initial state: the set of the atoms in `:init`.
+    /// The initial state: the atoms in `:init`.
     pub fn initial(alloc: Global, task: &Task) -> Result<State, NoMemory>
         ensures { IfOk result (λ s. state_of s ≡ initial_state (task_of task.now)) }
     {
@@ -52,14 +52,14 @@ impl State {
         self.atoms.contains(atom)
     }
 
-    /// The atoms that are true, in the order of their predicates and then of their objects from the left.
+    /// The true atoms, ordered by predicate and then lexicographically by objects.
     pub fn atoms(&self) -> &BTreeSet<Atom>
         ensures { from_list (map atom_of result.now.keys) ≡ state_of self.now }
     {
         &self.atoms
     }
 
-    /// Makes the atom true. Where memory was refused the state is as before.
+    /// Makes the atom true. If an allocation fails, the state is unchanged.
     pub fn insert(&mut self, atom: Atom) -> Result<(), NoMemory>
         ensures ok { OnOk result (state_of self.new ≡ insert (state_of self.old) (atom_of atom)) }
         ensures err { OnErr result (state_of self.new ≡ state_of self.old) }
@@ -75,7 +75,7 @@ impl State {
         self.atoms.remove(atom);
     }
 
-    /// A second state with the same atoms.
+    /// A copy of the state.
     pub fn try_clone(&self) -> Result<State, NoMemory>
         ensures { IfOk result (λ s. state_of s ≡ state_of self.now) }
     {

@@ -1,4 +1,4 @@
-//! Truth: which atoms terms name, and whether a formula holds.
+//! Truth: the atoms denoted by terms, and whether a formula holds.
 ghost use Rattle.std.specs.Prelude.{◌≡◌, ◌≤◌, length, map};
 ghost use Rattle.std.specs.List.{list_all, list_any};
 ghost use Rattle.task.specs.TaskParts.{atom_of, object_of, formula_of, lifted_atom_of, term_of, union_of};
@@ -14,8 +14,8 @@ use crate::valuation::Valuation;
 use arrayvec::ArrayVec;
 use task::{Atom, Formula, LiftedAtom, MAX_ARGUMENTS, ObjectId, Task, Term, TypeUnion};
 
-/// Whether the formula holds in the state, where the variables in scope have these objects. The formula is well-typed for
-/// variables of some types that the objects are of. No memory is taken, and what decides ends the search.
+/// Whether the formula holds in the state under this binding. The formula is well-typed for variables of some types that the
+/// objects are of. Nothing is allocated, and evaluation short-circuits.
 #[cycle(holds)]
 pub fn holds<V: Valuation>(task: &Task, formula: &Formula, binding: &Binding, state: &V) -> bool
     requires { FitsFormula (task_of task.now) (formula_of formula.now) (map object_of binding.now.items) }
@@ -49,7 +49,7 @@ fn all_hold<V: Valuation>(task: &Task, parts: &[Formula], binding: &Binding, sta
     true
 }
 
-/// Whether one of the formulas holds.
+/// Whether some of the formulas holds.
 #[cycle(holds)]
 fn some_holds<V: Valuation>(task: &Task, parts: &[Formula], binding: &Binding, state: &V) -> bool
     requires { FitsFormulas (task_of task.now) (map formula_of parts.now) (map object_of binding.now.items) }
@@ -63,7 +63,7 @@ fn some_holds<V: Valuation>(task: &Task, parts: &[Formula], binding: &Binding, s
     false
 }
 
-/// Whether the formula holds for each object of these types, as that of the next variable.
+/// Whether the formula holds for each object of these types as the next variable.
 #[cycle(holds)]
 fn holds_for_all<V: Valuation>(
     task: &Task,
@@ -86,7 +86,7 @@ fn holds_for_all<V: Valuation>(
     true
 }
 
-/// Whether the formula holds for one of the objects of these types, as that of the next variable.
+/// Whether the formula holds for some object of these types as the next variable.
 #[cycle(holds)]
 fn holds_for_some<V: Valuation>(
     task: &Task,
@@ -116,7 +116,7 @@ pub fn meets_goal(task: &Task, state: &State) -> bool
     holds(task, task.goal(), &Binding::new(), state)
 }
 
-/// The atom that a predicate of some terms becomes, where the variables have these objects.
+/// The atom that a predicate of terms becomes under this binding.
 pub(crate) fn ground_atom(atom: &LiftedAtom, binding: &Binding) -> Atom
     requires { length atom.now.terms.items ≤ MAX_ARGUMENTS }
     ensures { atom_of result ≡ meaning.ground_atom (map object_of binding.now.items) (lifted_atom_of atom.now) }
@@ -131,7 +131,7 @@ pub(crate) fn ground_atom(atom: &LiftedAtom, binding: &Binding) -> Atom
     }
 }
 
-/// The object that the term names, where the variables have these objects: the first one, where its variable has none.
+/// The object that the term denotes under this binding: the first object for an unbound variable.
 pub(crate) fn named_by(term: &Term, binding: &Binding) -> ObjectId
     ensures { result.0 ≡ meaning.object_of (map object_of binding.now.items) (term_of term.now) }
 {

@@ -1,4 +1,4 @@
-//! What formulas are true of.
+//! What formulas are evaluated in.
 ghost use Rattle.std.specs.Prelude.{◌≡◌};
 ghost use Rattle.std.specs.FinSet.{contains};
 ghost use Rattle.task.specs.TaskParts.{atom_of};
@@ -8,7 +8,7 @@ ghost use Rattle.model.specs.Meaning as meaning;
 use crate::state::State;
 use task::Atom;
 
-/// Says of each atom whether it is true.
+/// An assignment of truth values to atoms.
 pub trait Valuation {
     ghost facts: { Self → meaning.State };
 

@@ -4,4 +4,5 @@ pub mod ExchangeLemmas
 pub mod PlanLemmas
 pub mod ByKeys
 pub mod RowLemmas
+pub mod RecentLemmas
 pub mod OrbitLemmas

@@ -6,12 +6,13 @@ use Rattle.packed_state.specs.Packed.{bits_of}
 use Rattle.packed_state.specs.PooledView.{pooled_width, pooled_states}
 use Rattle.packed_state.specs.Store.{AreDistinct, IsPlaced}
 use Rattle.packed_state.proofs.StoreLemmas.{Contains-at}
-use Rattle.search.proofs.Lists.{get_exists}
+use Rattle.search.proofs.Lists.{get-push_new, get_exists}
 use Rattle.search.specs.Listing.{IsAlikeAt, IsPlacedBy}
 use Rattle.representatives.specs.declared.representatives.Representatives.{Representatives}
 use Rattle.representatives.specs.Representatives.{atoms_of}
 use Rattle.ground_listings.specs.declared.orbits.Orbits.{Orbits}
 use Rattle.ground_listings.specs.States.{states_width, states_of}
+use Rattle.ground_listings.specs.RecentStates.{recent_width, IsNoted, AreNotedByKeys}
 use Rattle.ground_listings.specs.ListedByKeys.{AreListedByKeys}
 use Rattle.search.specs.declared.listing.Place.{Place}
 use Rattle.search.specs.declared.listing.Place.TheVariants.{New, Listed, Alike}
@@ -36,15 +37,23 @@ put_new old new s place false lacks placed = absurd (lacks (Contains-at old plac
 
 pub linked_none : (orbits : Orbits) → length (bits_of orbits.key) ≡ length (atoms_of orbits.representatives.now) → states_width orbits.states ≡ length (atoms_of orbits.representatives.now)
     → pooled_width orbits.keys ≡ length (atoms_of orbits.representatives.now) → pooled_width orbits.superseded ≡ length (atoms_of orbits.representatives.now) → states_in orbits ≡ [] → pooled_states orbits.keys ≡ [] → orbits.current.items ≡ []
-    → pooled_states orbits.superseded ≡ [] → orbits.places.items ≡ [] → IsLinked orbits
-linked_none orbits key_width rows_width keys_width superseded_width states keys current superseded places = record {
+    → pooled_states orbits.superseded ≡ [] → orbits.places.items ≡ [] → recent_width orbits.recent ≡ length (atoms_of orbits.representatives.now)
+    → ((s : List Bool) (class : ℕ) → IsNoted orbits.recent s class → ⊥) → IsLinked orbits
+linked_none orbits key_width rows_width keys_width superseded_width states keys current superseded places noted_width none = record {
   key_width = key_width;
   rows_width = rows_width;
   keys_width = keys_width;
   superseded_width = superseded_width;
   listed = carried (key_by orbits.representatives.now) (length (atoms_of orbits.representatives.now)) [] _ [] _ [] _ [] _ [] _ states keys current superseded places
       (none_listed (key_by orbits.representatives.now) (length (atoms_of orbits.representatives.now)));
+  noted_width = noted_width;
+  noted = λ s class noted. absurd (none s class noted);
 }
+
+-- where a state was put, it is
+pub put_there : {S : Type 0} (old new : List S) (s : S) (place : ℕ) (is_new : Bool) → IsPlaced old new s place is_new → slice_get new place ≡ Some s
+put_there old new s place true placed = (λ i. slice_get (placed.1 i) (placed.2 i)) ∙ get-push_new old s
+put_there old new s place false placed = ap (λ xs. slice_get xs place) placed.1 ∙ placed.0
 
 -- ---- a change
 
@@ -55,6 +64,8 @@ pub record IsLike (old new : Orbits) : Type 0 where
   pub rows_width : states_width new.states ≡ states_width old.states
   pub keys_width : pooled_width new.keys ≡ pooled_width old.keys
   pub superseded_width : pooled_width new.superseded ≡ pooled_width old.superseded
+  pub noted_width : recent_width new.recent ≡ recent_width old.recent
+  pub noted : AreNotedByKeys (key_by old.representatives.now) (pooled_states new.keys) new.recent
 
 module _ (old new : Orbits) (like : IsLike old new) (known : IsLinked old) where
   abbrev r : Representatives
@@ -73,6 +84,8 @@ module _ (old new : Orbits) (like : IsLike old new) (known : IsLinked old) where
         superseded_width = like.superseded_width ∙ known.superseded_width ∙ wide;
         listed = subst (λ there. AreListedByKeys (key_by there.now) (length (atoms_of there.now)) (states_in new) (pooled_states new.keys) new.current.items (pooled_states new.superseded) new.places.items)
             (sym like.representatives) are;
+        noted_width = like.noted_width ∙ known.noted_width ∙ wide;
+        noted = subst (λ there. AreNotedByKeys (key_by there.now) (pooled_states new.keys) new.recent) (sym like.representatives) like.noted;
       }
 
   -- the lists are the same

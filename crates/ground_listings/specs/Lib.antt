@@ -3,6 +3,7 @@ pub mod Exchanges
 pub mod SearchSpace
 pub mod Rows
 pub mod States
+pub mod RecentStates
 pub mod ListedByKeys
 pub mod Orbits
 pub mod OrbitStore

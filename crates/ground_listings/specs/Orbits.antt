@@ -9,6 +9,7 @@ use Rattle.representatives.specs.declared.representatives.Representatives.{Repre
 use Rattle.representatives.specs.Representatives.{task_of, atoms_of, exchanges_of}
 use Rattle.ground_listings.specs.declared.orbits.Orbits.{Orbits}
 use Rattle.ground_listings.specs.States.{states_width, states_of}
+use Rattle.ground_listings.specs.RecentStates.{recent_width, AreNotedByKeys}
 use Rattle.ground_listings.specs.ListedByKeys.{AreListedByKeys}
 
 -- the key of a state: its representative
@@ -30,6 +31,8 @@ pub record IsLinked (orbits : Orbits) : Type 0 where
   pub superseded_width : pooled_width orbits.superseded ≡ length (atoms_of orbits.representatives.now)
   pub listed : AreListedByKeys (key_by orbits.representatives.now) (length (atoms_of orbits.representatives.now)) (states_in orbits) (pooled_states orbits.keys) orbits.current.items
       (pooled_states orbits.superseded) orbits.places.items
+  pub noted_width : recent_width orbits.recent ≡ length (atoms_of orbits.representatives.now)
+  pub noted : AreNotedByKeys (key_by orbits.representatives.now) (pooled_states orbits.keys) orbits.recent
 
 -- where a state of a class that has a key is
 abbrev pub IsPlacedIn : Orbits → List Bool → Place → Type 0

@@ -8,6 +8,7 @@ mod laws;
 mod orbit_store;
 mod orbits;
 mod plans;
+mod recent;
 mod rows;
 mod search_space;
 mod starts;

@@ -1,11 +1,12 @@
 //! Listed states, and the keys of their classes.
-ghost use Rattle.std.specs.Prelude.{◌≡◌, ℕ, ◌<◌, ◌≤◌, [], ◌∷◌, ◌++◌, length, slice_get, slice_set, Contains, Some, IfOk, OnOk};
+ghost use Rattle.std.specs.Prelude.{◌≡◌, ℕ, ◌<◌, ◌≤◌, [], ◌∷◌, ◌++◌, length, slice_get, slice_set, Contains, MatchOption, Some, IfOk, OnOk};
 ghost use Rattle.packed_state.specs.Packed.{bits_of};
 ghost use Rattle.packed_state.specs.PooledView.{pooled_states};
 ghost use Rattle.search.specs.Listing.{IsAlikeAt, IsPlacedBy};
 ghost use Rattle.representatives.specs.Representatives.{atoms_of};
 ghost use Rattle.ground_listings.specs.Orbits.{key_by, states_in, is_current_of, IsLinked, IsPlacedIn};
 
+use crate::recent::RecentStates;
 use crate::rows::States;
 use faults::NoMemory;
 use packed_state::{Packed, PooledStore, StateStore};
@@ -28,6 +29,8 @@ pub(crate) struct Orbits<'l, 't> {
     superseded: PooledStore,
     /// The place of each of them.
     places: Vec<u32>,
+    /// The classes of the states that were looked up lately: a search comes to the same states again and again.
+    recent: RecentStates,
 }
 
 impl<'l, 't> Orbits<'l, 't> {
@@ -49,6 +52,7 @@ impl<'l, 't> Orbits<'l, 't> {
             current: Vec::new(alloc),
             superseded: PooledStore::new(alloc, width)?,
             places: Vec::new(alloc),
+            recent: RecentStates::new(alloc, width)?,
         })
     }
 
@@ -84,8 +88,7 @@ impl<'l, 't> Orbits<'l, 't> {
         ensures placed { IfOk result
             (IsPlacedBy (key_by self.old.representatives.now) (is_current_of self.new) (states_in self.old) (states_in self.new) (bits_of state.now) max_states) }
     {
-        self.represent(state);
-        match self.keys.find(&self.key) {
+        match self.class_of(state) {
             Some(class) => Ok(Some(self.place_in_class(class, state))),
             None if self.states.len() < max_states as usize => {
                 let place = self.begin_class(state)?;
@@ -93,6 +96,30 @@ impl<'l, 't> Orbits<'l, 't> {
             }
             None => Ok(None),
         }
+    }
+
+    /// The number of the state's class. Where it has none yet, the state's key was found.
+    fn class_of(&mut self, state: &Packed) -> Option<u32>
+        requires linked { IsLinked self.old }
+        requires width { length (bits_of state.now) ≡ length (atoms_of self.old.representatives.now) }
+        ensures linked { IsLinked self.new }
+        ensures class { MatchOption result
+            ((bits_of self.new.key ≡ key_by self.old.representatives.now (bits_of state.now)) × (¬ Contains (pooled_states self.new.keys) (bits_of self.new.key)))
+            (λ class. slice_get (pooled_states self.new.keys) class ≡ Some (key_by self.old.representatives.now (bits_of state.now))) }
+        ensures representatives { self.new.representatives ≡ self.old.representatives }
+        ensures states { self.new.states ≡ self.old.states }
+        ensures keys { self.new.keys ≡ self.old.keys }
+        ensures current { self.new.current ≡ self.old.current }
+        ensures superseded { self.new.superseded ≡ self.old.superseded }
+        ensures places { self.new.places ≡ self.old.places }
+    {
+        if let Some(class) = self.recent.find(state) {
+            return Some(class);
+        }
+        self.represent(state);
+        let class = self.keys.find(&self.key)?;
+        self.recent.note(state, class);
+        Some(class)
     }
 
     /// Finds the key of the state.
@@ -107,6 +134,7 @@ impl<'l, 't> Orbits<'l, 't> {
         ensures current { self.new.current ≡ self.old.current }
         ensures superseded { self.new.superseded ≡ self.old.superseded }
         ensures places { self.new.places ≡ self.old.places }
+        ensures recent { self.new.recent ≡ self.old.recent }
     {
         self.key.copy_from(state);
         self.representatives.represent(&mut self.key);
@@ -145,9 +173,10 @@ impl<'l, 't> Orbits<'l, 't> {
         self.states.reserve_one()?;
         self.current.reserve(1)?;
         let place = self.states.len() as u32;
-        self.keys.insert_copy_if_new(&self.key)?;
+        let (class, _) = self.keys.insert_copy_if_new(&self.key)?;
         self.current.push_reserved(place);
         self.states.push_reserved(state);
+        self.recent.note(state, class);
         Ok(place)
     }
 
@@ -163,8 +192,7 @@ impl<'l, 't> Orbits<'l, 't> {
         ensures representatives { self.new.representatives ≡ self.old.representatives }
         ensures states { OnOk result (states_in self.new ≡ states_in self.old ++ bits_of state.now ∷ []) }
     {
-        self.represent(state);
-        let Some(class) = self.keys.find(&self.key) else {
+        let Some(class) = self.class_of(state) else {
             unreachable!()
         };
         self.states.reserve_one()?;

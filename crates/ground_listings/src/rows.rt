@@ -1,5 +1,5 @@
 //! States in the order of their places, in one vector of words.
-ghost use Rattle.std.specs.Prelude.{◌≡◌, ◌+◌, ◌*◌, ◌<◌, ◌≤◌, ◌↔◌, [], ◌∷◌, ◌++◌, length, slice_get, slice_set, Some, IsTrue, OnOk};
+ghost use Rattle.std.specs.Prelude.{◌≡◌, ◌+◌, ◌*◌, ◌<◌, ◌≤◌, ◌↔◌, [], ◌∷◌, ◌++◌, length, slice_get, slice_set, Some, IsTrue, IfOk, OnOk};
 ghost use Rattle.std.proofs.Props.{props};
 ghost use Rattle.packed_state.specs.Packed.{bits_of};
 ghost use Rattle.packed_state.specs.Pool.{row_at};
@@ -34,6 +34,21 @@ impl States {
             count: 0,
             words: Vec::new(alloc),
         }
+    }
+
+    /// So many states, each to be written over: which they are is left open.
+    pub(crate) fn blank(alloc: Global, width: u32, count: u32) -> Result<States, NoMemory>
+        requires { count ≤ 16777216 }
+        ensures width { IfOk result (λ states. states_width states ≡ width) }
+        ensures count { IfOk result (λ states. length (states_of states) ≡ count) }
+    {
+        let empty = Packed::empty(alloc, width)?;
+        let mut states = States::new(alloc, width);
+        for _ in 0..count {
+            states.reserve_one()?;
+            states.push_reserved(&empty);
+        }
+        Ok(states)
     }
 
     /// How many states there are.

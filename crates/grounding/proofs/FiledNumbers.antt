@@ -28,7 +28,7 @@ pub times-append : (n : ℕ) (xs ys : List ℕ) → times n (xs ++ ys) ≡ times
 times-append n [] ys = omega arith
 times-append n (x ∷ xs) ys = omega (arith, times-append n xs ys)
 
-times-is : (n : ℕ) (xs ys : List ℕ) → IsPermutation xs ys → times n ys ≡ times n xs
+pub times-is : (n : ℕ) (xs ys : List ℕ) → IsPermutation xs ys → times n ys ≡ times n xs
 times-is n xs ys moved =
     let sums = is_sum_by (times n) (λ x. once (x == n)) refl (λ x xs. refl) in
     sums ys ∙ sum_by-IsPermutation (λ x. once (x == n)) xs ys moved ∙ sym (sums xs)

@@ -8,6 +8,7 @@ use Rattle.std.specs.Option.{option_map_or}
 use Rattle.std.specs.Ordering.{nat_cmp}
 use Rattle.std.proofs.lemmas.List.{append-nil, append_assoc}
 use Rattle.std.proofs.lemmas.List.Elements.{All-nil, All-cons, All-filter, filter_passes}
+use Rattle.std.proofs.lemmas.List.Sorted.{All-permutation, IsPermutation-append, IsPermutation-refl, length_permutation}
 use Rattle.std.proofs.lemmas.Option.{get_or_from_slice_get, slice_get_within}
 use Rattle.packed_state.specs.Sets.{IsNext}
 use Rattle.grounding.specs.declared.condition.Condition.{Condition}
@@ -19,10 +20,10 @@ use Rattle.grounding.specs.declared.match_tree.MatchTree.{MatchTree}
 use Rattle.grounding.specs.declared.watch_lists.WatchLists.{WatchLists}
 use Rattle.grounding.specs.Conditions.{literals_in, decided_by, can_of, can_hold_at}
 use Rattle.grounding.specs.Ground.{task_in, atoms_in}
-use Rattle.grounding.specs.MatchNodes.{met, left_out, found, numbers_in, literals_at, agrees_at, AgreesWith, IsMet, IsTree}
+use Rattle.grounding.specs.MatchNodes.{met, left_out, found, numbers_in, literals_at, agrees_at, AgreesWith, IsMet, IsTree, IsTreeOf}
 use Rattle.grounding.specs.MatchTree.{row_in, nodes_of, numbers_of, filed_in, AreRows, AreMatched}
 use Rattle.grounding.specs.WatchLists.{times, filed_below, row_of, filed, IsWantedBy, AreWatched}
-use Rattle.grounding.proofs.FiledNumbers.{times-filter, sorted-same, numbers-rise, filed-fewer, filter-none, filter-append, length-filter_le}
+use Rattle.grounding.proofs.FiledNumbers.{times-is, times-filter, sorted-same, numbers-rise, filed-fewer, filter-none, filter-append, length-filter_le}
 use Rattle.grounding.proofs.GroundLemmas.{named, schema-of, condition-at}
 use Rattle.grounding.proofs.StepLemmas.{kept-is_instance, step-named, applies}
 use Rattle.grounding.proofs.TreeLemmas.{found-later}
@@ -48,46 +49,43 @@ module _ (width : ℕ) (conditions : List Condition) (row : ℕ → List ℕ) wh
   rows-none rows none = record { wide = ap length none; trees = λ a below. absurd (omega (arith, below)) }
 
   pub rows-more : (count : ℕ) (old new : List (Vec Node)) (v : Vec Node) → new ≡ old ++ v ∷ [] → AreRows width conditions row count old
-      → IsTree width conditions (λ bits. get_or bits count false ≡ true) (row count) v.items → AreRows width conditions row (count + 1) new
+      → IsTreeOf width conditions (λ bits. get_or bits count false ≡ true) (row count) v.items → AreRows width conditions row (count + 1) new
   rows-more count old new v is so tree = record {
     wide = omega (arith, ap length is, length-append old (v ∷ []), so.wide);
     trees = λ a below.
         elim (row-last old v a (omega (arith, below, so.wide))) [
           | inl before ↦
-              subst (IsTree width conditions (λ bits. get_or bits a false ≡ true) (row a)) (sym (ap (λ l. row_in l a) is ∙ before.0)) (so.trees a (omega (arith, before.1, so.wide)))
+              subst (IsTreeOf width conditions (λ bits. get_or bits a false ≡ true) (row a)) (sym (ap (λ l. row_in l a) is ∙ before.0)) (so.trees a (omega (arith, before.1, so.wide)))
           | inr last ↦
               let at : a ≡ count = last.0 ∙ so.wide in
-              subst (IsTree width conditions (λ bits. get_or bits a false ≡ true) (row a)) (sym (ap (λ l. row_in l a) is ∙ last.1))
-              (subst (λ k. IsTree width conditions (λ bits. get_or bits k false ≡ true) (row k) v.items) (sym at) tree)
+              subst (IsTreeOf width conditions (λ bits. get_or bits a false ≡ true) (row a)) (sym (ap (λ l. row_in l a) is ∙ last.1))
+              (subst (λ k. IsTreeOf width conditions (λ bits. get_or bits k false ≡ true) (row k) v.items) (sym at) tree)
         ];
   }
 
--- a tree of some numbers is one of those in it
-own-numbers : (width : ℕ) (conditions : List Condition) (given : List Bool → Type 0) (numbers : List ℕ) (nodes : List Node) → IsTree width conditions given numbers nodes
-    → IsTree width conditions given (numbers_in nodes) nodes
-own-numbers width conditions given numbers nodes tree = subst (λ ns. IsTree width conditions given ns nodes) (sym tree.all) tree
-
-filed-same : (new old : ℕ → List ℕ) (count : ℕ) → ((a : ℕ) → a < count → new a ≡ old a) → filed_below new count ≡ filed_below old count
-filed-same new old zero same = refl
-filed-same new old (suc n) same = (λ j. filed-same new old n (λ a below. same a (omega (arith, below))) j ++ same n (omega arith) j)
+filed-moved : (new old : ℕ → List ℕ) (count : ℕ) → ((a : ℕ) → a < count → IsPermutation (old a) (new a)) → IsPermutation (filed_below old count) (filed_below new count)
+filed-moved new old zero same = IsPermutation-refl []
+filed-moved new old (suc n) same =
+    IsPermutation-append (filed_below old n) (filed_below new n) (old n) (new n) (filed-moved new old n (λ a below. same a (omega (arith, below)))) (same n (omega arith))
 
 pub matched : (width : ℕ) (conditions : List Condition) (lists : WatchLists) (tree : MatchTree) → AreWatched width conditions (length conditions) lists
-    → AreRows width conditions (row_of lists) width tree.rows.items → IsTree width conditions (AgreesWith []) lists.unwatched.items tree.unwatched.items → AreMatched width conditions tree
+    → AreRows width conditions (row_of lists) width tree.rows.items → IsTreeOf width conditions (AgreesWith []) lists.unwatched.items tree.unwatched.items → AreMatched width conditions tree
 matched width conditions lists tree are rows unwatched = record {
   wide = rows.wide;
-  few = omega (arith, ap length same, are.few);
-  each = λ n. ap (times n) same ∙ are.each n;
-  rows = λ a below. own-numbers width conditions (λ bits. get_or bits a false ≡ true) (row_of lists a) (nodes_of tree a) (rows.trees a below);
-  wanted = λ a below. subst (All (IsWantedBy conditions a)) (sym ((rows.trees a below).all)) (are.rows a);
-  unwatched = own-numbers width conditions (AgreesWith []) lists.unwatched.items tree.unwatched.items unwatched;
-  unwatched_within = subst (All (λ n. n < length conditions)) (sym unwatched.all) are.unwatched;
+  few = omega (arith, length_permutation (filed lists) (filed_in tree) moved, are.few);
+  each = λ n. times-is n (filed lists) (filed_in tree) moved ∙ are.each n;
+  rows = λ a below. (rows.trees a below).tree;
+  wanted = λ a below. All-permutation (IsWantedBy conditions a) (row_of lists a) (numbers_of tree a) ((rows.trees a below).same) (are.rows a);
+  unwatched = unwatched.tree;
+  unwatched_within = All-permutation (λ n. n < length conditions) lists.unwatched.items (numbers_in tree.unwatched.items) unwatched.same are.unwatched;
 }
   where
-    same : filed_in tree ≡ filed lists
-    same =
-        ap (λ k. filed_below (numbers_of tree) k ++ numbers_in tree.unwatched.items) rows.wide
-        ∙ (λ j. filed-same (numbers_of tree) (row_of lists) width (λ a below. (rows.trees a below).all) j ++ unwatched.all j)
-        ∙ ap (λ k. filed_below (row_of lists) k ++ lists.unwatched.items) (sym are.wide)
+    moved : IsPermutation (filed lists) (filed_in tree)
+    moved =
+        subst (λ k. IsPermutation (filed_below (row_of lists) k ++ lists.unwatched.items) (filed_in tree)) (sym are.wide)
+        (subst (λ k. IsPermutation (filed_below (row_of lists) width ++ lists.unwatched.items) (filed_below (numbers_of tree) k ++ numbers_in tree.unwatched.items)) (sym rows.wide)
+        (IsPermutation-append (filed_below (row_of lists) width) (filed_below (numbers_of tree) width) lists.unwatched.items (numbers_in tree.unwatched.items)
+        (filed-moved (numbers_of tree) (row_of lists) width (λ a below. (rows.trees a below).same)) unwatched.same))
 
 -- ---- what is found by the trees
 

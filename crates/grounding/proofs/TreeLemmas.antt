@@ -2,6 +2,8 @@
 use Rattle.std.proofs.Common.{◌≡◌, ◌∙◌, ◌<◌, ◌^◌, inl, inr, ℕ, zero, suc, ◌+◌, Bool, true, false, ◌&&◌, List, [], ◌∷◌, ◌++◌, append_assoc, Some, length, map, drop, take, get_or, cond, refl, sym, ap, subst, true≢false}
 use Rattle.std.specs.Prelude.{filter, if◌then◌else◌, slice_get}
 use Rattle.std.specs.List.{All, list_all}
+use Rattle.std.specs.List.Sorted.{IsPermutation}
+use Rattle.std.proofs.lemmas.List.Sorted.{All-permutation, IsPermutation-append, IsPermutation-refl, IsPermutation-trans}
 use Rattle.std.proofs.lemmas.Bool.{and_from}
 use Rattle.std.specs.Option.{option_map, option_map_or}
 use Rattle.std.proofs.lemmas.Option.{slice_get-get_or, slice_get-map}
@@ -15,7 +17,7 @@ use Rattle.grounding.specs.declared.condition.Condition.{Condition}
 use Rattle.grounding.specs.declared.match_tree.Node.{Node}
 use Rattle.grounding.specs.declared.match_tree.Node.TheVariants.{Test, Instance}
 use Rattle.grounding.specs.Conditions.{literals_in}
-use Rattle.grounding.specs.MatchNodes.{met, found, numbers_in, above, literals_at, agrees_at, AgreesWith, AreWithin, Implies, Wants, IsWithin, IsTree, IsGroup, IsTested}
+use Rattle.grounding.specs.MatchNodes.{met, found, numbers_in, above, literals_at, agrees_at, AgreesWith, AreWithin, Implies, Wants, IsWithin, IsTree, IsTreeOf, IsGroup, IsTested}
 use Rattle.grounding.proofs.FiledNumbers.{filter-append, filter-none}
 use Rattle.grounding.proofs.GroundLemmas.{got}
 use Rattle.grounding.proofs.LiteralLists.{below-at}
@@ -172,12 +174,42 @@ tree-step width conditions path literals i d n c old new below within at same ar
 
 -- ---- groups
 
-pub tree-groups : (width : ℕ) (conditions : List Condition) (given : List Bool → Type 0) (numbers : List ℕ) (seen count : ℕ) (old more new : List Node) → IsTree width conditions given (take seen numbers) old
-    → IsGroup width conditions given (drop seen numbers) count more → new ≡ old ++ more → IsTree width conditions given (take (seen + count) numbers) new
+pub tree-groups : (width : ℕ) (conditions : List Condition) (given : List Bool → Type 0) (numbers : List ℕ) (seen count : ℕ) (old more new : List Node) → IsTreeOf width conditions given (take seen numbers) old
+    → IsGroup width conditions given (drop seen numbers) count more → new ≡ old ++ more → IsTreeOf width conditions given (take (seen + count) numbers) new
 tree-groups width conditions given numbers seen count old more new tree group is =
-    subst (λ ns. IsTree width conditions given ns new) (sym (take-add seen count numbers))
-    (subst (IsTree width conditions given (take seen numbers ++ take count (drop seen numbers))) (sym is)
-    (tree-append width conditions given (take seen numbers) (take count (drop seen numbers)) old more tree group.tree))
+    subst (λ ns. IsTreeOf width conditions given ns new) (sym (take-add seen count numbers))
+    (subst (IsTreeOf width conditions given (take seen numbers ++ take count (drop seen numbers))) (sym is)
+    record {
+      same = subst (IsPermutation (take seen numbers ++ take count (drop seen numbers))) (sym (numbers-append old more))
+          (IsPermutation-append (take seen numbers) (numbers_in old) (take count (drop seen numbers)) (numbers_in more) tree.same group.tree.same);
+      tree = subst (λ ns. IsTree width conditions given ns (old ++ more)) (sym (numbers-append old more))
+          (tree-append width conditions given (numbers_in old) (numbers_in more) old more tree.tree group.tree.tree);
+    })
+
+-- a tree of some instances in their order
+pub tree-own : (width : ℕ) (conditions : List Condition) (given : List Bool → Type 0) (numbers : List ℕ) (nodes : List Node) → IsTree width conditions given numbers nodes
+    → IsTreeOf width conditions given numbers nodes
+tree-own width conditions given numbers nodes tree = record {
+  same = subst (IsPermutation numbers) (sym tree.all) (IsPermutation-refl numbers);
+  tree = subst (λ ns. IsTree width conditions given ns nodes) (sym tree.all) tree;
+}
+
+-- the same in another order
+pub tree-moved : (width : ℕ) (conditions : List Condition) (given : List Bool → Type 0) (old new : List ℕ) (nodes : List Node) → IsPermutation old new
+    → IsTreeOf width conditions given new nodes → IsTreeOf width conditions given old nodes
+tree-moved width conditions given old new nodes moved tree = record {
+  same = IsPermutation-trans old new (numbers_in nodes) moved tree.same;
+  tree = tree.tree;
+}
+
+-- a test above a tree of instances that all want its literal
+pub tree-branch : (width : ℕ) (conditions : List Condition) (given more : List Bool → Type 0) (l : NumberedLiteral) (numbers : List ℕ) (nodes : List Node) → l.atom < width → length nodes < 2 ^ 63
+    → All (Wants conditions (numbered_of l)) numbers → ((bits : List Bool) → more bits → agrees bits (numbered_of l) ≡ true → given bits)
+    → IsTreeOf width conditions given numbers nodes → IsTreeOf width conditions more numbers (above l nodes)
+tree-branch width conditions given more l numbers nodes atom few wanted implies tree = record {
+  same = tree.same;
+  tree = tree-above width conditions given more l (numbers_in nodes) nodes atom few (All-permutation (Wants conditions (numbered_of l)) numbers (numbers_in nodes) tree.same wanted) implies tree.tree;
+}
 
 -- one literal more on a path
 pub longer-agrees : (bits : List Bool) (path longer : List NumberedLiteral) (l : NumberedLiteral) → longer ≡ path ++ l ∷ [] → AgreesWith (map numbered_of path) bits → agrees bits (numbered_of l) ≡ true

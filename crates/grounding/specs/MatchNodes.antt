@@ -1,6 +1,7 @@
 -- Trees of instances by the literals that they want, as lists of nodes, each before those below it.
 use Rattle.std.specs.Prelude.{◌≡◌, ◌⊎◌, ℕ, zero, suc, ◌<◌, ◌≤◌, Bool, true, List, [], ◌∷◌, ◌++◌, if◌then◌else◌, ◌^◌, length, take, filter, slice_get, Some}
 use Rattle.std.specs.List.{All, list_all}
+use Rattle.std.specs.List.Sorted.{IsPermutation}
 use Rattle.std.specs.Option.{option_map_or}
 use Rattle.grounding_kept.specs.declared.numbers.NumberedLiteral.{NumberedLiteral}
 use Rattle.grounding_kept.specs.Numbers.{numbered_of}
@@ -80,13 +81,18 @@ pub record IsTree (width : ℕ) (conditions : List Condition) (given : List Bool
   pub closed : (bits : List Bool) (rest : List Node) → found bits 0 (nodes ++ rest) ≡ found bits 0 nodes ++ found bits 0 rest
   pub right : (bits : List Bool) → given bits → found bits 0 nodes ≡ filter (agrees_at conditions bits) numbers
 
+-- the same of some instances in whichever order
+pub record IsTreeOf (width : ℕ) (conditions : List Condition) (given : List Bool → Type 0) (numbers : List ℕ) (nodes : List Node) : Type 0 where
+  pub same : IsPermutation numbers (numbers_in nodes)
+  pub tree : IsTree width conditions given (numbers_in nodes) nodes
+
 -- ---- how it is built
 
 -- it is the tree of the first so many of these instances, of one at least
 pub record IsGroup (width : ℕ) (conditions : List Condition) (given : List Bool → Type 0) (numbers : List ℕ) (count : ℕ) (nodes : List Node) : Type 0 where
   pub some : 0 < count
   pub few : count ≤ length numbers
-  pub tree : IsTree width conditions given (take count numbers) nodes
+  pub tree : IsTreeOf width conditions given (take count numbers) nodes
 
 -- the first so many of these instances, of one at least, want the literal
 pub record IsRun (width : ℕ) (conditions : List Condition) (numbers : List ℕ) (count : ℕ) (l : model.NumberedLiteral) : Type 0 where

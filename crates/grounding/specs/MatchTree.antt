@@ -7,7 +7,7 @@ use Rattle.grounding.specs.declared.condition.Condition.{Condition}
 use Rattle.grounding.specs.declared.match_tree.Node.{Node}
 use Rattle.grounding.specs.declared.match_tree.MatchTree.{MatchTree}
 use Rattle.grounding.specs.Conditions.{can_hold_at}
-use Rattle.grounding.specs.MatchNodes.{numbers_in, AgreesWith, IsTree}
+use Rattle.grounding.specs.MatchNodes.{numbers_in, AgreesWith, IsTree, IsTreeOf}
 use Rattle.grounding.specs.WatchLists.{times, filed_below, IsWantedBy}
 
 -- the tree of this atom
@@ -28,7 +28,7 @@ filed_in tree = filed_below (numbers_of tree) (length tree.rows.items) ++ number
 -- the trees of the first so many atoms are of the numbers in these rows, and right where their atoms are true
 pub record AreRows (width : ℕ) (conditions : List Condition) (row : ℕ → List ℕ) (count : ℕ) (rows : List (Vec Node)) : Type 0 where
   pub wide : length rows ≡ count
-  pub trees : (a : ℕ) → a < count → IsTree width conditions (λ bits. get_or bits a false ≡ true) (row a) (row_in rows a)
+  pub trees : (a : ℕ) → a < count → IsTreeOf width conditions (λ bits. get_or bits a false ≡ true) (row a) (row_in rows a)
 
 -- Each of the conditions that may hold has its number in one tree, once, and wants the atom of that tree.
 pub record AreMatched (width : ℕ) (conditions : List Condition) (tree : MatchTree) : Type 0 where

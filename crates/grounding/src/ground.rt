@@ -13,6 +13,7 @@ ghost use Rattle.model.specs.Meaning.{cost_of};
 use crate::changes::CountingChange;
 use crate::condition::Condition;
 use crate::match_tree::MatchTree;
+use crate::often::Often;
 use crate::parts::{changes_of_all, costs, goal_condition, preconditions};
 use faults::NoMemory;
 use formulas::Instance;
@@ -93,7 +94,8 @@ impl<'t> Ground<'t> {
         let changes = changes_of_all(alloc, &numbering, &kept)?;
         drop(kept);
         let conditions = preconditions(alloc, &numbering)?;
-        let tree = MatchTree::new(alloc, numbering.width(), &conditions)?;
+        let often = Often::new(alloc, &numbering, &conditions, &changes)?;
+        let tree = MatchTree::new(alloc, numbering.width(), &conditions, &often)?;
         let costs = costs(alloc, &numbering)?;
         let goal = goal_condition(alloc, &numbering)?;
         Ok(Ground {

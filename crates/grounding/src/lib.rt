@@ -8,6 +8,7 @@ mod condition;
 mod ground;
 mod laws;
 mod match_tree;
+mod often;
 mod outright;
 mod parts;
 mod settled;

@@ -2,8 +2,8 @@
 //! (successor generator: Helmert 2006, "The Fast Downward Planning System", section 5.3.1).
 //!
 //! At the top it branches on all atoms at once: an instance is in the tree of the atom that its watch list has, which is gone
-//! through only where that atom is true. Below, a node tests a literal that several instances want that come one after
-//! another, and what does not want it comes after what is below. What is left of a precondition is tested one literal after
+//! through only where that atom is true. Below, a node tests a literal that several instances want, the one that is true least
+//! often, and what does not want it comes after what is below. What is left of a precondition is tested one literal after
 //! another above its instance, and what was tested on the way there is not tested again.
 ghost use Rattle.std.specs.Prelude.{◌≡◌, ◌<◌, IfOk, length};
 ghost use Rattle.grounding.specs.MatchNodes.{AreWithin};
@@ -11,6 +11,7 @@ ghost use Rattle.grounding.specs.WatchLists.{row_of, AreWatched};
 ghost use Rattle.grounding.specs.MatchTree.{nodes_of, AreMatched, AreRows};
 
 use crate::condition::Condition;
+use crate::often::Often;
 use crate::tree_builder::TreeBuilder;
 use crate::watch_lists::WatchLists;
 use faults::NoMemory;
@@ -36,18 +37,20 @@ pub(crate) struct MatchTree {
 }
 
 impl MatchTree {
-    /// That of the instances with these conditions, whose literals are of atoms below `width`.
+    /// That of the instances with these conditions, whose literals are of atoms below `width`, where the literals are true so
+    /// often.
     pub(crate) fn new(
         alloc: Global,
         width: u32,
         conditions: &[Condition],
+        often: &Often,
     ) -> Result<MatchTree, NoMemory>
         requires within { AreWithin width conditions.now }
         requires few { length conditions.now < 4294967296 }
         ensures { IfOk result (AreMatched width conditions.now) }
     {
-        let lists = WatchLists::new(alloc, width, conditions)?;
-        let builder = TreeBuilder::new(width, conditions);
+        let lists = WatchLists::new(alloc, width, conditions, often)?;
+        let builder = TreeBuilder::new(width, conditions, often);
         MatchTree::of_lists(alloc, &builder, &lists)
     }
 

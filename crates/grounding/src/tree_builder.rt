@@ -2,10 +2,12 @@
 ghost use Rattle.std.specs.Prelude.{◌≡◌, ◌<◌, ◌≤◌, ◌^◌, ◌∷◌, true, false, [], All, IfOk, IfSome, OnOk, length, map, take, get_or};
 ghost use Rattle.std.proofs.Props.{props};
 ghost use Rattle.grounding_kept.specs.Numbers.{numbered_of};
-ghost use Rattle.grounding.specs.MatchNodes.{above, AreWithin, IsTree, IsGroup, IsRun, IsTested, AgreesWith, Implies, Wants};
+ghost use Rattle.std.specs.List.Sorted.{IsPermutation};
+ghost use Rattle.grounding.specs.MatchNodes.{above, AreWithin, IsTree, IsTreeOf, IsGroup, IsRun, IsTested, AgreesWith, Implies, Wants};
 
 use crate::condition::Condition;
 use crate::match_tree::Node;
+use crate::often::Often;
 use faults::NoMemory;
 use grounding_kept::NumberedLiteral;
 use std::alloc::Global;
@@ -13,11 +15,13 @@ use std::alloc::Global;
 /// How many literals, at most, a way through a tree tests that several instances have in common.
 const LEVELS: u32 = 8;
 
-/// What trees are built of: the conditions of the instances, whose literals are of atoms below the width.
+/// What trees are built of: the conditions of the instances, whose literals are of atoms below the width, and how often
+/// these are true.
 #[derive(Drop)]
 pub(crate) struct TreeBuilder<'a> {
     pub(crate) width: u32,
     conditions: &'a [Condition],
+    often: &'a Often,
     ghost within: { AreWithin width conditions.now } by { Prim.hlevel props },
 }
 
@@ -39,12 +43,16 @@ struct Run {
 
 impl<'a> TreeBuilder<'a> {
     /// That of these conditions.
-    pub(crate) fn new(width: u32, conditions: &'a [Condition]) -> TreeBuilder<'a>
+    pub(crate) fn new(width: u32, conditions: &'a [Condition], often: &'a Often) -> TreeBuilder<'a>
         requires { AreWithin width conditions.now }
         ensures width { result.width ≡ width }
         ensures conditions { result.conditions.now ≡ conditions.now }
     {
-        TreeBuilder { width, conditions }
+        TreeBuilder {
+            width,
+            conditions,
+            often,
+        }
     }
 
     /// The tree of the instances of these numbers, which is right where the atom is true.
@@ -55,7 +63,7 @@ impl<'a> TreeBuilder<'a> {
         numbers: &[u32],
     ) -> Result<Vec<Node>, NoMemory>
         requires { All (λ n. n < length self.now.conditions.now) numbers.now }
-        ensures { IfOk result (λ nodes. IsTree self.now.width self.now.conditions.now (λ bits. get_or bits atom false ≡ true) numbers.now nodes.items) }
+        ensures { IfOk result (λ nodes. IsTreeOf self.now.width self.now.conditions.now (λ bits. get_or bits atom false ≡ true) numbers.now nodes.items) }
     {
         let mut path = Vec::new(alloc);
         path.push(NumberedLiteral { atom, value: true })?;
@@ -65,7 +73,7 @@ impl<'a> TreeBuilder<'a> {
     /// The tree of the instances of these numbers.
     pub(crate) fn of_unwatched(&self, alloc: Global, numbers: &[u32]) -> Result<Vec<Node>, NoMemory>
         requires { All (λ n. n < length self.now.conditions.now) numbers.now }
-        ensures { IfOk result (λ nodes. IsTree self.now.width self.now.conditions.now (AgreesWith []) numbers.now nodes.items) }
+        ensures { IfOk result (λ nodes. IsTreeOf self.now.width self.now.conditions.now (AgreesWith []) numbers.now nodes.items) }
     {
         self.subtree(alloc, numbers, &[], LEVELS)
     }
@@ -81,7 +89,24 @@ impl<'a> TreeBuilder<'a> {
         levels: u32,
     ) -> Result<Vec<Node>, NoMemory>
         requires { All (λ n. n < length self.now.conditions.now) numbers.now }
-        ensures { IfOk result (λ nodes. IsTree self.now.width self.now.conditions.now (AgreesWith (map numbered_of path.now)) numbers.now nodes.items) }
+        ensures { IfOk result (λ nodes. IsTreeOf self.now.width self.now.conditions.now (AgreesWith (map numbered_of path.now)) numbers.now nodes.items) }
+    {
+        let sorted = self.in_order(alloc, numbers, path)?;
+        let nodes = self.in_groups(alloc, &sorted, path, levels)?;
+        Ok(nodes)
+    }
+
+    /// The same, where those come one after another that have the next test in common.
+    #[cycle(subtree)]
+    fn in_groups(
+        &self,
+        alloc: Global,
+        numbers: &[u32],
+        path: &[NumberedLiteral],
+        levels: u32,
+    ) -> Result<Vec<Node>, NoMemory>
+        requires { All (λ n. n < length self.now.conditions.now) numbers.now }
+        ensures { IfOk result (λ nodes. IsTreeOf self.now.width self.now.conditions.now (AgreesWith (map numbered_of path.now)) numbers.now nodes.items) }
     {
         let mut nodes = Vec::new(alloc);
         let mut seen = 0;
@@ -93,7 +118,8 @@ impl<'a> TreeBuilder<'a> {
         Ok(nodes)
     }
 
-    /// The nodes of the first of these instances: those that have the next test in common, or one alone.
+    /// The nodes of the first of these instances: those that want the literal which, of those of the first one, is true least
+    /// often, or the first one alone.
     #[cycle(subtree)]
     fn group(
         &self,
@@ -107,11 +133,14 @@ impl<'a> TreeBuilder<'a> {
         ensures { IfOk result (λ group. IsGroup self.now.width self.now.conditions.now (AgreesWith (map numbered_of path.now)) numbers.now group.count group.nodes.items) }
     {
         if levels == 0 {
-            return self.single(alloc, numbers[0], path);
+            return self.alone(alloc, numbers[0], path);
         }
         match self.shared(numbers, path) {
-            Some(run) => self.branch(alloc, &numbers[..run.length], path, run.literal, levels - 1),
-            None => self.single(alloc, numbers[0], path),
+            Some(run) => {
+                let levels = levels_below(levels, run.length);
+                self.branch(alloc, &numbers[..run.length], path, run.literal, levels)
+            }
+            None => self.alone(alloc, numbers[0], path),
         }
     }
 
@@ -129,7 +158,7 @@ impl<'a> TreeBuilder<'a> {
         requires atom { literal.atom < self.now.width }
         requires shared { All (Wants self.now.conditions.now (numbered_of literal)) numbers.now }
         ensures count { IfOk result (λ group. group.count ≡ length numbers.now) }
-        ensures tree { IfOk result (λ group. IsTree self.now.width self.now.conditions.now (AgreesWith (map numbered_of path.now)) numbers.now group.nodes.items) }
+        ensures tree { IfOk result (λ group. IsTreeOf self.now.width self.now.conditions.now (AgreesWith (map numbered_of path.now)) numbers.now group.nodes.items) }
     {
         let mut longer = Vec::from_slice(alloc, path)?;
         longer.push(literal)?;
@@ -137,6 +166,16 @@ impl<'a> TreeBuilder<'a> {
         put_above(literal, &mut nodes)?;
         let count = numbers.len();
         Ok(Group { nodes, count })
+    }
+
+    /// The nodes of one instance, as those of a group.
+    fn alone(&self, alloc: Global, number: u32, path: &[NumberedLiteral]) -> Result<Group, NoMemory>
+        requires { number < length self.now.conditions.now }
+        ensures count { IfOk result (λ group. group.count ≡ 1) }
+        ensures tree { IfOk result (λ group. IsTreeOf self.now.width self.now.conditions.now (AgreesWith (map numbered_of path.now)) (number ∷ []) group.nodes.items) }
+    {
+        let group = self.single(alloc, number, path)?;
+        Ok(group)
     }
 
     /// The nodes of one instance: the tests of its literals that are not on the path, and the instance below them.
@@ -159,45 +198,116 @@ impl<'a> TreeBuilder<'a> {
         Ok(Group { nodes, count: 1 })
     }
 
-    /// The literal off the path that the most of the first of these instances want, if the first one wants it, and more.
+    /// The literal off the path that of those of the first of these instances is true least often, and how many of the first
+    /// ones want it.
     fn shared(&self, numbers: &[u32], path: &[NumberedLiteral]) -> Option<Run>
         requires some { 0 < length numbers.now }
         requires within { All (λ n. n < length self.now.conditions.now) numbers.now }
         ensures { IfSome result (λ run. IsRun self.now.width self.now.conditions.now numbers.now run.length (numbered_of run.literal)) }
     {
-        let mut best = None;
-        let literals = self.conditions[numbers[0] as usize].literals();
-        for literal in literals {
-            best = self.better(best, literal, numbers, path);
+        match self.rarest(numbers[0], path) {
+            Some(literal) => self.run_of(literal, numbers),
+            None => None,
         }
-        best
     }
 
-    /// The run of the literal, if it is off the path and longer than the other one and than a single instance, and else the
-    /// other one.
-    fn better(
-        &self,
-        other: Option<Run>,
-        literal: &NumberedLiteral,
-        numbers: &[u32],
-        path: &[NumberedLiteral],
-    ) -> Option<Run>
+    /// The run of the literal, if the first instance wants it.
+    fn run_of(&self, literal: NumberedLiteral, numbers: &[u32]) -> Option<Run>
         requires within { All (λ n. n < length self.now.conditions.now) numbers.now }
-        requires atom { literal.now.atom < self.now.width }
-        requires other { IfSome other (λ run. IsRun self.now.width self.now.conditions.now numbers.now run.length (numbered_of run.literal)) }
+        requires atom { literal.atom < self.now.width }
         ensures { IfSome result (λ run. IsRun self.now.width self.now.conditions.now numbers.now run.length (numbered_of run.literal)) }
     {
-        if is_among(literal, path) {
+        let length = self.run_length(&literal, numbers);
+        if length == 0 {
+            return None;
+        }
+        Some(Run { literal, length })
+    }
+
+    /// The literal of the instance's that is true least often, of those off the path.
+    fn rarest(&self, number: u32, path: &[NumberedLiteral]) -> Option<NumberedLiteral>
+        requires { number < length self.now.conditions.now }
+        ensures { IfSome result (λ literal. literal.atom < self.now.width) }
+    {
+        let mut rarest = None;
+        let literals = self.conditions[number as usize].literals();
+        for literal in literals {
+            rarest = self.rarer(rarest, literal, path);
+        }
+        rarest
+    }
+
+    /// The literal, if it is off the path and of a lower rank than the other one, and else the other one.
+    fn rarer(
+        &self,
+        other: Option<NumberedLiteral>,
+        literal: &NumberedLiteral,
+        path: &[NumberedLiteral],
+    ) -> Option<NumberedLiteral>
+        requires atom { literal.now.atom < self.now.width }
+        requires other { IfSome other (λ l. l.atom < self.now.width) }
+        ensures { IfSome result (λ l. l.atom < self.now.width) }
+    {
+        if is_among(literal, path) || !self.is_rarer(literal, other) {
             return other;
         }
-        let length = self.run_length(literal, numbers);
-        if length < 2 || !is_longer(length, other) {
-            return other;
+        Some(*literal)
+    }
+
+    /// Whether the literal is of a lower rank than the other one, if there is one.
+    fn is_rarer(&self, literal: &NumberedLiteral, other: Option<NumberedLiteral>) -> bool {
+        match other {
+            Some(other) => self.rank(literal) < self.rank(&other),
+            None => true,
         }
-        Some(Run {
-            literal: *literal,
-            length,
-        })
+    }
+
+    /// A number by which the literals come in order: the less often one is true the lower it is, and no two have the same.
+    fn rank(&self, literal: &NumberedLiteral) -> u64 {
+        let often = self.often.literal(literal) as u64;
+        (often << 33) | ((literal.atom as u64) << 1) | literal.value as u64
+    }
+
+    /// The instances of these numbers in another order, in which those come one after another whose rarest literal off the
+    /// path is the same.
+    fn in_order(
+        &self,
+        alloc: Global,
+        numbers: &[u32],
+        path: &[NumberedLiteral],
+    ) -> Result<Vec<u32>, NoMemory>
+        requires { All (λ n. n < length self.now.conditions.now) numbers.now }
+        ensures { IfOk result (λ sorted. IsPermutation numbers.now sorted.items) }
+    {
+        let mut ranked = self.ranked(alloc, numbers, path)?;
+        ranked.sort_unstable();
+        let sorted = without_ranks(alloc, &ranked)?;
+        Ok(sorted)
+    }
+
+    /// The numbers, each with the rank of its instance's rarest literal off the path.
+    fn ranked(
+        &self,
+        alloc: Global,
+        numbers: &[u32],
+        path: &[NumberedLiteral],
+    ) -> Result<Vec<(u64, u32)>, NoMemory>
+        requires { All (λ n. n < length self.now.conditions.now) numbers.now }
+        ensures { IfOk result (λ ranked. map (λ p. p.1) ranked.items ≡ numbers.now) }
+    {
+        let mut ranked = Vec::with_capacity(alloc, numbers.len())?;
+        for &number in numbers {
+            ranked.push((self.rank_of(self.rarest(number, path)), number))?;
+        }
+        Ok(ranked)
+    }
+
+    /// The rank of the literal, and the greatest where there is none.
+    fn rank_of(&self, literal: Option<NumberedLiteral>) -> u64 {
+        match literal {
+            Some(literal) => self.rank(&literal),
+            None => u64::MAX,
+        }
     }
 
     /// How many of the first of these instances want the literal.
@@ -217,12 +327,24 @@ impl<'a> TreeBuilder<'a> {
     }
 }
 
-/// Whether the length is more than that of the run, if there is one.
-fn is_longer(length: usize, run: Option<Run>) -> bool {
-    match run {
-        Some(run) => length > run.length,
-        None => true,
+/// The numbers without their ranks.
+fn without_ranks(alloc: Global, ranked: &[(u64, u32)]) -> Result<Vec<u32>, NoMemory>
+    ensures { IfOk result (λ numbers. numbers.items ≡ map (λ p. p.1) ranked.now) }
+{
+    let mut numbers = Vec::with_capacity(alloc, ranked.len())?;
+    for pair in ranked {
+        numbers.push(pair.1)?;
     }
+    Ok(numbers)
+}
+
+/// How many tests, at most, follow one that so many instances have in common: where it is one, its other literals need no
+/// tests in common.
+fn levels_below(levels: u32, length: usize) -> u32
+    requires { 0 < levels }
+    ensures { result < levels }
+{
+    if length < 2 { 0 } else { levels - 1 }
 }
 
 /// Whether the literal is one of these, so that it is true where they are.

@@ -1,7 +1,8 @@
 //! Lists of instances by an atom that they want, which the match tree is built of.
 //!
-//! An instance is in the list of one atom that its precondition wants to be true, of these the one that the fewest instances
-//! want, as solvers of propositional formulas watch one literal of a clause (Moskewicz et al., 2001). Those that hold in no
+//! An instance is in the list of one atom that its precondition wants to be true, as solvers of propositional formulas watch
+//! one literal of a clause (Moskewicz et al., 2001): of these the one that is true least often, since its list is gone through
+//! wherever it is true, and of those that are true as often the one that the fewest instances want. Those that hold in no
 //! packed state are in none.
 ghost use Rattle.std.specs.Prelude.{◌≡◌, ◌<◌, ℕ, [], Some, None, All, IfOk, IfSome, OnOk, length, map, slice_get};
 ghost use Rattle.grounding_kept.specs.Numbers.{numbered_of};
@@ -9,6 +10,7 @@ ghost use Rattle.grounding.specs.Conditions.{literals_in};
 ghost use Rattle.grounding.specs.Watched.{IsWatchable, IsEither};
 
 use crate::condition::Condition;
+use crate::often::Often;
 use faults::NoMemory;
 use grounding_kept::NumberedLiteral;
 use std::alloc::Global;
@@ -30,17 +32,18 @@ impl WatchLists {
         alloc: Global,
         width: u32,
         conditions: &[Condition],
+        often: &Often,
     ) -> Result<WatchLists, NoMemory>
         requires within { (k : ℕ) (c : Condition) → slice_get conditions.now k ≡ Some c → All (λ l. l.atom < width) (literals_in c) }
         requires few { length conditions.now < 4294967296 }
         ensures { IfOk result (AreWatched width conditions.now (length conditions.now)) }
     {
-        let wanted = wanted(alloc, width, conditions)?;
+        let ranks = ranks(alloc, width, conditions, often)?;
         let mut lists = WatchLists::empty(alloc, width)?;
         for number in 0..conditions.len() as u32 {
             let condition = &conditions[number as usize];
             if condition.can_hold() {
-                lists.file(number, rarest(condition.literals(), &wanted))?;
+                lists.file(number, rarest(condition.literals(), &ranks))?;
             }
         }
         Ok(lists)
@@ -97,60 +100,77 @@ impl WatchLists {
     }
 }
 
-/// How many instances want each atom below `width`, as often as their literals say it.
-fn wanted(alloc: Global, width: u32, conditions: &[Condition]) -> Result<Vec<u32>, NoMemory>
+/// The ranks of the atoms below `width`: how often each is true, times 2^32, and how many instances want it, as often as
+/// their literals say it.
+fn ranks(
+    alloc: Global,
+    width: u32,
+    conditions: &[Condition],
+    often: &Often,
+) -> Result<Vec<u64>, NoMemory>
     requires { (k : ℕ) (c : Condition) → slice_get conditions.now k ≡ Some c → All (λ l. l.atom < width) (literals_in c) }
-    ensures { IfOk result (λ counts. length counts.items ≡ width) }
+    ensures { IfOk result (λ ranks. length ranks.items ≡ width) }
 {
-    let mut counts = vec![in alloc; 0; width as usize]?;
+    let mut ranks = first_ranks(alloc, width, often)?;
     for condition in conditions {
-        count_wanted(condition.literals(), &mut counts);
+        count_wanted(condition.literals(), &mut ranks);
     }
-    Ok(counts)
+    Ok(ranks)
+}
+
+/// The same of atoms that no instance wants.
+fn first_ranks(alloc: Global, width: u32, often: &Often) -> Result<Vec<u64>, NoMemory>
+    ensures { IfOk result (λ ranks. length ranks.items ≡ width) }
+{
+    let mut ranks = Vec::new(alloc);
+    for atom in 0..width {
+        ranks.push((often.atom(atom) as u64) << 32)?;
+    }
+    Ok(ranks)
 }
 
 /// Counts the atoms that the literals want.
-fn count_wanted(literals: &[NumberedLiteral], counts: &mut [u32])
-    requires { All (λ l. l.atom < length counts.old) (map numbered_of literals.now) }
-    ensures { length counts.new ≡ length counts.old }
+fn count_wanted(literals: &[NumberedLiteral], ranks: &mut [u64])
+    requires { All (λ l. l.atom < length ranks.old) (map numbered_of literals.now) }
+    ensures { length ranks.new ≡ length ranks.old }
 {
     for literal in literals {
         let atom = literal.atom as usize;
-        counts[atom] = counts[atom].saturating_add(literal.value as u32);
+        ranks[atom] = ranks[atom].saturating_add(literal.value as u64);
     }
 }
 
-/// Of the atoms that the literals want, the one of the least count.
-fn rarest(literals: &[NumberedLiteral], counts: &[u32]) -> Option<u32>
-    requires { All (λ l. l.atom < length counts.now) (map numbered_of literals.now) }
-    ensures { IfSome result (IsWatchable (length counts.now) (map numbered_of literals.now)) }
+/// Of the atoms that the literals want, the one of the least rank.
+fn rarest(literals: &[NumberedLiteral], ranks: &[u64]) -> Option<u32>
+    requires { All (λ l. l.atom < length ranks.now) (map numbered_of literals.now) }
+    ensures { IfSome result (IsWatchable (length ranks.now) (map numbered_of literals.now)) }
 {
     let mut watched = None;
     for literal in literals {
-        watched = rarer(watched, literal, counts);
+        watched = rarer(watched, literal, ranks);
     }
     watched
 }
 
-/// The literal's atom, if the literal wants it and its count is less than that of the other one, and else the other one.
-fn rarer(other: Option<u32>, literal: &NumberedLiteral, counts: &[u32]) -> Option<u32>
-    requires within { literal.now.atom < length counts.now }
-    requires other { IfSome other (λ atom. atom < length counts.now) }
+/// The literal's atom, if the literal wants it and its rank is less than that of the other one, and else the other one.
+fn rarer(other: Option<u32>, literal: &NumberedLiteral, ranks: &[u64]) -> Option<u32>
+    requires within { literal.now.atom < length ranks.now }
+    requires other { IfSome other (λ atom. atom < length ranks.now) }
     ensures { IsEither other (numbered_of literal.now) result }
 {
-    if literal.value && is_rarer(literal.atom, other, counts) {
+    if literal.value && is_rarer(literal.atom, other, ranks) {
         return Some(literal.atom);
     }
     other
 }
 
-/// Whether the atom's count is less than that of the other one, if there is one.
-fn is_rarer(atom: u32, other: Option<u32>, counts: &[u32]) -> bool
-    requires within { atom < length counts.now }
-    requires other { IfSome other (λ atom. atom < length counts.now) }
+/// Whether the atom's rank is less than that of the other one, if there is one.
+fn is_rarer(atom: u32, other: Option<u32>, ranks: &[u64]) -> bool
+    requires within { atom < length ranks.now }
+    requires other { IfSome other (λ atom. atom < length ranks.now) }
 {
     match other {
-        Some(other) => counts[atom as usize] < counts[other as usize],
+        Some(other) => ranks[atom as usize] < ranks[other as usize],
         None => true,
     }
 }

@@ -1,4 +1,4 @@
--- The objects of the changes of an instance may stand for the variables in their conditions, place by place.
+-- The objects of an instance's changes fit the variables in their conditions, index by index.
 use Rattle.std.proofs.Common.{◌≡◌, List, subst}
 use Rattle.std.specs.Prelude.{Contains, IsTrue}
 use Rattle.formulas.proofs.ChangesFit.{instance-changes-fit}

@@ -1,4 +1,4 @@
--- Instances of which some objects are chosen: what the objects so far make statically false, and one object after another.
+-- Partially bound instances: what the objects so far make statically false, and one object after another.
 use Rattle.std.proofs.Common.{◌≡◌, ◌∙◌, ℕ, zero, suc, ◌+◌, ◌≤◌, Bool, true, false, List, [], ◌∷◌, ◌++◌, length, map, drop, None, Some, refl, sym, ap, subst, arith, append_assoc, append-nil}
 use Rattle.std.specs.Prelude.{IsTrue, slice_get, filter, cond}
 use Rattle.std.specs.Cmp.{first_so, second_so}
@@ -53,7 +53,7 @@ module _ (t : Task) (schema : ℕ) (objects : List ℕ) (literals : List task.Fo
   counts : length so_far.scope ≡ length objects
   counts = as_long (is_of t) so_far.scope objects so_far.fits
 
-  -- where they make a literal statically false that they decide, no instance that begins with them is kept
+  -- if they make a literal statically false that they decide, no instance that begins with them is kept
   pub pruned : list_any (λ f. is_statically_false t f objects) literals ≡ true → filter (is_kept t) (begun schema objects (ranges_of left)) ≡ []
   pruned some =
       begun-pruned t schema objects (ranges_of left)
@@ -74,7 +74,7 @@ module _ (t : Task) (schema : ℕ) (objects : List ℕ) (literals : List task.Fo
     fits = so_far.fits;
   }
 
-  -- where no object is left to be chosen, they make an instance
+  -- if no object is left to choose, they make an instance
   pub whole-instance : left ≡ [] → IsTrue (is_instance t (record { schema = schema; objects = objects }))
   whole-instance none =
       elim so_far.rest as (λ rest. so_far.rest ≡ rest → left ≡ choices_from t so_far.found.precondition (length objects) rest → is_instance t (record { schema = schema; objects = objects }) ≡ true) [
@@ -88,7 +88,7 @@ module _ (t : Task) (schema : ℕ) (objects : List ℕ) (literals : List task.Fo
       no_cons : {c : Choice} {cs : List Choice} → [] ≡ c ∷ cs → ⊥
       no_cons same = absurd (cc)
 
-  -- and else one more object is chosen
+  -- otherwise one more object is chosen
   pub one-chosen : (choice : Choice) (later : List Choice) (i first : ℕ) → left ≡ choice ∷ later → slice_get choice.objects i ≡ Some first
       → IsBegun t schema (objects ++ first ∷ []) choice.literals later
   one-chosen choice later i first is got =
@@ -110,13 +110,13 @@ module _ (t : Task) (schema : ℕ) (objects : List ℕ) (literals : List task.Fo
             }
       ] refl (sym is ∙ so_far.choices)
 
--- where no object is left to be chosen, there is one instance
+-- if no object is left to choose, there is one instance
 pub one-left : (schema : ℕ) (objects : List ℕ) (left : List Choice) → left ≡ [] → record { schema = schema; objects = objects } ∷ [] ≡ begun schema objects (ranges_of left)
 one-left schema objects left none = sym (ap (λ l. begun schema objects (ranges_of l)) none ∙ begun-one schema objects)
 
 -- ---- one object after another
 
--- more instances are no fewer
+-- adding instances never makes them fewer
 pub reports-more : (max : ℕ) (e : GroundFault) (xs ys : List Instance) → length xs ≤ length ys → ReportsInstances max xs e → ReportsInstances max ys e
 reports-more max (At Instances) xs ys fewer reported = omega (arith, fewer, reported)
 reports-more max (At Atoms) xs ys fewer reported = reported
@@ -201,7 +201,7 @@ filtered-place may (first ∷ xs) i x at =
       | false ↦ λ later. let place = filtered-place may xs i x later in (suc place.0, place.1)
     ] at
 
--- one of them is one of the choice's objects
+-- a candidate is one of the choice's objects
 pub candidate-place : (t : Task) (objects : List ℕ) (choice : Choice) (candidates : List ℕ) → AreCandidates t objects choice candidates → (i x : ℕ) → slice_get candidates i ≡ Some x
     → (k : ℕ) × (slice_get choice.objects k ≡ Some x)
 candidate-place t objects choice candidates those i x at = filtered-place those.may choice.objects i x (ap (λ l. slice_get l i) (sym those.are) ∙ at)
@@ -214,7 +214,7 @@ module _ (t : Task) (number : ℕ) (shape : Shape) (is : Some shape ≡ option_m
   abbrev it : (s : Schema) × (slice_get t.schemas number ≡ Some s) × (shape ≡ shape_of_schema s)
   it = schema_found (slice_get t.schemas number) shape is
 
-  -- with no object chosen
+  -- with no object chosen yet
   pub begun-all : (objects : List ℕ) → objects ≡ [] → begun number objects (ranges_of choices) ≡ instances_of_number t number
   begun-all objects none =
       (λ i. begun number (none i) (ranges_of (from i)))

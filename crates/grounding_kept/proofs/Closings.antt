@@ -1,4 +1,4 @@
--- What makes a formula statically false, by the formula's form, as it is asked at the start.
+-- What makes a formula statically false, by the form of the formula, judged in the initial state.
 use Rattle.std.proofs.Common.{◌≡◌, ◌∙◌, ℕ, Bool, true, false, not, ◌&&◌, ◌||◌, List, [], ◌∷◌, ◌++◌, map, refl, sym, ap}
 use Rattle.std.specs.Prelude.{nat_eq}
 use Rattle.std.specs.Global.{Vec}

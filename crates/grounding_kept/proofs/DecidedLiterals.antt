@@ -1,4 +1,4 @@
--- The literals that some first variables decide, part by part, and what they make statically false.
+-- The literals decided by the first variables, part by part, and what they make statically false.
 use Rattle.std.proofs.Common.{◌≡◌, ◌∙◌, ℕ, zero, suc, ◌-◌, ◌<◌, Bool, true, false, not, ◌&&◌, ◌||◌, List, [], ◌∷◌, ◌++◌, length, None, Some, refl, sym, ap, arith, true≢false, inl, inr}
 use Rattle.std.specs.Prelude.{◌==◌, slice_get, filter, cond}
 use Rattle.std.specs.Global.{Vec}
@@ -31,7 +31,7 @@ filter-flat_map : {X Y : Type 0} (p : Y → Bool) (f : X → List Y) (xs : List 
 filter-flat_map p f [] = refl
 filter-flat_map p f (x ∷ xs) = filter-append p (f x) (flat_map f xs) ∙ ap (λ l. filter p (f x) ++ l) (filter-flat_map p f xs)
 
--- what one of those that pass does, one of all does
+-- what holds of some that pass holds of some of all
 any_passing : {X : Type 0} (p q r : X → Bool) → ((x : X) → p x ≡ true → q x ≡ true → r x ≡ true) → (xs : List X) → list_any q (filter p xs) ≡ true → list_any r xs ≡ true
 any_passing p q r gives [] some = absurd (true≢false (sym some))
 any_passing p q r gives (x ∷ xs) some =
@@ -43,7 +43,7 @@ any_passing p q r gives (x ∷ xs) some =
       | false ↦ λ _ later. or_right (r x) (list_any r xs) (any_passing p q r gives xs later)
     ] refl some
 
--- what all do, those that pass do
+-- what holds of all holds of those that pass
 all_passing : {X : Type 0} (p q r : X → Bool) → ((x : X) → p x ≡ true → q x ≡ true → r x ≡ true) → (xs : List X) → list_all q xs ≡ true → list_all r (filter p xs) ≡ true
 all_passing p q r gives [] all = refl
 all_passing p q r gives (x ∷ xs) all =
@@ -99,14 +99,14 @@ decided-closed t (imply premise conclusion) objects decided closed = absurd (tru
 decided-closed t (exists types part) objects decided closed = absurd (true≢false (sym decided))
 decided-closed t (forall types part) objects decided closed = absurd (true≢false (sym decided))
 
--- where the objects so far make a literal statically false that they decide, they make the formula statically false
+-- if the objects so far make a literal statically false that they decide, they make the formula statically false
 pub literals-close : (t : Task) (f : task.Formula) (objects : List ℕ) → list_any (λ g. is_statically_false t g objects) (decided_literals (length objects) f) ≡ true → closed_within t f objects ≡ true
 literals-close t f objects some =
     closed-conjuncts t f objects
     ∙ any_passing (is_first_decided (length objects)) (λ g. is_statically_false t g objects) (λ g. closed_within t g objects)
     (λ g first closed. decided-closed t g objects (first_decided (length objects) g first) closed) (conjuncts f) some
 
--- ---- they are well-typed for the types of those variables alone
+-- ---- they are well-typed for the types of those variables only
 
 mutual
   typed-conjuncts : (t : Task) (scope : List Union) (f : task.Formula) → is_formula t scope f ≡ list_all (is_formula t scope) (conjuncts f)

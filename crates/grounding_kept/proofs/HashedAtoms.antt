@@ -1,4 +1,4 @@
--- Hashed sets of atoms: what one of them has.
+-- Hashed sets of atoms and their elements.
 use Rattle.std.proofs.Common.{◌≡◌, ◌∙◌, ℕ, ◌+◌, ◌<◌, ◌≤◌, true, false, ◌||◌, List, [], ◌∷◌, ◌++◌, length, map, take, get_or, refl, sym, ap}
 use Rattle.std.specs.Prelude.{if◌then◌else◌}
 use Rattle.std.specs.List.{list_any}
@@ -28,7 +28,7 @@ inserted-key keys after a is =
       | false ↦ λ new. numbered-new a keys a after new refl is
     ] refl
 
--- one more atom of a list is inserted, by a copy of it
+-- a copy of one more atom of a list is inserted
 pub hashed-more : (atoms : List Atom) (i : ℕ) (listed copy : Atom) → i < length atoms → listed ≡ get_or atoms i listed → atom_of copy ≡ atom_of listed
     → (keys after : List Atom) → after ≡ insert_key atom_eq keys copy → ((q : task.Atom) → occurs_in (map atom_of keys) q ≡ occurs_in (map atom_of (take i atoms)) q)
     → (q : task.Atom) → occurs_in (map atom_of after) q ≡ occurs_in (map atom_of (take (i + 1) atoms)) q
@@ -39,7 +39,7 @@ hashed-more atoms i listed copy within at same keys after is so q =
     (ap (map atom_of) (take_more atoms i listed within ∙ ap (λ y. take i atoms ++ y ∷ []) (sym at)) ∙ map-append atom_of (take i atoms) (listed ∷ []))
     ∙ occurs_in-append (map atom_of (take i atoms)) (atom_of listed ∷ []) q ∙ ap (λ b. occurs_in (map atom_of (take i atoms)) q || b) (or_false (eq_by_cmp atom_cmp q (atom_of listed))))
 
--- all are
+-- all are inserted
 pub hashed-all : (atoms : List Atom) (i : ℕ) (keys : List Atom) (init : List task.Atom) → length atoms ≤ i → map atom_of atoms ≡ init
     → ((q : task.Atom) → occurs_in (map atom_of keys) q ≡ occurs_in (map atom_of (take i atoms)) q)
     → (q : task.Atom) → contains {R = atom_cmp} (from_list (map atom_of keys)) q ≡ contains {R = atom_cmp} (from_list init) q

@@ -1,4 +1,4 @@
--- The groups of a join, one atom after another, and what they leave out.
+-- The groups of a join, one atom after another, and what they exclude.
 use Rattle.std.proofs.Common.{◌≡◌, ◌∙◌, ◌⊎◌, inl, inr, ⊎_elim, ℕ, zero, suc, ◌+◌, ◌<◌, Bool, true, false, not, ◌&&◌, List, [], ◌∷◌, ◌++◌, length, map, get_or, Option, None, Some, refl, sym, ap, subst, arith, true≢false}
 use Rattle.std.specs.Prelude.{slice_get, slice_index, nat_lt, filter, IfSome}
 use Rattle.std.specs.List.{list_any}
@@ -53,7 +53,7 @@ placed-more j before after items i listed below is grows placed so_far n a n_bel
     some-same : (x y : task.Atom) → Some x ≡ Some y → x ≡ y
     some-same x y same = cc
 
--- ---- what is in no group makes its literal statically false
+-- ---- an object in no group makes its literal statically false
 
 last-at : (xs : List ℕ) (x : ℕ) → slice_index (xs ++ x ∷ []) (length xs) ≡ x
 last-at [] x = refl
@@ -160,13 +160,13 @@ pub adds-more : (t : Task) (number : ℕ) (formula same : task.Formula) (before 
     → AddsIndexes t formula number before between → AddsIndexes t same number between after → AddsIndexes t formula number before after
 adds-more t number formula same before between after is first second formulas place at so_far = second formulas place (at ∙ ap Some is) (first formulas place at so_far)
 
--- those of one more literal
+-- the indexes of one more literal
 pub indexes-more : (t : Task) (number : ℕ) (before after : List Index) (literals : List (Bor Formula)) (i : ℕ) (literal : Bor Formula) → i < length literals → literal ≡ get_or literals i literal
     → AddsIndexes t (lent_formula literal) number before after → AreIndexes t (map lent_formula literals) number before → AreIndexes t (map lent_formula literals) number after
 indexes-more t number before after literals i literal below is adds so_far =
     adds (map lent_formula literals) i (slice_get-map lent_formula literals i ∙ ap (option_map lent_formula) (slice_get_read literals (length literals) i literal refl below is)) so_far
 
--- ---- the smallest group, one more index
+-- ---- the smallest group, with one more index
 
 pub smaller-group : (items indexes : List Index) (objects : List ℕ) (first second smallest : Option (Bor (BTreeSet ObjectId))) (i : ℕ) (index : Index) → items ≡ indexes
     → i < length items → index ≡ get_or items i index

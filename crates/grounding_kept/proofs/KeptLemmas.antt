@@ -1,4 +1,4 @@
--- Changes that are kept one after another, while their atoms get numbers.
+-- Changes kept one after another, while their atoms are numbered.
 use Rattle.std.proofs.Common.{◌≡◌, ◌∙◌, ℕ, ◌<◌, ◌≤◌, ◌+◌, ◌-◌, Bool, true, false, List, [], ◌∷◌, ◌++◌, length, map, take, get_or, append-nil, append_assoc, Option, None, Some, refl, sym, ap, subst, arith}
 use Rattle.std.specs.Prelude.{if◌then◌else◌}
 use Rattle.std.specs.List.{flat_map, cons_option}
@@ -54,7 +54,7 @@ module _ (t : Task) where
   pub adds-nothing : (atoms : List Atom) (old : List NumberedChange) → AddsEffects t atoms [] old old
   adds-nothing atoms old later = sym (append-nil (map effect_of old))
 
-  -- the atoms of later ones come after those of the first ones
+  -- the atoms of later changes come after those of the first ones
   moved : (before now touched later : List Atom) → now ≡ with_atoms before touched → with_atoms before (touched ++ later) ≡ with_atoms now later
   moved before now touched later is = with_atoms-append before touched later ∙ ap (λ a. with_atoms a later) (sym is)
 
@@ -103,7 +103,7 @@ module _ (t : Task) where
       earlier : (later : List Atom) → map effect_of old.changes.items ≡ flat_map (effects_of_instance t (with_atoms now later)) instances
       earlier later = kept.effects (touched ++ later) ∙ ap (λ (a : List Atom). flat_map (effects_of_instance t a) instances) (moved before now touched later is)
 
--- ---- lists that are gone through
+-- ---- traversed lists
 
 pub mapped-more : {X Y : Type 0} (f : X → Y) (xs : List X) (k : ℕ) (x : X) → k < length xs → x ≡ get_or xs k x → map f (take k xs) ++ f x ∷ [] ≡ map f (take (k + 1) xs)
 mapped-more f xs k x below at =

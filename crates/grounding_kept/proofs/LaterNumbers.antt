@@ -1,4 +1,4 @@
--- An atom's number stays, whichever atoms get numbers after it.
+-- An atom's number does not depend on which atoms are numbered after it.
 use Rattle.std.proofs.Common.{◌≡◌, ◌∙◌, ℕ, suc, ◌<◌, ◌+◌, Bool, true, false, not, ◌||◌, ◌⊎◌, inl, inr, List, [], ◌∷◌, ◌++◌, length, get_or, None, Some, refl, sym, ap, arith}
 use Rattle.std.specs.Prelude.{nat_lt, cond}
 use Rattle.std.specs.List.{list_any, position, position_or_len}
@@ -13,7 +13,7 @@ use Rattle.model.specs.NumberedAtoms.{occurs_in, number_of, with_atom, with_atom
 use Rattle.model.proofs.NumberingLemmas.{same_itself, got-number_of, occurs_in-got, with_atoms-begins}
 use Rattle.grounding_kept.specs.KeptNumbers.{IsNumberOf}
 
--- ---- places in lists
+-- ---- indices in lists
 
 module _ {X : Type 0} (p : X → Bool) where
   -- there is one, or the length stands for none
@@ -81,7 +81,7 @@ module _ (atoms : List Atom) (a : Atom) where
       let begun = with_atoms-begins atoms later in
       ap (λ l. number_of l a) begun.1 ∙ position-stays (eq_by_cmp atom_cmp a) atoms begun.0 (number-occurs n is) ∙ is
 
-  -- it had one
+  -- it had a number
   pub had-number : (n : ℕ) → number_of atoms a ≡ Some n → (atoms ≡ with_atom atoms a) × IsNumberOf atoms a n
   had-number n is = (ap (λ b. cond b atoms (atoms ++ a ∷ [])) (sym (number-occurs n is)), number-stays n is)
 
@@ -89,7 +89,7 @@ module _ (atoms : List Atom) (a : Atom) (none : number_of atoms a ≡ None) wher
   pub as_pushed : with_atom atoms a ≡ atoms ++ a ∷ []
   as_pushed = ap (λ b. cond b atoms (atoms ++ a ∷ [])) (none-apart atoms a none)
 
-  -- it has the next one
+  -- it gets the next number
   pub gets-number : (n : ℕ) → n ≡ length atoms → IsNumberOf (with_atom atoms a) a n
   gets-number n is =
       number-stays (with_atom atoms a) a n

@@ -1,4 +1,4 @@
--- The limit that is reported where one of the two passes reports one.
+-- The limit that is reported if one of the two passes reports one.
 use Rattle.std.proofs.Common.{ℕ, ◌≤◌, List, length}
 use Rattle.faults.specs.declared.refused.Refused.TheVariants.{At, NoMemory}
 use Rattle.grounding_kept.specs.declared.fault.GroundLimit.TheVariants.{Instances, Atoms}

@@ -52,15 +52,15 @@ module _ (a : Atom) (keys : List Atom) where
       ap (map atom_of) (is ∙ ap (insert_key atom_eq keys) (one_atom copy a same) ∙ ap (λ b. if b then keys else keys ++ a ∷ []) new) ∙ map_push atom_of keys a
       ∙ ap with_it (sym new ∙ among-alike a keys)
 
-  -- one more would be too many
+  -- one more would exceed the limit
   pub numbered-full : list_any (atom_eq a) keys ≡ false → max_numbered_atoms ≤ length keys → max_numbered_atoms < length (with_atom (map atom_of keys) (atom_of a))
   numbered-full new full =
       subst (λ b. max_numbered_atoms < length (with_it b)) (sym new ∙ among-alike a keys)
       (omega (arith, full, length-map keys atom_of, length-append (map atom_of keys) (atom_of a ∷ [])))
 
--- ---- one item of a list after another
+-- ---- one element of a list after another
 
--- where atoms are too many, more are
+-- if the atoms are too many, more atoms are too
 pub reports-longer : (e : GroundFault) (xs ys : List task.Atom) → length xs ≤ length ys → ReportsAtoms xs e → ReportsAtoms ys e
 reports-longer (At Instances) xs ys fewer reported = reported
 reports-longer (At Atoms) xs ys fewer reported = omega (arith, fewer, reported)
@@ -72,7 +72,7 @@ item-reported f xs i x at now whole all (At Instances) reported = reported
 item-reported f xs i x at now whole all (At Atoms) reported = numbered-too_many f xs i x at now whole all max_numbered_atoms reported
 item-reported f xs i x at now whole all NoMemory reported = tt
 
--- the atoms of one item more
+-- the atoms of one more element
 pub next-numbered : {X : Type 0} (f : X → List task.Atom) (xs : List X) (i : ℕ) (x : X) → slice_get xs i ≡ Some x → (now whole : List task.Atom)
     → with_atoms now (flat_map f (drop i xs)) ≡ whole → (next : List task.Atom) → next ≡ with_atoms now (f x) → with_atoms next (flat_map f (drop (i + 1) xs)) ≡ whole
 next-numbered f xs i x at now whole all next is = ap (λ l. with_atoms l (flat_map f (drop (i + 1) xs))) is ∙ numbered-more f xs i x at now whole all
@@ -80,7 +80,7 @@ next-numbered f xs i x at now whole all next is = ap (λ l. with_atoms l (flat_m
 pub got-item : {X : Type 0} (xs : List X) (i : ℕ) (x : X) → i < length xs → x ≡ get_or xs i x → slice_get xs i ≡ Some x
 got-item xs i x below at = slice_get_read xs (length xs) i x refl below at
 
--- ---- lists that are made item by item
+-- ---- lists built element by element
 
 pub singles : {X Y : Type 0} (f : X → Y) (xs : List X) → flat_map (λ x. f x ∷ []) xs ≡ map f xs
 singles f [] = refl
@@ -94,7 +94,7 @@ passing p g h (x ∷ xs) =
       | false ↦ passing p g h xs
     ]
 
--- the atom, if it is fluent
+-- the atom if it is fluent
 abbrev pub if_fluent : Task → Atom → List task.Atom
 if_fluent t a = if is_fluent t (atom_of a).predicate then atom_of a ∷ [] else []
 
@@ -104,7 +104,7 @@ initial-atoms t items is =
     ∙ map-id (filter (λ (a : task.Atom). is_fluent t a.predicate) (map atom_of items))
     ∙ ap (filter (λ (a : task.Atom). is_fluent t a.predicate)) is
 
--- the atom that the change adds or deletes, if it counts
+-- the atom that the change adds or deletes, if the change counts
 abbrev pub if_counting : Task → Change → List task.Atom
 if_counting t c = if counts t (change_of c) then atom_of_literal (change_of c).literal ∷ [] else []
 
@@ -124,10 +124,10 @@ all-from p (x ∷ xs) each =
 pub kept-are : (t : Task) → list_all (is_instance t) (kept_instances t) ≡ true
 kept-are t = all-from (is_instance t) (kept_instances t) (λ i at. (kept-Contains t i at).0)
 
--- ---- the three parts of what is numbered
+-- ---- the three parts of the numbered atoms
 
 module _ (more start touched : List task.Atom) where
-  -- in this order, from no atom on
+  -- in this order, starting from no atom
   pub three-parts : with_atoms (with_atoms (with_atoms [] more) start) touched ≡ with_atoms [] (more ++ start ++ touched)
   three-parts = sym (with_atoms-append [] (more ++ start) touched ∙ ap (λ l. with_atoms l touched) (with_atoms-append [] more start))
 

@@ -1,4 +1,4 @@
--- What is true of the numbered atoms of a task: each is of a fluent predicate, and none has two numbers.
+-- Properties of the numbered atoms of a task: each has a fluent predicate, and none has two numbers.
 use Rattle.std.proofs.Common.{◌≡◌, ◌∙◌, true, List, sym, ap}
 use Rattle.std.specs.Prelude.{All, IsTrue}
 use Rattle.std.specs.Cmp.{second_so}

@@ -23,7 +23,7 @@ place-alike : (a : Atom) (keys : List Atom) → position_or_len (atom_eq a) keys
 place-alike a [] = refl
 place-alike a (k ∷ keys) = λ i. cond (not (eq-alike a k i)) (1 + place-alike a keys i) 0
 
--- the place in the code's list is the number
+-- the index in the code's list is the number
 pub position-alike : (a : Atom) (keys : List Atom) → position (atom_eq a) keys ≡ number_of (map atom_of keys) (atom_of a)
 position-alike a keys = λ i. cond (nat_lt (place-alike a keys i) (sym (length-map keys atom_of) i)) (Some (place-alike a keys i)) None
 

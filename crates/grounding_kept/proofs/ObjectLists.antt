@@ -1,4 +1,4 @@
--- The code's lists of objects and of parameters, one more at a time.
+-- The code's lists of objects and of parameters, extended one at a time.
 use Rattle.std.proofs.Common.{◌≡◌, ◌∙◌, ℕ, ◌+◌, ◌<◌, List, [], ◌∷◌, ◌++◌, length, map, take, get_or, Some, refl, sym, ap, arith, suc}
 use Rattle.std.specs.Prelude.{slice_get}
 use Rattle.std.specs.Option.{option_map}
@@ -60,7 +60,7 @@ pub no-choices : (parameters : List Parameter) → length parameters ≡ 0 → m
 no-choices [] none = refl
 no-choices (p ∷ parameters) none = absurd (omega (arith, none))
 
--- a schema has few
+-- the schema's parameters are within the limit
 pub few-choices : (t : Task) (precondition : task.Formula) (unions : List TypeUnion) (parameters : List Parameter) → map choice_of parameters ≡ choices_from t precondition 0 (map union_of unions) → length parameters ≡ length unions
 few-choices t precondition unions parameters is =
     omega (arith, length-map parameters choice_of, ap length is, choices-long t precondition 0 (map union_of unions), length-map unions union_of)

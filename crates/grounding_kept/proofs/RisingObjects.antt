@@ -1,4 +1,4 @@
--- Objects that rise are those of all objects, in order, that are among them.
+-- Ascending objects are all objects, in order, that are among them.
 use Rattle.std.proofs.Common.{◌≡◌, ◌∙◌, ℕ, zero, suc, ◌+◌, ◌<◌, ◌≤◌, Bool, true, false, ◌||◌, List, [], ◌∷◌, length, map, refl, sym, ap, arith}
 use Rattle.std.specs.Prelude.{filter, cond, nat_lt}
 use Rattle.std.specs.List.{list_any, range_with_len}
@@ -20,7 +20,7 @@ use Rattle.model.proofs.InstancesLemmas.{is_of-within}
 abbrev pub order : ObjectId → ObjectId → Ordering
 order = (object_ord.ghosts).cmp
 
--- the object of this number is among these
+-- the object with this number is among these
 abbrev pub among : List ObjectId → ℕ → Bool
 among keys number = list_any (is_at (order (record { 0 = number }))) keys
 
@@ -80,7 +80,7 @@ module _ (P : ℕ → Bool) where
         | false ↦ λ _. none_of keys from (rises-lower from (k.0 + 1) keys (omega (arith, up.0)) up.1) within
       ] refl
 
-  -- what is above an object is not that object
+  -- an object above another one differs from it
   skipped : (k : ObjectId) (keys : List ObjectId) (count from : ℕ) → k.0 < from
       → filter (among (k ∷ keys)) (filter P (range_with_len from count)) ≡ filter (among keys) (filter P (range_with_len from count))
   skipped k keys zero from below = refl
@@ -92,7 +92,7 @@ module _ (P : ℕ → Bool) where
         | false ↦ later
       ]
 
-  -- those that pass, from one number on
+  -- the objects that pass, from a number on
   rising : (count from : ℕ) (keys : List ObjectId) → Rises from keys → ((number : ℕ) → P number ≡ true → number < from + count)
       → of_types keys ≡ filter (among keys) (filter P (range_with_len from count))
   rising zero from keys up within = none_of keys from up (λ number passes. omega (arith, within number passes))

@@ -1,4 +1,4 @@
--- Atoms that are numbered one after another, and when a limit is reported.
+-- Atoms numbered one after another, and when a limit is reported.
 use Rattle.std.specs.Prelude.{◌≡◌, ℕ, ◌<◌, List, map, length, slice_get, Some}
 use Rattle.faults.specs.declared.refused.Refused.TheVariants.{At, NoMemory}
 use Rattle.grounding_kept.specs.declared.fault.GroundLimit.TheVariants.{Instances, Atoms}
@@ -9,7 +9,7 @@ use Rattle.model.specs.Meaning.{Change}
 use Rattle.model.specs.Limits.{max_numbered_atoms}
 use Rattle.model.specs.NumberedAtoms.{atom_of_literal}
 
--- the limit of atoms is reported, where these are more; running out of memory says nothing
+-- the limit of atoms is reported if there are more; nothing is stated for running out of memory
 abbrev pub ReportsAtoms : List Atom → GroundFault → Type 0
 ReportsAtoms atoms (At Instances) = ⊥
 ReportsAtoms atoms (At Atoms) = max_numbered_atoms < length atoms
@@ -19,6 +19,6 @@ ReportsAtoms atoms NoMemory = Unit {0}
 abbrev pub atoms_changed : List Change → List Atom
 atoms_changed changes = map (λ (c : Change). atom_of_literal c.literal) changes
 
--- the objects of each of these changes may stand for the variables in its condition
+-- the objects of each of these changes fit the variables in its condition
 abbrev pub AllFit : Task → List Change → Type 0
 AllFit t changes = (place : ℕ) (c : Change) → slice_get changes place ≡ Some c → FitsFormula t c.condition c.binding

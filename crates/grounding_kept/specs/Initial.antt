@@ -1,4 +1,4 @@
--- The atoms that are true at the start, as a state.
+-- The initially true atoms, as a state.
 use Rattle.std.specs.Prelude.{map}
 use Rattle.std.specs.FinSet.{from_list}
 use Rattle.task.specs.TaskParts.{atom_of}

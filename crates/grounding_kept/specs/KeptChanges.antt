@@ -1,4 +1,4 @@
--- Kept changes of the code, in the model's terms. What is said of them holds whichever atoms get numbers after these.
+-- Kept changes of the code, in the model's terms. The statements hold whichever atoms are numbered later.
 use Rattle.std.specs.Prelude.{◌≡◌, ℕ, true, List, [], ◌++◌, map, length, Option}
 use Rattle.std.specs.Global.{Box}
 use Rattle.std.specs.List.{flat_map}
@@ -24,11 +24,11 @@ pub record IsEmpty (k : KeptChanges) : Type 0 where
   pub changes : k.changes.items ≡ []
   pub counts : k.counts.items ≡ []
 
--- those that come to the old ones are the ones that count of these changes
+-- the new changes are the counting ones of these changes
 abbrev pub AddsEffects : Task → List Atom → List Change → List NumberedChange → List NumberedChange → Type 0
 AddsEffects t atoms changes old new = (later : List Atom) → map effect_of new ≡ map effect_of old ++ counted_effects t (with_atoms atoms later) changes
 
--- they are those of these instances
+-- the changes are those of these instances
 pub record AreKept (t : Task) (atoms : List Atom) (instances : List Instance) (k : KeptChanges) : Type 0 where
   pub effects : (later : List Atom) → map effect_of k.changes.items ≡ flat_map (effects_of_instance t (with_atoms atoms later)) instances
   pub counts : (later : List Atom) → k.counts.items ≡ map (λ (i : Instance). length (effects_of_instance t (with_atoms atoms later) i)) instances

@@ -7,12 +7,12 @@ use Rattle.model.specs.Meaning.{GroundLiteral, adds, deletes, Change, changes_of
 use Rattle.model.specs.StaticallyFalse.{counts, is_unconditional}
 use Rattle.model.specs.NumberedLiterals.{NumberedLiteral, numbered_ground_literal}
 
--- a formula where the variables have these objects
+-- a formula with a binding of its variables
 pub record Guard : Type 0 where
   pub formula : Formula
   pub binding : List ℕ
 
--- a numbered atom becomes true, or false, where the guard holds; without one, everywhere
+-- a numbered atom becomes true or false if the guard holds; without a guard, always
 pub record NumberedEffect : Type 0 where
   pub atom : ℕ
   pub value : Bool
@@ -23,16 +23,16 @@ abbrev pub is_adding : GroundLiteral → Bool
 is_adding (adds a) = true
 is_adding (deletes a) = false
 
--- none where the condition is `(and)`
+-- none if the condition is `(and)`
 abbrev pub guard_of : Change → Option Guard
 guard_of c = if is_unconditional c then None else Some (record { formula = c.condition; binding = c.binding })
 
--- none where the atom has no number
+-- none if the atom has no number
 abbrev pub numbered_effect : List Atom → Change → Option NumberedEffect
 numbered_effect atoms c =
     option_map (λ (l : NumberedLiteral). record { atom = l.atom; value = l.value; guard = guard_of c }) (numbered_ground_literal atoms c.literal)
 
--- those of the changes that count, in order
+-- those of the counting changes, in order
 abbrev pub counted_effect : Task → List Atom → Change → Option NumberedEffect
 counted_effect t atoms c = if counts t c then numbered_effect atoms c else None
 

@@ -17,14 +17,14 @@ use Rattle.model.specs.Grounding as model
 abbrev pub task_in : Numbering → Task
 task_in n = task_of n.statics.task.now
 
--- by their numbers
+-- the instances, by number
 abbrev pub instances_in : Numbering → List Instance
 instances_in n = map instance_of n.instances.items
 
 abbrev pub atoms_in : Numbering → List Atom
 atoms_in n = map atom_of n.atoms.keys
 
--- It has the kept instances of the task and its numbered atoms, and no limit is exceeded.
+-- The numbering has the kept instances of the task and its numbered atoms, and no limit is exceeded.
 pub record IsNumberingOf (t : Task) (more : List Atom) (max_instances : ℕ) (n : Numbering) : Type 0 where
   pub task : task_in n ≡ t
   pub instances : instances_in n ≡ kept_instances t
@@ -35,7 +35,7 @@ abbrev pub limit_of : GroundLimit → model.GroundLimit
 limit_of Instances = model.of_instances
 limit_of Atoms = model.of_atoms
 
--- the limit that is reported is the model's; running out of memory says nothing
+-- the reported limit is the model's; nothing is stated for running out of memory
 abbrev pub ReportsLimit : Task → List Atom → ℕ → GroundFault → Type 0
 ReportsLimit t more max_instances (At limit) = model.exceeded_limit max_instances max_numbered_atoms t more ≡ Some (limit_of limit)
 ReportsLimit t more max_instances NoMemory = Unit {0}

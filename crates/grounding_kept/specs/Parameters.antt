@@ -8,20 +8,19 @@ use Rattle.grounding_kept.specs.Literals.{decided_literals}
 use Rattle.model.specs.Task as task
 use Rattle.model.specs.Meaning.{objects_of}
 
--- the objects that a parameter may have, and the literals that are decided once it has one
+-- the objects that a parameter may have, and the literals that become decided with it
 pub record Choice : Type 0 where
   pub objects : List ℕ
   pub literals : List task.Formula
 
--- the formula that is lent
+-- the borrowed formula
 abbrev pub lent_formula : Bor Formula → task.Formula
 lent_formula f = formula_of f.now
 
 abbrev pub choice_of : Parameter → Choice
 choice_of p = record { objects = map object_of p.objects.items; literals = map lent_formula p.literals.items }
 
--- The choices of parameters that have to be of these types, where so many parameters come before them, in a schema with
--- this precondition.
+-- The choices of parameters of these types, after a number of earlier parameters, in a schema with this precondition.
 abbrev pub choices_from : task.Task → task.Formula → ℕ → List task.Union → List Choice
 choices_from t precondition count [] = []
 choices_from t precondition count (types ∷ unions) =

@@ -1,4 +1,4 @@
-//! The numbers of atoms.
+//! The numbering of atoms.
 ghost use Rattle.std.specs.Prelude.{◌≡◌, ◌≤◌, [], ◌∷◌, if◌then◌else◌, None, map, length, IfOk, IfErr, OnOk, IsTrue};
 ghost use Rattle.std.specs.List.{flat_map, list_all};
 ghost use Rattle.task.specs.Task.{task_of};
@@ -21,14 +21,14 @@ use indexmap::IndexSet;
 use std::alloc::Global;
 use task::Atom;
 
-/// The most atoms that may have numbers.
+/// The maximum number of numbered atoms.
 pub const MAX_ATOMS: usize = 1_048_576;
 
-/// The numbered atoms, each at the place that is its number: `more`, in its order, then the fluent atoms that are true at
-/// the start, then those that a change that counts of a kept instance adds or deletes. These changes are kept.
+/// The numbered atoms, each at the index of its number: `more`, in its order; then the fluent atoms that are initially true; then
+/// the atoms that a counting change of a kept instance adds or deletes. These changes are kept.
 ///
 /// # Errors
-/// [`GroundLimit::Atoms`] where there are more than [`MAX_ATOMS`]; or memory was refused.
+/// [`GroundLimit::Atoms`] if there are more than [`MAX_ATOMS`]; or an allocation failed.
 pub(crate) fn numbered_atoms<'t>(
     alloc: Global,
     statics: &Statics<'t>,
@@ -62,7 +62,7 @@ fn number_all(atoms: &mut IndexSet<Atom>, list: &[Atom]) -> Result<(), GroundFau
     Ok(())
 }
 
-/// Numbers the fluent atoms that are true at the start.
+/// Numbers the fluent atoms that are initially true.
 fn number_initial(statics: &Statics<'_>, atoms: &mut IndexSet<Atom>) -> Result<(), GroundFault>
     requires { length atoms.old.keys ≤ MAX_ATOMS }
     ensures numbered { OnOk result (map atom_of atoms.new.keys ≡ numbered.with_atoms (map atom_of atoms.old.keys) (numbered.initial_fluent_atoms (task_of statics.now.task.now))) }
@@ -95,7 +95,7 @@ fn number_if_fluent(
     Ok(())
 }
 
-/// Numbers the atoms that changes that count of the instances add or delete, and keeps these changes.
+/// Numbers the atoms that counting changes of the instances add or delete, and keeps these changes.
 fn number_touched<'t>(
     alloc: Global,
     statics: &Statics<'t>,
@@ -116,7 +116,7 @@ fn number_touched<'t>(
     Ok(())
 }
 
-/// Numbers the atom, if it has no number, and answers its number.
+/// The number of the atom; it gets one if it has none.
 pub(crate) fn number(atoms: &mut IndexSet<Atom>, atom: &Atom) -> Result<u32, GroundFault>
     requires { length atoms.old.keys ≤ MAX_ATOMS }
     ensures numbered { OnOk result (map atom_of atoms.new.keys ≡ numbered.with_atom (map atom_of atoms.old.keys) (atom_of atom.now)) }
@@ -130,7 +130,7 @@ pub(crate) fn number(atoms: &mut IndexSet<Atom>, atom: &Atom) -> Result<u32, Gro
     }
 }
 
-/// The same of an atom that has no number.
+/// Numbers an atom that has no number yet.
 fn add(atoms: &mut IndexSet<Atom>, atom: &Atom) -> Result<u32, GroundFault>
     requires few { length atoms.old.keys ≤ MAX_ATOMS }
     requires new { numbered.number_of (map atom_of atoms.old.keys) (atom_of atom.now) ≡ None }

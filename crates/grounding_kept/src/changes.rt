@@ -1,4 +1,4 @@
-//! The changes of kept instances that count, by the numbers of their atoms.
+//! The counting changes of kept instances, by the numbers of their atoms.
 ghost use Rattle.std.specs.Prelude.{◌≡◌, ◌≤◌, ◌-◌, [], ◌∷◌, ◌++◌, true, List, Some, if◌then◌else◌, map, filter, length, IfOk, IfErr, OnOk, IsTrue};
 ghost use Rattle.task.specs.Task.{task_of};
 ghost use Rattle.task.specs.TaskParts.{atom_of, object_of, formula_of};
@@ -22,39 +22,39 @@ use indexmap::IndexSet;
 use std::alloc::Global;
 use task::{Atom, Formula};
 
-/// A change that counts: a numbered atom becomes true, or false, under a condition or under none.
+/// A counting change: a numbered atom becomes true or false, with or without a condition.
 #[derive(Drop)]
 pub struct NumberedChange<'t> {
     /// The atom's number, from 0.
     pub atom: u32,
     /// Whether it becomes true.
     pub value: bool,
-    /// None where the condition is `(and)`. Boxed, since few changes have one.
+    /// `None` if the condition is `(and)`. Boxed, since few changes have one.
     pub guard: Option<Box<Guard<'t>>>,
 }
 
 /// The condition of a change.
 #[derive(Drop)]
 pub struct Guard<'t> {
-    /// As it is written.
+    /// The condition as written.
     pub formula: &'t Formula,
     /// The objects of the variables in the formula's scope.
     pub binding: Binding,
 }
 
-/// The changes that count of some instances, one instance after another.
+/// The counting changes of some instances, instance by instance.
 #[derive(Drop)]
 pub struct KeptChanges<'t> {
-    /// Those of all of them.
+    /// The changes of all instances.
     pub changes: Vec<NumberedChange<'t>>,
-    /// How many each instance has.
+    /// The number of changes of each instance.
     pub counts: Vec<usize>,
-    /// Whether they are kept at all.
+    /// Whether changes are kept at all.
     keeps: bool,
 }
 
 impl KeptChanges<'_> {
-    /// Those of no instance, to which others will be added.
+    /// An empty list of changes that can be extended.
     pub fn new(alloc: Global) -> Self
         ensures { IsEmpty result }
     {
@@ -65,7 +65,7 @@ impl KeptChanges<'_> {
         }
     }
 
-    /// None, whatever is added.
+    /// An empty list that stays empty, whatever is added.
     pub(crate) fn none(alloc: Global) -> Self {
         KeptChanges {
             changes: Vec::new(alloc),
@@ -74,7 +74,7 @@ impl KeptChanges<'_> {
         }
     }
 
-    /// Ends the changes of an instance, which begin at this place.
+    /// Ends the changes of an instance, which begin at this index.
     fn end_instance(&mut self, begin: usize) -> Result<(), NoMemory>
         requires { begin ≤ length self.old.changes.items }
         ensures keeps { OnOk result (self.new.keeps ≡ self.old.keeps) }
@@ -90,7 +90,7 @@ impl KeptChanges<'_> {
     }
 }
 
-/// Numbers the atoms that changes that count of the instance add or delete, and keeps these changes.
+/// Numbers the atoms that counting changes of the instance add or delete, and keeps these changes.
 pub(crate) fn number_instance<'t>(
     alloc: Global,
     statics: &Statics<'t>,
@@ -114,7 +114,7 @@ pub(crate) fn number_instance<'t>(
     Ok(())
 }
 
-/// Numbers the atoms that those of the changes that count add or delete, and adds these changes.
+/// Numbers the atoms that the counting ones of these changes add or delete, and adds these changes.
 fn number_counting<'t>(
     alloc: Global,
     statics: &Statics<'_>,
@@ -135,7 +135,7 @@ fn number_counting<'t>(
     Ok(())
 }
 
-/// Numbers the atom that the change adds or deletes, and adds the change, if it counts.
+/// Numbers the atom that the change adds or deletes, and adds the change, if the change counts.
 fn number_if_counting<'t>(
     alloc: Global,
     statics: &Statics<'_>,
@@ -182,7 +182,7 @@ fn is_addition(literal: &GroundLiteral) -> bool
     }
 }
 
-/// The condition of the change, and none where it is `(and)`.
+/// The condition of the change; `None` if it is `(and)`.
 fn guard_of<'t>(alloc: Global, change: &Change<'t>) -> Result<Option<Box<Guard<'t>>>, NoMemory>
     ensures { IfOk result (λ guard. guard_in guard ≡ effects.guard_of (change_of change.now)) }
 {
@@ -196,7 +196,7 @@ fn guard_of<'t>(alloc: Global, change: &Change<'t>) -> Result<Option<Box<Guard<'
     Ok(Some(guard))
 }
 
-/// The formula, where the variables have these objects.
+/// The formula with this binding of the variables.
 fn guarded<'t>(
     alloc: Global,
     formula: &'t Formula,
@@ -214,7 +214,7 @@ fn guarded<'t>(
     Ok(guard)
 }
 
-/// Whether the formula is `(and)`, as it is written.
+/// Whether the formula is literally `(and)`.
 fn is_empty_and(formula: &Formula) -> bool
     ensures { result ≡ statically_false.is_empty_and (formula_of formula.now) }
 {

@@ -1,14 +1,14 @@
-//! Why a task was not grounded.
+//! Why a task could not be grounded.
 use faults::Refused;
 
-/// The limit that a ground task would exceed.
+/// The limit that the ground task would exceed.
 #[derive(Clone, Copy, Debug, PartialEq, Eq, Drop)]
 pub enum GroundLimit {
-    /// More instances are kept than the limit.
+    /// More instances would be kept than the limit allows.
     Instances,
-    /// No more instances are kept than the limit, and more than 1,048,576 atoms would have numbers.
+    /// The kept instances are within the limit, but more than 1,048,576 atoms would be numbered.
     Atoms,
 }
 
-/// Why a task was not grounded: it would exceed a limit, or memory was refused.
+/// Why a task could not be grounded: it would exceed a limit, or an allocation failed.
 pub type GroundFault = Refused<GroundLimit>;

@@ -1,4 +1,4 @@
-//! The atoms that are true at the start.
+//! The atoms that are initially true.
 ghost use Rattle.std.specs.Prelude.{◌≡◌, IfOk};
 ghost use Rattle.std.specs.FinSet.{contains};
 ghost use Rattle.task.specs.Task.{task_of};
@@ -12,15 +12,14 @@ use indexmap::IndexSet;
 use std::alloc::Global;
 use task::{Atom, Task};
 
-/// The atoms that are true at the start, by their hashes, since grounding looks one up for each static literal of each
-/// instance.
+/// The atoms that are initially true, hashed, since grounding looks one up for each static literal of each instance.
 #[derive(Drop)]
 pub(crate) struct InitialAtoms {
     atoms: IndexSet<Atom>,
 }
 
 impl InitialAtoms {
-    /// Those of the task.
+    /// The initial atoms of the task.
     pub(crate) fn new(alloc: Global, task: &Task) -> Result<InitialAtoms, NoMemory>
         ensures { IfOk result (λ initial. (a : model_task.Atom) → contains (facts_of initial) a ≡ contains (initial_state (task_of task.now)) a) }
     {

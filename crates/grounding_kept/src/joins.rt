@@ -1,11 +1,10 @@
-//! Which objects the static atoms of the start let occur at a parameter.
+//! Which objects the static initial atoms allow for a parameter.
 //!
-//! The instances of a schema are a join of relations: each static atom of its precondition is one, which has the atoms of
-//! its predicate at the start. An index of it groups the objects at a parameter's place by the object at another place. One
-//! parameter after another takes its objects from the smallest group, and the other literals are then tested, as in joins
-//! that are optimal in the worst case (Ngo, Ré & Rudra 2013, "Skew Strikes Back: New Developments in the Theory of Join
-//! Algorithms"). That tasks are grounded by joins is from Helmert 2009, "Concise finite-domain representations for PDDL
-//! planning tasks".
+//! The instances of a schema are a join of relations: each static atom of its precondition is a relation, consisting of the
+//! initial atoms of its predicate. An index of the relation groups the objects at the parameter's position by the object at
+//! another position. The parameters take their objects from the smallest group, one after another, and the other literals are
+//! then tested, as in worst-case optimal joins (Ngo, Ré & Rudra 2013, "Skew Strikes Back: New Developments in the Theory of Join
+//! Algorithms"). Grounding by joins follows Helmert 2009, "Concise finite-domain representations for PDDL planning tasks".
 ghost use Rattle.std.specs.Prelude.{◌≡◌, ◌⊎◌, false, length, map, filter, slice_get, Some, IfOk, IfSome, OnOk};
 ghost use Rattle.std.specs.Option.{option_map, option_map_or};
 ghost use Rattle.std.specs.List.Sorted.{IsStrictlySortedBy};
@@ -26,7 +25,7 @@ use std::alloc::Global;
 use std::collections::BTreeSet;
 use task::{Atom, Formula, LiftedAtom, ObjectId, Task, Term, TypeUnion};
 
-/// An atom of a static predicate, where a parameter is in it, and where a term that is known before it.
+/// A static atom, the parameter's position, and that of an already bound term.
 #[derive(Drop)]
 pub(crate) struct Joint<'t> {
     atom: &'t LiftedAtom,
@@ -34,16 +33,15 @@ pub(crate) struct Joint<'t> {
     key: Option<usize>,
 }
 
-/// The objects that are at a parameter's place in the atoms of the start, by the object at the key's place. Without a
-/// key they are one group.
+/// The objects at the parameter's position in the initial atoms, grouped by the object at the key's position. Without a key they
+/// form one group.
 #[derive(Drop)]
 pub(crate) struct Index<'t> {
     joint: Joint<'t>,
     groups: Vec<BTreeSet<ObjectId>>,
 }
 
-/// The indexes that say which objects of its types a parameter may have: one for each known term of each static atom that
-/// it is in.
+/// The indexes that restrict a parameter's objects: one for each known term of each static atom that the parameter occurs in.
 #[derive(Drop)]
 pub(crate) struct Join<'t> {
     types: &'t TypeUnion,
@@ -51,7 +49,7 @@ pub(crate) struct Join<'t> {
 }
 
 impl<'t> Join<'t> {
-    /// The join of the parameter of this number and of these types, by these literals.
+    /// The join for the parameter with this number and these types, from these literals.
     pub(crate) fn of_literals(
         alloc: Global,
         statics: &Statics<'_>,
@@ -69,7 +67,8 @@ impl<'t> Join<'t> {
         Ok(Join { types, indexes })
     }
 
-    /// Those of the smallest group of the earlier objects that are of the parameter's types, in order, if there is a group.
+    /// The objects of the parameter's types, in order, in the smallest group for the earlier objects; `None` if there is no
+    /// group.
     pub(crate) fn candidates(
         &self,
         alloc: Global,
@@ -84,7 +83,7 @@ impl<'t> Join<'t> {
         Ok(Some(objects_in(alloc, task, group, self.types)?))
     }
 
-    /// Of the groups of the earlier objects the one of the fewest objects.
+    /// The smallest of the groups for the earlier objects.
     fn smallest_group(&self, binding: &Binding) -> Option<&BTreeSet<ObjectId>>
         ensures { IfSome result (λ group. IsGroupAmong self.now.indexes.items (map object_of binding.now.items) group.now) }
     {
@@ -96,7 +95,7 @@ impl<'t> Join<'t> {
     }
 }
 
-/// The one of fewer objects, and the other one where one is missing.
+/// The smaller set; if one is missing, the other.
 fn smaller<'a>(
     first: Option<&'a BTreeSet<ObjectId>>,
     second: Option<&'a BTreeSet<ObjectId>>,
@@ -125,7 +124,7 @@ impl<'t> Index<'t> {
         Ok(Index { joint, groups })
     }
 
-    /// The group of the earlier objects.
+    /// The group for the earlier objects.
     fn group(&self, binding: &Binding) -> Option<&BTreeSet<ObjectId>>
         ensures { IfSome result (λ group. slice_get self.now.groups.items (key_number self.now.joint (map object_of binding.now.items)) ≡ Some group.now) }
     {
@@ -135,7 +134,7 @@ impl<'t> Index<'t> {
 }
 
 impl Joint<'_> {
-    /// The object that the key names, where the earlier parameters have these, and the first object without a key.
+    /// The object that the key denotes, given the objects of the earlier parameters; the first object without a key.
     fn key_named(&self, binding: &Binding) -> Option<ObjectId>
         ensures { IfSome result (λ key. key.0 ≡ key_number self.now (map object_of binding.now.items)) }
     {
@@ -146,7 +145,7 @@ impl Joint<'_> {
     }
 }
 
-/// The object that the term names, where the variables have these objects.
+/// The object that the term denotes under this binding.
 fn named_by(term: &Term, binding: &Binding) -> Option<ObjectId>
     ensures { IfSome result (λ object. object.0 ≡ meaning.object_of (map object_of binding.now.items) (term_of term.now)) }
 {
@@ -156,7 +155,7 @@ fn named_by(term: &Term, binding: &Binding) -> Option<ObjectId>
     }
 }
 
-/// Those of the objects that are of these types, in order.
+/// The objects that are of these types, in order.
 fn objects_in(
     alloc: Global,
     task: &Task,
@@ -175,8 +174,8 @@ fn objects_in(
     Ok(found)
 }
 
-/// Adds the literal's indexes for the parameter of this number, if the literal is an atom of a static predicate that the
-/// parameter is in: one for each place of an object or an earlier parameter, and without a key where there is none.
+/// Adds the literal's indexes for the parameter with this number, if the literal is an atom of a static predicate that the
+/// parameter occurs in: one for each position of an object or an earlier parameter, or one without a key if there is none.
 fn add_indexes<'t>(
     alloc: Global,
     statics: &Statics<'_>,
@@ -200,7 +199,7 @@ fn add_indexes<'t>(
     Ok(())
 }
 
-/// Adds the index of the joint with this place as the key, if an object or an earlier parameter is there.
+/// Adds the index with this position as the key, if an object or an earlier parameter is there.
 fn add_keyed<'t>(
     alloc: Global,
     task: &Task,
@@ -239,7 +238,7 @@ fn add_index<'t>(
     Ok(())
 }
 
-/// Whether an object is at this place, or a variable before the one of this number.
+/// Whether an object is at this position, or a variable before the one with this number.
 fn is_known(terms: &[Term], place: usize, number: usize) -> bool
     ensures { result ≡ option_map_or (enumeration.is_bound number) (slice_get (map term_of terms.now) place) false }
 {
@@ -249,8 +248,8 @@ fn is_known(terms: &[Term], place: usize, number: usize) -> bool
     }
 }
 
-/// The literal with the place of the parameter of this number, if it is an atom of a static predicate that the parameter
-/// is in; no term is its key.
+/// The literal with the position of the parameter with this number, without a key, if it is an atom of a static predicate that
+/// the parameter occurs in.
 fn joint_in<'t>(statics: &Statics<'_>, literal: &'t Formula, number: usize) -> Option<Joint<'t>>
     ensures literal { IfSome result (λ j. formula_of literal.now ≡ model_task.atom (lifted_atom_of j.atom.now)) }
     ensures joint { IfSome result (IsJoint (task_of statics.now.task.now) number) }
@@ -269,7 +268,7 @@ fn joint_in<'t>(statics: &Statics<'_>, literal: &'t Formula, number: usize) -> O
     })
 }
 
-/// The first place of the variable of this number.
+/// The first position of the variable with this number.
 fn place_of(terms: &[Term], number: usize) -> Option<usize>
     ensures { IfSome result (λ place. slice_get (map term_of terms.now) place ≡ Some (model_task.variable number)) }
 {
@@ -283,7 +282,7 @@ fn place_of(terms: &[Term], number: usize) -> Option<usize>
     None
 }
 
-/// A group for each object, as the key: those that are at the joint's place in the atoms of the start.
+/// A group for each object as the key: the objects at the joint's position in the initial atoms.
 fn groups_of(
     alloc: Global,
     task: &Task,
@@ -301,7 +300,7 @@ fn groups_of(
     Ok(groups)
 }
 
-/// Adds the object at the joint's place to the group of its key, if the atom is of the joint's predicate.
+/// Adds the object at the joint's position to the group of its key, if the atom has the joint's predicate.
 fn add_atom(
     joint: &Joint<'_>,
     atom: &Atom,
@@ -322,7 +321,7 @@ fn add_atom(
     add_object(key.0 as usize, *object, groups)
 }
 
-/// The atom's object at the key's place, and the first object without a key.
+/// The atom's object at the key's position; the first object without a key.
 fn key_at(key: Option<usize>, atom: &Atom) -> Option<ObjectId>
     ensures { option_map object_of result ≡ key_in key (atom_of atom.now).objects }
 {
@@ -332,7 +331,7 @@ fn key_at(key: Option<usize>, atom: &Atom) -> Option<ObjectId>
     }
 }
 
-/// Adds the object to the group of this number, if there is one.
+/// Adds the object to the group with this number, if there is one.
 fn add_object(
     number: usize,
     object: ObjectId,

@@ -1,8 +1,8 @@
 //! The kept instances, in order.
 //!
-//! A schema's parameters get objects one after another, by backtracking: objects that make the precondition statically false already
-//! are not gone on with. So does Helmert 2009, "Concise finite-domain representations for PDDL planning tasks", with static
-//! atoms; which atoms the actions can make true is not asked here.
+//! A schema's parameters get objects one after another, by backtracking: a partial assignment that makes the precondition
+//! statically false is abandoned. Helmert 2009, "Concise finite-domain representations for PDDL planning tasks", does so with
+//! static atoms; the relaxed reachability analysis described there is not used here.
 ghost use Rattle.std.specs.Prelude.{◌≡◌, ◌+◌, ◌≤◌, ◌++◌, [], ◌∷◌, map, filter, length, IfOk, IfErr, OnOk, IsTrue};
 ghost use Rattle.task.specs.Task.{task_of};
 ghost use Rattle.task.specs.TaskParts.{object_of};
@@ -21,10 +21,10 @@ use formulas::{Binding, Instance, with_object};
 use std::alloc::Global;
 use task::{Formula, SchemaId};
 
-/// The kept instances, in the order of all instances, where there are at most `max`.
+/// The kept instances, in the order of all instances, if there are at most `max`.
 ///
 /// # Errors
-/// [`GroundLimit::Instances`] where there are more; or memory was refused.
+/// [`GroundLimit::Instances`] if there are more; or an allocation failed.
 pub(crate) fn kept_instances(
     alloc: Global,
     statics: &Statics<'_>,
@@ -46,7 +46,7 @@ pub(crate) fn kept_instances(
     Ok(found)
 }
 
-/// The instances of one schema, of which the kept ones are wanted.
+/// The enumeration of a schema's instances, for its kept ones.
 #[derive(Drop)]
 struct Enumeration<'a, 't> {
     statics: &'a Statics<'t>,
@@ -55,7 +55,7 @@ struct Enumeration<'a, 't> {
 }
 
 impl Enumeration<'_, '_> {
-    /// Adds the kept ones among all of them.
+    /// Adds all kept instances of the schema.
     fn add_all(&self, alloc: Global, found: &mut Vec<Instance>) -> Result<(), GroundFault>
         requires { length found.old.items ≤ self.now.max }
         ensures kept { OnOk result (map instance_of found.new.items ≡ map instance_of found.old.items
@@ -79,8 +79,8 @@ impl Enumeration<'_, '_> {
         )
     }
 
-    /// Adds the kept ones among those whose first objects are these, and whose others are one for each of the parameters
-    /// that are left. The literals are decided by the objects, and not by fewer of them.
+    /// Adds the kept instances that begin with these objects and have one more for each remaining parameter. The literals are
+    /// those first decided by exactly these objects.
     fn add(
         &self,
         alloc: Global,
@@ -117,7 +117,7 @@ impl Enumeration<'_, '_> {
         Ok(())
     }
 
-    /// Adds the instance, if it is kept.
+    /// Adds the instance if it is kept.
     fn add_one(&self, instance: Instance, found: &mut Vec<Instance>) -> Result<(), GroundFault>
         requires instance { IsTrue (is_instance (task_of self.now.statics.now.task.now) (instance_of instance)) }
         requires few { length found.old.items ≤ self.now.max }

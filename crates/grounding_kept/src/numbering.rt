@@ -22,8 +22,8 @@ use indexmap::IndexSet;
 use std::alloc::Global;
 use task::{Atom, Formula, PredicateId, Task};
 
-/// The kept instances of a task and its numbered atoms, each at the place, from 0, that is its number. The atoms are of
-/// fluent predicates, and each has one number.
+/// The kept instances of a task and its numbered atoms, each at the index of its number, from 0. The atoms are of fluent
+/// predicates, and each has exactly one number.
 #[derive(Drop)]
 pub struct Numbering<'t> {
     statics: Statics<'t>,
@@ -52,12 +52,12 @@ impl<'t> Numbering<'t> {
     ghost use Rattle.grounding_kept.specs.KeptChanges.{IsEmpty, AreKept};
     ghost use Rattle.grounding_kept.specs.Numbering.{task_in, atoms_in, instances_in, IsNumberingOf, ReportsLimit};
 
-    /// That of the task, in which `more` have the first numbers, if none of them is there twice.
+    /// The numbering of the task. The atoms in `more` have the first numbers, if they are distinct.
     ///
     /// # Errors
-    /// [`GroundLimit::Instances`](crate::GroundLimit::Instances) exactly where more than `max_instances` are kept;
-    /// [`GroundLimit::Atoms`](crate::GroundLimit::Atoms) exactly where no more are, and more than
-    /// [`MAX_ATOMS`](crate::MAX_ATOMS) atoms have numbers; or memory was refused.
+    /// [`GroundLimit::Instances`](crate::GroundLimit::Instances) exactly if more than `max_instances` instances are kept;
+    /// [`GroundLimit::Atoms`](crate::GroundLimit::Atoms) exactly if not, but more than [`MAX_ATOMS`](crate::MAX_ATOMS) atoms have
+    /// numbers; or an allocation failed.
     pub fn new(
         alloc: Global,
         task: &'t Task,
@@ -77,7 +77,7 @@ impl<'t> Numbering<'t> {
         )
     }
 
-    /// The same. The changes that count of the kept instances are kept.
+    /// The same, and keeps the counting changes of the kept instances.
     ///
     /// # Errors
     /// The same.
@@ -97,7 +97,7 @@ impl<'t> Numbering<'t> {
         Numbering::of_statics(alloc, statics, more, max_instances, changes)
     }
 
-    /// That of the task with these statics.
+    /// The numbering of the task with these statics.
     fn of_statics(
         alloc: Global,
         statics: Statics<'t>,
@@ -126,21 +126,21 @@ impl<'t> Numbering<'t> {
         self.statics.task
     }
 
-    /// How many atoms have numbers.
+    /// The number of numbered atoms.
     pub fn width(&self) -> u32
         ensures { result ≡ length (atoms_in self.now) }
     {
         self.atoms.len() as u32
     }
 
-    /// The kept instances, each at the place, from 0, that is its number.
+    /// The kept instances, each at the index of its number, from 0.
     pub fn instances(&self) -> &[Instance]
         ensures { map instance_of result.now ≡ instances_in self.now }
     {
         self.instances.as_slice()
     }
 
-    /// The numbered atoms, each at the place, from 0, that is its number.
+    /// The numbered atoms, each at the index of its number, from 0.
     pub fn atoms(&self) -> &IndexSet<Atom>
         ensures { map atom_of result.now.keys ≡ atoms_in self.now }
     {
@@ -154,7 +154,7 @@ impl<'t> Numbering<'t> {
         number_of(&self.atoms, atom)
     }
 
-    /// Whether the atom is true at the start.
+    /// Whether the atom is initially true.
     pub fn is_initial(&self, atom: &Atom) -> bool
         ensures { result ≡ contains (initial_state (task_in self.now)) (atom_of atom.now) }
     {
@@ -168,7 +168,7 @@ impl<'t> Numbering<'t> {
         self.statics.is_fluent(predicate)
     }
 
-    /// Whether the atom is of a static predicate, and is true at the start.
+    /// Whether the atom is of a static predicate and initially true.
     pub fn is_initial_static(&self, atom: &Atom) -> bool
         ensures { result ≡ (not (is_fluent (task_in self.now) (atom_of atom.now).predicate) && contains (initial_state (task_in self.now)) (atom_of atom.now)) }
     {
@@ -183,9 +183,8 @@ impl<'t> Numbering<'t> {
         self.statics.counts(change)
     }
 
-    /// Whether the formula is statically false, where the variables in scope have these objects: one of its sure literals is
-    /// static, or of an equality, and is false at the start. The formula is well-typed for variables of some types that
-    /// the objects are of. No memory is taken.
+    /// Whether the formula is statically false under this binding: one of its sure literals is static or an equality, and
+    /// initially false. The formula is well-typed for variables of some types that the objects are of. Nothing is allocated.
     pub fn is_statically_false(&self, formula: &Formula, binding: &Binding) -> bool
         requires { FitsFormula (task_in self.now) (formula_of formula.now) (map object_of binding.now.items) }
         ensures { result ≡ statically_false.is_statically_false (task_in self.now) (formula_of formula.now) (map object_of binding.now.items) }
@@ -193,8 +192,8 @@ impl<'t> Numbering<'t> {
         self.statics.is_statically_false(formula, binding)
     }
 
-    /// The sure literals of the formula that are of numbered atoms, in order, where the variables in scope have these
-    /// objects. The formula is well-typed for variables of some types that the objects are of.
+    /// The sure literals of the formula, under this binding, that are of numbered atoms, in order. The formula is well-typed for
+    /// variables of some types that the objects are of.
     pub fn numbered_literals(
         &self,
         alloc: Global,
@@ -207,7 +206,7 @@ impl<'t> Numbering<'t> {
         numbered_literals(alloc, self.statics.task, &self.atoms, formula, binding)
     }
 
-    /// Those of the literals that are of numbered atoms, in order.
+    /// The literals that are of numbered atoms, in order.
     pub fn numbered(
         &self,
         alloc: Global,

@@ -17,17 +17,17 @@ use indexmap::IndexSet;
 use std::alloc::Global;
 use task::{Atom, Formula, Task};
 
-/// A numbered atom is true, or false.
+/// A literal of a numbered atom.
 #[derive(Clone, Copy, Debug, Default, PartialEq, Eq)]
 pub struct NumberedLiteral {
     /// The atom's number, from 0.
     pub atom: u32,
-    /// Whether it is true.
+    /// Whether the atom is true.
     pub value: bool,
 }
 
-/// The sure literals of the formula that are of numbered atoms, in order, where the variables in scope have these objects.
-/// The formula is well-typed for variables of some types that the objects are of.
+/// The sure literals of the formula, under this binding, that are of numbered atoms, in order. The formula is well-typed for
+/// variables of some types that the objects are of.
 pub(crate) fn numbered_literals(
     alloc: Global,
     task: &Task,
@@ -43,7 +43,7 @@ pub(crate) fn numbered_literals(
     numbered(alloc, atoms, literals.as_slice())
 }
 
-/// Those of the literals that are of numbered atoms, in order.
+/// The literals that are of numbered atoms, in order.
 pub(crate) fn numbered(
     alloc: Global,
     atoms: &IndexSet<Atom>,
@@ -76,7 +76,7 @@ fn add_numbered(
     }
 }
 
-/// Adds the literal that the atom is true, or false, if it is numbered.
+/// Adds the literal that the atom is true, or false, if the atom is numbered.
 fn add_literal(
     atoms: &IndexSet<Atom>,
     atom: &Atom,

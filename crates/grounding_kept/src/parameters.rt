@@ -1,4 +1,4 @@
-//! What a schema's parameters may be, and which literals of its precondition are decided once they have objects.
+//! A schema's parameters: their objects, and the literals of the precondition that become decided with each of them.
 ghost use Rattle.std.specs.Prelude.{◌≡◌, ◌+◌, ◌<◌, ◌^◌, [], ◌∷◌, ◌++◌, map, filter, length, IfOk, OnOk};
 ghost use Rattle.std.specs.List.{list_all};
 ghost use Rattle.task.specs.Task.{task_of};
@@ -23,13 +23,13 @@ pub(crate) struct Parameter<'t> {
     pub(crate) objects: Vec<ObjectId>,
     /// The literals of the precondition that are decided once it has an object, and not before.
     pub(crate) literals: Vec<&'t Formula>,
-    /// The objects that it may be in those of the literals that are static atoms.
+    /// The objects that the static atoms among those literals allow for it.
     join: Join<'t>,
 }
 
 impl Parameter<'_> {
-    /// The objects that it may have where the earlier ones have these, in order: all of its types, but for some that close
-    /// off one of the literals.
+    /// The objects that it may have, given those of the earlier parameters, in order: all of its types, except some that make one
+    /// of the literals false.
     pub(crate) fn candidates(
         &self,
         alloc: Global,
@@ -65,7 +65,7 @@ pub(crate) fn parameters_of<'t>(
     Ok(parameters)
 }
 
-/// The parameter of this number and of these types, in a schema with this precondition.
+/// The parameter with this number and these types, in a schema with this precondition.
 fn parameter_of<'t>(
     alloc: Global,
     statics: &Statics<'_>,
@@ -88,8 +88,8 @@ fn parameter_of<'t>(
     })
 }
 
-/// The literals that the formula says outright, under no `forall`, and that are decided once the first `count` variables
-/// have objects, and not before.
+/// The conjuncts of the formula, under no `forall`, that are decided once the first `count` variables have objects, and not
+/// before.
 pub(crate) fn decided_literals<'t>(
     alloc: Global,
     formula: &'t Formula,
@@ -143,8 +143,7 @@ fn is_first_decided(formula: &Formula, count: usize) -> bool
     is_decided(formula, count) && (count == 0 || !is_decided(formula, count - 1))
 }
 
-/// Whether the formula is an atom, an equality, or the `not` of one of these, all of whose variables are among the first
-/// `count`.
+/// Whether the formula is an atom, an equality, or the negation of one, with all variables among the first `count`.
 fn is_decided(formula: &Formula, count: usize) -> bool
     ensures { result ≡ literals.is_decided count (formula_of formula.now) }
 {
@@ -154,7 +153,7 @@ fn is_decided(formula: &Formula, count: usize) -> bool
     }
 }
 
-/// Whether the formula is an atom or an equality all of whose variables are among the first `count`.
+/// Whether the formula is an atom or an equality with all variables among the first `count`.
 fn are_bound(formula: &Formula, count: usize) -> bool
     ensures { result ≡ enumeration.are_bound count (formula_of formula.now) }
 {
@@ -165,7 +164,7 @@ fn are_bound(formula: &Formula, count: usize) -> bool
     }
 }
 
-/// Whether each variable among the terms is one of the first `count`.
+/// Whether each variable in the terms is one of the first `count`.
 fn all_bound(terms: &[Term], count: usize) -> bool
     ensures { result ≡ list_all (enumeration.is_bound count) (map term_of terms.now) }
 {

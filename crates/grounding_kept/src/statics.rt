@@ -1,5 +1,4 @@
-//! What no action changes: the static predicates and the equalities, which say in each reachable state what they say at
-//! the start.
+//! What no action changes: static atoms and equalities, which have the same truth value in every reachable state as initially.
 ghost use Rattle.std.specs.Prelude.{◌≡◌, map};
 ghost use Rattle.std.specs.FinSet.{contains};
 ghost use Rattle.std.proofs.Props.{props};
@@ -38,7 +37,7 @@ impl<'t> Statics<'t> {
     ghost use Rattle.model.specs.Fluents as model_fluents;
     ghost use Rattle.model.specs.StaticallyFalse as statically_false;
 
-    /// Those of the task.
+    /// The statics of the task.
     pub(crate) fn new(alloc: Global, task: &'t Task) -> Result<Statics<'t>, NoMemory>
         ensures { IfOk result (λ s. s.task.now ≡ task.now) }
     {
@@ -58,14 +57,14 @@ impl<'t> Statics<'t> {
         self.fluents.contains(predicate)
     }
 
-    /// Whether the atom is true at the start.
+    /// Whether the atom is initially true.
     pub(crate) fn is_initial(&self, atom: &Atom) -> bool
         ensures { result ≡ contains (initial_state (task_of self.now.task.now)) (atom_of atom.now) }
     {
         self.initial.contains(atom)
     }
 
-    /// Whether the atom is of a static predicate, and is true at the start.
+    /// Whether the atom is of a static predicate and initially true.
     pub(crate) fn is_initial_static(&self, atom: &Atom) -> bool
         ensures { result ≡ (not (model_fluents.is_fluent (task_of self.now.task.now) (atom_of atom.now).predicate) && contains (initial_state (task_of self.now.task.now)) (atom_of atom.now)) }
     {
@@ -75,7 +74,7 @@ impl<'t> Statics<'t> {
         !self.is_fluent(atom.predicate)
     }
 
-    /// Whether the instance's precondition is not statically false, and what it increases the total cost by has a value.
+    /// Whether the instance's precondition is not statically false, and its cost increase has a value.
     pub(crate) fn is_kept(&self, instance: &Instance) -> bool
         requires { IsTrue (is_instance (task_of self.now.task.now) (instance_of instance.now)) }
         ensures { result ≡ statically_false.is_kept (task_of self.now.task.now) (instance_of instance.now) }
@@ -117,9 +116,8 @@ impl<'t> Statics<'t> {
         false
     }
 
-    /// Whether the formula is statically false, where the variables in scope have these objects: one of its sure literals is
-    /// static, or of an equality, and is false at the start. The formula is well-typed for variables of some types that
-    /// the objects are of. No memory is taken.
+    /// Whether the formula is statically false under this binding: one of its sure literals is static or an equality, and
+    /// initially false. The formula is well-typed for variables of some types that the objects are of. Nothing is allocated.
     #[cycle(statically_false)]
     pub(crate) fn is_statically_false(&self, formula: &Formula, binding: &Binding) -> bool
         requires { FitsFormula (task_of self.now.task.now) (formula_of formula.now) (map object_of binding.now.items) }
@@ -142,7 +140,7 @@ impl<'t> Statics<'t> {
         }
     }
 
-    /// Whether the `not` of the formula is statically false.
+    /// Whether the negation of the formula is statically false.
     fn not_is_statically_false(&self, part: &Formula, binding: &Binding) -> bool
         requires { FitsFormula (task_of self.now.task.now) (formula_of part.now) (map object_of binding.now.items) }
         ensures { result ≡ statically_false.is_statically_false (task_of self.now.task.now) (model_task.not (formula_of part.now)) (map object_of binding.now.items) }
@@ -173,7 +171,7 @@ impl<'t> Statics<'t> {
         false
     }
 
-    /// Whether the formula is statically false for one of the objects of these types, as that of the next variable.
+    /// Whether the formula is statically false for one of the objects of these types as the next variable.
     #[cycle(statically_false)]
     fn is_statically_false_for_some(
         &self,

@@ -1,4 +1,4 @@
--- The order of atoms is total and reports all atoms apart, so two states with the same atoms are equal.
+-- The order of atoms is total and distinguishes all atoms, so two states with the same atoms are equal.
 use Rattle.std.specs.Prelude.{◌≡◌, ℕ, Bool, true, false, not, ◌&&◌, ◌||◌, List, [], ◌∷◌, ◌++◌, refl}
 use Rattle.std.proofs.Common.{sym, ◌∙◌, ap}
 use Rattle.std.specs.Cmp.{IsTotalOrder, on_total}
@@ -28,7 +28,7 @@ atoms_apart a b e =
 pub same_state : (s t : State) → ((a : Atom) → contains s a ≡ contains t a) → s ≡ t
 same_state s t same = same_set atoms_total atoms_apart s t same
 
--- ---- sets of lists, and what one list after another adds to a state or takes from it
+-- ---- sets of lists, and what further lists add to a state or remove from it
 
 cond_nothing : (b : Bool) → (b && not false) ≡ b
 cond_nothing true = refl

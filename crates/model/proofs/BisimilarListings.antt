@@ -1,5 +1,5 @@
--- A closed listing of one of two systems that do the same, each state in place of which has one of the other, is a closed
--- listing of the other; and a bisimulation equivalence of the other is one of the first.
+-- A closed listing of one of two bisimilar systems, with each state replaced by a corresponding one, is a closed listing of the
+-- other; and a bisimulation equivalence of the other is one of the first.
 use Rattle.std.proofs.Common.{◌≡◌, ◌∙◌, ℕ, ◌+◌, ◌≤◌, List, map, Bool, refl, sym, ap, subst, arith}
 use Rattle.std.specs.Prelude.{true, IsTrue}
 use Rattle.model.specs.Runs.{System, IsReachable}
@@ -36,7 +36,7 @@ module _ {S A T B : Type 0} (t : System S A) (u : System T B) (view : S → T) (
     listed : (lines : List (Line S)) (s : S) (s' : T) (cost : ℕ) → view s ≡ s' → IsListedWithin alike lines s cost → IsListedWithin alike' (map line_of lines) s' cost
     listed lines s s' cost now (line, among, is, within) = (line_of line, Contains-map line_of lines line among, subst (alike' (view line.state)) now (seen line.state s is), within)
 
-    -- where the values of the other are no lower, and what is reported as a dead end is reported so there too
+    -- if the values of the other are no lower, and every state reported as a dead end is also reported there
     pub closed_forth : (value : S → ℕ) (value' : T → ℕ) → ((s : S) → value s ≤ value' (view s))
         → (is_dead : S → Bool) (is_dead' : T → Bool) → ((s : S) → IsTrue (is_dead s) → IsTrue (is_dead' (view s)))
         → (claim : Claim) (lines : List (Line S)) → IsClosed t alike value is_dead claim lines → IsClosed u alike' value' is_dead' claim (map line_of lines)
@@ -69,14 +69,14 @@ module _ {S A T B : Type 0} (t : System S A) (u : System T B) (view : S → T) (
           subst (λ (s' : T). IsTrue (is_dead' s')) (ap (λ (l : Line T). l.state) from.2) (deaths line.state there);
     }
 
-  -- values that are no more than what is still to pay in the other system are so in the one
+  -- lower bounds of the remaining cost in the other system are lower bounds in the first
   pub lower_bound_back : (value : S → ℕ) (value' : T → ℕ) → ((s : S) → value s ≤ value' (view s)) → IsLowerBound u value' → IsLowerBound t value
   lower_bound_back value value' values lower s end plan reached runs goal =
       let there = reachable_forth t u (λ s s'. view s ≡ s') names both s reached in
       let other = run_forth t u (λ s s'. view s ≡ s') names both plan s (view s) end refl runs in
       omega (arith, values s, lower (view s) other.1 other.0 (subst (IsReachable u) (sym there.1) there.2) other.3 (sym (both.goals end other.1 other.4) ∙ goal), same_cost t u (λ s s'. view s ≡ s') names both plan other.0 other.2)
 
-  -- what is reported as a dead end in the other system, and is one there, is one here
+  -- true dead-end reports in the other system are true in the first
   pub dead_ends_back : (is_dead : S → Bool) (is_dead' : T → Bool) → ((s : S) → IsTrue (is_dead s) → IsTrue (is_dead' (view s))) → AreDeadEnds u is_dead' → AreDeadEnds t is_dead
   dead_ends_back is_dead is_dead' deaths dead_ends s end plan reached reported runs =
       let there = reachable_forth t u (λ s s'. view s ≡ s') names both s reached in

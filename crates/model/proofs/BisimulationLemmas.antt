@@ -1,4 +1,4 @@
--- What solves one of two systems that do the same solves the other, at the same cost.
+-- What solves one of two bisimilar systems solves the other, at the same cost.
 use Rattle.std.proofs.Common.{◌≡◌, ◌∙◌, ℕ, ◌≤◌, List, [], ◌∷◌, None, Some, refl, sym, ap, subst, arith}
 use Rattle.std.proofs.lemmas.List.Sums.{sum_by-cons}
 use Rattle.std.specs.List.{AllZip}
@@ -18,7 +18,7 @@ first_step {S} {A} t s end a plan runs =
 then_run : {S A : Type 0} (t : System S A) (s next end : S) (a : A) (plan : List A) → t.step s a ≡ Some next → run t next plan ≡ Some end → run t s (a ∷ plan) ≡ Some end
 then_run t s next end a plan leads on = ap (option_and_then (λ n. run t n plan)) leads ∙ on
 
--- the same the other way round
+-- the converse
 abbrev flip : {X Y : Type 0} → (X → Y → Type 0) → Y → X → Type 0
 flip relation y x = relation x y
 
@@ -86,7 +86,7 @@ module _ {S A T B : Type 0} (t : System S A) (u : System T B) (same : S → T �
   pub unsolvable_forth : IsUnsolvable t → IsUnsolvable u
   unsolvable_forth never plan' solves = let other = solves_back plan' solves in never other.0 other.2
 
--- what is optimal, at least so dear, or unsolvable, is so on both sides
+-- optimality, lower bounds and unsolvability hold on both sides
 pub solve_alike : {S A T B : Type 0} (t : System S A) (u : System T B) (same : S → T → Type 0) (names : A → B → Type 0) → IsBisimulation t u same names → SolveAlike t u names
 solve_alike t u same names both = record {
   optimal = optimal_forth t u same names both;

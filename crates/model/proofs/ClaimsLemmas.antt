@@ -15,7 +15,7 @@ Allows-≤ : (claim : Claim) (m n : ℕ) → Allows claim m → m ≤ n → Allo
 Allows-≤ (bound least) m n allowed le = omega arith
 Allows-≤ none m n allowed le = allowed
 
--- ---- an action more
+-- ---- one more action
 
 run_on : {S A : Type 0} (t : System S A) (plan : List A) (s before next : S) (a : A) → run t s plan ≡ Some before → t.step before a ≡ Some next
     → run t s (plan ++ a ∷ []) ≡ Some next
@@ -96,7 +96,7 @@ module _ {S A : Type 0} (t : System S A) (alike : S → S → Type 0) (within : 
       let same : end ≡ line.state = cc in
       Allows-≤ claim line.cost (line.cost + cost_of_all t []) (closed.open_goals_allowed line listed is_open (subst (λ (s : S). IsTrue (t.meets_goal s)) same goal)) (omega arith)
 
-  -- a list that runs from a listed state to a goal state costs what the claim allows, from that line's cost on
+  -- a list that leads from a listed state to a goal state has a cost that the claim allows, counted from the line's cost
   from_line : (n : ℕ) (plan : List A) (line : Line S) (end : S) → length plan ≡ n → Contains lines line → run t line.state plan ≡ Some end → IsTrue (t.meets_goal end)
       → Allows claim (line.cost + cost_of_all t plan)
   from_line n [] line end long listed runs goal =

@@ -1,5 +1,5 @@
--- Finding the kept instances, part by part: what is found, with what the parts that are left give, is the whole. A part is
--- a schema, or one of the objects that the next parameter may be.
+-- Finding the kept instances, part by part: what has been found, together with what the remaining parts give, is the whole. A
+-- part is a schema, or one of the objects of the next parameter.
 use Rattle.std.proofs.Common.{◌≡◌, ◌∙◌, ℕ, zero, suc, ◌+◌, ◌<◌, ◌≤◌, Bool, true, false, not, ◌&&◌, ◌||◌, inl, inr, List, [], ◌∷◌, ◌++◌, map, length, drop, None, Some, refl, sym, ap, arith, append-nil, append_assoc}
 use Rattle.std.specs.Prelude.{slice_get, slice_index, nat_lt, filter, cond}
 use Rattle.std.specs.List.{list_all, list_any, flat_map}
@@ -19,14 +19,14 @@ use Rattle.model.proofs.ListLemmas.{drop-here, drop-absent}
 -- ---- one part after another
 
 module _ {X : Type 0} (keep : X → Bool) (now left here later whole : List X) (split : left ≡ here ++ later) (all : now ++ filter keep left ≡ whole) where
-  -- the next part was searched
+  -- the next part has been searched
   pub found-more : (now ++ filter keep here) ++ filter keep later ≡ whole
   found-more =
       append_assoc now (filter keep here) (filter keep later)
       ∙ ap (λ l. now ++ l) (sym (filter-append keep here later) ∙ ap (filter keep) (sym split))
       ∙ all
 
-  -- where too many are found in it, there are too many
+  -- if it gives too many, the whole has too many
   pub found-too_many : (max : ℕ) → max < length (now ++ filter keep here) → max < length whole
   found-too_many max many = omega (arith, many, length-append (now ++ filter keep here) (filter keep later), ap length found-more)
 
@@ -34,7 +34,7 @@ module _ {X : Type 0} (keep : X → Bool) (now left here later whole : List X) (
 pub found-all : {X : Type 0} (keep : X → Bool) (now left whole : List X) → left ≡ [] → now ++ filter keep left ≡ whole → now ≡ whole
 found-all keep now left whole none all = sym (append-nil now) ∙ ap (λ l. now ++ filter keep l) (sym none) ∙ all
 
--- what the items from one on give
+-- what the elements from one on give
 pub flat_map-here : {X Y : Type 0} (f : Y → List X) (items : List Y) (i : ℕ) (y : Y) → slice_get items i ≡ Some y → flat_map f (drop i items) ≡ f y ++ flat_map f (drop (i + 1) items)
 flat_map-here f items i y at = ap (flat_map f) (drop-here items i y at)
 
@@ -58,15 +58,15 @@ instances-end task number none = ap (instances_from task number) (drop-absent ta
 abbrev instance_with : ℕ → List ℕ → List ℕ → Instance
 instance_with schema objects rest = record { schema = schema; objects = objects ++ rest }
 
--- the instances of the schema of this number that have these objects first, and then one of each of these lists
+-- the instances of the schema with this number that begin with these objects and continue with one of each of these lists
 abbrev pub begun : ℕ → List ℕ → List (List ℕ) → List Instance
 begun schema objects left = map (instance_with schema objects) (product left)
 
--- with no object it is all instances of the schema
+-- with no object these are all instances of the schema
 pub begun-of_schema : (task : Task) (number : ℕ) (s : Schema) → begun number [] (map (objects_of task) s.parameters) ≡ instances_of_schema task number s
 begun-of_schema task number s = refl
 
--- where no object is left to be chosen there is one instance
+-- if no object is left to choose there is one instance
 pub begun-one : (schema : ℕ) (objects : List ℕ) → begun schema objects [] ≡ record { schema = schema; objects = objects } ∷ []
 begun-one schema objects = ap (λ os. record { schema = schema; objects = os } ∷ []) (append-nil objects)
 
@@ -75,16 +75,16 @@ begun-with schema objects first [] = refl
 begun-with schema objects first (rest ∷ rests) =
     λ i. record { schema = schema; objects = sym (append_assoc objects (first ∷ []) rest) i } ∷ begun-with schema objects first rests i
 
--- else one part for each object that the next parameter may be
+-- otherwise there is one part for each object of the next parameter
 pub begun-next : (schema : ℕ) (objects firsts : List ℕ) (left : List (List ℕ)) → begun schema objects (firsts ∷ left) ≡ flat_map (λ first. begun schema (objects ++ first ∷ []) left) firsts
 begun-next schema objects [] left = refl
 begun-next schema objects (first ∷ firsts) left =
     map-append (instance_with schema objects) (map (λ rest. first ∷ rest) (product left)) (flat_map (λ one. map (λ rest. one ∷ rest) (product left)) firsts)
     ∙ (λ i. begun-with schema objects first (product left) i ++ begun-next schema objects firsts left i)
 
--- ---- what the first objects make statically false already
+-- ---- what the first objects already make statically false
 
--- none is kept of the instances that begin so, where no more objects can change that
+-- none of the instances that begin like this is kept, since further objects cannot change that
 pub begun-none : (task : Task) (schema : ℕ) (objects : List ℕ) (left : List (List ℕ)) → ((rest : List ℕ) → is_kept task (record { schema = schema; objects = objects ++ rest }) ≡ false)
     → filter (is_kept task) (begun schema objects left) ≡ []
 begun-none task schema objects left never = each (product left)
@@ -95,7 +95,7 @@ begun-none task schema objects left never = each (product left)
         ap (λ b. cond b (instance_with schema objects rest ∷ filter (is_kept task) (map (instance_with schema objects) rests)) (filter (is_kept task) (map (instance_with schema objects) rests))) (never rest)
         ∙ each rests
 
--- the term is an object, or one of so many first variables
+-- the term is an object, or one of the first `n` variables
 abbrev pub is_bound : ℕ → Term → Bool
 is_bound count (variable number) = nat_lt number count
 is_bound count (object number) = true
@@ -105,7 +105,7 @@ index-append [] ys i below = absurd (omega arith)
 index-append (x ∷ xs) ys zero below = refl
 index-append (x ∷ xs) ys (suc i) below = index-append xs ys i (omega arith)
 
--- such a term names what it names with more objects
+-- such a term denotes the same object when more objects follow
 pub object_of-more : (objects rest : List ℕ) (t : Term) → is_bound (length objects) t ≡ true → object_of (objects ++ rest) t ≡ object_of objects t
 object_of-more objects rest (variable number) bound = index-append objects rest number (ltb-true number (length objects) bound)
 object_of-more objects rest (object number) bound = refl
@@ -119,13 +119,13 @@ objects_of-more objects rest (t ∷ terms) bound =
 pub ground_atom-more : (objects rest : List ℕ) (a : LiftedAtom) → list_all (is_bound (length objects)) a.terms ≡ true → ground_atom (objects ++ rest) a ≡ ground_atom objects a
 ground_atom-more objects rest a bound = ap (λ os. record { predicate = a.predicate; objects = os }) (objects_of-more objects rest a.terms bound)
 
--- all variables of an atom, or of an equality, have their objects
+-- all variables of an atom, or of an equality, are bound
 abbrev pub are_bound : ℕ → Formula → Bool
 are_bound count (atom a) = list_all (is_bound count) a.terms
 are_bound count (equal t u) = is_bound count t && is_bound count u
 are_bound count _ = false
 
--- A sure literal all of whose variables have objects, and which is under no `forall`, makes the formula statically false.
+-- A sure literal outside any `forall`, all of whose variables are bound, makes the formula statically false.
 abbrev mutual
   pub closed_within : Task → Formula → List ℕ → Bool
   closed_within task (atom a) objects = are_bound (length objects) (atom a) && is_statically_false task (atom a) objects
@@ -138,7 +138,7 @@ abbrev mutual
   some_closed_within task no_formula objects = false
   some_closed_within task (more_formulas first rest) objects = closed_within task first objects || some_closed_within task rest objects
 
--- some of these are fixed and false at the start
+-- some of these are fixed and initially false
 abbrev pub some_closes : Task → List Literal → Bool
 some_closes task literals = list_any (λ l. is_fixed task l && not (literal_holds (initial_state task) l)) literals
 
@@ -181,7 +181,7 @@ mutual
         | inr later ↦ or_right (is_statically_false task first (objects ++ rest)) (some_closes task (all_sure task others (objects ++ rest))) (some_closed-later task others objects rest later)
       ]
 
--- the first objects make the precondition statically false of the schema of this number
+-- the first objects make the precondition of the schema with this number statically false
 abbrev pub is_pruned : Task → ℕ → List ℕ → Bool
 is_pruned task schema objects = option_map_or (λ (s : Schema). closed_within task s.precondition objects) (slice_get task.schemas schema) false
 

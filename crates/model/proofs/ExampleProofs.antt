@@ -10,7 +10,7 @@ use Rattle.model.specs.Examples.{formulas, go, go_task, tie, tie_task, move, wal
 use Rattle.model.proofs.Atoms.{atoms_total}
 use Rattle.model.proofs.Steps.{holds_where, state_after, true_after, contains-state_after, holds-after, is_in, leads, leads_nowhere}
 
--- a run of one step, and of two
+-- runs of one step, and of two
 module _ {S A : Type 0} (t : System S A) where
   one : (s next : S) (a : A) → t.step s a ≡ Some next → run t s (a ∷ []) ≡ Some next
   one s next a e = ap (option_and_then (λ n. Some n)) e
@@ -18,7 +18,7 @@ module _ {S A : Type 0} (t : System S A) where
   two : (s next last : S) (a b : A) → t.step s a ≡ Some next → t.step next b ≡ Some last → run t s (a ∷ b ∷ []) ≡ Some last
   two s next last a b e f = ap (option_and_then (λ n. run t n (b ∷ []))) e ∙ one next last b f
 
--- how many atoms a list has, a repeated one counted once
+-- the number of atoms in a list, without repetitions
 abbrev count : List Atom → ℕ
 count [] = 0
 count (a ∷ atoms) = cond (is_in a atoms) (count atoms) (count atoms + 1)
@@ -69,7 +69,7 @@ moves_b_to_c place =
     leads (walk_to place) (state_after (walk_to 0) start at_b) b_to_c move refl refl
     (λ i. contains-state_after (walk_to 0) start at_b (ground 0 (1 ∷ [])) i && (contains-state_after (walk_to 0) start at_b (ground 1 (1 ∷ 2 ∷ [])) i && true))
 
--- not at b at the start, and not at a once at b
+-- not at b initially, and not at a once at b
 stays_at_a : (place : ℕ) → step (walk_to place) (state_after (walk_to 0) start []) b_to_c ≡ None
 stays_at_a place =
     leads_nowhere (walk_to place) (state_after (walk_to 0) start []) b_to_c move refl refl
@@ -82,11 +82,11 @@ stays_at_b place =
 
 -- ---- effects
 
--- what the action of a task changes, with these objects
+-- the changes of a task's action with these objects
 abbrev changes_by : Task → Effect → List ℕ → List (List Change)
 changes_by t effect objects = changes_of t effect objects ∷ []
 
--- where this computes, the action leads to the goal
+-- if this computes, the action leads to the goal
 does : {parameters : List Union} {objects : List ℕ} {before : List LiftedAtom} {effect : Effect} {goals : List Formula}
     → fits (doing parameters effect before goals) (doer parameters effect) objects ≡ true
     → holds_where (doing parameters effect before goals) (true_after (doing parameters effect before goals) (map (ground_atom []) before) (changes_by (doing parameters effect before goals) effect objects)) (and (formulas goals)) [] ≡ true
@@ -114,7 +114,7 @@ once_of has_metric = changes_of (priced has_metric) go.effect [] ∷ []
 abbrev twice_of : Bool → List (List Change)
 twice_of has_metric = changes_of (priced has_metric) go.effect [] ∷ once_of has_metric
 
--- either action of the task with costs leads on
+-- each of the actions of the task with costs is applicable
 goes : (has_metric : Bool) (s : State) → step (priced has_metric) s (instance 0 []) ≡ Some (after_changes (priced has_metric) s (changes_of (priced has_metric) go.effect []))
 goes has_metric s = leads (priced has_metric) s (instance 0 []) (record go { increase = by_number 3 }) refl refl refl
 
@@ -154,7 +154,7 @@ goes_to_c has_metric =
     leads (by_length has_metric) (along has_metric (go_to_b has_metric)) b_to_c go_along refl refl
     (contains-state_after (by_length has_metric) (by_length has_metric).init (go_to_b has_metric) (ground 0 (1 ∷ [])))
 
--- the one way to the goal
+-- the only way to the goal
 solves_along : (has_metric : Bool) → Solves (system_of (by_length has_metric)) (a_to_b ∷ b_to_c ∷ [])
 solves_along has_metric = (
   along has_metric (go_to_c has_metric),

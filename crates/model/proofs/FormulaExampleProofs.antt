@@ -1,4 +1,4 @@
--- What the definitions say of the worked examples of formulas: each computes.
+-- The worked examples of formulas: each computes.
 use Rattle.std.proofs.Common.{refl}
 use Rattle.model.specs.FormulaExamples.{AreJudged}
 

@@ -1,4 +1,4 @@
--- A file begins with the words that the machine goes through: from each nonterminal some words are derived.
+-- The words that the machine has taken are a prefix of a file: from each nonterminal some words can be derived.
 use Rattle.std.proofs.Common.{◌≡◌, ℕ, Bool, true, false, cond, ◌&&◌, ◌||◌, List, [], ◌∷◌, ◌++◌, fold, None, Some, refl, sym, ◌∙◌, ap, subst}
 use Rattle.std.proofs.lemmas.List.{append_assoc, append-nil}
 use Rattle.model.specs.Trees.{TaskFile, domain_file, problem_file, Name, no_name, formulas, effects}
@@ -48,7 +48,7 @@ same_section words.goal words.goal e = refl
 same_section words.metric words.metric e = refl
 same_section j k e = absurd (cc)
 
--- what was seen with one more
+-- the sections that have occurred, and one more
 seen_before : (seen : List SectionKeyword) (j k : SectionKeyword) → has_section seen k ≡ true → has_section (seen ++ j ∷ []) k ≡ true
 seen_before [] j k e = absurd (cc)
 seen_before (i ∷ seen) j k e = by_first (is_section k i) (seen_before seen j k) e
@@ -65,7 +65,7 @@ seen_now (i ∷ seen) k = by_first (is_section k i) (seen_now seen k)
     by_first true e = refl
     by_first false e = e
 
--- a section that was not seen is left
+-- a section that has not occurred remains
 pub is_left : (k : SectionKeyword) (all seen : List SectionKeyword) → has_section all k ≡ true → has_section seen k ≡ false → has_section (left_of all seen) k ≡ true
 is_left k [] seen e n = absurd (cc)
 is_left k (j ∷ all) seen e n = by_first (is_section k j) refl (has_section seen j) refl (is_left k all seen) e
@@ -76,11 +76,11 @@ is_left k (j ∷ all) seen e n = by_first (is_section k j) refl (has_section see
     by_first false is true was rest e = rest e n
     by_first false is false was rest e = ap (λ b. b || has_section (left_of all seen) k) is ∙ rest e n
 
--- the words of a section after its keyword, whichever others might occur in its place
+-- the words of a section after its keyword, independent of the other sections that may occur
 abbrev IsRest : TaskFile → SectionKeyword → List Token → Section → Type 0
 IsRest f k u x = (j : SectionKeyword) (others : List SectionKeyword) (r : List Token) → Follows (section f j others) (section_after k) (u ++ r) x r
 
--- one section more
+-- one more section
 one_more : (f : TaskFile) (seen : List SectionKeyword) (k : SectionKeyword) (u : List Token) (x : Section) → keyword_in x ≡ k → has_section (sections_of f) k ≡ true → has_section seen k ≡ false → IsRest f k u x → Shortest (sections f (seen_with seen k)) → Shortest (sections f seen)
 one_more f seen k u x is here new rest (short w xs d) = short (opens ∷ keyword (of_section k) ∷ u ++ w) (x ∷ xs) (λ r. by_left r (left_of (sections_of f) seen) refl (is_left k (sections_of f) seen here new))
   where
@@ -222,7 +222,7 @@ shortest Grammar.kind_list = short (opens ∷ []) tt (λ r. by refl nothing)
 shortest (Grammar.kind_word domain_file) = short (free words.domain no_name ∷ []) tt (λ r. by refl nothing)
 shortest (Grammar.kind_word problem_file) = short (free words.problem no_name ∷ []) tt (λ r. by refl nothing)
 
--- ---- what has to follow can follow
+-- ---- what must follow can be completed
 
 data Completed (s : Sort) (p : Phrase (Value s)) : Type 0 where
   complete : (w : List Token) (x : Value s) → ((r : List Token) → Follows s p (w ++ r) x r) → Completed s p
@@ -237,11 +237,11 @@ completed s (u >>= k) = by_first (shortest u) (λ y. completed s (k y))
         by_rest : Completed s (k y) → Completed s (u >>= k)
         by_rest (complete v x f) = complete (w ++ v) x (λ r. subst (λ z. Follows s (u >>= k) z x r) (sym (append_assoc w v r)) (next (d (v ++ r)) (f r)))
 
--- a file that begins with more words begins with fewer
+-- a prefix of a prefix of a file is a prefix of a file
 pub fewer : (f : TaskFile) (b u : List Token) → Begins f (b ++ u) → Begins f b
 fewer f b u h = (u ++ h.0, subst (IsWhole f) (append_assoc b u h.0) h.1)
 
--- a file begins with the words that lead to what has to follow
+-- the words that lead to what must follow are a prefix of a file
 pub begins : (f : TaskFile) (b : List Token) (q : Phrase Tree) → after_all b (start f) ≡ Some q → Begins f b
 begins f b q e = by_end (completed (file f) q)
   where
@@ -250,7 +250,7 @@ begins f b q e = by_end (completed (file f) q)
         let ends : run w q ≡ finished x = ap (λ v. run v q) (sym (append-nil w)) ∙ phrase_run (d []) in
         (w, (x, run_file f (b ++ w) x (leads b (start f) q w e ∙ ends)))
 
--- no file goes on with a word that may not follow
+-- no file continues with a word that may not follow
 pub dead : (f : TaskFile) (b : List Token) (q : Phrase Tree) (t : Token) → after_all b (start f) ≡ Some q → step q t ≡ None → Begins f (b ++ t ∷ []) → ⊥
 dead f b q t e stops h =
     let words : run (b ++ t ∷ h.0) (start f) ≡ finished h.1.0 = ap (λ v. run v (start f)) (sym (append_assoc b (t ∷ []) h.0)) ∙ file_run h.1.1 in

@@ -1,4 +1,4 @@
--- What the definitions say of the worked examples: each computes.
+-- The worked examples of the grammar: each computes.
 use Rattle.std.proofs.Common.{[], ◌∷◌, refl}
 use Rattle.std.specs.Prelude.{codes}
 use Rattle.model.specs.GrammarWords.{tokens_of}

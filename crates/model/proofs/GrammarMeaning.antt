@@ -1,4 +1,4 @@
--- The machine and the grammar: it finishes on exactly the words that derive, with their tree.
+-- The machine and the grammar agree: the machine finishes exactly on the words that can be derived, with their tree.
 use Rattle.std.proofs.Common.{◌≡◌, ℕ, List, [], ◌∷◌, Option, None, Some, refl, ◌∙◌, ap, subst}
 use Rattle.std.specs.Option.{option_map}
 use Rattle.model.specs.Trees.{TaskFile, Domain, Problem}
@@ -7,7 +7,7 @@ use Rattle.model.specs.Grammar.{Sort, Value, Phrase, gives, ◌>>=◌, and_then,
 use Rattle.model.specs.GrammarMachine.{finished, stopped, go_on, run}
 use Rattle.model.specs.Refusals.{number_after, start}
 
--- what a sort derives runs the machine from what is wanted to what follows of its tree
+-- words derived from a nonterminal take the machine from the nonterminal to what follows its tree
 mutual
   pub derived : {T : Type 0} {s : Sort} {w r : List Token} {x : Value s} → Derives s w x r → (k : Value s → Phrase T) → run w (s >>= k) ≡ run r (k x)
   derived {T} {s} {r = r} {x} (by {t = t} {w = w} {p = p} e d) k =
@@ -17,11 +17,11 @@ mutual
   followed nothing k = refl
   followed (next {k = h} d f) k = derived d (λ y. and_then (h y) k) ∙ followed f k
 
--- the other way, by the words
+-- the converse, by the words
 unfinished : {T : Type 0} {code : ℕ} {w : List Token} {x : T} → stopped code w ≡ finished x → ⊥
 unfinished e = cc
 
--- what follows two phrases in turn follows the first, and then the second
+-- what follows two phrases in sequence follows the first, and then the second
 data Parted (s u : Sort) (p : Phrase (Value u)) (k : Value u → Phrase (Value s)) (w r : List Token) (x : Value s) : Type 0 where
   parts_of : (y : Value u) (v : List Token) → Follows u p w y v → Follows s (k y) v x r → Parted s u p k w r x
 
@@ -51,7 +51,7 @@ sound f (t ∷ w) (s >>= k) x e = by_after (after s t) refl (λ q. sound f w q x
         by_parts : Parted (file f) s p k w [] x → Follows (file f) (s >>= k) (t ∷ w) x []
         by_parts (parts_of y v g h) = next (by is g) h
 
--- the words of a file are those that the machine finishes on
+-- the words of a file are those on which the machine finishes
 pub file_run : {f : TaskFile} {w : List Token} {x : Tree} → IsFile f w x → run w (start f) ≡ finished x
 file_run d = derived d gives
 

@@ -1,5 +1,5 @@
--- The names that are in a file's tree are names among its words: where each name among the words passes a test, so do
--- those of the tree's predicates, actions, constants and objects.
+-- The names in a file's tree are names among its words: if each name among the words passes a test, so do those of the tree's
+-- predicates, actions, constants and objects.
 use Rattle.std.proofs.Common.{◌≡◌, Bool, true, false, ◌&&◌, cond, List, [], ◌∷◌, fold, Option, None, Some, refl, ◌∙◌, ap, subst}
 use Rattle.std.specs.Prelude.{⊤}
 use Rattle.std.specs.List.{list_all}
@@ -12,7 +12,7 @@ use Rattle.model.specs.GrammarWords as words
 use Rattle.model.specs.Grammar.{Sort, Value, Phrase, gives, ◌>>=◌, Section, requirements, types, constants, predicates, functions, action, domain, objects, init, goal, metric, Part, parameters, precondition, effect, with_part, bare_action, Contents, no_contents, with_section, Tree, domain_tree, problem_tree, tree_from, listed, many, declaration, names, with_name, action_name, typed, group, section, sections, file, group_after, section_after, section_of, name_in, has_section, has_all, required_of, left_of, sections_of, after, Derives, by, Follows, nothing, next, IsDomain, IsProblem}
 
 module _ (passes : Name → Bool) where
-  -- a word that is no name, or a name that passes
+  -- the word is not a name, or it is a name that passes
   abbrev pub word_passes : Token → Bool
   word_passes t = option_map_or passes (name_in t) true
 
@@ -53,7 +53,7 @@ module _ (passes : Name → Bool) where
   TreePasses (domain_tree d) = DomainPasses d
   TreePasses (problem_tree p) = ProblemPasses p
 
-  -- the same of what is read where this is wanted
+  -- the same for what is read from each nonterminal
   abbrev AllPass : (s : Sort) → Value s → Type 0
   AllPass action_name n = passes n ≡ true
   AllPass declaration q = passes q.name ≡ true
@@ -66,7 +66,7 @@ module _ (passes : Name → Bool) where
   AllPass (file f) t = TreePasses t
   AllPass _ _ = ⊤
 
-  -- if the names of each thing that has to follow pass, then those of the tree do
+  -- if the names in everything that must follow pass, then those in the tree do
   abbrev Keeps : (s : Sort) → Phrase (Value s) → Type 0
   Keeps s (gives x) = AllPass s x
   Keeps s (u >>= k) = (y : Value u) → AllPass u y → Keeps s (k y)
@@ -77,7 +77,7 @@ module _ (passes : Name → Bool) where
 
   -- ---- the productions
 
-  -- where no name is looked at
+  -- if no name is involved
   any_keeps : (s : Sort) → ((x : Value s) → AllPass s x) → (p : Phrase (Value s)) → Keeps s p
   any_keeps s each (gives x) = each x
   any_keeps s each (u >>= k) = λ y _. any_keeps s each (k y)
@@ -86,12 +86,12 @@ module _ (passes : Name → Bool) where
   any_keeps_after s each None = tt
   any_keeps_after s each (Some p) = any_keeps s each p
 
-  -- one more name of a group
+  -- one more name in a group
   with_name_passes : (n : Name) (groups : List Group) → passes n ≡ true → GroupsPass groups → GroupsPass (with_name n groups)
   with_name_passes n [] here later = λ i. here i && true
   with_name_passes n (g ∷ groups) here later = λ i. here i && later i
 
-  -- what follows a name of a typed list, one within a group, and an action's name
+  -- what follows a name in a typed list, one within a group, and an action's name
   typed_keeps : (o : Option Name) → option_map_or passes o true ≡ true → KeepsAfter (typed names) (option_map (group_after names) o)
   typed_keeps None h = tt
   typed_keeps (Some n) h = λ gs later. with_name_passes n gs h later
@@ -104,7 +104,7 @@ module _ (passes : Name → Bool) where
   action_name_keeps None h = tt
   action_name_keeps (Some n) h = h
 
-  -- an action's parts leave its name
+  -- the parts of an action do not change its name
   name_with : (a : Action) (p : Part) → (with_part a p).name ≡ a.name
   name_with a (parameters gs) = refl
   name_with a (precondition f) = refl
@@ -140,7 +140,7 @@ module _ (passes : Name → Bool) where
   sections_keep f seen [] = tt
   sections_keep f seen (k ∷ others) = λ x here xs later. (here, later)
 
-  -- what is in a file with one section more, and with all
+  -- the contents of a file with one more section, and with all
   with_section_passes : (c : Contents) (x : Section) → ContentsPass c → SectionPasses x → ContentsPass (with_section c x)
   with_section_passes c requirements pass here = pass
   with_section_passes c (types gs) pass here = pass
@@ -167,7 +167,7 @@ module _ (passes : Name → Bool) where
   tree_passes domain_file n c pass = (pass.0, pass.1, pass.3)
   tree_passes problem_file n c pass = pass.2
 
-  -- where s is wanted and a word comes that passes
+  -- what must follow a word that passes
   after_keeps : (s : Sort) (t : Token) → word_passes t ≡ true → KeepsAfter s (after s t)
   after_keeps action_name t h = action_name_keeps (name_in t) h
   after_keeps declaration (free f n) h = λ gs _. h
@@ -191,7 +191,7 @@ module _ (passes : Name → Bool) where
   after_keeps (file f) t h = tt
   after_keeps s t h = any_keeps_after s (λ x. tt) (after s t)
 
-  -- ---- what is derived
+  -- ---- derived words
 
   mutual
     derived_passes : {s : Sort} {w r : List Token} {x : Value s} → Derives s w x r → list_all word_passes w ≡ true → AllPass s x × (list_all word_passes r ≡ true)

@@ -1,5 +1,4 @@
--- At most one fault is reported for words, and none of a file: the first word with which no file goes on is one, and one
--- number is reported for it.
+-- At most one fault is reported for words, and none for a file: the first unexpected word is unique, and so is its number.
 use Rattle.std.proofs.Common.{◌≡◌, ℕ, List, [], ◌∷◌, ◌++◌, sym, ◌∙◌, ap, subst}
 use Rattle.std.proofs.lemmas.List.{map-append, append_assoc, append-nil}
 use Rattle.model.specs.Fault.{Fault}
@@ -10,14 +9,14 @@ use Rattle.model.specs.Refusals.{IsWhole, Begins, IsReportedOf, IsRefused, at_wo
 use Rattle.model.proofs.GrammarBegins.{fewer}
 use Rattle.model.proofs.Places.{Places, at_one, comes_before, comes_after, places}
 
--- words with which a file begins have no word before their end with which none goes on
+-- a prefix of a file has no unexpected word
 goes_on : (file : TaskFile) (all before after : List Word) (word : Word) → all ≡ before ++ word ∷ after → Begins file (tokens_of all) → Begins file (tokens_of before ++ token_of word ∷ [])
 goes_on file all before after word split begins =
     let tokens : tokens_of all ≡ (tokens_of before ++ token_of word ∷ []) ++ tokens_of after =
     ap tokens_of split ∙ map-append token_of before (word ∷ after) ∙ sym (append_assoc (tokens_of before) (token_of word ∷ []) (tokens_of after)) in
     fewer file (tokens_of before ++ token_of word ∷ []) (tokens_of after) (subst (Begins file) tokens begins)
 
--- one number is reported for a word where these come before it
+-- the number reported for a word after these words is unique
 one_number : (file : TaskFile) (b : List Token) (t : Token) (c d : ℕ) → IsReportedOf file b t c → IsReportedOf file b t d → c ≡ d
 one_number file b t c d l m = let same : l.0 ≡ m.0 = cc in l.2 ∙ ap (λ p. number_after p t) same ∙ sym m.2
 

@@ -1,4 +1,5 @@
--- Where the machine stops, the words are refused: no file begins with the words up to that one, or the words run out.
+-- Where the machine stops, the words are refused: the words up to that one are not a prefix of a file, or the words end too
+-- early.
 use Rattle.std.proofs.Common.{◌≡◌, ℕ, zero, suc, List, [], ◌∷◌, ◌++◌, drop, Option, Some, None, refl, sym, ◌∙◌, ap, subst}
 use Rattle.std.specs.Prelude.{slice_get}
 use Rattle.std.proofs.lemmas.List.{map-append}
@@ -12,11 +13,11 @@ use Rattle.model.proofs.GrammarMeaning.{file_run}
 use Rattle.model.proofs.GrammarStops.{StopsAt, stops_at, stopping, ending}
 use Rattle.model.proofs.GrammarBegins.{begins, dead}
 
--- what finished did not stop
+-- a run that finishes does not stop
 apart : {t : Tree} {code : ℕ} {w : List Token} → finished t ≡ stopped code w → ⊥
 apart e = cc
 
--- a place within the words or after them
+-- an index within the words, or their end
 data IsPlace (words : List Word) (place : ℕ) : Type 0 where
   within : (before after : List Word) (word : Word) → words ≡ before ++ word ∷ after → slice_get words place ≡ Some word → drop place (tokens_of words) ≡ token_of word ∷ tokens_of after → IsPlace words place
   past : slice_get words place ≡ None → drop place (tokens_of words) ≡ [] → IsPlace words place
@@ -45,7 +46,7 @@ refused_end file words code e =
     let stop = ending (tokens_of words) (start file) code e in
     at_end (begins file (tokens_of words) stop.0 stop.1) (λ whole. apart (sym (file_run whole.1) ∙ e)) stop.2 refl
 
--- what the machine stops at is refused
+-- the words are refused where the machine stops
 pub refused_at : (file : TaskFile) (words : List Word) (code place : ℕ) → run (tokens_of words) (start file) ≡ stopped code (drop place (tokens_of words)) → IsRefused file words (record { code = code; span = span_of_place words place })
 refused_at file words code place e = by_place (place_in words place)
   where

@@ -1,4 +1,4 @@
--- Where the machine stops: at the first word that may not follow, alike whatever comes after it.
+-- The machine stops at the first word that may not follow, whatever comes after it.
 use Rattle.std.proofs.Common.{◌≡◌, ℕ, suc, ◌+◌, ◌≤◌, List, [], ◌∷◌, ◌++◌, length, Option, None, Some, refl, ◌∙◌, ap, subst, arith, length-append}
 use Rattle.std.specs.Option.{option_and_then}
 use Rattle.model.specs.GrammarWords.{Token}
@@ -7,7 +7,7 @@ use Rattle.model.specs.GrammarMachine.{Outcome, finished, stopped, go_on, run, a
 use Rattle.model.specs.Refusals.{step, number_after, after_all}
 
 module _ {T : Type 0} where
-  -- words that lead to what has to follow run to it
+  -- words that lead to what must follow take the machine there
   pub leads : (b : List Token) (p q : Phrase T) (w : List Token) → after_all b p ≡ Some q → run (b ++ w) p ≡ run w q
   leads [] p q w e = let same : p ≡ q = cc in ap (run w) same
   leads (t ∷ b) p q w e = by_step (step p t) (λ s. leads b s q w) e
@@ -16,7 +16,7 @@ module _ {T : Type 0} where
       by_step (Some s) again e = again s e
       by_step None again e = absurd (cc)
 
-  -- the words left of what stopped
+  -- the remaining words of a run that stops
   abbrev LeftWithin : Outcome T → List Token → Type 0
   LeftWithin (finished x) w = Unit {0}
   LeftWithin (stopped code left) w = length left ≤ length w
@@ -58,7 +58,7 @@ module _ {T : Type 0} where
           let same : b ∷ (before ++ t ∷ after) ≡ t ∷ after = cc in
           let l : suc (length before + suc (length after)) ≡ suc (length after) = simp length-append at (ap length same) in absurd (omega arith)
 
-  -- where the words ran out
+  -- where the words end
   pub ending : (w : List Token) (p : Phrase T) (code : ℕ) → run w p ≡ stopped code [] → (q : Phrase T) × (after_all w p ≡ Some q) × (code ≡ 7)
   ending [] (gives x) code e = absurd (cc)
   ending [] (s >>= k) code e = (s >>= k, refl, cc)

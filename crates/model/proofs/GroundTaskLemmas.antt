@@ -1,5 +1,4 @@
--- The ground task does what its task does: the atoms that have numbers are fluent, and no other fluent atom ever becomes
--- true.
+-- The ground task and its task agree: the numbered atoms are fluent, and no other fluent atom ever becomes true.
 use Rattle.std.proofs.Common.{arith, ◌≡◌, ◌∙◌, ℕ, ◌≤◌, ◌<◌, ◌⊎◌, Bool, true, false, not, ◌&&◌, ◌||◌, inl, inr, List, [], ◌∷◌, ◌++◌, map, length, Option, None, Some, refl, sym, ap, true≢false}
 use Rattle.std.specs.Prelude.{Contains, All, IsTrue, slice_get, nat_lt, cond, filter, if◌then◌else◌, is_some}
 use Rattle.std.specs.List.{flat_map, range_with_len}
@@ -42,7 +41,7 @@ step-changes task s next i leads =
     by : Schema → Option State
     by schema = if fits task schema i.objects && can_apply task schema i.objects s then Some (after_changes task s (changes_of task schema.effect i.objects)) else None
 
--- those that count are enough
+-- the counting ones suffice
 pub literals_in-counting : (task : Task) (s : State) (changes : List Change) → HasInitialStatics task s → literals_in task s (filter (counts task) changes) ≡ literals_in task s changes
 literals_in-counting task s [] statics = refl
 literals_in-counting task s (c ∷ changes) statics =
@@ -89,7 +88,7 @@ added-among task s (c ∷ changes) q at =
         ]
     first (deletes a) rest some = or_right (eq_by_cmp atom_cmp q a) (occurs_in (atoms_of changes) q) (rest some)
 
--- an atom that is true after a step was so before, or a change that counts touches it
+-- an atom that is true after a step was true before, or a counting change adds it
 pub step-touched : (task : Task) (s next : State) (i : Instance) (q : Atom) → HasInitialStatics task s → step task s i ≡ Some next → contains next q ≡ true
     → (contains s q ≡ true) ⊎ (occurs_in (touched_by task i) q ≡ true)
 step-touched task s next i q statics leads has =
@@ -100,11 +99,11 @@ step-touched task s next i q statics leads has =
       | inr added ↦ inr (added-among task s (counting_changes task i) q added)
     ]
 
--- the static atoms stay
+-- static atoms are unchanged
 pub step-HasInitialStatics : (task : Task) (s next : State) (i : Instance) → HasInitialStatics task s → step task s i ≡ Some next → HasInitialStatics task next
 step-HasInitialStatics task s next i statics leads q static = contains-step task s next i q static leads ∙ statics q static
 
--- ---- only fluent atoms are touched
+-- ---- only fluent atoms are changed
 
 filtered-changed : (p : Change → Bool) (changes : List Change) (q : Atom) → occurs_in (atoms_of (filter p changes)) q ≡ true → is_changed q changes ≡ true
 filtered-changed p [] q at = absurd (true≢false (sym at))
@@ -140,7 +139,7 @@ module _ (task : Task) (more : List Atom) where
   abbrev touched_atoms : List Atom
   touched_atoms = flat_map (touched_by task) (kept_instances task)
 
-  -- which they are
+  -- which atoms they are
   pub occurs_in-numbered : (q : Atom) → occurs_in (numbered_atoms task more) q ≡ ((occurs_in more q || occurs_in initial_atoms q) || occurs_in touched_atoms q)
   occurs_in-numbered q =
       occurs_in-with_atoms [] (more ++ initial_atoms ++ touched_atoms) q
@@ -152,11 +151,11 @@ module _ (task : Task) (more : List Atom) where
       occurs_in-filter (λ (a : Atom). is_fluent task a.predicate) task.init q
       ∙ ap (λ b. is_fluent task q.predicate && b) (sym (contains-from_list atoms_total task.init q))
 
-  -- none is there twice
+  -- no atom is repeated
   pub numbered-distinct : are_distinct (numbered_atoms task more) ≡ true
   numbered-distinct = distinct-with_atoms [] (more ++ initial_atoms ++ touched_atoms) refl
 
-  -- each of `more` has its place as its number, if none of them is there twice
+  -- the number of each atom in `more` is its index, if they are distinct
   pub numbered-more_first : are_distinct more ≡ true → (others : List Atom) × (numbered_atoms task more ≡ more ++ others)
   numbered-more_first distinct =
       let begun = numbered-first more (initial_atoms ++ touched_atoms) distinct in
@@ -175,14 +174,14 @@ module _ (task : Task) (more : List Atom) where
         ∙ (λ i. (occurs_in more a || occurs_in-initial a i) || occurs_in-flat_map_any (touched_by task) (kept_instances task) a i);
   }
 
-  -- the fluent atoms that are true at the start have numbers
+  -- the fluent atoms that are initially true are numbered
   pub initial-numbered : HasNumberedFluents task (numbered_atoms task more) (initial_state task)
   initial-numbered q is has =
       occurs_in-numbered q
       ∙ or_left (occurs_in more q || occurs_in initial_atoms q) (occurs_in touched_atoms q)
       (or_right (occurs_in more q) (occurs_in initial_atoms q) (occurs_in-initial q ∙ and_from (is_fluent task q.predicate) (contains (initial_state task) q) is has))
 
-  -- and those that become true
+  -- and so are those that become true
   pub step-numbered : (s next : State) (i : Instance) → HasInitialStatics task s → HasNumberedFluents task (numbered_atoms task more) s → step task s i ≡ Some next
       → HasNumberedFluents task (numbered_atoms task more) next
   step-numbered s next i statics numbered leads q is has =
@@ -194,7 +193,7 @@ module _ (task : Task) (more : List Atom) where
       ]
 
   module _ (fluent : All (λ (a : Atom). IsTrue (is_fluent task a.predicate)) more) where
-    -- only fluent atoms have numbers
+    -- only fluent atoms are numbered
     pub numbered-fluent : (q : Atom) → occurs_in (numbered_atoms task more) q ≡ true → is_fluent task q.predicate ≡ true
     numbered-fluent q at =
         elim (or_cases (occurs_in more q || occurs_in initial_atoms q) (occurs_in touched_atoms q) (sym (occurs_in-numbered q) ∙ at)) [
@@ -216,7 +215,7 @@ module _ (task : Task) (more : List Atom) where
       one_packed = bits_of-packed_state (is_fluent task) task.init (numbered_atoms task more) numbered-fluent numbered-distinct;
     }
 
--- ---- both do the same
+-- ---- both have the same steps
 
 module _ (task : Task) (more : List Atom) (fluent : All (λ (a : Atom). IsTrue (is_fluent task a.predicate)) more) where
   abbrev atoms : List Atom
@@ -303,7 +302,7 @@ module _ (task : Task) (atoms : List Atom) (bits : List Bool) where
         | Some next ↦ λ _. (next, refl)
       ] both.1
 
--- a step leads to bits of the atoms
+-- a successor has as many bits as there are atoms
 pub length-step : (task : Task) (atoms : List Atom) (bits next : List Bool) (number : ℕ) → ground_step task atoms bits number ≡ Some next → length next ≡ length atoms
 length-step task atoms bits next number leads =
     elim (slice_get (kept_instances task) number) as (λ o. option_and_then (λ (i : Instance). option_map (bits_of_state atoms) (step task (state_of_bits task atoms bits) i)) o ≡ Some next → length next ≡ length atoms) [

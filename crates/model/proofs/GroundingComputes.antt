@@ -1,4 +1,4 @@
--- Grounding in a form that computes on a written task: with the list of the atoms that are true in place of their set.
+-- Grounding in a form that computes on a given task: with a list of the true atoms instead of their set.
 use Rattle.std.specs.Prelude.{◌≡◌, ℕ, Bool, true, false, not, ◌&&◌, nat_eq, nat_lt, List, [], ◌∷◌, ◌++◌, map, filter, length, slice_get, if◌then◌else◌, Option, None, Some, is_some, refl}
 use Rattle.std.proofs.Common.{◌∙◌, ap}
 use Rattle.std.specs.List.{list_any, flat_map, filter_map, range_with_len}
@@ -42,7 +42,7 @@ kept task = filter (λ j. option_map_or (λ schema. has_amount task schema j.obj
 pub kept-is : (task : Task) → kept_instances task ≡ kept task
 kept-is task = λ i. filter (λ j. option_map_or (λ schema. has_amount task schema j.objects && not (statically_false-is task schema.precondition j.objects i)) (slice_get task.schemas j.schema) false) (all_instances task)
 
--- ---- what counts, and what has a number
+-- ---- what counts, and what is numbered
 
 abbrev pub counting : Task → Instance → List Change
 counting task j = filter (λ c. not (statically_false task c.condition c.binding)) (changes_of_instance task j)
@@ -67,7 +67,7 @@ pub exceeded_limit-is : (max_instances max_atoms : ℕ) (task : Task) (more : Li
 exceeded_limit-is max_instances max_atoms task more =
     λ i. if nat_lt max_instances (length (kept-is task i)) then Some of_instances else if nat_lt max_atoms (length (numbered-is task more i)) then Some of_atoms else None
 
--- ---- what packed states mean
+-- ---- the meaning of packed states
 
 module _ (task : Task) (atoms : List Atom) where
   pub initial-is : (ground_system task atoms).initial ≡ map (occurs_in task.init) atoms

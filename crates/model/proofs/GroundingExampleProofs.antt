@@ -1,4 +1,4 @@
--- What the definitions say of the worked examples of grounding.
+-- The worked examples of grounding.
 use Rattle.std.specs.Prelude.{◌≡◌, ℕ, Bool, true, false, List, [], ◌∷◌, slice_get, length, Option, None, Some, nat_lt, if◌then◌else◌, refl}
 use Rattle.std.proofs.Common.{◌∙◌, ap}
 use Rattle.std.specs.Option.{option_map, option_and_then}
@@ -12,7 +12,7 @@ use Rattle.model.proofs.PackedStates.{contains-unnumbered}
 use Rattle.model.proofs.Steps.{leads_nowhere}
 use Rattle.model.proofs.GroundingComputes.{statically_false, statically_false-is, kept, kept-is, counting_numbers-is, numbered, numbered-is, exceeded_limit-is, initial-is, cost-is, holds_packed, meets_goal-is, leads_packed, ground_step-is, applicable-is}
 
--- where this computes, the definition says so
+-- if this computes, the definition holds
 
 closes : {before : List LiftedAtom} {f : Formula} {binding : List ℕ} {answer : Bool} → statically_false (adding_q before) f binding ≡ answer → Closes before f binding answer
 closes {before} {f} {binding} is = record { is_closed = statically_false-is (adding_q before) f binding ∙ is }

@@ -1,4 +1,5 @@
--- The list of all instances has each instance of the task, and the successors of a state are what its instances lead to.
+-- The list of all instances contains each instance of the task, and the successors of a state are the states its instances lead
+-- to.
 use Rattle.std.proofs.Common.{◌≡◌, ℕ, zero, suc, ◌+◌, ◌<◌, inl, inr, Bool, true, false, ◌&&◌, List, [], ◌∷◌, length, map, Option, None, Some, refl, sym, ap, subst, arith}
 use Rattle.std.specs.Prelude.{Contains, slice_get, if◌then◌else◌}
 use Rattle.std.specs.Cmp.Lexicographic.{pointwise}
@@ -22,7 +23,7 @@ step_of task state found objects =
     else None)
     found
 
--- only a number of an object is of some type
+-- only the numbers of objects are of a type
 pub is_of-within : (task : Task) (types : Union) (o : ℕ) → is_of task types o ≡ true → o < length task.objects
 is_of-within task types o of = by_found (slice_get task.objects o) refl of
   where
@@ -68,7 +69,7 @@ Contains-instances_of_schema : (task : Task) (number : ℕ) (schema : Schema) (o
 Contains-instances_of_schema task number schema objects fit =
     Contains-map (instance_at number) (product (ranges task schema.parameters)) objects (Contains-product task schema.parameters objects fit)
 
--- an object for each parameter of the schema at this place makes an instance of the list
+-- one object for each parameter of the schema at this index makes an instance in the list
 Contains-instances_from : (task : Task) (number place n : ℕ) (schemas : List Schema) (schema : Schema) (objects : List ℕ)
     → n ≡ number + place → slice_get schemas place ≡ Some schema → fits task schema objects ≡ true
     → Contains (instances_from task number schemas) (instance_at n objects)
@@ -115,7 +116,7 @@ first_test : {X : Type 0} (a b : Bool) (x : Option X) (y : X) → (if a && b the
 first_test true b x y is = refl
 first_test false b x y is = absurd (cc)
 
--- only an instance of the task leads anywhere
+-- only an instance of the task is applicable
 pub is_instance-of_step : (task : Task) (state : State) (i : Instance) (next : State) → step task state i ≡ Some next → is_instance task i ≡ true
 is_instance-of_step task state i next leads =
     elim (slice_get task.schemas i.schema) as (λ o. step_of task state o i.objects ≡ Some next → is_instance_of task o i.objects ≡ true) [
@@ -131,7 +132,7 @@ pair_of_option_map {X} {Y} j i (Some z) y is =
     let same : left ≡ right = cc in
     (ap (λ (p : X × Y). p.0) same, ap (λ (p : X × Y). Some p.1) same)
 
--- what a step leads to is among the successors
+-- the result of a step is among the successors
 pub Contains-successors : (task : Task) (state : State) (i : Instance) (next : State) → step task state i ≡ Some next
     → Contains (successors_of task state) (i, next)
 Contains-successors task state i next leads =

@@ -1,4 +1,4 @@
--- Which elements a list has, and those made by `map`, `flat_map`, `filter_map` and a range.
+-- The elements of lists made by `map`, `flat_map`, `filter_map` and ranges.
 use Rattle.std.proofs.Common.{◌≡◌, ℕ, zero, suc, add-one, ◌+◌, ◌<◌, ◌≤◌, ◌⊎◌, inl, inr, Bool, true, false, true≢false, List, [], ◌∷◌, length, map, drop, Option, None, Some, refl, sym, ap, ◌∙◌, subst, arith}
 use Rattle.std.specs.Prelude.{Contains, cond, filter, slice_get}
 use Rattle.std.specs.List.{flat_map, filter_map, range_with_len, cons_option}
@@ -122,7 +122,7 @@ range-Contains from (suc n) k at =
       | inr later ↦ let rest = range-Contains (from + 1) n k later in (omega (arith, rest.0), omega (arith, rest.1))
     ]
 
--- what is left from an element on, and past the last
+-- the rest from an element on, and past the last one
 pub drop-here : {X : Type 0} (xs : List X) (k : ℕ) (x : X) → slice_get xs k ≡ Some x → drop k xs ≡ x ∷ drop (k + 1) xs
 drop-here [] k x at = absurd (cc)
 drop-here (y ∷ xs) zero x at = let same : y ≡ x = cc in ap (λ z. z ∷ xs) same

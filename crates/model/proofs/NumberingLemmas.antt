@@ -1,4 +1,4 @@
--- Lists of atoms that are numbered one after another, each once: what is in them, and where.
+-- Lists of atoms numbered one after another without repetition: what they contain, and where.
 use Rattle.std.proofs.Common.{◌≡◌, ◌∙◌, ℕ, zero, suc, ◌+◌, ◌≤◌, ◌<◌, inl, inr, Bool, true, false, not, ◌||◌, List, [], ◌∷◌, ◌++◌, length, drop, get_or, None, Some, refl, sym, ap, subst, arith, append-nil, append_assoc, true≢false, map}
 use Rattle.std.specs.Prelude.{Contains, slice_get, nat_lt, cond, if◌then◌else◌, AllPairs, ◌≢◌, filter}
 use Rattle.std.specs.List.{list_any, flat_map, position_or_len}
@@ -16,7 +16,7 @@ use Rattle.model.proofs.Atoms.{atoms_total, occurs_in-append}
 use Rattle.model.proofs.ListLemmas.{Contains-here, Contains-there, Contains-cases, Contains-none, drop-here}
 use Rattle.model.proofs.StaticLemmas.{same_atom, or_false}
 
--- ---- what is in a list
+-- ---- the elements of a list
 
 pub same_itself : (a : Atom) → eq_by_cmp atom_cmp a a ≡ true
 same_itself a = (eq_by_cmp_equiv atoms_total).refl a
@@ -82,7 +82,7 @@ or_thrice : (x y z : Bool) → ((x || y) || z) ≡ (x || (y || z))
 or_thrice true y z = refl
 or_thrice false y z = refl
 
--- what is in either list, and nothing else
+-- the elements of either list, and nothing else
 pub occurs_in-with_atoms : (xs ys : List Atom) (q : Atom) → occurs_in (with_atoms xs ys) q ≡ (occurs_in xs q || occurs_in ys q)
 occurs_in-with_atoms xs [] q = sym (or_false (occurs_in xs q))
 occurs_in-with_atoms xs (a ∷ ys) q =
@@ -92,7 +92,7 @@ pub with_atoms-append : (xs ys zs : List Atom) → with_atoms xs (ys ++ zs) ≡ 
 with_atoms-append xs [] zs = refl
 with_atoms-append xs (a ∷ ys) zs = with_atoms-append (with_atom xs a) ys zs
 
--- the list is a beginning of what it becomes
+-- the list is a prefix of the list with one more atom
 pub with_atom-begins : (xs : List Atom) (a : Atom) → (rest : List Atom) × (with_atom xs a ≡ xs ++ rest)
 with_atom-begins xs a =
     elim (occurs_in xs a) as (λ b. (rest : List Atom) × ((if b then xs else xs ++ a ∷ []) ≡ xs ++ rest)) [
@@ -107,11 +107,11 @@ with_atoms-begins xs (a ∷ ys) =
     let later = with_atoms-begins (with_atom xs a) ys in
     (here.0 ++ later.0, later.1 ∙ ap (λ l. l ++ later.0) here.1 ∙ append_assoc xs here.0 later.0)
 
--- more atoms never make fewer
+-- adding atoms never makes the list shorter
 pub length-with_atoms : (xs ys : List Atom) → length xs ≤ length (with_atoms xs ys)
 length-with_atoms xs ys = let begun = with_atoms-begins xs ys in omega (arith, ap length begun.1, length-append xs begun.0)
 
--- ---- each once
+-- ---- no repetition
 
 distinct-push : (xs : List Atom) (a : Atom) → are_distinct xs ≡ true → occurs_in xs a ≡ false → are_distinct (xs ++ a ∷ []) ≡ true
 distinct-push [] a distinct new = refl
@@ -133,7 +133,7 @@ pub distinct-with_atoms : (xs ys : List Atom) → are_distinct xs ≡ true → a
 distinct-with_atoms xs [] distinct = distinct
 distinct-with_atoms xs (a ∷ ys) distinct = distinct-with_atoms (with_atom xs a) ys (distinct-with_atom xs a distinct)
 
--- an atom of the second list is not in the first, where none is twice
+-- an atom of the second list is not in the first, if none is repeated
 apart_in : (xs ys : List Atom) (a : Atom) → are_distinct (xs ++ a ∷ ys) ≡ true → occurs_in xs a ≡ false
 apart_in [] ys a distinct = refl
 apart_in (x ∷ xs) ys a distinct =
@@ -143,7 +143,7 @@ apart_in (x ∷ xs) ys a distinct =
     ((eq_by_cmp_equiv atoms_total).symm a x ∙ (or_parts (eq_by_cmp atom_cmp x a) (occurs_in ys x) apart.1).0)
     (apart_in xs ys a parts.1)
 
--- atoms of which none is twice are numbered as they are
+-- distinct atoms keep their order
 pub with_atoms-distinct : (xs ys : List Atom) → are_distinct (xs ++ ys) ≡ true → with_atoms xs ys ≡ xs ++ ys
 with_atoms-distinct xs [] distinct = sym (append-nil xs)
 with_atoms-distinct xs (a ∷ ys) distinct =
@@ -151,13 +151,13 @@ with_atoms-distinct xs (a ∷ ys) distinct =
     let same : (xs ++ a ∷ []) ++ ys ≡ xs ++ a ∷ ys = append_assoc xs (a ∷ []) ys in
     ap (λ l. with_atoms l ys) new ∙ with_atoms-distinct (xs ++ a ∷ []) ys (ap are_distinct same ∙ distinct) ∙ same
 
--- so they come first, with the numbers that are their places
+-- so they come first, with their indices as numbers
 pub numbered-first : (more rest : List Atom) → are_distinct more ≡ true → (others : List Atom) × (with_atoms [] (more ++ rest) ≡ more ++ others)
 numbered-first more rest distinct =
     let begun = with_atoms-begins more rest in
     (begun.0, with_atoms-append [] more rest ∙ ap (λ l. with_atoms l rest) (with_atoms-distinct [] more distinct) ∙ begun.1)
 
--- said of each pair of places
+-- stated for each pair of indices
 pub distinct-from_pairs : (xs : List Atom) → AllPairs (λ (a b : Atom). a ≢ b) xs → are_distinct xs ≡ true
 distinct-from_pairs [] apart = refl
 distinct-from_pairs (x ∷ xs) apart =
@@ -180,7 +180,7 @@ place_of (x ∷ xs) (suc n) a distinct at =
     let later : 1 + position_or_len (eq_by_cmp atom_cmp a) xs ≡ suc n = omega (arith, place_of xs n a parts.1 at) in
     ap (λ b. cond (not b) (1 + position_or_len (eq_by_cmp atom_cmp a) xs) 0) other ∙ later
 
--- it is the atom's place
+-- it is the atom's index
 pub number_of-got : (xs : List Atom) (n : ℕ) (a : Atom) → are_distinct xs ≡ true → slice_get xs n ≡ Some a → number_of xs a ≡ Some n
 number_of-got xs n a distinct at =
     (λ i. cond (nat_lt (place_of xs n a distinct at i) (length xs)) (Some (place_of xs n a distinct at i)) None)
@@ -204,16 +204,16 @@ number_of-none xs a none =
     (λ i. cond (nat_lt (nowhere xs a none i) (length xs)) (Some (nowhere xs a none i)) None)
     ∙ ap (λ b. cond b (Some (length xs)) None) (le-ltb (length xs) (length xs) (omega arith))
 
--- ---- one item of a list after another: what is numbered, with what the items that are left give, is the whole
+-- ---- one element of a list after another: what is numbered, together with what the remaining elements give, is the whole
 
 module _ {X : Type 0} (f : X → List Atom) (xs : List X) (i : ℕ) (x : X) (at : slice_get xs i ≡ Some x) (now whole : List Atom)
     (all : with_atoms now (flat_map f (drop i xs)) ≡ whole) where
-  -- the atoms of one more item
+  -- the atoms of one more element
   pub numbered-more : with_atoms (with_atoms now (f x)) (flat_map f (drop (i + 1) xs)) ≡ whole
   numbered-more =
       sym (with_atoms-append now (f x) (flat_map f (drop (i + 1) xs))) ∙ ap (λ l. with_atoms now (flat_map f l)) (sym (drop-here xs i x at)) ∙ all
 
-  -- where they are too many, so are all
+  -- if they are too many, the whole has too many
   pub numbered-too_many : (max : ℕ) → max < length (with_atoms now (f x)) → max < length whole
   numbered-too_many max more = omega (arith, more, length-with_atoms (with_atoms now (f x)) (flat_map f (drop (i + 1) xs)), ap length numbered-more)
 
@@ -230,9 +230,9 @@ module _ (now first rest whole : List Atom) (all : with_atoms now (first ++ rest
   pub too_many-part : (max : ℕ) → max < length (with_atoms now first) → max < length whole
   too_many-part max more = omega (arith, more, length-with_atoms (with_atoms now first) rest, ap length numbered-part)
 
--- ---- lists that are made item by item
+-- ---- lists built element by element
 
--- of the items that pass, what each gives
+-- what each of the elements that pass gives
 pub flat_map-passing : {X Y : Type 0} (p : X → Bool) (f : X → Y) (xs : List X) → flat_map (λ x. if p x then f x ∷ [] else []) xs ≡ map f (filter p xs)
 flat_map-passing p f [] = refl
 flat_map-passing p f (x ∷ xs) =

@@ -1,5 +1,5 @@
--- What is true in the state that a packed state stands for. Said of any choice of fluent predicates and any initial atoms,
--- of which those of a task are one.
+-- The atoms that are true in the state that a packed state represents. Stated for any choice of fluent predicates and any initial
+-- atoms, of which those of a task are an instance.
 use Rattle.std.proofs.Common.{◌≡◌, ◌∙◌, ℕ, zero, suc, ◌<◌, Bool, true, false, not, ◌&&◌, ◌||◌, inl, inr, List, [], ◌∷◌, ◌++◌, length, get_or, Some, refl, sym, ap, arith, true≢false}
 use Rattle.std.specs.Prelude.{slice_get, filter, if◌then◌else◌}
 use Rattle.std.specs.Ordering.{eq_by_cmp}
@@ -28,7 +28,7 @@ chosen-occurs_in (a ∷ atoms) (true ∷ bits) q at =
     ]
 chosen-occurs_in (a ∷ atoms) (false ∷ bits) q at = or_right (eq_by_cmp atom_cmp q a) (occurs_in atoms q) (chosen-occurs_in atoms bits q at)
 
--- those that a state chooses are those of the list that are true in it
+-- the atoms that a state chooses are those of the list that are true in it
 pub chosen-state : (atoms : List Atom) (s : State) (q : Atom) → occurs_in (chosen atoms (bits_of_state atoms s)) q ≡ (occurs_in atoms q && contains s q)
 chosen-state [] s q = refl
 chosen-state (a ∷ atoms) s q =
@@ -47,7 +47,7 @@ chosen-state (a ∷ atoms) s q =
     absent true r h known = ap (λ b. r && b) (known refl) ∙ and_false r ∙ sym (known refl)
     absent false r h known = refl
 
--- where none is twice, the atom of a number is chosen where its bit is set
+-- if no atom is repeated, the atom with a number is chosen exactly if its bit is set
 pub chosen-number : (atoms : List Atom) (bits : List Bool) (n : ℕ) (a : Atom) → are_distinct atoms ≡ true → slice_get atoms n ≡ Some a → occurs_in (chosen atoms bits) a ≡ get_or bits n false
 chosen-number [] bits n a distinct at = absurd (cc)
 chosen-number (x ∷ atoms) [] n a distinct at = nothing n
@@ -78,7 +78,7 @@ module _ (fluent : ℕ → Bool) (init : List Atom) (atoms : List Atom) where
   abbrev statics : List Atom
   statics = filter (λ (a : Atom). not (fluent a.predicate)) init
 
-  -- the atoms whose bits are set, with the static ones
+  -- the atoms whose bits are set, together with the static ones
   abbrev pub packed_state : List Bool → State
   packed_state bits = from_list (chosen atoms bits ++ statics)
 
@@ -88,23 +88,23 @@ module _ (fluent : ℕ → Bool) (init : List Atom) (atoms : List Atom) where
       ∙ occurs_in-append (chosen atoms bits) statics q
       ∙ ap (λ b. occurs_in (chosen atoms bits) q || b) (occurs_in-filter (λ (a : Atom). not (fluent a.predicate)) init q)
 
-  -- a fluent atom is true where it is chosen
+  -- a fluent atom is true if it is chosen
   pub contains-fluent : (bits : List Bool) (q : Atom) → fluent q.predicate ≡ true → contains (packed_state bits) q ≡ occurs_in (chosen atoms bits) q
   contains-fluent bits q is =
       contains-packed bits q ∙ (λ i. occurs_in (chosen atoms bits) q || (not (is i) && occurs_in init q)) ∙ or_false (occurs_in (chosen atoms bits) q)
 
-  -- so where its bit is set
+  -- so it is if its bit is set
   pub contains-numbered : are_distinct atoms ≡ true → (bits : List Bool) (n : ℕ) (a : Atom) → fluent a.predicate ≡ true → slice_get atoms n ≡ Some a
       → contains (packed_state bits) a ≡ get_or bits n false
   contains-numbered distinct bits n a is at = contains-fluent bits a is ∙ chosen-number atoms bits n a distinct at
 
-  -- and nowhere without a number
+  -- and it is false without a number
   pub contains-unnumbered : (bits : List Bool) (a : Atom) → fluent a.predicate ≡ true → occurs_in atoms a ≡ false → contains (packed_state bits) a ≡ false
   contains-unnumbered bits a is none =
       contains-fluent bits a is ∙ false_from_ne_true (occurs_in (chosen atoms bits) a) (λ among. true≢false (sym (chosen-occurs_in atoms bits a among) ∙ none))
 
   module _ (numbered_are_fluent : (q : Atom) → occurs_in atoms q ≡ true → fluent q.predicate ≡ true) where
-    -- a static atom is true where it is at the start
+    -- a static atom is true if it is initially true
     pub contains-static : (bits : List Bool) (q : Atom) → fluent q.predicate ≡ false → contains (packed_state bits) q ≡ occurs_in init q
     contains-static bits q is =
         contains-packed bits q ∙ (λ i. unchosen i || (not (is i) && occurs_in init q))
@@ -112,7 +112,7 @@ module _ (fluent : ℕ → Bool) (init : List Atom) (atoms : List Atom) where
         unchosen : occurs_in (chosen atoms bits) q ≡ false
         unchosen = false_from_ne_true (occurs_in (chosen atoms bits) q) (λ at. true≢false (sym (numbered_are_fluent q (chosen-occurs_in atoms bits q at)) ∙ is))
 
-    -- a state with the initial static atoms, whose fluent atoms have numbers, is that of its bits
+    -- a state with the initial static atoms, all of whose fluent atoms are numbered, is the state of its bits
     pub packed-bits_of_state : (s : State) → ((q : Atom) → fluent q.predicate ≡ false → contains s q ≡ occurs_in init q)
         → ((q : Atom) → fluent q.predicate ≡ true → contains s q ≡ true → occurs_in atoms q ≡ true) → packed_state (bits_of_state atoms s) ≡ s
     packed-bits_of_state s static numbered =
@@ -127,7 +127,7 @@ module _ (fluent : ℕ → Bool) (init : List Atom) (atoms : List Atom) where
         among false true known = known refl
         among false false known = refl
 
-    -- a packed state as long as the atoms is the one of its state
+    -- a packed state of the right length is the one of its state
     pub bits_of-packed_state : are_distinct atoms ≡ true → (bits : List Bool) → length bits ≡ length atoms → bits_of_state atoms (packed_state bits) ≡ bits
     bits_of-packed_state distinct bits long =
         same_lists (bits_of_state atoms (packed_state bits)) bits (omega (arith, long, length-map atoms (contains (packed_state bits)))) (λ k d below. each k d (omega (arith, below, length-map atoms (contains (packed_state bits)))))

@@ -1,4 +1,4 @@
--- What is true of packed states bit by bit: the literals of a formula that holds, and the state after a step.
+-- Properties of packed states bit by bit: the literals of a formula that holds, and the state after a step.
 use Rattle.std.proofs.Common.{◌≡◌, ◌∙◌, ℕ, Bool, true, false, not, ◌&&◌, ◌||◌, List, [], ◌∷◌, get_or, Option, None, Some, refl, sym, ap}
 use Rattle.std.specs.Prelude.{All, IsTrue, slice_get}
 use Rattle.std.specs.List.{list_all, filter_map, cons_option}
@@ -21,7 +21,7 @@ use Rattle.model.proofs.NumberingLemmas.{occurs_in-got, got-number_of}
 use Rattle.model.proofs.PackedStates.{contains-numbered}
 use Rattle.model.proofs.GroundTaskLemmas.{numbered-distinct, numbered-fluent, packs_states, step-counting}
 
--- all pass that come from those that pass
+-- all images of passing elements pass
 all_mapped : {X Y : Type 0} (h : X → Option Y) (p : X → Bool) (q : Y → Bool) → ((x : X) (y : Y) → h x ≡ Some y → p x ≡ true → q y ≡ true)
     → (xs : List X) → list_all p xs ≡ true → list_all q (filter_map h xs) ≡ true
 all_mapped h p q passes [] all = refl
@@ -37,7 +37,7 @@ module _ (task : Task) (more : List Atom) (fluent : All (λ (a : Atom). IsTrue (
   abbrev atoms : List Atom
   atoms = numbered_atoms task more
 
-  -- a numbered atom is true where its bit is set
+  -- a numbered atom is true exactly if its bit is set
   pub contains-bit : (bits : List Bool) (n : ℕ) (a : Atom) → slice_get atoms n ≡ Some a → contains (state_of_bits task atoms bits) a ≡ get_or bits n false
   contains-bit bits n a at =
       contains-numbered (is_fluent task) task.init atoms (numbered-distinct task more) bits n a (numbered-fluent task more fluent a (occurs_in-got atoms n a at)) at
@@ -60,7 +60,7 @@ module _ (task : Task) (more : List Atom) (fluent : All (λ (a : Atom). IsTrue (
   literal_agrees bits (are_same a b) n none holding = absurd (cc)
   literal_agrees bits (are_different a b) n none holding = absurd (cc)
 
-  -- A numbered atom is true after a step where a change that counts and is made adds it, or where it was true and none
+  -- A numbered atom is true after a step if a counting change that takes effect adds it, or if it was true and no such change
   -- deletes it.
   pub bit-after : (bits : List Bool) (i : Instance) (next : State) (n : ℕ) (a : Atom) → slice_get atoms n ≡ Some a → step task (state_of_bits task atoms bits) i ≡ Some next
       → get_or (bits_of_state atoms next) n false

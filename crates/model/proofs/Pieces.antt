@@ -1,11 +1,11 @@
--- What the elements of a list make piece by piece, of which the first are there.
+-- A list built piece by piece from the elements of another, of which the first are done.
 use Rattle.std.proofs.Common.{◌≡◌, ℕ, ◌+◌, ◌<◌, ◌≤◌, List, [], ◌∷◌, ◌++◌, length, map, take, drop, get_or, sym, ap, ◌∙◌, append-nil, take-append-drop}
 use Rattle.std.specs.List.{flat_map}
 use Rattle.std.proofs.lemmas.Grind.{flat_map-append}
 use Rattle.std.proofs.lemmas.List.{take_all, take_more}
 use Rattle.std.proofs.lemmas.List.Folds.{flat_map-map}
 
--- up to one place and from there on
+-- up to an index, and from there on
 module _ {Y Z : Type 0} (f : Y → List Z) (ys : List Y) (i : ℕ) where
   pub parts_split : flat_map f ys ≡ flat_map f (take i ys) ++ flat_map f (drop i ys)
   parts_split = ap (flat_map f) (sym (take-append-drop i ys)) ∙ flat_map-append f (take i ys) (drop i ys)
@@ -20,7 +20,7 @@ module _ {Y Z : Type 0} (f : Y → List Z) (ys : List Y) (i : ℕ) where
   pub parts_all : length ys ≤ i → flat_map f (take i ys) ≡ flat_map f ys
   parts_all past = ap (flat_map f) (take_all i ys past)
 
--- the same of a list by a view of its elements
+-- the same for a list viewed through a function
 module _ {X Y Z : Type 0} (f : Y → List Z) (v : X → Y) (xs : List X) (i : ℕ) where
   pub pieces_split : flat_map f (map v xs) ≡ flat_map f (map v (take i xs)) ++ flat_map f (map v (drop i xs))
   pieces_split =

@@ -1,4 +1,4 @@
--- Two places in one list: they are the same, or one comes before the other.
+-- Two indices of a list: they are equal, or one comes before the other.
 use Rattle.std.proofs.Common.{◌≡◌, List, [], ◌∷◌, ◌++◌, refl, sym, ap}
 
 pub data Places {A : Type 0} (b c : List A) (w x : A) : Type 0 where

@@ -1,4 +1,4 @@
--- What the definitions say of the worked plan texts: each computes.
+-- The worked plan texts: each computes.
 use Rattle.std.proofs.Common.{◌≡◌, ℕ, true, true≢false, ◌&&◌, List, [], ◌∷◌, None, Some, refl, sym, ◌∙◌, ap, arith}
 use Rattle.std.specs.Prelude.{codes}
 use Rattle.model.specs.Words.{Part}
@@ -32,7 +32,7 @@ sees : (action name : Name) (number : ℕ) → IsNumberOf (schema_names fleet_ta
     → Means fleet_task (step action (name ∷ [])) (instance 0 (number ∷ []))
 sees action name number is named of = record { action = is; objects = (named, tt); fits = ap (λ b. b && true) of }
 
--- v is declared, and is no place and no truck; q is not
+-- v is declared, but is neither a place nor a truck; q is not declared
 not_a_place : NamesObject fleet_task place_or_truck (named (codes "v") 5 6) → ⊥
 not_a_place (number, is, of) = let one : Some 1 ≡ Some number = is in let same : 1 ≡ number = cc in absurd (true≢false (sym of ∙ ap (is_of fleet_task place_or_truck) (sym same)))
 

@@ -1,4 +1,4 @@
--- The steps of a plan text mean one list of instances, or the first of them that means none is at fault.
+-- The steps of a plan text mean a unique list of instances, or the first step without a meaning is faulty.
 use Rattle.std.proofs.Common.{◌≡◌, ℕ, suc, ◌+◌, ◌≤◌, Bool, true, false, cond, List, [], ◌∷◌, ◌++◌, length, Option, Some, sym, refl, ap, ◌∙◌, subst, arith, append_assoc}
 use Rattle.std.specs.Cmp.Lexicographic.{pointwise, as_long}
 use Rattle.std.specs.List.{list_all}
@@ -47,14 +47,14 @@ one_plan task (step ∷ steps) (i ∷ a) [] h g = absurd g
 one_plan task (step ∷ steps) (i ∷ a) (j ∷ b) h g =
     ap (λ k. k ∷ a) (one_meaning task step i j h.0 g.0) ∙ ap (λ ks. j ∷ ks) (one_plan task steps a b h.1 g.1)
 
--- A step that means an instance is not at fault.
+-- A step that means an instance is not faulty.
 pub numbers_length : (declared : List (List ℕ)) (names : List Name) (numbers : List ℕ) → AreNumbersOf declared names numbers → length names ≡ length numbers
 numbers_length declared [] [] h = refl
 numbers_length declared [] (n ∷ ns) h = absurd h
 numbers_length declared (name ∷ names) [] h = absurd h
 numbers_length declared (name ∷ names) (n ∷ ns) h = ap suc (numbers_length declared names ns h.1)
 
--- names of numbers that fit are names of objects that do
+-- names whose numbers fit are names of objects that fit
 pub names_each : (task : Task) (unions : List Union) (names : List Name) (numbers : List ℕ) → AreNumbersOf (object_names task) names numbers → pointwise (is_of task) unions numbers ≡ true → NameObjects task unions names
 names_each task [] [] [] are fit = tt
 names_each task (types ∷ unions) [] [] are fit = absurd (cc)
@@ -65,7 +65,7 @@ names_each task (types ∷ unions) (name ∷ names) (n ∷ ns) are fit =
     let parts = and_parts (is_of task types n) (pointwise (is_of task) unions ns) fit in
     ((n, are.0, parts.0), names_each task unions names ns are.1 parts.1)
 
--- of two splits of the same types, where more names fit, a name after the first ones fits its own
+-- if more names fit in the longer of two splits of the same types, the name after the first ones fits its own type
 named_before : (task : Task) (before after : List Name) (name : Name) (theirs all others rest : List Union) (types : Union)
     → NameObjects task theirs before → NameObjects task all (before ++ name ∷ after) → theirs ++ types ∷ others ≡ all ++ rest → NamesObject task types name
 named_before task [] after name [] [] others rest types named each split = absurd each
@@ -77,7 +77,7 @@ named_before task (n ∷ before) after name (their ∷ theirs) [] others rest ty
 named_before task (n ∷ before) after name (their ∷ theirs) (first ∷ all) others rest types named each split =
     named_before task before after name theirs all others rest types named.1 each.1 (cc)
 
--- an instance has an object for each parameter
+-- an instance has one object for each parameter
 fits_there : (task : Task) (i : Instance) (schema : Schema) → is_instance task i ≡ true → slice_get task.schemas i.schema ≡ Some schema → pointwise (is_of task) schema.parameters i.objects ≡ true
 fits_there task i schema is here = sym (ap (λ (o : Option Schema). option_map_or (λ (s : Schema). fits task s i.objects) o false) here) ∙ is
 
@@ -155,7 +155,7 @@ few_steps text steps h =
     let c = h.short in
     omega (arith, a, b, c)
 
--- What is reported for a step, and of the form of a text, is one fault.
+-- The fault reported for a step, and that for the form of a text, is unique.
 same_fault : (f g : Fault) → f.code ≡ g.code → f.span ≡ g.span → f ≡ g
 same_fault f g code span = ap (λ c. let k : Fault = record { code = c; span = f.span } in k) code ∙ ap (λ s. let k : Fault = record { code = g.code; span = s } in k) span
 
@@ -165,7 +165,7 @@ same_span a b start end = ap (λ n. let s : Span = record { start = n; end = a.e
 one_schema : (task : Task) (a b : ℕ) (s t : Schema) → a ≡ b → slice_get task.schemas a ≡ Some s → slice_get task.schemas b ≡ Some t → s ≡ t
 one_schema task a b s t same at there = let both : Some s ≡ Some t = sym at ∙ ap (slice_get task.schemas) same ∙ there in cc
 
--- of one list of names, and of the types in their places, one name is the first that is none of an object of its types
+-- the first name that is not that of an object of the types at its index is unique
 one_name : (task : Task) (b c r s : List Name) (w x : Name) (us vs more others : List Union) (u v : Union) → b ++ w ∷ r ≡ c ++ x ∷ s → us ++ u ∷ more ≡ vs ++ v ∷ others
     → NameObjects task us b → NameObjects task vs c → (NamesObject task u w → ⊥) → (NamesObject task v x → ⊥) → w ≡ x
 one_name task b c r s w x us vs more others u v e types are be unknown not_known = by_places (places b c r s w x e)
@@ -193,7 +193,7 @@ one_step_fault task step f g (wrong_object k s is at counts b a name us more u s
     let names = one_name task b c a d name other us vs more others u v (sym split ∙ parts) (sym types ∙ ap (λ (x : Schema). x.parameters) schemas ∙ unions) are were never none in
     same_fault f g (code ∙ sym number) (span ∙ ap (λ (n : Name). n.span) names ∙ sym place)
 
--- steps that mean instances have none among them that is at fault
+-- no step is faulty among steps that mean instances
 all_mean : (task : Task) (all before after : List Step) (step : Step) (plan : List Instance) (fault : Fault) → AllMean task all plan → all ≡ before ++ step ∷ after → IsStepFault task step fault → ⊥
 all_mean task all before after step plan fault mean split wrong =
     let here = each_means task before after step plan (subst (λ steps. AllMean task steps plan) split mean) in
@@ -208,21 +208,21 @@ one_first_fault task b c r s w x m n f g e mean meant wrong bad = by_places (pla
     by_places (comes_before rest p) = absurd (all_mean task c b rest w n f meant p wrong)
     by_places (comes_after rest p) = absurd (all_mean task b c rest x m g mean p bad)
 
--- words with which a plan text begins have no word before their end with which none goes on
+-- a prefix of a plan text has no unexpected word
 goes_on : (all before after : List Placed) (word : Placed) → all ≡ before ++ word ∷ after → BeginsSteps all → BeginsSteps (before ++ word ∷ [])
 goes_on all before after word split (more, steps, are) =
     let shorter : all ++ more ≡ (before ++ word ∷ []) ++ (after ++ more) =
     ap (λ ws. ws ++ more) (split ∙ sym (append_assoc before (word ∷ []) after)) ∙ append_assoc (before ++ word ∷ []) after more in
     (after ++ more, steps, subst (λ ws. AreSteps ws steps) shorter are)
 
--- one number is reported for a refused word
+-- the number reported for a refused word is unique
 one_number_of_word : (before : List Placed) (word : Placed) (m n : ℕ) → IsNumberOfWord before word m → IsNumberOfWord before word n → m ≡ n
 one_number_of_word before word m n (timed t is) (timed u be) = is ∙ sym be
 one_number_of_word before word m n (timed t is) (untimed never be) = absurd (never t)
 one_number_of_word before word m n (untimed never is) (timed t be) = absurd (never t)
 one_number_of_word before word m n (untimed never is) (untimed none be) = is ∙ sym be
 
--- Laws of plan texts, where a text is cut into parts in one way.
+-- Laws of plan texts, given that a text is cut into parts in one way.
 module _ (text : List ℕ) (one_cut : (a b : List Part) → AreParts text a → AreParts text b → a ≡ b) where
   pub one_steps : (steps others : List Step) → HasSteps text steps → HasSteps text others → steps ≡ others
   one_steps steps others h g =
@@ -234,7 +234,7 @@ module _ (text : List ℕ) (one_cut : (a b : List Part) → AreParts text a → 
   one_reading task plan other (steps, has, mean) (others, had, meant) =
       one_plan task steps plan other mean (subst (λ ss. AllMean task ss other) (one_steps others steps had has) meant)
 
-  -- the form of a plan text is not at fault
+  -- the form of a plan text is not faulty
   no_form_fault : (steps : List Step) (fault : Fault) → HasSteps text steps → IsFormFault text fault → ⊥
   no_form_fault steps fault h (too_long long _ _ _) = let short = h.short in omega (arith, short)
   no_form_fault steps fault h (refused short parts cut before after word words_are begins dead _ _ _) =
@@ -251,7 +251,7 @@ module _ (text : List ℕ) (one_cut : (a b : List Part) → AreParts text a → 
       let here = each_means task before after step plan (subst (λ ss. AllMean task ss plan) same mean) in
       means_no_fault task step here.0 fault here.1 wrong
 
-  -- of the form one fault is reported
+  -- the fault of the form is unique
   one_form_fault : (a b : Fault) → IsFormFault text a → IsFormFault text b → a ≡ b
   one_form_fault a b (too_long long code start end) (too_long over number from to) = same_fault a b (code ∙ sym number) (same_span a.span b.span (start ∙ sym from) (end ∙ sym to))
   one_form_fault a b (too_long long code start end) (refused short parts cut before after word split begins dead number from to) = absurd (omega arith)

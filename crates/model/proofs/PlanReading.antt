@@ -1,4 +1,4 @@
--- The machine reads exactly the steps of a plan text, and stops at the first word that no plan text goes on with.
+-- The machine reads exactly the steps of a plan text, and stops at the first unexpected word.
 use Rattle.std.proofs.Common.{◌≡◌, ℕ, ◌≤◌, ◌⊎◌, ◌||◌, ◌==◌, Bool, true, false, cond, List, [], ◌∷◌, ◌++◌, length, sym, refl, ap, ◌∙◌, subst, inl, inr, ⊎_elim, append_assoc, arith}
 use Rattle.std.specs.Char.{is_ascii_alphabetic, is_ascii_digit}
 use Rattle.std.specs.Int.{is_in_range}
@@ -11,7 +11,7 @@ use Rattle.model.specs.Trees.{Name}
 use Rattle.model.specs.PlanText.{Placed, placed_from, Step, IsName, AreNames, IsStep, AreSteps, HasSteps, BeginsSteps, is_stamp, IsTimed, IsNumberOfWord, timed, untimed, IsFormFault, refused, open_at_end}
 use Rattle.model.specs.PlanMachine.{Sort, an_opening, a_closing, a_name, a_stamp, strange, sort_by, sort_of, PlanPlace, outside, opened, inside, Advance, stops, goes, ends, turn, name_at, span_at, Outcome, reads, refuses, with_step, open_at, after_turn, outcome}
 
--- What a word is, by its sort.
+-- The meaning of a word, by its sort.
 opens_by : (f : Form) (named stamp : Bool) → sort_by f named stamp ≡ an_opening → f ≡ opening
 opens_by blank named stamp e = absurd (cc)
 opens_by comment named stamp e = absurd (cc)
@@ -55,7 +55,7 @@ stamps_by stray named stamp e = absurd (cc)
 is_name_at : (word : Placed) → sort_of word.part ≡ a_name → IsName word (name_at word)
 is_name_at word e = record { well_formed = names_by (form word.part) (is_name (bytes word.part)) (is_stamp (bytes word.part)) e; text = refl; span = refl }
 
--- And its sort, by what it is.
+-- And its sort, by its meaning.
 opening_sort : (part : Part) → form part ≡ opening → sort_of part ≡ an_opening
 opening_sort part e = ap (λ f. sort_by f (is_name (bytes part)) (is_stamp (bytes part))) e
 
@@ -112,7 +112,7 @@ apart byte (inl (low, high)) (inr is) = omega arith
 apart byte (inr low) (inl small) = omega arith
 apart byte (inr low) (inr is) = omega arith
 
--- a name begins with a letter, and so is no time stamp
+-- a name begins with a letter, so it is not a time stamp
 stamp_sort : (part : Part) → form part ≡ run → is_stamp (bytes part) ≡ true → sort_of part ≡ a_stamp
 stamp_sort part is_run stamp =
     ap (λ f. sort_by f (is_name (bytes part)) (is_stamp (bytes part))) is_run ∙ ap (λ b. cond (is_name (bytes part)) a_name (cond b a_stamp strange)) stamp
@@ -230,16 +230,16 @@ one_list words steps others h g =
     let both : reads steps ≡ reads others = sym (reads_steps 0 words steps h) ∙ reads_steps 0 words others g in
     cc
 
--- Where it stops.
+-- The places where it stops.
 
--- each place has words after it that end the text well
+-- in each state some words lead to a plan text
 letter : Placed
 letter = record { start = 0; part = record { first = 97; others = [] } }
 
 close : Placed
 close = record { start = 0; part = record { first = 41; others = [] } }
 
--- these words go on to a plan text
+-- these words continue to a plan text
 abbrev GoesOn : ℕ → List Placed → PlanPlace → Type 0
 GoesOn end words place = (more : List Placed) × (steps : List Step) × (outcome end (words ++ more) place ≡ reads steps)
 
@@ -276,7 +276,7 @@ rest_refused : (step : Step) (fault : Fault) (o : Outcome) → with_step step o 
 rest_refused step fault (reads steps) e = absurd (cc)
 rest_refused step fault (refuses other) e = e
 
--- one word more before
+-- one more word before
 module _ (end : ℕ) (word : Placed) (place next : PlanPlace) (give : Outcome → Outcome)
     (given : (steps : List Step) → (more : List Step) × (give (reads steps) ≡ reads more))
     (kept : (fault : Fault) → give (refuses fault) ≡ refuses fault)
@@ -380,7 +380,7 @@ number_reported end before word code (at_stamp (steps, e) sort is) =
 number_reported end before word code (elsewhere never is) =
     untimed (λ (t : IsTimed before word). never (t.steps, reads_steps end before t.steps t.outside) (stamp_sort word.part t.is_run t.stamp)) is
 
--- what it stops at is the fault of the form
+-- the fault of the form is where it stops
 pub form_fault : (text : List ℕ) (parts : List Part) (fault : Fault) → length text ≤ longest_text → AreParts text parts → outcome (length text) (placed_from 0 parts) outside ≡ refuses fault → IsFormFault text fault
 form_fault text parts fault short are e = by_place (found (length text) (placed_from 0 parts) outside fault e)
   where

@@ -1,4 +1,4 @@
--- What is written for the worked plans: each computes.
+-- The worked examples of plan writing: each computes.
 use Rattle.std.proofs.Common.{[], ◌∷◌, refl, arith}
 use Rattle.std.specs.Fmt.{digits}
 use Rattle.model.specs.Examples.{instance}

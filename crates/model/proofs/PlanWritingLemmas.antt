@@ -1,4 +1,4 @@
--- The writer's text of a plan reads as that plan.
+-- The writer's text of a plan reads back as that plan.
 use Rattle.std.proofs.Common.{◌≡◌, ℕ, zero, suc, ◌+◌, ◌≤◌, Bool, true, false, not, ◌&&◌, ◌||◌, cond, true≢false, List, [], ◌∷◌, ◌++◌, length, map, Option, None, Some, refl, sym, ap, ◌∙◌, subst, append_assoc, arith, ⊎_elim}
 use Rattle.std.specs.Prelude.{IsTrue, slice_get, codes, is_some, ◌==◌, nat_lt, nat_le, ◌/◌, ◌%◌}
 use Rattle.std.specs.Char.{is_ascii_alphabetic, is_ascii_digit, to_ascii_lowercase}
@@ -62,7 +62,7 @@ name_goes_on (byte ∷ others) all =
     let here = and_parts (is_name_byte byte) (list_all is_name_byte others) all in
     λ i. ap is_run (name_byte_is_run byte here.0) i && name_goes_on others here.1 i
 
--- the part that a name is
+-- a name as a part
 record IsRunOf (name : Name) : Type 0 where
   part : Part
   bytes_are : bytes part ≡ name
@@ -91,7 +91,7 @@ passes_somewhere p [] k name at passes = absurd (cc)
 passes_somewhere p (first ∷ names) zero name at passes = let same : first ≡ name = cc in or_left (p first) (list_any p names) (ap p same ∙ passes)
 passes_somewhere p (first ∷ names) (suc k) name at passes = or_right (p first) (list_any p names) (passes_somewhere p names k name at passes)
 
--- the first of names that differ is none of the others
+-- the first of distinct names equals none of the others
 none_same : (first : Name) (names : List Name) (k : ℕ) (name : Name) → not (list_any (is_same first) names) ≡ true → slice_get names k ≡ Some name → is_same name first ≡ false
 none_same first names k name none at = by_test (is_same name first) refl
   where
@@ -102,7 +102,7 @@ none_same first names k name none at = by_test (is_same name first) refl
         let among = passes_somewhere (is_same first) names k name at (ap (λ n. is_same first n) same ∙ nat_list_eq_equiv.refl first) in
         absurd (true≢false (sym none ∙ ap not among))
 
--- of names that differ each is the first that is the same
+-- each of distinct names is the first one equal to itself
 pub first_at : (names : List Name) (k : ℕ) (name : Name) → differ names ≡ true → slice_get names k ≡ Some name → position_or_len (is_same name) names ≡ k
 first_at [] k name differs at = absurd (cc)
 first_at (first ∷ names) zero name differs at =
@@ -119,7 +119,7 @@ number_of_name names k name word differs at same =
     ∙ ap (λ j. cond (nat_lt j (length names)) (Some j) None) (first_at names k name differs at)
     ∙ ap (λ b. cond b (Some k) None) (lt-ltb k (length names) (slice_get_within names k name at))
 
--- a name of these is a run, and a word of its bytes has its number
+-- each of these names is a run, and a word with its bytes has its number
 record IsDeclaredAt (declared : List Name) (k : ℕ) (name : Name) : Type 0 where
   a_run : IsRunOf name
   number : (word : tree.Name) → word.text ≡ name → IsNumberOf declared word k
@@ -143,7 +143,7 @@ name_got : {X : Type 0} (name : X → Name) (o : Option X) → is_some o ≡ tru
 name_got name None e = absurd (true≢false (sym e))
 name_got name (Some x) e = refl
 
--- ---- what is read of the writer's text
+-- ---- reading the writer's text
 
 -- from this offset on the text is gaps and the steps of this plan
 record ReadsFrom (task : Task) (start : ℕ) (text : List ℕ) (plan : List Instance) : Type 0 where
@@ -153,7 +153,7 @@ record ReadsFrom (task : Task) (start : ℕ) (text : List ℕ) (plan : List Inst
   in_steps : AreSteps (placed_from start parts) steps
   mean : AllMean task steps plan
 
--- from this offset on it is the names of these objects, a closing parenthesis, and gaps and the steps of this plan
+-- from this offset on it consists of the names of these objects, a closing parenthesis, and gaps and the steps of this plan
 record ObjectsFrom (task : Task) (start : ℕ) (text : List ℕ) (objects : List ℕ) (plan : List Instance) : Type 0 where
   parts : List Part
   cut : AreParts text parts
@@ -172,7 +172,7 @@ record ObjectsFrom (task : Task) (start : ℕ) (text : List ℕ) (objects : List
 abbrev alone : ℕ → Part
 alone byte = record { first = byte; others = [] }
 
--- nothing goes on with a part of one byte
+-- a part of one byte is not continued
 ends_blank : (text : List ℕ) → EndsBefore blank text
 ends_blank [] = tt
 ends_blank (byte ∷ text) = refl
@@ -202,7 +202,7 @@ module _ (task : Task) (schemas_named : are_lower_names (schema_names task) ≡ 
   ends_before_objects [] more = refl
   ends_before_objects (k ∷ objects) more = refl
 
-  -- where the lines that follow are read from any offset
+  -- if the lines that follow are read from any offset
   module _ (more : List ℕ) (plan : List Instance) (follow : (start : ℕ) → ReadsFrom task start more plan) where
     objects_read : (unions : List Union) (objects : List ℕ) → pointwise (is_of task) unions objects ≡ true → (start : ℕ)
         → ObjectsFrom task start (flat_map (object_text task) objects ++ 41 ∷ 10 ∷ more) objects plan
@@ -318,7 +318,7 @@ module _ (task : Task) (schemas_named : are_lower_names (schema_names task) ≡ 
               );
             }
 
-  -- the digits of a cost go on with a comment
+  -- the digits of a cost continue a comment
   digits_go_on : (k n : ℕ) (more : List ℕ) → list_all (goes_on comment) more ≡ true → list_all (goes_on comment) (digits_onto k 10 false n more) ≡ true
   digits_go_on zero n more all = all
   digits_go_on (suc k) n more all = by_last (n / 10 == 0) (digits_go_on k (n / 10) (digit_glyph false (n % 10) ∷ more))
@@ -352,7 +352,7 @@ module _ (task : Task) (schemas_named : are_lower_names (schema_names task) ≡ 
       subst (λ text. ReadsFrom task start text (i ∷ plan)) (sym (append_assoc (step_line task i) (flat_map (step_line task) plan) (cost_line cost)))
       (step_read (plan_text task plan cost) plan (plan_read plan both.1 cost) i both.0 start)
 
--- a plan's text that is no longer than a text may be reads as the plan
+-- the text of a plan, if it is within the limit, reads back as the plan
 pub reads_back : (task : Task) (plan : List Instance) (cost : ℕ) → IsTrue (has_names task) → IsTrue (list_all (is_instance task) plan) → length (plan_text task plan cost) ≤ longest_text
     → IsPlanText task (plan_text task plan cost) plan
 reads_back task plan cost named all short =

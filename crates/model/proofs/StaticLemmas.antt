@@ -1,4 +1,4 @@
--- An atom of a static predicate is true in a state that an action leads to exactly where it was true before.
+-- An atom of a static predicate is true after an action exactly if it was true before.
 use Rattle.std.proofs.Common.{◌≡◌, ℕ, zero, suc, Bool, true, false, ◌&&◌, ◌||◌, not, List, [], ◌∷◌, ◌++◌, Option, None, Some, refl, sym, ap, ◌∙◌}
 use Rattle.std.specs.Prelude.{◌==◌, slice_get, cond, if◌then◌else◌, filter, map}
 use Rattle.std.specs.Option.{option_and_then}
@@ -15,7 +15,7 @@ use Rattle.model.specs.Fluents.{is_literal_of, touches, any_touches, is_fluent, 
 use Rattle.model.specs.NumberedAtoms.{occurs_in, atom_of_literal}
 use Rattle.model.proofs.Atoms.{atoms_total, atoms_apart, same_state}
 
--- a ground atom of another predicate is another atom
+-- a ground atom with another predicate is another atom
 other_atom : (q : Atom) (a : LiftedAtom) (b : List ℕ) → (a.predicate == q.predicate) ≡ false → eq_by_cmp atom_cmp q (ground_atom b a) ≡ false
 other_atom q a b apart =
     false_from_ne_true (eq_by_cmp atom_cmp q (ground_atom b a)) (λ same. other same)
@@ -30,7 +30,7 @@ other_atom q a b apart =
 abbrev pub is_changed : Atom → List Change → Bool
 is_changed q changes = list_any (λ (c : Change). eq_by_cmp atom_cmp q (atom_of_literal c.literal)) changes
 
--- the changes of an effect that does not touch an atom's predicate are not of the atom
+-- an effect that does not touch an atom's predicate does not change the atom
 untouched_literal : (q : Atom) (l : EffectLiteral) (b : List ℕ) → is_literal_of q.predicate l ≡ false → eq_by_cmp atom_cmp q (atom_of_literal (ground_literal b l)) ≡ false
 untouched_literal q (add a) b apart = other_atom q a b apart
 untouched_literal q (delete a) b apart = other_atom q a b apart
@@ -68,7 +68,7 @@ mutual
 abbrev is_among : Atom → List GroundLiteral → Bool
 is_among q literals = list_any (λ l. eq_by_cmp atom_cmp q (atom_of_literal l)) literals
 
--- those whose condition holds are not of it either
+-- neither do those whose condition holds
 not_among : (task : Task) (s : State) (q : Atom) (changes : List Change) → is_changed q changes ≡ false → is_among q (literals_in task s changes) ≡ false
 not_among task s q [] none = refl
 not_among task s q (c ∷ changes) none =
@@ -97,7 +97,7 @@ and_or_nothing false = refl
 kept : (x y z : Bool) → y ≡ false → z ≡ false → ((x && not y) || z) ≡ x
 kept x y z ey ez = ap (λ v. (x && not v) || z) ey ∙ ap (λ v. (x && not false) || v) ez ∙ and_or_nothing x
 
--- what is true after some literals
+-- what is true after some literals take effect
 pub contains-after_literals : (s : State) (literals : List GroundLiteral) (q : Atom)
     → contains (after_literals s literals) q ≡ ((contains s q && not (occurs_in (deleted_by literals) q)) || occurs_in (added_by literals) q)
 contains-after_literals s literals q =
@@ -107,7 +107,7 @@ contains-after_literals s literals q =
     ∙ (λ i. contains-difference atoms_total s gone q i || contains-from_list atoms_total (added_by literals) q i)
     ∙ ap (λ b. (contains s q && not b) || occurs_in (added_by literals) q) (contains-from_list atoms_total (deleted_by literals) q)
 
--- literals that are not of an atom leave it as it is
+-- literals of other atoms leave an atom unchanged
 left_by_literals : (s : State) (q : Atom) (literals : List GroundLiteral) → is_among q literals ≡ false → contains (after_literals s literals) q ≡ contains s q
 left_by_literals s q literals none =
     contains-after_literals s literals q
@@ -162,7 +162,7 @@ pub or_false : (x : Bool) → (x || false) ≡ x
 or_false true = refl
 or_false false = refl
 
--- ---- a reachable state is its fluent atoms with the initial static ones
+-- ---- a reachable state consists of its fluent atoms and the initial static ones
 
 pub same_atom : (q a : Atom) → eq_by_cmp atom_cmp q a ≡ true → q ≡ a
 same_atom q a same = atoms_apart q a ((Equal-is (atom_cmp q a)).0 same)

@@ -1,4 +1,4 @@
--- What is statically false holds in no state with the initial static atoms.
+-- A statically false formula holds in no state with the initial static atoms.
 use Rattle.std.proofs.Common.{◌≡◌, ◌∙◌, ℕ, Bool, true, false, not, ◌&&◌, inl, inr, List, [], ◌∷◌, Option, None, Some, refl, sym, ap, true≢false}
 use Rattle.std.specs.Prelude.{Contains, slice_get, if◌then◌else◌}
 use Rattle.std.specs.List.{list_any, list_all}
@@ -14,14 +14,14 @@ use Rattle.model.proofs.SureLiteralsHold.{sure_literals_hold}
 use Rattle.model.proofs.ListLemmas.{Contains-filter, filter-Contains}
 use Rattle.model.proofs.InstancesLemmas.{Contains-all_instances, all_instances-Contains, is_instance-of_step}
 
--- a fixed literal says what it says at the start
+-- a fixed literal has the same truth value as initially
 fixed : (task : Task) (s : State) (l : Literal) → HasInitialStatics task s → is_fixed task l ≡ true → literal_holds s l ≡ literal_holds (initial_state task) l
 fixed task s (is_true a) statics is = statics a (not-true (is_fluent task a.predicate) is)
 fixed task s (is_false a) statics is = ap not (statics a (not-true (is_fluent task a.predicate) is))
 fixed task s (are_same a b) statics is = refl
 fixed task s (are_different a b) statics is = refl
 
--- they do not all hold where one is fixed and false at the start
+-- not all of them hold if one is fixed and initially false
 not_all_hold : (task : Task) (s : State) (ls : List Literal) → HasInitialStatics task s → list_all (literal_holds s) ls ≡ true
     → list_any (λ l. is_fixed task l && not (literal_holds (initial_state task) l)) ls ≡ true → ⊥
 not_all_hold task s [] statics all some = true≢false (sym some)
@@ -50,7 +50,7 @@ nowhere : (a b : Bool) (x : State) → b ≡ false → (if a && b then Some x el
 nowhere true b x is = ap (λ c. if c then Some x else None) is
 nowhere false b x is = refl
 
--- what has a value but is statically false, or has none
+-- what has a value but is statically false, or has no value
 cannot_be : (valued closed holding : Bool) → (closed ≡ true → holding ≡ false) → (valued && not closed) ≡ false → (valued && holding) ≡ false
 cannot_be true true holding fails is = fails refl
 cannot_be true false holding fails is = absurd (true≢false is)
@@ -67,7 +67,7 @@ statically_false_is_not_applicable task i s statics closed =
           (statically_false-fails task schema.precondition i.objects s statics) is)
     ] closed
 
--- so only a kept instance leads anywhere
+-- so only a kept instance is applicable
 pub Contains-kept : (task : Task) (s next : State) (i : Instance) → HasInitialStatics task s → step task s i ≡ Some next → Contains (kept_instances task) i
 Contains-kept task s next i statics leads =
     Contains-filter (is_kept task) (all_instances task) i (Contains-all_instances task i (is_instance-of_step task s i next leads))
@@ -76,6 +76,6 @@ Contains-kept task s next i statics leads =
       | inr closed ↦ let nowhere_at_all = statically_false_is_not_applicable task i s statics closed in absurd (cc)
     ])
 
--- and what is kept is an instance that is statically applicable
+-- and a kept instance is not statically inapplicable
 pub kept-Contains : (task : Task) (i : Instance) → Contains (kept_instances task) i → (is_instance task i ≡ true) × (is_kept task i ≡ true)
 kept-Contains task i at = let both = filter-Contains (is_kept task) (all_instances task) i at in (all_instances-Contains task i both.0, both.1)

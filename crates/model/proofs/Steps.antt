@@ -1,4 +1,4 @@
--- Where an action leads, and what is true after some changes: in a form that computes on a written task.
+-- The result of an action, and what is true after some changes: in a form that computes on a given task.
 use Rattle.std.specs.Prelude.{◌≡◌, ℕ, Bool, true, false, not, cond, ◌&&◌, ◌||◌, nat_eq, List, [], ◌∷◌, ◌++◌, map, filter, slice_get, None, Some, refl}
 use Rattle.std.proofs.Common.{◌∙◌, ap}
 use Rattle.std.specs.List.{list_all, list_any}
@@ -10,7 +10,7 @@ use Rattle.model.specs.Task as task
 use Rattle.model.specs.Meaning.{State, atom_cmp, object_of, objects_of, ground_atom, GroundLiteral, Change, literals_in, added_by, deleted_by, after_changes, fits, can_apply, holds, all_hold, some_holds, changes_of, step}
 use Rattle.model.proofs.Atoms.{atoms_total}
 
--- ---- whether a formula holds where these atoms are true
+-- ---- whether a formula holds if these atoms are true
 
 abbrev mutual
   pub holds_where : Task → (Atom → Bool) → Formula → List ℕ → Bool
@@ -32,7 +32,7 @@ abbrev mutual
   some_holds_where t is_true (more_formulas first rest) binding = holds_where t is_true first binding || some_holds_where t is_true rest binding
 
 mutual
-  -- it is what holds in the state of these atoms
+  -- a formula holds in a state exactly if it holds where the state's atoms are true
   pub holds-where : (t : Task) (f : Formula) (binding : List ℕ) (s : State) → holds t f binding s ≡ holds_where t (contains s) f binding
   holds-where t (atom a) binding s = refl
   holds-where t (equal u v) binding s = refl
@@ -53,12 +53,12 @@ mutual
 
 -- ---- what is true after some changes
 
--- the literals of the changes whose condition holds where these atoms are true
+-- the literals of the changes whose conditions hold if these atoms are true
 abbrev pub literals_where : Task → (Atom → Bool) → List Change → List GroundLiteral
 literals_where t is_true changes =
     map (λ (c : Change). c.literal) (filter (λ (c : Change). holds_where t is_true c.condition c.binding) changes)
 
--- the state after some effects' changes, the last first
+-- the state after the changes of some effects, the last first
 abbrev pub state_after : Task → List Atom → List (List Change) → State
 state_after t init [] = from_list init
 state_after t init (changes ∷ earlier) = after_changes t (state_after t init earlier) changes
@@ -96,7 +96,7 @@ pub holds-after : (t : Task) (init : List Atom) (changes : List (List Change)) (
 holds-after t init changes f binding =
     holds-where t f binding (state_after t init changes) ∙ (λ i. holds_where t (λ q. contains-state_after t init changes q i) f binding)
 
--- ---- where an action leads
+-- ---- the result of an action
 
 module _ (t : Task) (s : State) (a : Instance) (schema : Schema) (is : slice_get t.schemas a.schema ≡ Some schema) (fit : fits t schema a.objects ≡ true) where
   step_of_schema : step t s a ≡ cond (can_apply t schema a.objects s) (Some (after_changes t s (changes_of t schema.effect a.objects))) None
@@ -104,10 +104,10 @@ module _ (t : Task) (s : State) (a : Instance) (schema : Schema) (is : slice_get
       ap (option_and_then (λ found. cond (fits t found a.objects && can_apply t found a.objects s) (Some (after_changes t s (changes_of t found.effect a.objects))) None)) is
       ∙ ap (λ b. cond (b && can_apply t schema a.objects s) (Some (after_changes t s (changes_of t schema.effect a.objects))) None) fit
 
-  -- where the schema can be carried out
+  -- if the schema is applicable
   pub leads : can_apply t schema a.objects s ≡ true → step t s a ≡ Some (after_changes t s (changes_of t schema.effect a.objects))
   leads holding = step_of_schema ∙ ap (λ b. cond b (Some (after_changes t s (changes_of t schema.effect a.objects))) None) holding
 
-  -- where it does not
+  -- if it is not
   pub leads_nowhere : can_apply t schema a.objects s ≡ false → step t s a ≡ None
   leads_nowhere failing = step_of_schema ∙ ap (λ b. cond b (Some (after_changes t s (changes_of t schema.effect a.objects))) None) failing

@@ -1,4 +1,4 @@
--- Where a formula holds, its sure literals do.
+-- If a formula holds, its sure literals hold.
 use Rattle.std.proofs.Common.{◌≡◌, ℕ, Bool, true, List, [], ◌∷◌, ◌++◌, refl, ◌∙◌}
 use Rattle.std.specs.List.{flat_map, list_all}
 use Rattle.std.specs.FinSet.{contains}
@@ -10,11 +10,11 @@ use Rattle.model.specs.Task.{Task, Formula, Formulas, atom, equal, and, or, not,
 use Rattle.model.specs.Meaning.{State, object_of, objects_of, ground_atom, holds, all_hold}
 use Rattle.model.specs.SureLiterals.{literal_holds, sure_not, sure, all_sure, SureLiteralsHold}
 
--- all pass in two lists in turn
+-- all elements of two lists pass
 both_pass : {X : Type 0} (test : X → Bool) (first rest : List X) → list_all test first ≡ true → list_all test rest ≡ true → list_all test (first ++ rest) ≡ true
 both_pass test first rest left right = list_all-append test first rest ∙ and_from (list_all test first) (list_all test rest) left right
 
--- all pass of what is given for each of these
+-- all elements of the lists for each of these pass
 each_passes : {X Y : Type 0} (test : Y → Bool) (of : X → List Y) (holds : X → Bool) → ((x : X) → holds x ≡ true → list_all test (of x) ≡ true)
     → (xs : List X) → list_all holds xs ≡ true → list_all test (flat_map of xs) ≡ true
 each_passes test of holds each [] all = refl
@@ -22,7 +22,7 @@ each_passes test of holds each (x ∷ xs) all =
     let parts = and_parts (holds x) (list_all holds xs) all in
     both_pass test (of x) (flat_map of xs) (each x parts.0) (each_passes test of holds each xs parts.1)
 
--- the literal of an atom, or of an equality, that does not hold
+-- the literal for an atom, or an equality, that does not hold
 sure_not_hold : (task : Task) (part : Formula) (binding : List ℕ) (state : State) → bool.not (holds task part binding state) ≡ true → list_all (literal_holds state) (sure_not part binding) ≡ true
 sure_not_hold task (atom a) binding state is = and_from (bool.not (contains state (ground_atom binding a))) true is refl
 sure_not_hold task (equal t u) binding state is = and_from (bool.not (nat_eq (object_of binding t) (object_of binding u))) true is refl
@@ -34,7 +34,7 @@ sure_not_hold task (exists types part) binding state is = refl
 sure_not_hold task (forall types part) binding state is = refl
 
 mutual
-  -- where a formula holds, its sure literals do
+  -- if a formula holds, its sure literals hold
   pub sure_literals_hold : SureLiteralsHold
   sure_literals_hold task (atom a) binding state is = and_from (contains state (ground_atom binding a)) true is refl
   sure_literals_hold task (equal t u) binding state is = and_from (nat_eq (object_of binding t) (object_of binding u)) true is refl
@@ -47,7 +47,7 @@ mutual
       each_passes (literal_holds state) (λ one. sure task part (binding ++ one ∷ [])) (λ one. holds task part (binding ++ one ∷ []) state)
       (λ one here. sure_literals_hold task part (binding ++ one ∷ []) state here) (objects_of task types) is
 
-  -- those of its parts
+  -- the sure literals of its parts
   all_sure_hold : (task : Task) (parts : Formulas) (binding : List ℕ) (state : State) → all_hold task parts binding state ≡ true → list_all (literal_holds state) (all_sure task parts binding) ≡ true
   all_sure_hold task no_formula binding state is = refl
   all_sure_hold task (more_formulas first rest) binding state is =

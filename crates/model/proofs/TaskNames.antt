@@ -1,5 +1,5 @@
--- The names of each task that files make can be written and read back: they are names of words, folded to lower case,
--- and no two are the same, since a name that is declared twice is a fault.
+-- The names of each task read from files can be written and read back: they are names of words, folded to lower case, and all
+-- different, since a name declared twice is a fault.
 use Rattle.std.proofs.Common.{◌≡◌, ℕ, ◌+◌, ◌≤◌, inl, inr, Bool, true, false, not, ◌&&◌, List, [], ◌∷◌, length, map, Some, refl, sym, ap, ◌∙◌, subst, arith}
 use Rattle.std.specs.Prelude.{IsTrue, nat_le, if◌then◌else◌}
 use Rattle.std.specs.Char.{is_ascii_alphabetic, to_ascii_lowercase}
@@ -33,7 +33,7 @@ use Rattle.model.proofs.TypingFaultsRepeats.{repeated_first, repeated_later}
 
 -- ---- a name in lower case
 
--- a letter stays one in lower case, a byte of a name too, and so a name
+-- a letter stays a letter in lower case, and so does a byte of a name, and a name
 lower_letter : (byte : ℕ) → is_ascii_alphabetic byte ≡ true → is_ascii_alphabetic (to_ascii_lowercase byte) ≡ true
 lower_letter byte letter = grind (arith, nat_tests)
 
@@ -47,7 +47,7 @@ lower_is_name (byte ∷ others) h =
     let rest = passes_map is_name_byte to_ascii_lowercase others ∙ passes_weaker is_name_byte (λ b. is_name_byte (to_ascii_lowercase b)) lower_name_byte others both.1 in
     λ i. lower_letter byte both.0 i && rest i
 
--- what is in lower case stays as it is
+-- what is in lower case is unchanged by folding
 lower_stays : (text : List ℕ) → map to_ascii_lowercase (map to_ascii_lowercase text) ≡ map to_ascii_lowercase text
 lower_stays [] = refl
 lower_stays (byte ∷ text) = λ i. lowercase-lowercase byte i ∷ lower_stays text i
@@ -60,7 +60,7 @@ lower_name text named short =
     let within : nat_le (length lower) longest_run ≡ true = le-leb (length lower) longest_run (omega (arith, length-map text to_ascii_lowercase)) in
     λ i. (lower_is_name text named i && same i) && within i
 
--- ---- the names among words
+-- ---- names among words
 
 -- a name of a tree whose bytes, folded, are a name in lower case
 abbrev has_lower_name : tree.Name → Bool
@@ -75,7 +75,7 @@ named_run words.closing text e = absurd (cc)
 named_run words.stray text e = absurd (cc)
 named_run words.run text e = (refl, grind arith)
 
--- the name that a token is made of is the token's
+-- the name that a token is made from is the token's
 named_keeps : (text : List ℕ) (n : tree.Name) → name_in (named text n) ≡ Some n
 named_keeps text n = grind arith
 
@@ -108,12 +108,12 @@ words_named start (part ∷ parts) [] in_turn = refl
 words_named start (part ∷ parts) (w ∷ ws) (inl (gap, rest)) = words_named (start + size part) parts (w ∷ ws) rest
 words_named start (part ∷ parts) (w ∷ ws) (inr (at, rest)) = λ i. word_named start part w at i && words_named (start + size part) parts ws rest i
 
--- ---- names that differ
+-- ---- distinct names
 
 abbrev folded_word : Placed → Name
 folded_word w = folded w.word
 
--- where no word is repeated, none is the same as the first
+-- if no word is repeated, none equals the first
 first_differs : (v : Placed) (ws : List Placed) → ((w : Placed) → IsRepeated (v ∷ ws) w → ⊥) → not (list_any (is_same (folded_word v)) (map folded_word ws)) ≡ true
 first_differs v ws none = by_test (list_any (is_same (folded_word v)) (map folded_word ws)) refl
   where
@@ -125,20 +125,20 @@ first_differs v ws none = by_test (list_any (is_same (folded_word v)) (map folde
         let text : folded_word v ≡ folded_word there.0 = same_text (folded_word v) same.1 (sym same.4) ∙ sym there.2 in
         absurd (none there.0 (repeated_first v ws there.0 there.1 (ap (is_same (folded_word there.0)) text ∙ nat_list_eq_equiv.refl (folded_word there.0))))
 
--- where no word is repeated the names differ
+-- if no word is repeated, the names are distinct
 differ_unrepeated : (ws : List Placed) → ((w : Placed) → IsRepeated ws w → ⊥) → differ (map folded_word ws) ≡ true
 differ_unrepeated [] none = refl
 differ_unrepeated (v ∷ ws) none =
     let later = differ_unrepeated ws (λ w r. none w (repeated_later v ws w r)) in
     λ i. first_differs v ws none i && later i
 
--- words whose names, folded, are in lower case, and of which none is repeated
+-- words whose folded names are in lower case, and of which none is repeated
 names_of_words : (ws : List Placed) → list_all (λ (w : Placed). has_lower_name w.word) ws ≡ true → ((w : Placed) → IsRepeated ws w → ⊥) → are_lower_names (map folded_word ws) ≡ true
 names_of_words ws named none = let lower = passes_map is_lower_name folded_word ws ∙ named in λ i. lower i && differ_unrepeated ws none i
 
 -- ---- the task's names
 
--- what a file's typed lists declare
+-- the declarations in a file's typed lists
 declared_named : (file : TaskFile) (groups : List Group) → list_all has_lower_name (names_of groups) ≡ true → list_all (λ (x : Declared). has_lower_name x.name) (declared file groups) ≡ true
 declared_named file [] named = refl
 declared_named file (g ∷ groups) named =
@@ -177,11 +177,11 @@ module _ (domain problem : List ℕ) (task : Task) (is : IsTaskOf domain problem
   task_objects_named : are_lower_names (object_names (task_of_trees is.domain_tree is.problem_tree)) ≡ true
   task_objects_named = objects_named is.domain_tree is.problem_tree is.well_typed in_domain.0 in_problem
 
-  -- the names of a task that files make can be written and read back
+  -- the names of a task read from files can be written and read back
   pub task_has_names : IsTrue (has_names task)
   task_has_names = subst (λ u. has_names u ≡ true) (sym is.resolved) (λ i. schemas_named is.domain_tree is.problem_tree is.well_typed in_domain.1 i && task_objects_named i)
 
-  -- and those of its atoms
+  -- and so can those of its atoms
   pub task_has_atom_names : IsTrue (are_lower_names (names_of_predicates task.predicates) && are_lower_names (object_names task))
   task_has_atom_names =
       subst (λ (u : Task). (are_lower_names (names_of_predicates u.predicates) && are_lower_names (object_names u)) ≡ true) (sym is.resolved)

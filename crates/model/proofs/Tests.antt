@@ -1,4 +1,4 @@
--- Lists of which each element passes a test, element by element.
+-- Lists all of whose elements pass a test, element by element.
 use Rattle.std.specs.Prelude.{◌≡◌, ℕ, ◌+◌, ◌≤◌, ◌<◌, Bool, true, false, ◌&&◌, List, [], ◌∷◌, length, map, take, slice_get, Some, refl}
 use Rattle.std.proofs.Common.{zero, suc, sym, ◌∙◌, ap, subst, get_or, true≢false}
 use Rattle.std.specs.Cmp.{first_so, second_so}
@@ -12,7 +12,7 @@ module _ {X : Type 0} (p : X → Bool) where
   passes_or_not true c f e = refl
   passes_or_not false c f e = absurd (true≢false (sym e ∙ f refl))
 
-  -- an element of a list of which each element passes
+  -- an element of a list all of whose elements pass
   pub passes_index : (xs : List X) (i : ℕ) (d : X) → i < length xs → list_all p xs ≡ true → p (get_or xs i d) ≡ true
   passes_index xs i d lt all = passes_or_not (p (get_or xs i d)) (list_all p xs) (list_all_at p xs i d lt) all
 
@@ -34,7 +34,7 @@ module _ {X : Type 0} (p : X → Bool) where
   pub passes_not : (xs : List X) (i : ℕ) (x : X) → i < length xs → x ≡ get_or xs i x → p x ≡ false → false ≡ list_all p xs
   passes_not xs i x lt at here = sym (list_all_at p xs i x lt (subst (λ y. p y ≡ false) at here))
 
-  -- all elements passed
+  -- all elements have passed
   pub passes_whole : (xs : List X) (i : ℕ) → length xs ≤ i → list_all p (take i xs) ≡ true → true ≡ list_all p xs
   passes_whole xs i past before = sym before ∙ ap (list_all p) (take_all i xs past)
 
@@ -48,7 +48,7 @@ passes_weaker p q weaker [] all = refl
 passes_weaker p q weaker (x ∷ xs) all =
     λ i. weaker x (first_so (p x) (list_all p xs) all) i && passes_weaker p q weaker xs (second_so (p x) (list_all p xs) all) i
 
--- an element that a look-up found
+-- an element found by a look-up
 pub passes_got : {X : Type 0} (p : X → Bool) (xs : List X) (k : ℕ) (x : X) → slice_get xs k ≡ Some x → list_all p xs ≡ true → p x ≡ true
 passes_got p [] k x got all = absurd (none-some x got)
 passes_got p (y ∷ xs) zero x got all = ap p (sym (same_Some y x got)) ∙ first_so (p y) (list_all p xs) all

@@ -1,5 +1,5 @@
--- A type descends from those on its chain of parents, and from no others: a chain of as many types as there are reports
--- whether it does.
+-- The ancestors of a type are exactly the types on its chain of parents: a chain of as many steps as there are types decides
+-- ancestry.
 use Rattle.std.proofs.Common.{◌≡◌, ℕ, ◌<◌, ◌≤◌, Bool, true, false, ◌||◌, List, [], ◌∷◌, length, slice_get, slice_index, nat_eq, Some, refl, ap, sym, subst, ◌∙◌, arith, zero, suc, true≢false, ◌⊎◌, inl, inr}
 use Rattle.std.specs.List.{list_any, AllByRecursion, IsDistinct}
 use Rattle.std.proofs.lemmas.Bool.Decides.{nat_tests}
@@ -53,7 +53,7 @@ low_or_not (suc a) (suc b) = elim (low_or_not a b) [
   | inr l ↦ inr (omega (arith, l))
 ]
 
--- only `object` is above `object`
+-- only `object` is an ancestor of `object`
 above_object : (parents : List ℕ) (steps x : ℕ) → among x (chain parents steps zero) ≡ true → x ≡ 0
 above_object parents zero x on = absurd (true≢false (sym on))
 above_object parents (suc steps) x on = elim (or_cases (nat_eq x 0) false on) [
@@ -67,7 +67,7 @@ module _ (parents : List ℕ) where
   own steps zero = refl
   own steps (suc type) = ap (λ b. b || among (suc type) (chain parents steps (slice_index parents (suc type)))) (same_true (suc type))
 
-  -- where `object` is its own parent, what a type descends from is on its chain
+  -- if `object` is its own parent, the ancestors of a type are on its chain
   pub on_chain : slice_get parents 0 ≡ Some 0 → (type above : ℕ) → Descends parents type above → (steps : ℕ) × (among above (chain parents steps type) ≡ true)
   on_chain root type above (itself same) = (1, own 0 same)
   on_chain root type above (by_parent lower parent higher is up) = by lower is (on_chain root parent higher up)
@@ -79,7 +79,7 @@ module _ (parents : List ℕ) where
         or_right (nat_eq higher (suc k)) _ (subst (λ t. among higher (chain parents found.0 t) ≡ true) (sym (got_index parents (suc k) parent is).0) found.1),
       )
 
-  -- and the other way, of what is not `object`
+  -- and the converse, except for `object`
   descends : (steps type above : ℕ) → 0 < above → among above (chain parents steps type) ≡ true → Descends parents type above
   descends zero type above positive on = absurd (true≢false (sym on))
   descends (suc steps) zero above positive on = absurd (omega (arith, positive, above_object parents (suc steps) above on))
@@ -97,10 +97,10 @@ module _ (parents : List ℕ) where
       by (inl same) up = subst (λ t. Descends parents t above) (eqb-true above (suc type) same) (itself above)
       by (inr later) up = beyond (low_or_not (suc type) (length parents)) later (up later)
 
-  -- ---- a chain of as many types as there are has all that are above
+  -- ---- a chain of as many steps as there are types has all ancestors
 
-  -- Where a type is on the chain of its parent, another that is on a chain is on a part of it that does not come
-  -- back, or on a shorter chain of the parent.
+  -- If a type is on the chain of its parent, another type on a chain is on a part of it without repetition, or on a shorter chain
+  -- of the parent.
   shorter : (type x most steps lower : ℕ) → among (suc type) (chain parents most lower) ≡ true → among x (chain parents steps lower) ≡ true
       → (among x (chain parents most lower) ≡ true) ⊎ ((fewer : ℕ) × (fewer < steps) × (among x (chain parents fewer (slice_index parents (suc type))) ≡ true))
   shorter type x zero steps lower back on = absurd (true≢false (sym back))
@@ -125,7 +125,7 @@ module _ (parents : List ℕ) where
         | inr far ↦ inr (far.0, omega (arith, far.1), far.2)
       ]
 
-  -- so the chain of the parent has all that are above it
+  -- so the chain of the parent has all its ancestors
   comes_round : (type x most bound steps : ℕ) → steps ≤ bound → among (suc type) (chain parents most (slice_index parents (suc type))) ≡ true
       → among x (chain parents steps (slice_index parents (suc type))) ≡ true → among x (chain parents most (slice_index parents (suc type))) ≡ true
   comes_round type x most zero steps l back on =
@@ -136,11 +136,11 @@ module _ (parents : List ℕ) where
     | inr far ↦ comes_round type x most bound far.0 (omega (arith, l, far.1)) back far.2
   ]
 
-  -- the chain has all that are above the type
+  -- the chain has all ancestors of the type
   abbrev IsWhole : ℕ → ℕ → Type 0
   IsWhole most type = (steps x : ℕ) → among x (chain parents steps type) ≡ true → among x (chain parents most type) ≡ true
 
-  -- the types on a chain differ, or it is whole
+  -- the types on a chain are distinct, or it is whole
   apart_or_whole : (most type : ℕ) → IsDistinct nat_eq (chain parents most type) ⊎ IsWhole most type
   apart_or_whole zero type = inl distinct_none
   apart_or_whole (suc most) zero = inl (distinct_more 0 [] refl distinct_none)
@@ -165,13 +165,13 @@ module _ (parents : List ℕ) where
       by (inl apart) = by_back apart (among (suc type) (chain parents most next)) refl
       by (inr rest) = inr (whole rest)
 
-  -- the numbers of types but `object`, and so many of them
+  -- the numbers of types other than `object`, and this many of them
   record AreTypes (most : ℕ) (xs : List ℕ) : Type 0 where
     pub count : length xs ≡ most
     pub no_object : among 0 xs ≡ false
     pub low : (x : ℕ) → among x xs ≡ true → x < length parents
 
-  -- a chain on which a type above does not occur has as many types as steps, and is not at its end
+  -- a chain that lacks an ancestor has as many types as steps, and has not ended
   goes_on : (above most steps type : ℕ) → 0 < above → among above (chain parents steps type) ≡ true → among above (chain parents most type) ≡ false → AreTypes most (chain parents most type)
   goes_on above zero steps type positive on off = record { count = refl; no_object = refl; low = λ x none. absurd (true≢false (sym none)) }
   goes_on above (suc most) zero type positive on off = absurd (true≢false (sym on))
@@ -202,7 +202,7 @@ module _ (parents : List ℕ) where
         | inr high ↦ absurd (omega (arith, positive, above_object parents steps above (subst (λ t. among above (chain parents steps t) ≡ true) (past parents (suc type) high) later)))
       ]
 
-  -- so what is above a type, and is not `object`, is on its chain of as many types as there are
+  -- so an ancestor other than `object` is on the chain of as many steps as there are types
   on_whole_chain : (above steps type : ℕ) → 0 < above → 0 < length parents → among above (chain parents steps type) ≡ true → among above (chain parents (length parents) type) ≡ true
   on_whole_chain above steps type positive some on = by (among above (chain parents (length parents) type)) refl
     where
@@ -221,16 +221,16 @@ module _ (parents : List ℕ) where
       by true is = is
       by false is = full is (goes_on above (length parents) steps type positive on is) (apart_or_whole (length parents) type)
 
--- ---- a type that descends from itself
+-- ---- a type that is its own ancestor
 
--- its chain comes back to it
+-- it is on the chain of its parent
 pub comes_back_from : (parents : List ℕ) → slice_get parents 0 ≡ Some 0 → (type : ℕ) → 0 < type → DescendsFromItself parents type → comes_back parents type ≡ true
 comes_back_from parents root type positive back =
     let found = on_chain parents root back.parent type back.descends in
     let at = got_index parents type back.parent back.is_parent in
     on_whole_chain parents type found.0 (slice_index parents type) positive (omega (arith, at.1)) (subst (λ t. among type (chain parents found.0 t) ≡ true) (sym at.0) found.1)
 
--- and the other way
+-- and the converse
 pub descends_from_itself : (parents : List ℕ) (type : ℕ) → 0 < type → type < length parents → comes_back parents type ≡ true → DescendsFromItself parents type
 descends_from_itself parents type positive low back = record {
   parent = slice_index parents type;

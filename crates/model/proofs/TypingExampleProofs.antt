@@ -1,4 +1,4 @@
--- What the definitions of typing say of the worked examples: each computes.
+-- The worked examples of typing: each computes.
 use Rattle.std.proofs.Common.{◌≡◌, zero, suc, Bool, true, false, not, ◌&&◌, ◌||◌, List, [], ◌∷◌, refl, sym, subst, ◌∙◌, arith}
 use Rattle.std.specs.Prelude.{All, Contains}
 use Rattle.std.specs.List.{list_all}
@@ -21,7 +21,7 @@ and_true : (b : Bool) → (b && true) ≡ b
 and_true true = refl
 and_true false = refl
 
--- ---- where the lists of faults compute, the table says so
+-- ---- if the lists of faults compute, the table agrees
 
 -- no fault of these is before this one
 none_before : (first : TypingFault) (faults : List TypingFault) → list_all (λ g. not (is_before g first)) faults ≡ true → All (λ g. is_before g first ≡ false) faults

@@ -1,4 +1,4 @@
--- The faults of typing that are listed and those of the table of faults: how lists of faults are put together.
+-- The listed faults of typing and those of the table of faults: how lists of faults are put together.
 use Rattle.std.proofs.Common.{◌≡◌, ℕ, zero, suc, inl, inr, Bool, true, false, List, [], ◌∷◌, ◌++◌, Some, map, refl, sym, ap, ◌∙◌, subst}
 use Rattle.std.specs.Prelude.{Contains, slice_get, if◌then◌else◌}
 use Rattle.std.specs.List.{flat_map}
@@ -10,13 +10,13 @@ use Rattle.model.specs.Typing.{Declared, Placed, TypingFault, declared, declared
 use Rattle.model.specs.TypingFaults.{HasType, type_words}
 use Rattle.model.proofs.ListLemmas.{Contains-here, Contains-cases, Contains-none, Contains-map, map-Contains, Contains-flat_map, flat_map-Contains}
 
--- the fault that refuses the word by the number
+-- the fault that refuses the word with the number
 abbrev pub fault_at : ℕ → Placed → TypingFault
 fault_at code w = record { file = w.file; fault = record { code = code; span = w.word.span } }
 
--- ---- each fault of a list is of the table
+-- ---- each fault of a list is in the table
 
--- a number and a word of the table, and the fault is theirs
+-- a number and a word of the table, and their fault
 pub record Reports (table : ℕ → Placed → Type 0) (f : TypingFault) : Type 0 where
   pub code : ℕ
   pub word : Placed
@@ -31,7 +31,7 @@ pub record AllReport (table : ℕ → Placed → Type 0) (faults : List TypingFa
 pub none_detects : {table : ℕ → Placed → Type 0} → AllReport table []
 none_detects = record { reports = λ f at. absurd (Contains-none f at) }
 
--- the faults of two lists in turn
+-- the faults of two lists in sequence
 pub both_report : {table : ℕ → Placed → Type 0} {first rest : List TypingFault} → AllReport table first → AllReport table rest → AllReport table (first ++ rest)
 both_report {table} {first} {rest} left right = record {
   reports = λ f at. elim (Contains-append_cases first rest f at) [
@@ -55,19 +55,19 @@ flat_map_report {X} {table} of xs each = record {
   reports = λ f at. let there = flat_map-Contains of xs f at in (each there.0 there.1).reports f there.2;
 }
 
--- words that are refused by one number
+-- words refused with the same number
 pub refused_report : {table : ℕ → Placed → Type 0} (code : ℕ) (words : List Placed) → ((w : Placed) → Contains words w → table code w) → AllReport table (refused code words)
 refused_report {table} code words each = record {
   reports = λ f at. let there = map-Contains (fault_at code) words f at in record { code = code; word = there.0; is_fault = each there.0 there.1; is = there.2 };
 }
 
--- a word that is refused where a test fails
+-- a word refused if a test fails
 pub unless_reports : {table : ℕ → Placed → Type 0} (test : Bool) (code : ℕ) (w : Placed) → (test ≡ false → table code w)
     → AllReport table (if test then [] else fault_at code w ∷ [])
 unless_reports true code w fault = none_detects
 unless_reports false code w fault = one_reports code w (fault refl)
 
--- and where it passes
+-- and if it passes
 pub when_reports : {table : ℕ → Placed → Type 0} (test : Bool) (code : ℕ) (w : Placed) → (test ≡ true → table code w)
     → AllReport table (if test then fault_at code w ∷ [] else [])
 when_reports true code w fault = one_reports code w (fault refl)
@@ -99,7 +99,7 @@ pub when_listed : (test : Bool) (f : TypingFault) → test ≡ true → Contains
 when_listed true f is = Contains-here f []
 when_listed false f is = absurd (cc)
 
--- a word that is refused by one number
+-- a word refused with one number
 pub refused_listed : (code : ℕ) (words : List Placed) (w : Placed) → Contains words w → Contains (refused code words) (fault_at code w)
 refused_listed code words w at = Contains-map (fault_at code) words w at
 
@@ -135,21 +135,21 @@ HasType-group file groups w (x, among, at) =
     let made = map-Contains (λ (name : Name). let y : Declared = record { file = file; name = name; types = there.0.types } in y) there.0.names x there.2 in
     (there.0, there.1, made.0, made.1, subst (λ y. Contains (type_words y) w) (sym made.2) at)
 
--- and the other way
+-- and the converse
 pub group-HasType : (file : TaskFile) (groups : List Group) (w : Placed) (g : Group) (name : Name) → Contains groups g → Contains g.names name → Contains (map (placed file) g.types) w
     → HasType (declared file groups) w
 group-HasType file groups w g name among named at =
     let x : Declared = record { file = file; name = name; types = g.types } in
     (x, Contains-flat_map (declared_in_group file) groups g x among (Contains-map (λ (name : Name). let y : Declared = record { file = file; name = name; types = g.types } in y) g.names name named), at)
 
--- the word that comes after so many
+-- the word after this many
 pub Contains-one_after : (count : ℕ) (words : List Placed) (w : Placed) → slice_get words count ≡ Some w → Contains (one_after count words) w
 Contains-one_after zero [] w at = absurd (cc)
 Contains-one_after (suc count) [] w at = absurd (cc)
 Contains-one_after zero (v ∷ words) w at = let same : v ≡ w = cc in subst (λ u. Contains (u ∷ []) w) (sym same) (Contains-here w [])
 Contains-one_after (suc count) (v ∷ words) w at = Contains-one_after count words w at
 
--- and the other way
+-- and the converse
 pub one_after-Contains : (count : ℕ) (words : List Placed) (w : Placed) → Contains (one_after count words) w → slice_get words count ≡ Some w
 one_after-Contains zero [] w at = absurd (Contains-none w at)
 one_after-Contains (suc count) [] w at = absurd (Contains-none w at)

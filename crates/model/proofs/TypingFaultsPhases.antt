@@ -1,4 +1,4 @@
--- The faults that are listed of a phase are those that the table has of it.
+-- The listed faults of a phase are those of the table.
 use Rattle.std.proofs.Common.{◌≡◌, ◌≢◌, ℕ, zero, suc, ◌+◌, ◌<◌, length, inl, inr, Bool, true, false, not, ◌||◌, true≢false, List, [], ◌∷◌, ◌++◌, map, fold, drop, Option, None, Some, refl, sym, ap, ◌∙◌, subst, arith}
 use Rattle.std.specs.Prelude.{Contains, codes, slice_get, ◌==◌, if◌then◌else◌}
 use Rattle.std.specs.List.{flat_map, list_any}
@@ -45,7 +45,7 @@ later-Contains (first ∷ rest) x at =
     next : (place : ℕ) → suc place ≡ place + 1
     next place = omega arith
 
--- and the other way
+-- and the converse
 Contains-later : {X : Type 0} (xs : List X) (place : ℕ) (x : X) → slice_get xs (place + 1) ≡ Some x → Contains (drop 1 xs) x
 Contains-later [] place x at = absurd (cc)
 Contains-later (first ∷ rest) place x at =
@@ -66,7 +66,7 @@ map_of_later f (first ∷ rest) place x at = Contains-map f rest x (Contains-lat
 
 -- ---- cycles of types
 
--- these types follow those that have lower numbers, and `object` is its own parent
+-- these types have consecutive numbers after those with lower ones, and `object` is its own parent
 record AreNumbered (parents : List ℕ) (number : ℕ) (xs : List Declared) : Type 0 where
   pub count : length parents ≡ number + length xs
   pub positive : 0 < number
@@ -75,11 +75,11 @@ record AreNumbered (parents : List ℕ) (number : ℕ) (xs : List Declared) : Ty
 after_first : (parents : List ℕ) (number : ℕ) (x : Declared) (xs : List Declared) → AreNumbered parents number (x ∷ xs) → AreNumbered parents (number + 1) xs
 after_first parents number x xs are = record { count = omega (arith, are.count); positive = omega (arith, are.positive); root = are.root }
 
--- the types of the domain do, from 1 on
+-- the types of the domain have, from 1 on
 types_numbered : (d : Domain) → AreNumbered (parents_of d) 1 (declared_types d)
 types_numbered d = record { count = omega (arith, length-map (declared_types d) (λ (x : Declared). type_in (type_names d) x.types)); positive = omega arith; root = refl }
 
--- a type that descends from itself, where the first of the declarations has this number
+-- a type that is its own ancestor, if the first of the declarations has this number
 cycles_report : {table : ℕ → Placed → Type 0} (parents : List ℕ) (number : ℕ) (xs : List Declared) → AreNumbered parents number xs
     → ((place : ℕ) (w : Placed) → slice_get (words_of xs) place ≡ Some w → DescendsFromItself parents (place + number) → table 15 w)
     → AllReport table (cycle_faults_from parents number xs)
@@ -95,7 +95,7 @@ cycles_report {table} parents number (x ∷ xs) are fault =
     next : (place : ℕ) → place + (number + 1) ≡ suc place + number
     next place = omega arith
 
--- and the other way
+-- and the converse
 cycle_listed : (parents : List ℕ) (number : ℕ) (xs : List Declared) → AreNumbered parents number xs → (place : ℕ) (w : Placed) → slice_get (words_of xs) place ≡ Some w → DescendsFromItself parents (place + number)
     → Contains (cycle_faults_from parents number xs) (fault_at 15 w)
 cycle_listed parents number [] are place w at back = absurd (cc)
@@ -111,7 +111,7 @@ cycle_listed parents number (x ∷ xs) are (suc place) w at back =
 
 -- ---- values of functions
 
--- the values of some facts, and then of others
+-- the values of some facts, followed by others
 pub values_after-append : (known : Known) (given : List task.FunctionValue) (first rest : List tree.Fact)
     → values_after known given (first ++ rest) ≡ values_after known (values_after known given first) rest
 values_after-append known given first rest =
@@ -138,7 +138,7 @@ differing_is given v other = by_value (value_in given v.function) refl other
 abbrev value_of : Known → tree.InitialValue → task.FunctionValue
 value_of known v = record { function = atom_in (in_function known) v.function; value = v.value }
 
--- a fact gives another value than those before it, where its value differs
+-- a fact gives another value than those before it, if its value differs
 other_value_given : (known : Known) (facts before : List tree.Fact) (v : tree.InitialValue) (after : List tree.Fact) → facts ≡ before ++ tree.initial_value v ∷ after
     → list_any (differing (values_after known [] before)) (values_in known (tree.initial_value v)) ≡ true → IsOtherValue known facts v
 other_value_given known facts before v after is other = by_named (is_named (in_function known) v.function) refl other
@@ -160,9 +160,9 @@ other_value_given known facts before v after is other = by_named (is_named (in_f
           differs = d.differs;
         }
 
--- ---- each fault of a phase's list is of the table
+-- ---- each fault of a phase's list is in the table
 
--- a word that is refused as declared before, or for being `object`
+-- a word refused as declared before, or for being `object`
 again_or_object : (d : Domain) (p : Problem) (w : Placed) → Contains (repeated_after (codes "object" ∷ []) (words_of (declared_types d))) w → IsFaultIn d p of_names 16 w
 again_or_object d p w at =
     elim (repeated_after-Contains (codes "object" ∷ []) (words_of (declared_types d)) w at) [
@@ -232,7 +232,7 @@ increase_reports d p a among w at = by_declared (declares_cost d) refl at
         let there = map-Contains (λ (i : tree.Increase). placed domain_file i.word) a.increases w at in
         subst (IsFaultIn d p of_actions 23) there.2 (increase_undeclared a there.0 among there.1 is)
 
--- the faults of what an increase of it is by
+-- the faults of the amount of its increase
 amount_reports : (d : Domain) (p : Problem) (a : tree.Action) (i : tree.Increase) → Contains d.actions a → Contains a.increases i → (amount : tree.Amount) → i.amount ≡ amount
     → AllReport (IsFaultIn d p of_actions) (amount_faults domain_file (known_in d a) amount)
 amount_reports d p a i among at (tree.by_number n) is = none_detects
@@ -266,7 +266,7 @@ fact_reports d p (tree.initial_value v) among =
     subst (AllReport (IsFaultIn d p of_init)) (sym (ground_atom_as_atom problem_file (in_function (known_in_problem d p)) v.function))
     (atom_reports problem_file (in_function (known_in_problem d p)) (as_atom v.function) (λ code w fault. in_value v code w among fault))
 
--- the value that is given there is another one than was given before
+-- the value given there differs from the one given before
 value_reports : (d : Domain) (p : Problem) (before : List tree.Fact) (f : tree.Fact) (rest : List tree.Fact) → p.init ≡ before ++ f ∷ rest
     → AllReport (IsFaultIn d p of_init) (value_faults problem_file (known_in_problem d p) (values_after (known_in_problem d p) [] before) f)
 value_reports d p before (tree.fact a) rest is = none_detects
@@ -317,11 +317,11 @@ one_too_many_listed count words w at = refused_listed 25 (one_after count words)
 abbrev words_of_types : Domain → List Placed
 words_of_types d = words_of (declared_types d)
 
--- those that are refused as declared before
+-- those refused as declared before
 abbrev types_again : Domain → List TypingFault
 types_again d = refused 16 (repeated_after (codes "object" ∷ []) (words_of_types d))
 
--- a word that is refused as declared before, or for being `object`
+-- a word refused as declared before, or for being `object`
 type_word_listed : (d : Domain) (p : Problem) (w : Placed) → Contains (repeated_after (codes "object" ∷ []) (words_of_types d)) w → Contains (phase_faults d p of_names) (fault_at 16 w)
 type_word_listed d p w at =
     on_right (domain_name_faults d p) _ (on_left _ _ (on_left _ _ (refused_listed 16 (repeated_after (codes "object" ∷ []) (words_of_types d)) w at)))
@@ -330,12 +330,12 @@ type_word_listed d p w at =
 in_declaration : (types : List task.Name) (qs : List tree.Predicate) (q : tree.Predicate) {f : TypingFault} → Contains qs q → Contains (argument_faults types q) f → Contains (declaration_faults types qs) f
 in_declaration types qs q {f} among at = on_right (refused 16 (repeated (declaration_words qs))) _ (Contains-flat_map (argument_faults types) qs q f among at)
 
--- a type of its arguments that is not known
+-- an unknown type of its arguments
 argument_type_listed : (types : List task.Name) (qs : List tree.Predicate) (q : tree.Predicate) (w : Placed) → Contains qs q → HasType (arguments_of q) w → is_known types w.word ≡ false
     → Contains (declaration_faults types qs) (fault_at 14 w)
 argument_type_listed types qs q w among has unknown = in_declaration types qs q among (on_left _ _ (type_listed types (arguments_of q) w has unknown))
 
--- an argument that is one too many
+-- the first argument beyond the limit
 argument_listed : (types : List task.Name) (qs : List tree.Predicate) (q : tree.Predicate) (w : Placed) → Contains qs q → slice_get (words_of (arguments_of q)) 8 ≡ Some w
     → Contains (declaration_faults types qs) (fault_at 25 w)
 argument_listed types qs q w among at =
@@ -362,7 +362,7 @@ in_increases d p a w among at =
     in_body d p a among (on_left _ _ (on_right (formula_faults domain_file (known_in d a) a.precondition ++ effect_faults domain_file (known_in d a) a.effect) _
     (refused_listed 23 (increases_refused d a) w at)))
 
--- the faults of what an increase is by
+-- the faults of an increase's amount
 in_amount : (d : Domain) (p : Problem) (a : tree.Action) (i : tree.Increase) {f : TypingFault} → Contains d.actions a → Contains a.increases i
     → Contains (amount_faults domain_file (known_in d a) i.amount) f → Contains (phase_faults d p of_actions) f
 in_amount d p a i {f} among there at =
@@ -370,7 +370,7 @@ in_amount d p a i {f} among there at =
     (on_right (formula_faults domain_file (known_in d a) a.precondition ++ effect_faults domain_file (known_in d a) a.effect ++ increase_faults domain_file (known_in d a) a) _
     (Contains-flat_map (λ (j : tree.Increase). amount_faults domain_file (known_in d a) j.amount) a.increases i f there at))
 
--- what is past the first is refused, whether or not the total cost is declared
+-- every increase after the first is refused, whether or not the total cost is declared
 later_refused : (d : Domain) (a : tree.Action) (w : Placed) → Contains (drop 1 (increase_words domain_file a)) w → Contains (increases_refused d a) w
 later_refused d a w at = by_declared (declares_cost d)
   where
@@ -396,7 +396,7 @@ fact_listed known given (first ∷ rest) occurs {f} among at =
 in_facts : (d : Domain) (p : Problem) (occurs : tree.Fact) {f : TypingFault} → Contains p.init occurs → Contains (fact_faults problem_file (known_in_problem d p) occurs) f → Contains (phase_faults d p of_init) f
 in_facts d p occurs {f} among at = on_left _ _ (fact_listed (known_in_problem d p) [] p.init occurs among at)
 
--- another value of a function is among them, where it comes after facts that give it one
+-- another value of a function is among them, if it comes after facts that give one
 value_listed : (known : Known) (given : List task.FunctionValue) (before : List tree.Fact) (f : tree.Fact) (after : List tree.Fact) {reported : TypingFault}
     → Contains (value_faults problem_file known (values_after known given before) f) reported → Contains (facts_faults problem_file known given (before ++ f ∷ after)) reported
 value_listed known given [] f after at = on_left _ _ (on_right (fact_faults problem_file known f) _ at)
@@ -405,7 +405,7 @@ value_listed known given (first ∷ before) f after {reported} at =
     (value_listed known (values_after known given (first ∷ [])) before f after
     (subst (λ values. Contains (value_faults problem_file known values f) reported) (values_after-append known given (first ∷ []) before) at))
 
--- a value that is not the one that was given
+-- a value that differs from the one given
 other_listed : (known : Known) (facts : List tree.Fact) (v : tree.InitialValue) → IsOtherValue known facts v
     → Contains (facts_faults problem_file known [] facts) (fault_at 16 (placed problem_file v.function.predicate))
 other_listed known facts v other =
@@ -485,10 +485,10 @@ phase_listed d p phase code w (negated word a among) =
     in_facts d p (tree.negated word a) among (Contains-here (fault_at 24 (placed problem_file word)) [])
 phase_listed d p phase code w (in_goal number v fault) = formula_listed problem_file (known_in_problem d p) p.goal number v fault
 
--- the faults that are listed of a phase are those that the table says of it
+-- the listed faults of a phase are those of the table
 pub reported_listed : (d : Domain) (p : Problem) (phase : Phase) (f : TypingFault) → Reports (IsFaultIn d p phase) f → Contains (phase_faults d p phase) f
 reported_listed d p phase f reported = subst (Contains (phase_faults d p phase)) reported.is (phase_listed d p phase reported.code reported.word reported.is_fault)
 
--- and the other way
+-- and the converse
 pub listed_reported : (d : Domain) (p : Problem) (phase : Phase) (f : TypingFault) → Contains (phase_faults d p phase) f → Reports (IsFaultIn d p phase) f
 listed_reported d p phase f at = (phase_reports d p phase).reports f at

@@ -1,4 +1,4 @@
--- The words that are listed as repeated are those that come after one that is the same.
+-- The words listed as repeated are those that come after an equal one.
 use Rattle.std.proofs.Common.{◌≡◌, ◌⊎◌, inl, inr, true, false, ◌||◌, true≢false, List, [], ◌∷◌, ◌++◌, refl, sym, ap, ◌∙◌, subst}
 use Rattle.std.specs.Prelude.{Contains, if◌then◌else◌}
 use Rattle.std.specs.Cmp.Lexicographic.{same_text}
@@ -12,13 +12,13 @@ use Rattle.model.specs.Typing.{Placed, folded, is_same, is_known, with_name, rep
 use Rattle.model.specs.TypingFaults.{IsRepeated}
 use Rattle.model.proofs.ListLemmas.{Contains-here, Contains-there, Contains-cases, Contains-none}
 
--- where an element is
+-- the position of an element
 record Split {X : Type 0} (xs : List X) (x : X) : Type 0 where
   pub before : List X
   pub after : List X
   pub occurs : xs ≡ before ++ x ∷ after
 
--- an element is somewhere
+-- an element has a position
 split : {X : Type 0} (xs : List X) (x : X) → Contains xs x → Split xs x
 split [] x at = absurd (Contains-none x at)
 split (y ∷ xs) x at =
@@ -27,9 +27,9 @@ split (y ∷ xs) x at =
       | inr later ↦ let s = split xs x later in record { before = y ∷ s.before; after = s.after; occurs = ap (λ zs. y ∷ zs) s.occurs }
     ]
 
--- ---- names and one more
+-- ---- names, and one more
 
--- a name that is known of these and one more is one of these, or the one more
+-- a name that is known among these and one more is one of these, or the new one
 known_with-cases : (before : List task.Name) (new name : Name) → is_known (with_name before new) name ≡ true → (is_known before name ≡ true) ⊎ (is_same (folded name) (folded new) ≡ true)
 known_with-cases before new name known =
     elim (is_known before new) as (λ b. is_known (if b then before else before ++ folded new ∷ []) name ≡ true → (is_known before name ≡ true) ⊎ (is_same (folded name) (folded new) ≡ true)) [
@@ -47,7 +47,7 @@ known_with-cases before new name known =
           | inr none ↦ absurd (true≢false (sym none))
         ]
 
--- what is known stays so
+-- known names stay known
 known_with-before : (before : List task.Name) (new name : Name) → is_known before name ≡ true → is_known (with_name before new) name ≡ true
 known_with-before before new name known =
     elim (is_known before new) as (λ b. is_known (if b then before else before ++ folded new ∷ []) name ≡ true) [
@@ -55,7 +55,7 @@ known_with-before before new name known =
       | false ↦ list_any-append (is_same (folded name)) before (folded new ∷ []) ∙ or_left (is_known before name) _ known
     ]
 
--- and the one more is known
+-- and the new one is known
 known_with-new : (before : List task.Name) (new name : Name) → is_same (folded name) (folded new) ≡ true → is_known (with_name before new) name ≡ true
 known_with-new before new name same =
     elim (is_known before new) as (λ b. is_known before new ≡ b → is_known (if b then before else before ++ folded new ∷ []) name ≡ true) [
@@ -65,7 +65,7 @@ known_with-new before new name same =
 
 -- ---- from the list
 
--- a word that is the same as the first
+-- a word equal to the first
 pub repeated_first : (v : Placed) (rest : List Placed) (w : Placed) → Contains rest w → is_same (folded w.word) (folded v.word) ≡ true → IsRepeated (v ∷ rest) w
 repeated_first v rest w at same =
     let s = split rest w at in
@@ -109,7 +109,7 @@ first_again before v w at =
       ]
     ] refl at
 
--- a word that is listed is the same as one of the names, or comes after one that is
+-- a listed word equals one of the names, or comes after an equal one
 pub repeated_after-Contains : (before : List task.Name) (words : List Placed) (w : Placed) → Contains (repeated_after before words) w
     → (Contains words w × (is_known before w.word ≡ true)) ⊎ IsRepeated words w
 repeated_after-Contains before [] w at = absurd (Contains-none w at)
@@ -120,7 +120,7 @@ repeated_after-Contains before (v ∷ rest) w at =
       | inr later ↦ again_there before v rest w (repeated_after-Contains (with_name before v.word) rest w later)
     ]
 
--- with no names before the list, it comes after one that is
+-- with no names before the list, it comes after an equal word
 pub repeated-Contains : (words : List Placed) (w : Placed) → Contains (repeated words) w → IsRepeated words w
 repeated-Contains words w at =
     elim (repeated_after-Contains [] words w at) [
@@ -130,11 +130,11 @@ repeated-Contains words w at =
 
 -- ---- to the list
 
--- the name is one of these, or that of a word that comes before
+-- the name is one of these, or that of an earlier word
 abbrev IsEarlier : List task.Name → List Placed → Placed → Type 0
 IsEarlier before words w = (is_known before w.word ≡ true) ⊎ ((earlier : Placed) × Contains words earlier × (is_same (folded w.word) (folded earlier.word) ≡ true))
 
--- past the first word, which is then one of the names
+-- after the first word, which is then one of the names
 earlier_there : (before : List task.Name) (v : Placed) (words : List Placed) (w : Placed) → IsEarlier before (v ∷ words) w → IsEarlier (with_name before v.word) words w
 earlier_there before v words w (inl known) = inl (known_with-before before v.word w.word known)
 earlier_there before v words w (inr (earlier, at, same)) =
@@ -143,11 +143,11 @@ earlier_there before v words w (inr (earlier, at, same)) =
       | inr later ↦ inr (earlier, later, same)
     ]
 
--- a word that is the same as one of the names is listed in its place
+-- a word equal to one of the names is listed at its place
 first_listed : (before : List task.Name) (w : Placed) → is_known before w.word ≡ true → Contains (if is_known before w.word then w ∷ [] else []) w
 first_listed before w known = subst (λ b. Contains (if b then w ∷ [] else []) w) (sym known) (Contains-here w [])
 
--- so is a word at any place
+-- and so is a word at any place
 split_listed : (before : List task.Name) (first : List Placed) (w : Placed) (after : List Placed) → IsEarlier before first w → Contains (repeated_after before (first ++ w ∷ after)) w
 split_listed before [] w after (inl known) = Contains-append_left _ (repeated_after (with_name before w.word) after) w (first_listed before w known)
 split_listed before [] w after (inr (earlier, at, same)) = absurd (Contains-none earlier at)
@@ -155,12 +155,12 @@ split_listed before (v ∷ first) w after is =
     Contains-append_right (if is_known before v.word then v ∷ [] else []) (repeated_after (with_name before v.word) (first ++ w ∷ after)) w
     (split_listed (with_name before v.word) first w after (earlier_there before v first w is))
 
--- a word that comes after one that is the same
+-- a word that comes after an equal one
 pub repeated_listed : (before : List task.Name) (words : List Placed) (w : Placed) → IsRepeated words w → Contains (repeated_after before words) w
 repeated_listed before words w r =
     subst (λ ws. Contains (repeated_after before ws) w) (sym r.occurs) (split_listed before r.before w r.after (inr (r.earlier, r.is_before, r.is_same)))
 
--- a word that is the same as one of the names before the list
+-- a word equal to one of the names before the list
 pub known_listed : (before : List task.Name) (words : List Placed) (w : Placed) → Contains words w → is_known before w.word ≡ true → Contains (repeated_after before words) w
 known_listed before words w at known =
     let s = split words w at in

@@ -1,4 +1,4 @@
--- A pair is well-typed exactly where no fault is listed, and the fault that is reported is the least of those that are.
+-- A pair is well-typed exactly if no fault is listed, and the reported fault is the least of those listed.
 use Rattle.std.proofs.Common.{◌≡◌, ℕ, zero, suc, ◌<◌, ◌⊎◌, inl, inr, false, Ordering, Less, Equal, Greater, List, [], ◌∷◌, Some, refl, sym, ap, ◌∙◌, subst, arith}
 use Rattle.std.specs.Prelude.{All, Contains, slice_get, slice_index_or}
 use Rattle.std.specs.Ordering.{nat_cmp, is_lt, ordering_then}
@@ -21,26 +21,26 @@ use Rattle.model.proofs.TypingFaultsPhases.{phase_faults, phase_reports, phase_l
 abbrev EmptyBefore : List (List TypingFault) → ℕ → Type 0
 EmptyBefore lists k = (j : ℕ) (faults : List TypingFault) → j < k → slice_get lists j ≡ Some faults → faults ≡ []
 
--- where no list is filled, each is empty
+-- if no list is filled, each is empty
 each_empty : (lists : List (List TypingFault)) → first_filled lists ≡ [] → (k : ℕ) (faults : List TypingFault) → slice_get lists k ≡ Some faults → faults ≡ []
 each_empty [] none k faults at = absurd (cc)
 each_empty ([] ∷ later) none zero faults at = cc
 each_empty ([] ∷ later) none (suc k) faults at = each_empty later none k faults at
 each_empty ((f ∷ more) ∷ later) none k faults at = absurd (cc)
 
--- and the other way
+-- and the converse
 none_filled : (lists : List (List TypingFault)) → ((k : ℕ) (faults : List TypingFault) → slice_get lists k ≡ Some faults → faults ≡ []) → first_filled lists ≡ []
 none_filled [] empty = refl
 none_filled ([] ∷ later) empty = none_filled later (λ k. empty (suc k))
 none_filled ((f ∷ more) ∷ later) empty = empty 0 (f ∷ more) refl
 
--- where the first that is not empty is
+-- the position of the first non-empty list
 record Filled (lists : List (List TypingFault)) : Type 0 where
   pub place : ℕ
   pub occurs : slice_get lists place ≡ Some (first_filled lists)
   pub is_first : EmptyBefore lists place
 
--- a list with a fault is the first of some place
+-- there is a first list with a fault
 filled : (lists : List (List TypingFault)) (f : TypingFault) → Contains (first_filled lists) f → Filled lists
 filled [] f at = absurd (Contains-none f at)
 filled ((g ∷ more) ∷ later) f at = record { place = 0; occurs = refl; is_first = λ j faults before. absurd (omega (arith, before)) }
@@ -52,7 +52,7 @@ filled ([] ∷ later) f at =
     empty_before rest zero faults before here = cc
     empty_before rest (suc j) faults before here = rest.is_first j faults (omega (arith, before)) here
 
--- the first list with a fault, by its place
+-- the first list with a fault, by its position
 first_filled_is : (lists : List (List TypingFault)) (k : ℕ) (faults : List TypingFault) (f : TypingFault) → slice_get lists k ≡ Some faults → Contains faults f → EmptyBefore lists k
     → first_filled lists ≡ faults
 first_filled_is [] k faults f at has empty = absurd (cc)
@@ -94,11 +94,11 @@ phase_of d p (suc (suc (suc (suc (suc (suc zero)))))) faults at = record { phase
 phase_of d p (suc (suc (suc (suc (suc (suc (suc zero))))))) faults at = record { phase = of_goal; number = refl; is = cc }
 phase_of d p (suc (suc (suc (suc (suc (suc (suc (suc k)))))))) faults at = absurd (cc)
 
--- where the list of a phase is empty, the table has no fault of it
+-- if the list of a phase is empty, the table has no fault for it
 no_fault : (d : Domain) (p : Problem) (phase : Phase) → phase_faults d p phase ≡ [] → (code : ℕ) (w : Placed) → IsFaultIn d p phase code w → ⊥
 no_fault d p phase empty code w fault = absurd (Contains-none (fault_at code w) (subst (λ l. Contains l (fault_at code w)) empty (phase_listed d p phase code w fault)))
 
--- and the other way
+-- and the converse
 empty_phase : (d : Domain) (p : Problem) (phase : Phase) → ((code : ℕ) (w : Placed) → IsFaultIn d p phase code w → ⊥) → phase_faults d p phase ≡ []
 empty_phase d p phase none = by_list (phase_faults d p phase) refl
   where
@@ -110,11 +110,11 @@ empty_phase d p phase none = by_list (phase_faults d p phase) refl
 
 -- ---- well-typed pairs
 
--- where no fault is listed, no word is refused
+-- if no fault is listed, no word is refused
 pub well_typed : (d : Domain) (p : Problem) → typing.ListsNoFault d p → IsWellTyped d p
 well_typed d p none phase = no_fault d p phase (each_empty (phases d p) none (order_of phase) (phase_faults d p phase) (phase_at d p phase))
 
--- and where none is, no fault is listed
+-- and if no word is refused, no fault is listed
 pub well_typed_listed : (d : Domain) (p : Problem) → IsWellTyped d p → typing.ListsNoFault d p
 well_typed_listed d p none = none_filled (phases d p) (λ k faults at.
     let here = phase_of d p k faults at in
@@ -131,12 +131,12 @@ step_from x y rest not_less =
       | Greater ↦ λ is _. inl (ranked x y Greater is)
     ] refl not_less
 
--- and the other way
+-- and the converse
 step_to : (x y : ℕ) (rest : Ordering) → (y < x) ⊎ ((y ≡ x) × (is_lt rest ≡ false)) → is_lt (ordering_then (nat_cmp x y) rest) ≡ false
 step_to x y rest (inl below) = subst (λ o. is_lt (ordering_then o rest) ≡ false) (nat_cmp_is x y Greater below) refl
 step_to x y rest (inr (same, later)) = subst (λ o. is_lt (ordering_then o rest) ≡ false) (nat_cmp_is x y Equal (sym same)) later
 
--- the fault of one word is not before that of another where the other comes no later
+-- the fault of one word is not before that of another if the other comes no later
 comes_no_later : (code : ℕ) (w : Placed) (other : ℕ) (v : Placed) → is_before (fault_at other v) (fault_at code w) ≡ false → ComesNoLater code w other v
 comes_no_later code w other v not_before =
     elim (step_from (rank_of v.file) (rank_of w.file) _ not_before) [
@@ -156,7 +156,7 @@ comes_no_later code w other v not_before =
       )
     ]
 
--- and the other way
+-- and the converse
 not_before : (code : ℕ) (w : Placed) (other : ℕ) (v : Placed) → ComesNoLater code w other v → is_before (fault_at other v) (fault_at code w) ≡ false
 not_before code w other v (inl file) = step_to (rank_of v.file) (rank_of w.file) _ (inl file)
 not_before code w other v (inr (same, inl start)) =
@@ -170,11 +170,11 @@ not_before code w other v (inr (same, inr (alike, number))) =
       | inr apart ↦ inl (omega (arith, number, apart))
     ]
 
--- what holds of all faults holds of one of them
+-- what holds of all faults holds of each of them
 of_all : (P : TypingFault → Type 0) (faults : List TypingFault) (f : TypingFault) → All P faults → Contains faults f → P f
 of_all P faults f all at = subst P at.2 (all at.0 f at.1)
 
--- the least of the faults that are listed
+-- the least of the listed faults
 abbrev pub IsLeastFault : Domain → Problem → TypingFault → Type 0
 IsLeastFault d p f = IsLeastOf (faults_of d p) f
 
@@ -202,7 +202,7 @@ reported d p f least = by_phase (filled (phases d p) f least.is_fault)
         let reports = (phase_reports d p here.phase).reports f (subst (λ l. Contains l f) (sym here.is) least.is_fault) in
         subst (IsReported d p) reports.is (by_fault first here reports)
 
--- and what is reported is the least of the listed faults, which are those of its phase
+-- and the reported fault is the least of the listed faults, which are those of its phase
 module _ (d : Domain) (p : Problem) (f : TypingFault) (is_reported : IsReported d p f) where
   same : fault_at f.fault.code is_reported.word ≡ f
   same = sym (ap (λ (file : TaskFile). let g : TypingFault = record { file = file; fault = f.fault } in g) is_reported.file

@@ -1,4 +1,4 @@
--- The faults that are listed of an atom, a formula, an effect or a fact are those that the table has of its atoms.
+-- The listed faults of an atom, a formula, an effect or a fact are those of the table for its atoms.
 use Rattle.std.proofs.Common.{◌≡◌, ◌≢◌, ℕ, zero, suc, ◌+◌, inl, inr, Bool, true, false, not, ◌||◌, cond, List, [], ◌∷◌, ◌++◌, length, map, Option, None, Some, refl, sym, ap, ◌∙◌, subst, arith}
 use Rattle.std.specs.Prelude.{Contains, drop, slice_get, ◌==◌}
 use Rattle.std.specs.List.{list_any, position_or_len}
@@ -16,7 +16,7 @@ use Rattle.model.proofs.TypingFaultsVariables.{variables_report, variable_listed
 
 -- ---- the predicate
 
--- no declaration is found where the name is none of the declared ones, and only there
+-- no declaration is found exactly if the name is not declared
 none_found : (test : task.Name → Bool) (declared : List task.Predicate) → slice_get declared (position_or_len test (names_of_predicates declared)) ≡ None
     → list_any test (names_of_predicates declared) ≡ false
 none_found test [] none = refl
@@ -28,7 +28,7 @@ none_found test (p ∷ rest) none =
           none_found test rest (subst (λ n. slice_get (p ∷ rest) n ≡ None) next none)
     ] none
 
--- and the other way
+-- and the converse
 not_found : (test : task.Name → Bool) (declared : List task.Predicate) → list_any test (names_of_predicates declared) ≡ false
     → slice_get declared (position_or_len test (names_of_predicates declared)) ≡ None
 not_found test [] none = refl
@@ -40,7 +40,7 @@ not_found test (p ∷ rest) none =
           subst (λ n. slice_get (p ∷ rest) n ≡ None) next (not_found test rest none)
     ] none
 
--- 17 and 18, of the predicate
+-- 17 and 18, for the predicate
 predicate_reports : {table : ℕ → Placed → Type 0} (file : TaskFile) (known : Known) (a : tree.Atom) → ((code : ℕ) (w : Placed) → IsAtomFault file known a code w → table code w)
     → AllReport table (predicate_faults file known a.predicate (length a.terms))
 predicate_reports {table} file known a fault = by_found (predicate_in_known known a.predicate) refl
@@ -51,14 +51,14 @@ predicate_reports {table} file known a fault = by_found (predicate_in_known know
     by_found (Some p) at = unless_reports (length a.terms == length p.arguments) 18 (placed file a.predicate)
         (λ other. fault 18 (placed file a.predicate) (wrong_count p at (eqb-false (length a.terms) (length p.arguments) other)))
 
--- a predicate that is not declared
+-- an undeclared predicate
 unknown_listed : (file : TaskFile) (known : Known) (a : tree.Atom) → is_known (names_of_predicates known.predicates) a.predicate ≡ false
     → Contains (predicate_faults file known a.predicate (length a.terms)) (fault_at 17 (placed file a.predicate))
 unknown_listed file known a unknown =
     subst (λ found. Contains (faults_against file found a.predicate (length a.terms)) (fault_at 17 (placed file a.predicate)))
     (sym (not_found (is_same (folded a.predicate)) known.predicates unknown)) (Contains-here (fault_at 17 (placed file a.predicate)) [])
 
--- a predicate with another count of terms
+-- a predicate with another number of terms
 count_listed : (file : TaskFile) (known : Known) (a : tree.Atom) (p : task.Predicate) → predicate_in_known known a.predicate ≡ Some p → length a.terms ≢ length p.arguments
     → Contains (predicate_faults file known a.predicate (length a.terms)) (fault_at 18 (placed file a.predicate))
 count_listed file known a p at other =
@@ -68,33 +68,33 @@ count_listed file known a p at other =
 
 -- ---- the terms
 
--- 17, of a term
+-- 17, for a term
 term_reports : {table : ℕ → Placed → Type 0} (file : TaskFile) (known : Known) (t : tree.Term) → (IsUnknown known t → table 17 (placed file (word_of t))) → AllReport table (term_faults file known t)
 term_reports file known (tree.variable name) fault = unless_reports (is_known (names_of_variables known.variables) name) 17 (placed file name) fault
 term_reports file known (tree.object name) fault = unless_reports (is_known (names_of_objects known.objects) name) 17 (placed file name) fault
 
--- and the other way
+-- and the converse
 term_listed : (file : TaskFile) (known : Known) (t : tree.Term) → IsUnknown known t → Contains (term_faults file known t) (fault_at 17 (placed file (word_of t)))
 term_listed file known (tree.variable name) unknown = unless_listed (is_known (names_of_variables known.variables) name) (fault_at 17 (placed file name)) unknown
 term_listed file known (tree.object name) unknown = unless_listed (is_known (names_of_objects known.objects) name) (fault_at 17 (placed file name)) unknown
 
--- of a term of an equality
+-- for a term of an equality
 equal_reports : {table : ℕ → Placed → Type 0} (file : TaskFile) (known : Known) (t : tree.Term) → ((code : ℕ) (w : Placed) → IsTermFault file known t code w → table code w)
     → AllReport table (term_faults file known t)
 equal_reports file known t fault = term_reports file known t (λ unknown. fault 17 (placed file (word_of t)) (record { is_unknown = unknown; number = refl; word = refl }))
 
--- and the other way
+-- and the converse
 equal_listed : (file : TaskFile) (known : Known) (t : tree.Term) (code : ℕ) (w : Placed) → IsTermFault file known t code w → Contains (term_faults file known t) (fault_at code w)
 equal_listed file known t code w fault =
     subst (Contains (term_faults file known t)) (sym (λ i. fault_at (fault.number i) (fault.word i))) (term_listed file known t fault.is_unknown)
 
--- what a list has past its first
+-- the elements of a list after the first
 got_later : (unions : List task.Union) (place : ℕ) → slice_get (drop 1 unions) place ≡ slice_get unions (suc place)
 got_later [] zero = refl
 got_later [] (suc place) = refl
 got_later (union ∷ unions) place = refl
 
--- 17 and 19, of the terms
+-- 17 and 19, for the terms
 terms_report : {table : ℕ → Placed → Type 0} (file : TaskFile) (known : Known) (arguments : List task.Union) (terms : List tree.Term)
     → ((t : tree.Term) → Contains terms t → IsUnknown known t → table 17 (placed file (word_of t)))
     → ((place : ℕ) (wanted : task.Union) (t : tree.Term) → slice_get arguments place ≡ Some wanted → slice_get terms place ≡ Some t → fits_in known wanted (term_in known t) ≡ false → table 19 (placed file (word_of t)))
@@ -109,7 +109,7 @@ terms_report {table} file known arguments (t ∷ terms) unknown misfit =
     wanted_misfit None of other = absurd (cc)
     wanted_misfit (Some wanted) of other = misfit 0 wanted t of refl other
 
--- a term that is not known
+-- an unknown term
 unknown_term_listed : (file : TaskFile) (known : Known) (arguments : List task.Union) (terms : List tree.Term) (t : tree.Term) → Contains terms t → IsUnknown known t
     → Contains (terms_faults file known arguments terms) (fault_at 17 (placed file (word_of t)))
 unknown_term_listed file known arguments [] t at unknown = absurd (Contains-none t at)
@@ -140,7 +140,7 @@ argument_declared : (found : Option task.Predicate) (place : ℕ) (wanted : task
 argument_declared None place wanted at = absurd (cc)
 argument_declared (Some p) place wanted at = (p, refl, at)
 
--- each fault that is listed of an atom is one that the table has of it
+-- each listed fault of an atom is in the table for it
 pub atom_reports : {table : ℕ → Placed → Type 0} (file : TaskFile) (known : Known) (a : tree.Atom) → ((code : ℕ) (w : Placed) → IsAtomFault file known a code w → table code w)
     → AllReport table (atom_faults file known a)
 atom_reports file known a fault =
@@ -151,7 +151,7 @@ atom_reports file known a fault =
     let declared = argument_declared (predicate_in_known known a.predicate) place wanted of in
     fault 19 (placed file (word_of t)) (wrong_type declared.0 place wanted t declared.1 declared.2 at misfit)))
 
--- and the other way
+-- and the converse
 pub atom_listed : (file : TaskFile) (known : Known) (a : tree.Atom) (code : ℕ) (w : Placed) → IsAtomFault file known a code w → Contains (atom_faults file known a) (fault_at code w)
 atom_listed file known a code w (unknown_predicate unknown) = on_left _ _ (unknown_listed file known a unknown)
 atom_listed file known a code w (unknown_term t at unknown) =
@@ -164,7 +164,7 @@ atom_listed file known a code w (wrong_type p place wanted t found of at misfit)
 -- ---- formulas and effects
 
 mutual
-  -- of a formula
+  -- for a formula
   pub formula_reports : {table : ℕ → Placed → Type 0} (file : TaskFile) (known : Known) (formula : tree.Formula)
       → ((code : ℕ) (w : Placed) → IsFormulaFault file known formula code w → table code w) → AllReport table (formula_faults file known formula)
   formula_reports file known (tree.atom a) fault = atom_reports file known a fault
@@ -182,7 +182,7 @@ mutual
       both_report (variables_report known (declared file groups) (λ code w here. fault code w (inl here)))
       (formula_reports file (known_with known (declared file groups)) part (λ code w here. fault code w (inr here)))
 
-  -- of its parts
+  -- for its parts
   formulas_report : {table : ℕ → Placed → Type 0} (file : TaskFile) (known : Known) (parts : tree.Formulas)
       → ((code : ℕ) (w : Placed) → IsSomeFault file known parts code w → table code w) → AllReport table (formulas_faults file known parts)
   formulas_report file known tree.no_formula fault = none_detects
@@ -190,7 +190,7 @@ mutual
       both_report (formula_reports file known first (λ code w here. fault code w (inl here))) (formulas_report file known rest (λ code w here. fault code w (inr here)))
 
 mutual
-  -- and the other way
+  -- and the converse
   pub formula_listed : (file : TaskFile) (known : Known) (formula : tree.Formula) (code : ℕ) (w : Placed) → IsFormulaFault file known formula code w
       → Contains (formula_faults file known formula) (fault_at code w)
   formula_listed file known (tree.atom a) code w fault = atom_listed file known a code w fault
@@ -209,7 +209,7 @@ mutual
   formula_listed file known (tree.forall groups part) code w (inr fault) =
       on_right (variable_faults known.type_names known.variables (declared file groups)) _ (formula_listed file (known_with known (declared file groups)) part code w fault)
 
-  -- of its parts
+  -- for its parts
   formulas_listed : (file : TaskFile) (known : Known) (parts : tree.Formulas) (code : ℕ) (w : Placed) → IsSomeFault file known parts code w
       → Contains (formulas_faults file known parts) (fault_at code w)
   formulas_listed file known tree.no_formula code w fault = absurd fault
@@ -217,20 +217,20 @@ mutual
   formulas_listed file known (tree.more_formulas first rest) code w (inr fault) =
       on_right (formula_faults file known first) _ (formulas_listed file known rest code w fault)
 
--- of a literal of an effect
+-- for a literal of an effect
 effect_literal_reports : {table : ℕ → Placed → Type 0} (file : TaskFile) (known : Known) (l : tree.EffectLiteral)
     → ((code : ℕ) (w : Placed) → IsLiteralFault file known l code w → table code w) → AllReport table (effect_literal_faults file known l)
 effect_literal_reports file known (tree.add a) fault = atom_reports file known a fault
 effect_literal_reports file known (tree.delete a) fault = atom_reports file known a fault
 
--- and the other way
+-- and the converse
 effect_literal_listed : (file : TaskFile) (known : Known) (l : tree.EffectLiteral) (code : ℕ) (w : Placed) → IsLiteralFault file known l code w
     → Contains (effect_literal_faults file known l) (fault_at code w)
 effect_literal_listed file known (tree.add a) code w fault = atom_listed file known a code w fault
 effect_literal_listed file known (tree.delete a) code w fault = atom_listed file known a code w fault
 
 mutual
-  -- of an effect
+  -- for an effect
   pub effect_reports : {table : ℕ → Placed → Type 0} (file : TaskFile) (known : Known) (effect : tree.Effect)
       → ((code : ℕ) (w : Placed) → IsEffectFault file known effect code w → table code w) → AllReport table (effect_faults file known effect)
   effect_reports file known (tree.literal l) fault = effect_literal_reports file known l fault
@@ -242,7 +242,7 @@ mutual
       both_report (formula_reports file known condition (λ code w here. fault code w (inl here)))
       (flat_map_report _ _ (λ l among. effect_literal_reports file known l (λ code w here. fault code w (inr (l, among, here)))))
 
-  -- of its parts
+  -- for its parts
   effects_report : {table : ℕ → Placed → Type 0} (file : TaskFile) (known : Known) (parts : tree.Effects)
       → ((code : ℕ) (w : Placed) → IsSomeEffectFault file known parts code w → table code w) → AllReport table (effects_faults file known parts)
   effects_report file known tree.no_effect fault = none_detects
@@ -250,7 +250,7 @@ mutual
       both_report (effect_reports file known first (λ code w here. fault code w (inl here))) (effects_report file known rest (λ code w here. fault code w (inr here)))
 
 mutual
-  -- and the other way
+  -- and the converse
   pub effect_listed : (file : TaskFile) (known : Known) (effect : tree.Effect) (code : ℕ) (w : Placed) → IsEffectFault file known effect code w
       → Contains (effect_faults file known effect) (fault_at code w)
   effect_listed file known (tree.literal l) code w fault = effect_literal_listed file known l code w fault
@@ -263,7 +263,7 @@ mutual
       on_right (formula_faults file known condition) _
       (Contains-flat_map (effect_literal_faults file known) literals l (fault_at code w) among (effect_literal_listed file known l code w fault))
 
-  -- of its parts
+  -- for its parts
   effects_listed : (file : TaskFile) (known : Known) (parts : tree.Effects) (code : ℕ) (w : Placed) → IsSomeEffectFault file known parts code w
       → Contains (effects_faults file known parts) (fault_at code w)
   effects_listed file known tree.no_effect code w fault = absurd fault
@@ -273,7 +273,7 @@ mutual
 
 -- ---- facts
 
--- an atom of objects has the faults that it has as one of terms
+-- an atom of objects has the same faults as the corresponding atom of terms
 pub ground_atom_as_atom : (file : TaskFile) (known : Known) (a : tree.GroundAtom) → ground_atom_faults file known a ≡ atom_faults file known (as_atom a)
 ground_atom_as_atom file known a =
     ap (λ count. predicate_faults file known a.predicate count ++ terms_faults file known (arguments_in known a.predicate) (map (λ (name : Name). tree.object name) a.objects))

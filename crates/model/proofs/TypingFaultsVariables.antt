@@ -1,4 +1,4 @@
--- The faults that are listed of some variables are those that the table has of them.
+-- The listed faults of variables are those of the table.
 use Rattle.std.proofs.Common.{◌≡◌, ℕ, ◌+◌, ◌-◌, true, false, ◌++◌, [], List, length, Some, refl, sym, subst, arith}
 use Rattle.std.specs.Prelude.{Contains, nat_le, slice_get, if◌then◌else◌}
 use Rattle.std.proofs.lemmas.Bool.{leb-true, le-leb}
@@ -8,7 +8,7 @@ use Rattle.model.proofs.ListLemmas.{Contains-none, Contains-filter, filter-Conta
 use Rattle.model.proofs.TypingFaultsLemmas.{fault_at, AllReport, both_report, refused_report, types_report, on_left, on_right, refused_listed, type_listed, Contains-one_after, one_after-Contains}
 use Rattle.model.proofs.TypingFaultsRepeats.{repeated-Contains, repeated_listed}
 
--- the variable that makes 17 in scope, where so many are in scope already
+-- the variable that makes 17 in scope, given how many are there already
 one_too_many-Contains : (count : ℕ) (words : List Placed) (w : Placed) → Contains (one_too_many count words) w → (place : ℕ) × (slice_get words place ≡ Some w) × (place + count ≡ 16)
 one_too_many-Contains count words w at =
     elim (nat_le count 16) as (λ b. nat_le count 16 ≡ b → Contains (if b then one_after (16 - count) words else []) w → (place : ℕ) × (slice_get words place ≡ Some w) × (place + count ≡ 16)) [
@@ -16,14 +16,14 @@ one_too_many-Contains count words w at =
       | false ↦ λ many none. absurd (Contains-none w none)
     ] refl at
 
--- and the other way
+-- and the converse
 Contains-one_too_many : (count : ℕ) (words : List Placed) (w : Placed) (place : ℕ) → slice_get words place ≡ Some w → place + count ≡ 16 → Contains (one_too_many count words) w
 Contains-one_too_many count words w place at sum =
     let few : nat_le count 16 ≡ true = le-leb count 16 (omega (arith, sum)) in
     let here : place ≡ 16 - count = omega (arith, sum) in
     subst (λ b. Contains (if b then one_after (16 - count) words else []) w) (sym few) (Contains-one_after (16 - count) words w (subst (λ n. slice_get words n ≡ Some w) here at))
 
--- each fault that is listed of some variables is one that the table has of them
+-- each listed fault of variables is in the table for them
 pub variables_report : {table : ℕ → Placed → Type 0} (known : Known) (xs : List Declared) → ((code : ℕ) (w : Placed) → IsVariableFault known xs code w → table code w)
     → AllReport table (variable_faults known.type_names known.variables xs)
 variables_report known xs fault =
@@ -36,7 +36,7 @@ variables_report known xs fault =
     let there = one_too_many-Contains (length known.variables) (words_of xs) w at in
     fault 25 w (many_variables w there.0 there.1 there.2)))
 
--- and the other way
+-- and the converse
 pub variable_listed : (known : Known) (xs : List Declared) (code : ℕ) (w : Placed) → IsVariableFault known xs code w → Contains (variable_faults known.type_names known.variables xs) (fault_at code w)
 variable_listed known xs code w (type_of_variable v has unknown) = on_left _ _ (on_left _ _ (on_left _ _ (type_listed known.type_names xs v has unknown)))
 variable_listed known xs code w (variable_again v again) =

@@ -1,68 +1,68 @@
--- What a certificate claims of all plans, and the finite condition on a listing of states from which it follows.
--- Over any transition system, as `Runs`.
+-- What a certificate claims about all plans, and the finite condition on a listing of states that implies it. Over any transition
+-- system, as `Runs`.
 use Rattle.std.specs.Prelude.{◌≡◌, ℕ, ◌+◌, ◌≤◌, Bool, false, IsTrue, List, Contains, Some}
 use Rattle.model.specs.Runs.{System, run, cost_of_all, IsReachable, Solves}
 use Rattle.model.specs.Bisimulation.{ReachGoalsAlike}
 
--- what a certificate claims
+-- a claim of a certificate about all plans
 pub data Claim : Type 0 where
-  -- every list of actions that solves costs at least this
+  -- every list of actions that solves the system costs at least this
   bound : ℕ → Claim
-  -- no list of actions solves
+  -- no list of actions solves the system
   none : Claim
 
--- the claim allows a list that solves at this cost
+-- the claim admits a list that solves the system at this cost
 abbrev pub Allows : Claim → ℕ → Type 0
 Allows (bound least) cost = least ≤ cost
 Allows none cost = ⊥
 
--- the claim is true: it allows the cost of every list, of whatever length, that solves
+-- the claim is true: it admits the cost of every list, of whatever length, that solves the system
 abbrev pub ClaimHolds : {S A : Type 0} → System S A → Claim → Type 0
 ClaimHolds {S} {A} t claim = (plan : List A) → Solves t plan → Allows claim (cost_of_all t plan)
 
--- what a listing says of a state
+-- the role of a state in a listing
 pub data Mark : Type 0 where
-  -- all its successors are in the listing
+  -- all its successors are listed
   opened : Mark
-  -- it stands for all that follows it, which costs at least this
+  -- it is not expanded: the remaining cost is at least this
   cut : ℕ → Mark
   -- no list of actions leads from it to the goal
   dead : Mark
 
--- a state of a listing, and the cost at which it is listed
+-- a state of a listing, with the cost at which it is listed
 pub record Line (S : Type 0) : Type 0 where
   pub state : S
   pub cost : ℕ
   pub mark : Mark
 
--- a state that is alike is listed at no more than this cost
+-- a state in the same class is listed at no more than this cost
 abbrev pub IsListedWithin : {S : Type 0} → (S → S → Type 0) → List (Line S) → S → ℕ → Type 0
 IsListedWithin {S} alike lines s cost = (line : Line S) × Contains lines line × alike line.state s × (line.cost ≤ cost)
 
--- what is still to pay from a reachable state on is at least its value
+-- the value of a reachable state is a lower bound of the remaining cost
 abbrev pub IsLowerBound : {S A : Type 0} → System S A → (S → ℕ) → Type 0
 IsLowerBound {S} {A} t value =
     (s end : S) (plan : List A) → IsReachable t s → run t s plan ≡ Some end → IsTrue (t.meets_goal end) → value s ≤ cost_of_all t plan
 
--- a reachable state of which this is true is a dead end: no list of actions leads from it to the goal
+-- a reachable state that satisfies this is a dead end: no list of actions leads from it to the goal
 abbrev pub AreDeadEnds : {S A : Type 0} → System S A → (S → Bool) → Type 0
 AreDeadEnds {S} {A} t is_dead =
     (s end : S) (plan : List A) → IsReachable t s → IsTrue (is_dead s) → run t s plan ≡ Some end → t.meets_goal end ≡ false
 
--- what is still to pay from a listed state on, which need not be reachable, is at least its value
+-- the value of a listed state, which need not be reachable, is a lower bound of the remaining cost
 abbrev pub AreBoundsOf : {S A : Type 0} → System S A → (S → ℕ) → List (Line S) → Type 0
 AreBoundsOf {S} {A} t value lines =
     (line : Line S) (end : S) (plan : List A) → Contains lines line → run t line.state plan ≡ Some end → IsTrue (t.meets_goal end) → value line.state ≤ cost_of_all t plan
 
--- a listed state of which this is true is a dead end
+-- a listed state that satisfies this is a dead end
 abbrev pub AreDeadEndsOf : {S A : Type 0} → System S A → (S → Bool) → List (Line S) → Type 0
 AreDeadEndsOf {S} {A} t is_dead lines =
     (line : Line S) (end : S) (plan : List A) → Contains lines line → IsTrue (is_dead line.state) → run t line.state plan ≡ Some end → t.meets_goal end ≡ false
 
--- No list of actions leaves the listing at less than what the claim allows: of the initial state and of each successor of an open
--- state some state that is alike is listed, at no more than what it costs to come there. Goals, values and dead ends are those of
--- the listed state itself. Where states are alike only if they are equal, this speaks of the states themselves. (The closed list
--- of a search in an orbit space: Domshlak, Katz & Shleyfman 2015.)
+-- No list of actions leaves the listing at less than the claim allows: for the initial state and for each successor of an open
+-- state, a state of the same class is listed at no more than the cost of reaching it. Goals, values and dead ends are those of
+-- the listed state itself. If classes are singletons, this is about the states themselves. (The closed list of a search in an
+-- orbit space: Domshlak, Katz & Shleyfman 2015.)
 pub record IsClosed {S A : Type 0} (t : System S A) (alike : S → S → Type 0) (value : S → ℕ) (is_dead : S → Bool) (claim : Claim) (lines : List (Line S)) : Type 0 where
   pub initial_listed : IsListedWithin alike lines t.initial 0
   pub successors_listed : (line : Line S) (a : A) (next : S) → Contains lines line → line.mark ≡ opened → t.step line.state a ≡ Some next
@@ -71,7 +71,7 @@ pub record IsClosed {S A : Type 0} (t : System S A) (alike : S → S → Type 0)
   pub cuts_allowed : (line : Line S) (rest : ℕ) → Contains lines line → line.mark ≡ cut rest → (rest ≤ value line.state) × Allows claim (line.cost + rest)
   pub dead_are_dead : (line : Line S) → Contains lines line → line.mark ≡ dead → IsTrue (is_dead line.state)
 
--- What a closed listing shows, where the goal is reached alike from states that are alike: what it claims is true.
+-- What a closed listing shows, if the goal is reached at the same costs from states of the same class: its claim is true.
 abbrev pub ClosedListingsClaim : {S A : Type 0} → System S A → (S → S → Type 0) → Type 0
 ClosedListingsClaim {S} {A} t alike =
     ((s r : S) → alike s r → ReachGoalsAlike t s r)

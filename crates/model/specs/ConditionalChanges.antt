@@ -1,5 +1,5 @@
--- What an instance's preconditions and conditions say of numbered atoms beside their literals: the condition of each change
--- that counts, and whether a formula wants an atom that has no number and is false in each packed state.
+-- Preconditions and conditions of changes in terms of numbered atoms, beyond their literals: the condition of each counting
+-- change, and whether a formula requires an atom that has no number and is therefore false in each packed state.
 use Rattle.std.specs.Prelude.{ℕ, Bool, false, not, ◌&&◌, List, [], map, slice_get, Option}
 use Rattle.std.specs.List.{list_any, filter_map}
 use Rattle.std.specs.Option.{option_map, option_map_or}
@@ -11,26 +11,26 @@ use Rattle.model.specs.StaticallyFalse.{kept_instances, counting_changes}
 use Rattle.model.specs.NumberedAtoms.{occurs_in}
 use Rattle.model.specs.NumberedLiterals.{NumberedLiteral, NumberedChange, numbered_change, numbered_literals}
 
--- the literal wants a fluent atom that has no number
+-- the literal requires a fluent atom without a number
 abbrev pub is_unnumbered : Task → List Atom → Literal → Bool
 is_unnumbered task atoms (is_true a) = is_fluent task a.predicate && not (occurs_in atoms a)
 is_unnumbered task atoms _ = false
 
--- one of the formula's sure literals does
+-- one of the formula's sure literals requires such an atom
 abbrev pub wants_unnumbered : Task → List Atom → Formula → List ℕ → Bool
 wants_unnumbered task atoms formula binding = list_any (is_unnumbered task atoms) (sure task formula binding)
 
--- one of those of an instance's precondition does
+-- a sure literal of the instance's precondition requires such an atom
 abbrev pub instance_wants_unnumbered : Task → List Atom → Instance → Bool
 instance_wants_unnumbered task atoms i =
     option_map_or (λ (s : Schema). wants_unnumbered task atoms s.precondition i.objects) (slice_get task.schemas i.schema) false
 
--- one of those of the precondition of the instance of this number does
+-- a sure literal of the precondition of the instance with this number requires such an atom
 abbrev pub number_wants_unnumbered : Task → List Atom → ℕ → Bool
 number_wants_unnumbered task atoms number = option_map_or (instance_wants_unnumbered task atoms) (slice_get (kept_instances task) number) false
 
--- a change of a numbered atom, with the sure literals of its condition that are of numbered atoms, and whether another of
--- these wants an atom that has no number, which is false
+-- a change of a numbered atom, with the numbered sure literals of its condition, and whether another sure literal requires an
+-- atom without a number, which is false
 pub record ConditionalChange : Type 0 where
   pub change : NumberedChange
   pub condition : List NumberedLiteral
@@ -47,10 +47,10 @@ conditional_change task atoms c =
       wants_unnumbered = wants_unnumbered task atoms c.condition c.binding;
     }) (numbered_change atoms c)
 
--- the changes of an instance that count, in order
+-- the counting changes of an instance, in order
 abbrev pub conditional_of_instance : Task → List Atom → Instance → List ConditionalChange
 conditional_of_instance task atoms i = filter_map (conditional_change task atoms) (counting_changes task i)
 
--- those of the instance of this number
+-- the counting changes of the instance with this number
 abbrev pub conditional_of_number : Task → List Atom → ℕ → List ConditionalChange
 conditional_of_number task atoms number = option_map_or (conditional_of_instance task atoms) (slice_get (kept_instances task) number) []

@@ -1,4 +1,4 @@
--- What a refusal says of a text: its number, and where in the text it is.
+-- The refusal of a text: its number and its place.
 use Rattle.std.specs.Prelude.{ℕ}
 
 -- byte offsets from 0, the end not included

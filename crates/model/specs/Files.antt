@@ -1,6 +1,6 @@
--- From the bytes of files to their task, to the fault that is reported where they are not read, and to the verdict on a
--- plan: the definitions of words, trees, typing and plan texts one after another. Files are looked at in their order,
--- the domain, the problem and then the plan; the pair is typed between the problem and the plan.
+-- From the bytes of files to their task, to the fault that is reported if they cannot be read, and to the verdict on a plan: the
+-- definitions of words, trees, typing and plan texts, one after another. Files are examined in order: the domain, the problem and
+-- then the plan; the pair is typed between the problem and the plan.
 use Rattle.std.specs.Prelude.{◌≡◌, ℕ, List}
 use Rattle.model.specs.Fault.{Fault}
 use Rattle.model.specs.Words.{Word, ReadsAs, IsReported}
@@ -17,12 +17,12 @@ use Rattle.model.specs.Runs.{Verdict, IsVerdict}
 use Rattle.model.specs.Meaning.{system_of}
 use Rattle.model.specs.PlanText.{IsPlanText, IsPlanFault}
 
--- a file that is given: one of the task's two, or the plan
+-- an input file: one of the task's two, or the plan
 pub data File : Type 0 where
   of_task : tree.TaskFile → File
   the_plan : File
 
--- a fault, and the file that it is reported for
+-- a fault with its file
 pub record FileFault : Type 0 where
   pub file : File
   pub fault : Fault
@@ -39,8 +39,8 @@ pub record IsProblemText (text : List ℕ) (problem : Problem) : Type 0 where
   pub reads : ReadsAs text words
   pub tree : IsProblem (tokens_of words) problem
 
--- what is reported for a text that is no file of this kind: what keeps it from reading as words, or else what keeps its
--- words from having a tree
+-- the fault reported for a text that is not a file of this kind: why it does not read as words, or otherwise why its words have
+-- no tree
 pub data IsTextFault (kind : tree.TaskFile) (text : List ℕ) (fault : Fault) : Type 0 where
   of_words : IsReported text fault → IsTextFault kind text fault
   of_tree : (words : List Word) → ReadsAs text words → IsRefused kind words fault → IsTextFault kind text fault
@@ -54,12 +54,12 @@ pub record IsTaskOf (domain problem : List ℕ) (task : Task) : Type 0 where
   pub well_typed : IsWellTyped domain_tree problem_tree
   pub resolved : task ≡ task_of_trees domain_tree problem_tree
 
--- a fault of typing is reported for its file, with its number and span
+-- a typing fault is reported for its file, with its number and span
 pub record IsReportedTyping (typed : TypingFault) (reported : FileFault) : Type 0 where
   pub file : reported.file ≡ of_task typed.file
   pub fault : reported.fault ≡ typed.fault
 
--- what is reported for two texts that are no task: the first fault in the order of files
+-- the fault reported for two texts that are not a task: the first fault in the order of files
 pub data IsTaskFault (domain problem : List ℕ) (reported : FileFault) : Type 0 where
   in_the_domain : IsTextFault domain_file domain reported.fault → reported.file ≡ of_task domain_file → IsTaskFault domain problem reported
   in_the_problem : (d : Domain) → IsDomainText domain d → IsTextFault problem_file problem reported.fault → reported.file ≡ of_task problem_file
@@ -67,7 +67,7 @@ pub data IsTaskFault (domain problem : List ℕ) (reported : FileFault) : Type 0
   in_the_pair : (d : Domain) (p : Problem) (typed : TypingFault) → IsDomainText domain d → IsProblemText problem p
       → typing_faults.IsReported d p typed → IsReportedTyping typed reported → IsTaskFault domain problem reported
 
--- what is reported for three texts that are not a task and a plan for it: the first fault in the order of files
+-- the fault reported for three texts that are not a task and a plan for it: the first fault in the order of files
 pub data IsFileFault (domain problem plan : List ℕ) (reported : FileFault) : Type 0 where
   in_the_task : IsTaskFault domain problem reported → IsFileFault domain problem plan reported
   in_the_plan : (task : Task) → IsTaskOf domain problem task → IsPlanFault task plan reported.fault → reported.file ≡ the_plan
@@ -78,7 +78,7 @@ pub record AreRead (domain problem plan : List ℕ) (task : Task) (steps : List 
   pub is_task : IsTaskOf domain problem task
   pub is_plan : IsPlanText task plan steps
 
--- the verdict that is true of the three texts: of the plan, in the task
+-- the true verdict for the three texts: on the plan, in the task
 pub record IsVerdictOf (domain problem plan : List ℕ) (verdict : Verdict) : Type 0 where
   pub task : Task
   pub steps : List Instance

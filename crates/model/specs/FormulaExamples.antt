@@ -1,5 +1,5 @@
--- Worked examples of formulas: which hold, whatever the state, and what they say outright. Each is chosen so that a wrong
--- reading says otherwise.
+-- Worked examples of formulas: which of them hold, whatever the state, and what their sure literals are. Each is chosen to expose
+-- a wrong reading.
 use Rattle.std.specs.Prelude.{◌≡◌, ℕ, Bool, true, false, List, [], ◌∷◌, replicate}
 use Rattle.model.specs.Task.{variable, object, Formula, atom, equal, and, or, not, imply, exists, forall}
 use Rattle.model.specs.Meaning.{State, holds}
@@ -18,12 +18,12 @@ no = equal (object 0) (object 1)
 abbrev pub is_object : ℕ → ℕ → Formula
 is_object number name = equal (variable number) (object name)
 
--- in whatever state, where the variables have these objects
+-- in any state, under this binding of the variables
 abbrev pub is : Formula → List ℕ → Bool → Type 0
 is formula binding answer = (state : State) → holds fleet formula binding state ≡ answer
 
 pub record AreJudged : Type 0 where
-  -- two objects are one where their numbers are, a variable is itself
+  -- two objects are the same if their numbers are, and a variable equals itself
   pub same : is yes [] true
   pub different : is no [] false
   pub itself : is (equal (variable 1) (variable 1)) (3 ∷ 2 ∷ []) true
@@ -43,10 +43,10 @@ pub record AreJudged : Type 0 where
   pub yes_no : is (imply yes no) [] false
   pub no_yes : is (imply no yes) [] true
   pub no_no : is (imply no no) [] true
-  -- over no object `exists` is false and `forall` true
+  -- over no objects `exists` is false and `forall` true
   pub some_boat : is (exists boats yes) [] false
   pub all_boats : is (forall boats no) [] true
-  -- over the objects of a type, those of its subtypes included, and over those of several types
+  -- over the objects of a type, including its subtypes, and over those of several types
   pub a_truck_is_a_vehicle : is (exists vehicles (is_object 0 0)) [] true
   pub a_vehicle_is_no_truck : is (exists trucks (is_object 0 1)) [] false
   pub the_last_of_a_union : is (exists place_or_truck (is_object 0 2)) [] true
@@ -59,10 +59,10 @@ pub record AreJudged : Type 0 where
   pub after_a_parameter : is (exists vehicles (and (formulas (is_object 0 3 ∷ is_object 1 1 ∷ [])))) (3 ∷ []) true
   -- its variable is no longer in scope after a quantifier
   pub left_its_scope : is_formula fleet [] (and (formulas (exists vehicles (is_object 0 0) ∷ is_object 0 0 ∷ []))) ≡ false
-  -- 16 variables may be in scope
+  -- up to 16 variables may be in scope
   pub sixteen_variables : is_formula fleet (replicate 15 vehicles) (exists vehicles yes) ≡ true
   pub seventeen_variables : is_formula fleet (replicate 16 vehicles) (exists vehicles yes) ≡ false
-  -- what is said outright: under `and` and `forall` alone, and `not` right before an atom or an equality
+  -- the sure literals: those under nothing but `and` and `forall`, and `not` directly before an atom or an equality
   pub said_outright : sure fleet (and (formulas (atom (lifted 0 (variable 0 ∷ [])) ∷ not (atom (lifted 0 (object 1 ∷ []))) ∷ forall vehicles (is_object 1 0) ∷ []))) (2 ∷ [])
       ≡ is_true (ground 0 (2 ∷ [])) ∷ is_false (ground 0 (1 ∷ [])) ∷ are_same 0 0 ∷ are_same 1 0 ∷ []
   pub not_said_outright : sure fleet (and (formulas (or (formulas (yes ∷ [])) ∷ imply yes yes ∷ exists vehicles yes ∷ not (and (formulas (yes ∷ []))) ∷ not (not yes) ∷ not no ∷ []))) []

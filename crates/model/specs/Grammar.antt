@@ -1,8 +1,7 @@
--- The grammar of domain and problem files (PDDL 1.2 manual, "Domains", "Actions", "Goal descriptions", "Effects",
--- "Problems": their BNF; action costs, 2008; the language profile "ADL with action costs"). It is a simple one in the sense
--- of Korenjak and Hopcroft (1966): each production begins with a word, and no two productions of a nonterminal begin with
--- the same one. So it is given as a function, `after`: where this is wanted and this word comes, what has to follow, and of
--- which tree.
+-- The grammar of domain and problem files (PDDL 1.2 manual, "Domains", "Actions", "Goal descriptions", "Effects", "Problems":
+-- their BNF; action costs, 2008; the language profile "ADL with action costs"). It is a simple grammar in the sense of Korenjak
+-- and Hopcroft (1966): each production begins with a word, and no two productions of a nonterminal begin with the same one. So it
+-- is given as a function, `after`: from a nonterminal and the next word to what must follow, with its tree.
 use Rattle.std.specs.Prelude.{◌≡◌, ℕ, Bool, true, false, List, [], ◌∷◌, ◌++◌, fold, Option, None, Some, cond, ⊤}
 use Rattle.std.specs.List.{list_all, list_any}
 use Rattle.std.specs.Option.{option_map}
@@ -28,7 +27,7 @@ pub data Section : Type 0 where
   goal : Formula → Section
   metric : Name → Section
 
--- what is in the value of an `:effect`: an effect, or an increase of the total cost
+-- an element of the value of an `:effect`: an effect, or an increase of the total cost
 pub data Item : Type 0 where
   change : Effect → Item
   increase : Increase → Item
@@ -47,7 +46,7 @@ pub data Tree : Type 0 where
   domain_tree : Domain → Tree
   problem_tree : Problem → Tree
 
--- an action with one part more; what may be left out is empty, `(and)` for a formula or an effect
+-- an action with one more part; a missing optional part is empty, `(and)` for a formula or an effect
 abbrev pub bare_action : Name → Action
 bare_action n = record { name = n; parameters = []; precondition = tree.and (formulas []); effect = tree.both (effects []); increases = [] }
 
@@ -78,7 +77,7 @@ value_of (increase i) = record { effect = tree.both (effects []); increases = i 
 abbrev pub value_of_all : List Item → EffectValue
 value_of_all items = record { effect = tree.both (effects (changes_in items)); increases = increases_in items }
 
--- what is in a file's sections, and with one section more
+-- the contents of a file's sections, and the contents with one more section
 pub record Contents : Type 0 where
   pub types : List Group
   pub constants : List Group
@@ -168,12 +167,12 @@ abbrev pub required_of : TaskFile → List SectionKeyword
 required_of domain_file = words.predicates ∷ []
 required_of problem_file = words.domain_keyword ∷ words.init ∷ words.goal ∷ []
 
--- what may occur no more once it was seen: each section but an action
+-- the sections that may not occur again: each section but an action, once it has occurred
 abbrev pub seen_with : List SectionKeyword → SectionKeyword → List SectionKeyword
 seen_with seen words.action = seen
 seen_with seen k = seen ++ k ∷ []
 
--- those of some sections that were not seen
+-- the sections, of these, that have not occurred
 abbrev pub left_of : List SectionKeyword → List SectionKeyword → List SectionKeyword
 left_of [] seen = []
 left_of (k ∷ all) seen = cond (has_section seen k) (left_of all seen) (k ∷ left_of all seen)
@@ -183,21 +182,21 @@ has_all needed seen = list_all (has_section seen) needed
 
 -- ---- typed lists
 
--- what a typed list is of: names, each group of one type, or variables, which may be of several
+-- the elements of a typed list: names, each group of one type, or variables, which may be of several types
 pub data ListElement : Type 0 where
   names : ListElement
   variables : ListElement
 
--- one more name at the head of a typed list's first group
+-- a typed list with one more name at the head of its first group
 abbrev pub with_name : Name → List Group → List Group
 with_name n [] = record { names = n ∷ []; types = [] } ∷ []
 with_name n (g ∷ gs) = record g { names = n ∷ g.names } ∷ gs
 
--- a group of which no name is left, with its types
+-- a group without names, with its types
 abbrev pub ends_group : List Name → Group
 ends_group ts = record { names = []; types = ts }
 
--- ---- what may be wanted at a place: the nonterminals
+-- ---- what may be required at a place: the nonterminals
 
 pub data Sort : Type 0 where
   -- words
@@ -215,7 +214,7 @@ pub data Sort : Type 0 where
   -- the value of an `:effect`, and what may occur in its `and`
   effect_value : Sort
   item : Sort
-  -- what is under a `when`, one of it, and the atom of a `not` there
+  -- what is under a `when`, one literal of it, and the atom of a `not` there
   conditional : Sort
   conditional_literal : Sort
   conditional_atom : Sort
@@ -228,22 +227,22 @@ pub data Sort : Type 0 where
   group : ListElement → Sort
   type : ListElement → Sort
   either_word : Sort
-  -- `total-cost` and its `)`; a NUMBER; what an increase is by; what `:init` gives a value to, and its `)`
+  -- `total-cost` and its `)`; a NUMBER; the amount of an increase; what `:init` gives a value to, and its `)`
   total_cost : Sort
   amount : Sort
   increase_amount : Sort
   valued : Sort
-  -- a function's declaration and its `)`; the list of `:functions`, after one of it, and the type after its `-`
+  -- a function's declaration and its `)`; the list of `:functions` after one element, and the type after its `-`
   function_declaration : Sort
   function_list : Sort
   function_type : Sort
   number_type : Sort
   minimize_word : Sort
-  -- what follows `:action`: a name; the parts, where these were seen, and `)`; and the `(` of a part's value
+  -- what follows `:action`: a name; the parts, given those that have occurred, and `)`; and the `(` of a part's value
   action_name : Sort
   parts : List PartKeyword → Sort
   value : List PartKeyword → Sort
-  -- the sections of a file, where these were seen, and `)`; and what follows the `(` of one: one of some
+  -- the sections of a file, given those that have occurred, and `)`; and what follows the `(` of a section, given those allowed
   sections : TaskFile → List SectionKeyword → Sort
   section : TaskFile → SectionKeyword → List SectionKeyword → Sort
   -- a file, and the first words of its list
@@ -252,17 +251,17 @@ pub data Sort : Type 0 where
   kind_list : Sort
   kind_word : TaskFile → Sort
 
--- what a value in `:init` is of: the total cost, or a function of objects
+-- what `:init` gives a value to: the total cost, or a function of objects
 pub data Valued : Type 0 where
   the_total_cost : Name → Valued
   a_function : GroundAtom → Valued
 
--- such a value, where it comes after this `=`, with its number and the number's word
+-- such a value after this `=`, with its number and the number's word
 abbrev pub initial_fact : Name → Valued → ℕ × Name → Fact
 initial_fact n (the_total_cost f) v = tree.initial_cost (record { equals = n; function = f; amount = v.0; number = v.1 })
 initial_fact n (a_function f) v = tree.initial_value (record { function = f; value = v.0 })
 
--- the tree of what is read there
+-- the type of tree for each nonterminal
 abbrev pub Value : Sort → Type 0
 Value close = ⊤
 Value a_name = Name
@@ -305,8 +304,8 @@ Value define_word = ⊤
 Value kind_list = ⊤
 Value (kind_word f) = ⊤
 
--- What has to follow: nothing more, and the tree is this one; or something that is wanted, and then what its tree says.
--- In a `do`, `x ← s` stands for an s whose tree is x, and s alone for an s whose tree is not kept.
+-- What must follow: nothing more, and the tree is this one; or a nonterminal, and then a phrase that depends on its tree. In a
+-- `do`, `x ← s` stands for an s whose tree is x, and s alone for an s whose tree is not kept.
 pub data Phrase (T : Type 0) : Type 0 where
   gives : T → Phrase T
   ◌>>=◌ : (s : Sort) → (Value s → Phrase T) → Phrase T
@@ -314,14 +313,14 @@ pub data Phrase (T : Type 0) : Type 0 where
 abbrev pub ◌>>◌ : {T : Type 0} → Sort → Phrase T → Phrase T
 s >> p = s >>= λ _. p
 
--- one phrase, and then what its tree says
+-- one phrase, and then a phrase that depends on its tree
 abbrev pub and_then : {A B : Type 0} → Phrase A → (A → Phrase B) → Phrase B
 and_then (gives a) k = k a
 and_then (s >>= h) k = s >>= λ x. and_then (h x) k
 
 -- ---- the productions
 
--- after `:parameters`, `:precondition` or `:effect`, where these parts are with it
+-- after `:parameters`, `:precondition` or `:effect`, given these parts including it
 abbrev pub part_after : List PartKeyword → PartKeyword → Phrase Part
 part_after seen words.parameters = do value seen; gs ← typed variables; gives (parameters gs)
 part_after seen words.precondition = do value seen; f ← precondition_list; gives (precondition f)
@@ -341,20 +340,20 @@ section_after words.init = do fs ← many (listed fact); gives (init fs)
 section_after words.goal = do f ← listed formula; close; gives (goal f)
 section_after words.metric = do minimize_word; n ← listed total_cost; close; gives (metric n)
 
--- after the `(` of a file's section, where these may occur: none, or one of them
+-- after the `(` of a file's section, if these sections may occur: one of them
 abbrev pub section_of : TaskFile → List SectionKeyword → List SectionKeyword → Option (Phrase (List Section))
 section_of f seen [] = None
 section_of f seen (k ∷ others) = Some do x ← section f k others; xs ← sections f (seen_with seen (keyword_in x)); gives (x ∷ xs)
 
--- the part of this keyword, and those after it
+-- the part with this keyword, and those after it
 abbrev pub parts_after : List PartKeyword → PartKeyword → Phrase (List Part)
 parts_after seen k = and_then (part_after (seen ++ k ∷ []) k) (λ x. do xs ← parts (seen ++ k ∷ []); gives (x ∷ xs))
 
--- one of a list, and those after it
+-- one element of a list, and those after it
 abbrev pub more : (s : Sort) → Phrase (Value s) → Phrase (List (Value s))
 more s first = and_then first (λ x. do xs ← many s; gives (x ∷ xs))
 
--- a name may be any
+-- any name
 abbrev pub name_in : Token → Option Name
 name_in (free f n) = Some n
 name_in (reserved r n) = Some n
@@ -369,7 +368,7 @@ abbrev pub listed_in : ListElement → Token → Option Name
 listed_in names t = name_in t
 listed_in variables t = variable_in t
 
--- it is at the head of a group
+-- a name at the head of a group
 abbrev pub group_after : ListElement → Name → Phrase (List Group)
 group_after l n = do gs ← group l; gives (with_name n gs)
 
@@ -412,10 +411,10 @@ functions_after closes = Some (gives [])
 functions_after opens = Some do f ← function_declaration; fs ← function_type; gives (f ∷ fs)
 functions_after _ = None
 
--- where s is wanted and this word comes: what has to follow the word, or none where it may not occur there
+-- where this nonterminal is required and this word comes: what must follow the word, or none if the word may not occur there
 abbrev pub after : (s : Sort) → Token → Option (Phrase (Value s))
 after close closes = Some (gives tt)
--- NAME, which may be any; NAME | VARIABLE; KEY
+-- NAME, any name; NAME | VARIABLE; KEY
 after a_name t = option_map gives (name_in t)
 after term (free f n) = Some (gives (tree.object n))
 after term (reserved r n) = Some (gives (tree.object n))
@@ -480,7 +479,7 @@ after action_name t = option_map gives (name_in t)
 after (parts seen) closes = cond (has_part seen words.parameters) (Some (gives [])) None
 after (parts seen) (keyword (of_part k)) = cond (has_part seen k) None (Some (parts_after seen k))
 after (value seen) opens = Some (gives tt)
--- section*, each at most once save `:action`, the required ones among them, and the `)` of the file
+-- section*, each at most once except `:action`, the required ones included, and the `)` of the file
 after (sections f seen) closes = cond (has_all (required_of f) seen) (Some (gives [])) None
 after (sections f seen) opens = section_of f seen (left_of (sections_of f) seen)
 after (section f k others) (keyword (of_section j)) = cond (has_section (k ∷ others) j) (Some (section_after j)) None
@@ -492,10 +491,10 @@ after (kind_word domain_file) (free words.domain n) = Some (gives tt)
 after (kind_word problem_file) (free words.problem n) = Some (gives tt)
 after _ _ = None
 
--- ---- what the grammar says of words
+-- ---- the meaning of the grammar for words
 
--- What is wanted derives the words up to these that are left, and its tree is this one: the first word has a production,
--- and what has to follow it derives the others, one thing after another.
+-- What the grammar requires derives the words up to the remaining ones, with this tree: the first word has a production, and what
+-- must follow it derives the others, in sequence.
 mutual
   pub data Derives : (s : Sort) → List Token → Value s → List Token → Type 0 where
     by : {s : Sort} {t : Token} {w r : List Token} {p : Phrase (Value s)} {x : Value s} → after s t ≡ Some p → Follows s p w x r → Derives s (t ∷ w) x r
@@ -504,7 +503,7 @@ mutual
     nothing : {s : Sort} {w : List Token} {x : Value s} → Follows s (gives x) w x w
     next : {s u : Sort} {w v r : List Token} {k : Value u → Phrase (Value s)} {y : Value u} {x : Value s} → Derives u w y v → Follows s (k y) v x r → Follows s (u >>= k) w x r
 
--- the words are a file of this kind and of this tree
+-- the words are a file of this kind with this tree
 abbrev pub IsFile : TaskFile → List Token → Tree → Type 0
 IsFile f w t = Derives (file f) w t []
 

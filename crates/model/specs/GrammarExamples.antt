@@ -1,5 +1,4 @@
--- Worked examples of words and refusals: what the definitions say of small files, each chosen so that a wrong reading
--- says otherwise.
+-- Worked examples of words and refusals: what the definitions say about small files, each chosen to expose a wrong reading.
 use Rattle.std.specs.Prelude.{ℕ, List, [], ◌∷◌, ◌++◌, codes, Some, None}
 use Rattle.model.specs.Fault.{Fault}
 use Rattle.model.specs.GrammarWords.{tokens_of}
@@ -12,7 +11,7 @@ use Rattle.model.specs.Trees as tree
 abbrev pub word : Kind → List ℕ → ℕ → Word
 word kind text start = record { kind = kind; text = text; start = start }
 
--- a fault by its number, the offset of its first byte and that after its last
+-- a fault by its number and the offsets of its first byte and after its last
 abbrev pub fault : ℕ → ℕ → ℕ → Fault
 fault code start end = record { code = code; span = record { start = start; end = end } }
 
@@ -81,7 +80,7 @@ typed_list =
 abbrev pub named : List ℕ → ℕ → ℕ → Name
 named text start end = record { text = text; span = record { start = start; end = end } }
 
--- the names before a `-` are of the type after it, and those after the last one are of none
+-- the names before a `-` are of the type after it; those after the last type are untyped
 abbrev pub typed_groups : List Group
 typed_groups =
     record { names = named (codes "a") 26 27 ∷ named (codes "b") 28 29 ∷ []; types = named (codes "c") 32 33 ∷ [] }
@@ -293,7 +292,7 @@ total_cost_as_predicate =
     effect_head
     (word opens (codes "(") 95 ∷ word name (codes "total-cost") 96 ∷ [])
 
--- the tree of a domain with an action of this effect, and of these increases
+-- the tree of a domain with an action that has this effect and these increases
 abbrev pub domain_of_effect : Effect → List Increase → Domain
 domain_of_effect effect increases = record {
   name = named (codes "d") 16 17;
@@ -327,7 +326,7 @@ two_increases =
     ∷ word name (codes "total-cost") 142 ∷ word closes (codes ")") 152 ∷ word number (codes "0") 153 ∷ word closes (codes ")") 154 ∷ word closes (codes ")") 155 ∷ word closes (codes ")") 156
     ∷ word closes (codes ")") 157 ∷ [])
 
--- its effects, and its increases
+-- its effects and increases
 abbrev pub effects_among_increases : Effect
 effects_among_increases = tree.both (effects (tree.both (effects []) ∷ tree.literal (tree.add (record { predicate = named (codes "q") 130 131; terms = [] })) ∷ []))
 
@@ -396,7 +395,7 @@ functions_and_an_increase =
     ∷ word name (codes "total-cost") 119 ∷ word closes (codes ")") 129 ∷ word opens (codes "(") 130 ∷ word name (codes "f") 131 ∷ word variable (codes "?x") 133 ∷ word name (codes "k") 136
     ∷ word closes (codes ")") 137 ∷ word closes (codes ")") 138 ∷ word closes (codes ")") 139 ∷ word closes (codes ")") 140 ∷ [])
 
--- its tree: names keep their letters, and variables after the last type are of none
+-- its tree: names keep their case, and variables after the last type are untyped
 abbrev pub domain_of_functions : Domain
 domain_of_functions = record {
   name = named (codes "d") 16 17;
@@ -516,7 +515,7 @@ problem_of_values = record {
   metric = None;
 }
 
--- what they are
+-- the examples are as reported
 pub record AreAsReported : Type 0 where
   pub no_word : IsRefused domain_file [] (fault 7 0 0)
   pub empty : IsRefused domain_file empty_list (fault 10 1 2)

@@ -1,5 +1,5 @@
--- What a word is to the grammar of domain and problem files: its letters folded to lower case, a name is one that
--- the grammar knows or any other, and so is a keyword.
+-- Words as the grammar of domain and problem files sees them: after folding to lower case, a name is one that the grammar knows
+-- or any other, and so is a keyword.
 use Rattle.std.specs.Prelude.{ℕ, ◌+◌, ◌-◌, ◌*◌, Bool, nat_le, List, [], ◌∷◌, map, fold, codes, if◌then◌else◌}
 use Rattle.std.specs.List.{list_any}
 use Rattle.std.specs.Str.{bytes_eq, str_to_ascii_lowercase}
@@ -8,8 +8,8 @@ use Rattle.model.specs.Words as words
 use Rattle.model.specs.Trees.{Name}
 use Rattle.model.specs.Limits.{max_number}
 
--- a name that may be a predicate's: one that the grammar asks for somewhere, `maximize`, which is refused by a number of
--- its own in `:metric`, or any other
+-- a name that may name a predicate: one that the grammar uses somewhere, `maximize`, which has a refusal of its own in `:metric`,
+-- or any other
 pub data FreeName : Type 0 where
   define : FreeName
   domain : FreeName
@@ -19,7 +19,7 @@ pub data FreeName : Type 0 where
   maximize : FreeName
   ordinary : FreeName
 
--- a name that heads a formula, an effect or a type of PDDL, and so is no predicate's
+-- a name that heads a formula, an effect or a type in PDDL, and so cannot name a predicate
 pub data ReservedName : Type 0 where
   and : ReservedName
   or : ReservedName
@@ -31,7 +31,7 @@ pub data ReservedName : Type 0 where
   when : ReservedName
   increase : ReservedName
   total_cost : ReservedName
-  -- of a form of PDDL that the language profile leaves out
+  -- the name of an unsupported construct of PDDL
   left_out_name : ReservedName
 
 -- the keywords of a file's sections
@@ -60,11 +60,11 @@ pub data Keyword : Type 0 where
   of_part : PartKeyword → Keyword
   -- a key of `:requirements`
   requirement_key : Keyword
-  -- of a section or part of PDDL that the language profile leaves out
+  -- the keyword of an unsupported section or part of PDDL
   left_out_keyword : Keyword
   unknown_keyword : Keyword
 
--- A word. Any name may name an object or an action, so that each has its bytes and place.
+-- A word. Any name may name an object or an action, so each has its bytes and its place.
 pub data Token : Type 0 where
   opens : Token
   closes : Token
@@ -78,7 +78,7 @@ pub data Token : Type 0 where
   number : ℕ → Name → Token
   large_number : Token
 
--- the word as a name of the trees
+-- the word as a name in trees
 abbrev pub name_from : Word → Name
 name_from w = record { text = w.text; span = record { start = w.start; end = end_of w } }
 
@@ -86,7 +86,7 @@ name_from w = record { text = w.text; span = record { start = w.start; end = end
 abbrev pub is_among : List ℕ → List (List ℕ) → Bool
 is_among text list = list_any (bytes_eq text) list
 
--- the names of forms that are left out
+-- the names of unsupported constructs
 abbrev pub left_out_names : List (List ℕ)
 left_out_names = codes "preference" ∷ codes "assign" ∷ codes "decrease" ∷ codes "scale-up" ∷ codes "scale-down" ∷ []
 
@@ -94,11 +94,11 @@ left_out_names = codes "preference" ∷ codes "assign" ∷ codes "decrease" ∷ 
 abbrev pub requirement_keys : List (List ℕ)
 requirement_keys = codes ":strips" ∷ codes ":typing" ∷ codes ":equality" ∷ codes ":negative-preconditions" ∷ codes ":disjunctive-preconditions" ∷ codes ":existential-preconditions" ∷ codes ":universal-preconditions" ∷ codes ":quantified-preconditions" ∷ codes ":conditional-effects" ∷ codes ":adl" ∷ codes ":action-costs" ∷ codes ":fluents" ∷ codes ":numeric-fluents" ∷ []
 
--- the keywords of sections and parts that are left out
+-- the keywords of unsupported sections and parts
 abbrev pub left_out_keywords : List (List ℕ)
 left_out_keywords = codes ":durative-action" ∷ codes ":derived" ∷ codes ":constraints" ∷ codes ":axiom" ∷ codes ":safety" ∷ codes ":timeless" ∷ codes ":extends" ∷ codes ":situation" ∷ codes ":length" ∷ codes ":vars" ∷ codes ":duration" ∷ codes ":condition" ∷ codes ":expansion" ∷ codes ":method" ∷ []
 
--- a name, by its text folded
+-- the class of a name, by its folded text
 abbrev pub named : List ℕ → Name → Token
 named text =
     if bytes_eq text (codes "and") then reserved and
@@ -120,13 +120,13 @@ named text =
     else (if is_among text left_out_names then reserved left_out_name
     else free ordinary))))))))))))))))
 
--- what a keyword is, folded, that begins no section and no part
+-- the class of a folded keyword that begins no section and no part
 abbrev pub other_keyword_of : List ℕ → Keyword
 other_keyword_of text =
     if is_among text requirement_keys then requirement_key
     else (if is_among text left_out_keywords then left_out_keyword else unknown_keyword)
 
--- what a keyword is, folded
+-- the class of a folded keyword
 abbrev pub keyword_of : List ℕ → Keyword
 keyword_of text =
     if bytes_eq text (codes ":action") then of_section action
@@ -145,7 +145,7 @@ keyword_of text =
     else (if bytes_eq text (codes ":metric") then of_section metric
     else other_keyword_of text)))))))))))))
 
--- the number that these digits write
+-- the number that these digits denote
 abbrev pub number_of_digits : List ℕ → ℕ
 number_of_digits digits = fold (λ n digit. n * 10 + (digit - 48)) 0 digits
 
@@ -153,7 +153,7 @@ number_of_digits digits = fold (λ n digit. n * 10 + (digit - 48)) 0 digits
 abbrev pub number_from : ℕ → Name → Token
 number_from n word = if nat_le n max_number then number n word else large_number
 
--- a word of this kind, with its text folded, and as a name
+-- a word of this kind, with its folded text, and as a name
 abbrev pub token_from : Kind → List ℕ → Name → Token
 token_from words.name text n = named text n
 token_from words.variable text n = variable n
@@ -164,7 +164,7 @@ token_from words.equals text n = equals n
 token_from words.opens text n = opens
 token_from words.closes text n = closes
 
--- what a word is to the grammar
+-- the class of a word for the grammar
 abbrev pub token_of : Word → Token
 token_of w = token_from w.kind (str_to_ascii_lowercase w.text) (name_from w)
 

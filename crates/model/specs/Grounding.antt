@@ -1,5 +1,5 @@
--- The ground task: a planning task seen through numbers, those of its atoms and of its kept instances. A packed state is
--- one bit for each numbered atom, and each step is the task's own.
+-- The ground task: a planning task in terms of numbers, those of its atoms and of its kept instances. A packed state has one bit
+-- for each numbered atom, and each step is a step of the task.
 use Rattle.std.specs.Prelude.{◌≡◌, ℕ, Bool, nat_lt, IsTrue, List, [], ◌∷◌, ◌++◌, map, filter, length, slice_get, if◌then◌else◌, Option, None, Some, is_some, All}
 use Rattle.std.specs.List.{list_all, range_with_len}
 use Rattle.std.specs.Option.{option_map, option_map_or, option_and_then}
@@ -15,28 +15,28 @@ use Rattle.model.specs.Bisimulation.{IsBisimulation, SolveAlike}
 
 -- ---- states
 
--- the atoms whose bit is set; atom and bit are at one place
+-- the atoms whose bit, at the same index, is set
 abbrev pub chosen : List Atom → List Bool → List Atom
 chosen [] bits = []
 chosen (a ∷ atoms) [] = []
 chosen (a ∷ atoms) (bit ∷ bits) = if bit then a ∷ chosen atoms bits else chosen atoms bits
 
--- the state that a packed state stands for: its atoms, and the static atoms that are true at the start
+-- the state that a packed state represents: its atoms, and the static atoms that are initially true
 abbrev pub state_of_bits : Task → List Atom → List Bool → State
 state_of_bits task atoms bits = from_list (chosen atoms bits ++ static_atoms task)
 
--- the packed state that stands for a state
+-- the packed state that represents a state
 abbrev pub bits_of_state : List Atom → State → List Bool
 bits_of_state atoms state = map (contains state) atoms
 
 -- ---- the ground task
 
--- the state that the instance of this number leads to; none where it is not applicable, or no instance has the number
+-- the successor state for the instance with this number; none if it is not applicable, or no instance has the number
 abbrev pub ground_step : Task → List Atom → List Bool → ℕ → Option (List Bool)
 ground_step task atoms bits number =
     option_and_then (λ i. option_map (bits_of_state atoms) (step task (state_of_bits task atoms bits) i)) (slice_get (kept_instances task) number)
 
--- The ground task, where these atoms have numbers: packed states, and instances by their numbers.
+-- The ground task with these numbered atoms: packed states, and instances by number.
 abbrev pub ground_system : Task → List Atom → System (List Bool) ℕ
 ground_system task atoms = record {
   initial = bits_of_state atoms (initial_state task);
@@ -45,7 +45,7 @@ ground_system task atoms = record {
   meets_goal = λ bits. meets_goal task (state_of_bits task atoms bits);
 }
 
--- the numbers of the instances that are applicable, rising
+-- the numbers of the applicable instances, in ascending order
 abbrev pub applicable_numbers : Task → List Atom → List Bool → List ℕ
 applicable_numbers task atoms bits =
     filter (λ number. is_some (ground_step task atoms bits number)) (range_with_len 0 (length (kept_instances task)))
@@ -56,16 +56,16 @@ pub data GroundLimit : Type 0 where
   of_instances : GroundLimit
   of_atoms : GroundLimit
 
--- The limit that is reported: that of instances where more are kept, and else that of atoms where more have numbers.
+-- The limit that is reported: that of instances if more are kept, otherwise that of atoms if more are numbered.
 abbrev pub exceeded_limit : ℕ → ℕ → Task → List Atom → Option GroundLimit
 exceeded_limit max_instances max_atoms task more =
     if nat_lt max_instances (length (kept_instances task)) then Some of_instances
     else if nat_lt max_atoms (length (numbered_atoms task more)) then Some of_atoms
     else None
 
--- ---- what a ground task has to do with its task
+-- ---- how a ground task relates to its task
 
--- the packed state stands for the state
+-- the packed state represents the state
 abbrev pub StandsFor : Task → List Atom → List Bool → State → Type 0
 StandsFor task atoms bits state = state_of_bits task atoms bits ≡ state
 
@@ -73,27 +73,27 @@ StandsFor task atoms bits state = state_of_bits task atoms bits ≡ state
 abbrev pub NamesKept : Task → ℕ → Instance → Type 0
 NamesKept task number i = slice_get (kept_instances task) number ≡ Some i
 
--- The ground task does what the task does, and nothing else.
+-- The ground task and the task are bisimilar.
 abbrev pub GroundTaskIsBisimilar : Type 0
 GroundTaskIsBisimilar =
     (task : Task) (more : List Atom) → All (λ (a : Atom). IsTrue (is_fluent task a.predicate)) more
     → IsBisimulation (ground_system task (numbered_atoms task more)) (system_of task) (StandsFor task (numbered_atoms task more)) (NamesKept task)
 
--- So what solves the one solves the other, by the instances that the numbers name.
+-- So both have the same solutions, by the instances that the numbers name.
 abbrev pub GroundTaskSolvesAlike : Type 0
 GroundTaskSolvesAlike =
     (task : Task) (more : List Atom) → All (λ (a : Atom). IsTrue (is_fluent task a.predicate)) more
     → SolveAlike (ground_system task (numbered_atoms task more)) (system_of task) (NamesKept task)
 
--- Packed states stand for the states that have the initial static atoms and no fluent atom without a number, and each of
--- these has one, which is as long as the numbered atoms.
+-- Packed states represent the states that have the initial static atoms and no fluent atom without a number; each of these has a
+-- packed state, of the same length as the numbered atoms.
 pub record PacksStates (task : Task) (atoms : List Atom) : Type 0 where
   pub statics : (bits : List Bool) → HasInitialStatics task (state_of_bits task atoms bits)
   pub fluents : (bits : List Bool) → HasNumberedFluents task atoms (state_of_bits task atoms bits)
   pub packed : (state : State) → HasInitialStatics task state → HasNumberedFluents task atoms state → StandsFor task atoms (bits_of_state atoms state) state
   pub one_packed : (bits : List Bool) → length bits ≡ length atoms → bits_of_state atoms (state_of_bits task atoms bits) ≡ bits
 
--- Where a formula holds in a packed state, the state agrees with its sure literals.
+-- If a formula holds in the state that a packed state represents, the packed state agrees with its sure literals.
 abbrev pub NumberedLiteralsHold : Type 0
 NumberedLiteralsHold =
     (task : Task) (more : List Atom) → All (λ (a : Atom). IsTrue (is_fluent task a.predicate)) more

@@ -1,35 +1,35 @@
--- The limits of the language profile on what a domain and a problem have, of grounding on what it numbers, and of plans and
--- searches. Each is the most that is taken.
+-- Limits: of the language profile on domains and problems, of grounding on numbered atoms, and on plans and searches. Each is the
+-- greatest allowed number.
 use Rattle.std.specs.Prelude.{ℕ}
 
--- the most types that a domain declares, beside `object`
+-- types declared by a domain, not counting `object`
 abbrev pub max_types : ℕ
 max_types = 4095
 
--- the most constants and objects together
+-- constants and objects together
 abbrev pub max_objects : ℕ
 max_objects = 65535
 
--- the most arguments of a predicate
+-- arguments of a predicate
 abbrev pub max_arguments : ℕ
 max_arguments = 8
 
--- the most variables in scope at once, the parameters of an action among them
+-- variables in scope at once, including the parameters of an action
 abbrev pub max_variables : ℕ
 max_variables = 16
 
--- the greatest number that is written
+-- the greatest number in a file
 abbrev pub max_number : ℕ
 max_number = 2147483647
 
--- the most atoms that have numbers once a task is grounded
+-- numbered atoms of a ground task
 abbrev pub max_numbered_atoms : ℕ
 max_numbered_atoms = 1048576
 
--- the most instances of a plan
+-- instances in a plan
 abbrev pub max_steps : ℕ
 max_steps = 16777216
 
--- the most states that a search lists
+-- states listed by a search
 abbrev pub max_states_listed : ℕ
 max_states_listed = 16777216

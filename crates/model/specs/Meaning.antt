@@ -1,4 +1,4 @@
--- What a planning task means: states, when a formula holds, what an action does (PDDL 1.2 manual, "Domains", "Actions",
+-- The semantics of planning tasks: states, when a formula holds, what an action does (PDDL 1.2 manual, "Domains", "Actions",
 -- "Goal descriptions", "Effects", "Problems"; Fox & Long 2003, section 8, without time; action costs, 2008).
 use Rattle.std.specs.Prelude.{ℕ, Bool, true, false, ◌&&◌, ◌||◌, nat_eq, List, [], ◌∷◌, ◌++◌, length, map, filter, slice_get, slice_index, if◌then◌else◌, Option, None, Some, is_some, unwrap_or}
 use Rattle.std.specs.List.{flat_map, list_all, list_any, range_with_len}
@@ -11,48 +11,48 @@ use Rattle.std.specs.Prelude as bool
 use Rattle.model.specs.Task.{ObjectType, Object, Union, Atom, LiftedAtom, Term, variable, object, Formula, Formulas, atom, equal, and, or, not, imply, exists, forall, no_formula, more_formulas, EffectLiteral, add, delete, Effect, Effects, literal, both, each, when, no_effect, more_effects, Increase, by_number, by_function, FunctionValue, Schema, Task, Instance}
 use Rattle.model.specs.Runs.{System}
 
--- atoms in the order of their predicates, and then of their objects from the left
+-- atoms are ordered by predicate and then lexicographically by objects
 abbrev pub atom_cmp : Atom → Atom → Ordering
 atom_cmp a b = slice_cmp nat_cmp (a.predicate ∷ a.objects) (b.predicate ∷ b.objects)
 
--- A state is the finite set of the atoms that are true in it; every other atom is false
--- (PDDL 1.2 manual, "Problems": what `:init` does not say is false; Fox & Long 2003, section 8).
+-- A state is the finite set of its true atoms; every other atom is false (PDDL 1.2 manual, "Problems": closed world; Fox & Long
+-- 2003, section 8).
 abbrev pub State : Type 0
 State = FinSet atom_cmp
 
--- the set of the atoms in `:init`: one that is there twice counts once
+-- the set of the atoms in `:init`: a repeated atom counts once
 abbrev pub initial_state : Task → State
 initial_state task = from_list task.init
 
 -- ---- objects and their types
 
--- of these types, all that the objects of one are of
+-- the supertypes of a type among these types
 abbrev pub supertypes_in : List ObjectType → ℕ → List ℕ
 supertypes_in all number = option_map_or (λ (t : ObjectType). t.supertypes) (slice_get all number) []
 
--- of these types, one is one of some or is below one of them
+-- a type is one of these or a subtype of one, among these types
 abbrev pub is_below_in : List ObjectType → Union → ℕ → Bool
 is_below_in all types number = list_any (λ above. list_any (nat_eq above) types) (supertypes_in all number)
 
--- all types that the objects of a type are of
+-- all supertypes of a type, itself included
 abbrev pub supertypes_of : Task → ℕ → List ℕ
 supertypes_of task = supertypes_in task.types
 
--- the type is one of these or is below one of them
+-- the type is one of these or a subtype of one
 abbrev pub is_below : Task → Union → ℕ → Bool
 is_below task = is_below_in task.types
 
--- the object is of one of these types: the type that it is declared with is one of them or is below one
+-- the object is of one of these types: its declared type is one of them or a subtype of one
 abbrev pub is_of : Task → Union → ℕ → Bool
 is_of task types number = option_map_or (λ (o : Object). is_below task types o.type) (slice_get task.objects number) false
 
--- the objects of these types, in order, each once
+-- the objects of these types, in order and without repetition
 abbrev pub objects_of : Task → Union → List ℕ
 objects_of task types = filter (is_of task types) (range_with_len 0 (length task.objects))
 
 -- ---- formulas and effects
 
--- what a term names, where the variables have these objects
+-- the object that a term denotes under this binding of the variables
 abbrev pub object_of : List ℕ → Term → ℕ
 object_of binding (variable parameter) = slice_index binding parameter
 object_of binding (object number) = number
@@ -61,10 +61,10 @@ object_of binding (object number) = number
 abbrev pub ground_atom : List ℕ → LiftedAtom → Atom
 ground_atom binding a = record { predicate = a.predicate; objects = map (object_of binding) a.terms }
 
--- A formula of the task holds in a state where the variables have these objects (PDDL 1.2 manual, "Goal
--- descriptions"): an atom where it is in the state, an equality where both terms name one object, `and`, `or`, `not` and
--- `imply` as in logic, so `(and)` always and `(or)` never. `exists` and `forall` go over the objects of the variable's
--- types: where there is none, `exists` is false and `forall` true.
+-- A formula of the task holds in a state under a binding of the variables (PDDL 1.2 manual, "Goal descriptions"): an atom if it
+-- is in the state, an equality if both terms denote the same object, `and`, `or`, `not` and `imply` as in logic, so `(and)`
+-- always and `(or)` never. `exists` and `forall` range over the objects of the variable's types: without objects, `exists` is
+-- false and `forall` true.
 abbrev mutual
   pub holds : Task → Formula → List ℕ → State → Bool
   holds task (atom a) binding state = contains state (ground_atom binding a)
@@ -89,23 +89,23 @@ pub data GroundLiteral : Type 0 where
   adds : Atom → GroundLiteral
   deletes : Atom → GroundLiteral
 
--- what an effect changes where its condition holds, whose variables have these objects
+-- what an effect changes if its condition holds, under this binding
 pub record Change : Type 0 where
   pub condition : Formula
   pub binding : List ℕ
   pub literal : GroundLiteral
 
--- what a literal changes, where the variables have these objects
+-- what a literal changes, under this binding
 abbrev pub ground_literal : List ℕ → EffectLiteral → GroundLiteral
 ground_literal binding (add a) = adds (ground_atom binding a)
 ground_literal binding (delete a) = deletes (ground_atom binding a)
 
--- and under this condition
+-- the same under this condition
 abbrev pub change_under : Formula → List ℕ → EffectLiteral → Change
 change_under condition binding l = record { condition = condition; binding = binding; literal = ground_literal binding l }
 
--- The changes of an effect, where the variables have these objects (PDDL 1.2 manual, "Effects"): those of a
--- `forall` for each object of its variable's types. The condition of one that is under no `when` is `(and)`.
+-- The changes of an effect under this binding (PDDL 1.2 manual, "Effects"): those of a `forall` for each object of its variable's
+-- types. A change outside any `when` has the condition `(and)`.
 abbrev mutual
   pub changes_of : Task → Effect → List ℕ → List Change
   changes_of task (literal l) binding = change_under (and no_formula) binding l ∷ []
@@ -117,7 +117,7 @@ abbrev mutual
   changes_of_all task no_effect binding = []
   changes_of_all task (more_effects first rest) binding = changes_of task first binding ++ changes_of_all task rest binding
 
--- the changes of an instance: those of its schema's effect, where the parameters have its objects
+-- the changes of an instance: those of its schema's effect, with its objects for the parameters
 abbrev pub changes_of_instance : Task → Instance → List Change
 changes_of_instance task i = option_map_or (λ (s : Schema). changes_of task s.effect i.objects) (slice_get task.schemas i.schema) []
 
@@ -126,7 +126,7 @@ abbrev pub literals_in : Task → State → List Change → List GroundLiteral
 literals_in task state changes =
     map (λ (c : Change). c.literal) (filter (λ (c : Change). holds task c.condition c.binding state) changes)
 
--- the atoms that become true by these literals, and those that become false
+-- the atoms that these literals make true, and those that they make false
 abbrev pub added_by : List GroundLiteral → List Atom
 added_by [] = []
 added_by (adds a ∷ rest) = a ∷ added_by rest
@@ -137,16 +137,16 @@ deleted_by [] = []
 deleted_by (adds a ∷ rest) = deleted_by rest
 deleted_by (deletes a ∷ rest) = a ∷ deleted_by rest
 
--- the state less the atoms deleted, and then with the atoms added
+-- the state without the deleted atoms, and then with the added ones
 abbrev pub after_literals : State → List GroundLiteral → State
 after_literals state literals = union (difference state (from_list (deleted_by literals))) (from_list (added_by literals))
 
--- The state after these changes: all conditions are read in the state before. Where one atom is both deleted and added, it
--- is true afterwards (Fox & Long 2003, section 8).
+-- The state after these changes: all conditions are evaluated in the state before. An atom that is both deleted and added is true
+-- afterwards (Fox & Long 2003, section 8).
 abbrev pub after_changes : Task → State → List Change → State
 after_changes task state changes = after_literals state (literals_in task state changes)
 
--- an object of its types for each parameter; two parameters may have the same one
+-- an object of the right types for each parameter; two parameters may have the same object
 abbrev pub fits : Task → Schema → List ℕ → Bool
 fits task schema objects = pointwise (is_of task) schema.parameters objects
 
@@ -154,29 +154,29 @@ fits task schema objects = pointwise (is_of task) schema.parameters objects
 abbrev pub is_instance : Task → Instance → Bool
 is_instance task i = option_map_or (λ schema. fits task schema i.objects) (slice_get task.schemas i.schema) false
 
--- the value that is given to a function of objects: by the first of these that gives it one
+-- the value of a function of objects: the first one given
 abbrev pub value_in : List FunctionValue → Atom → Option ℕ
 value_in [] f = None
 value_in (v ∷ values) f = if eq_by_cmp atom_cmp f v.function then Some v.value else value_in values f
 
--- What an increase is by, where the variables have these objects (action costs, 2008): a function has the value that
--- `:init` gives it, which no action changes, and none where `:init` gives it none.
+-- The amount of an increase under this binding (action costs, 2008): a function has the value that `:init` gives it, which no
+-- action changes, and none if `:init` gives none.
 abbrev pub amount_of : Task → Increase → List ℕ → Option ℕ
 amount_of task (by_number amount) binding = Some amount
 amount_of task (by_function f) binding = value_in task.values (ground_atom binding f)
 
--- what the schema increases the total cost by has a value, where its parameters have these objects
+-- the schema's cost increase has a value for these objects
 abbrev pub has_amount : Task → Schema → List ℕ → Bool
 has_amount task schema objects = is_some (amount_of task schema.increase objects)
 
--- The schema can be carried out, where its parameters have these objects: its precondition holds (PDDL 1.2 manual,
--- "Actions"), and what it increases the total cost by has a value, as an effect by what has none is undefined (Fox & Long
--- 2003, section 8), whether the total cost is to be least or not.
+-- The schema is applicable with these objects: its precondition holds (PDDL 1.2 manual, "Actions"), and its cost increase has a
+-- value, since an effect by an undefined value is undefined (Fox & Long 2003, section 8), whether or not the total cost is
+-- minimized.
 abbrev pub can_apply : Task → Schema → List ℕ → State → Bool
 can_apply task schema objects state = has_amount task schema objects && holds task schema.precondition objects state
 
--- The state that an action leads to: it is applicable where it is an instance of a schema of the task that can be carried
--- out (PDDL 1.2 manual, "Actions"; Fox & Long 2003, section 8).
+-- The successor state: an action is applicable if it is an instance of a schema of the task, and the schema is applicable with
+-- its objects (PDDL 1.2 manual, "Actions"; Fox & Long 2003, section 8).
 abbrev pub step : Task → State → Instance → Option State
 step task state i =
     option_and_then (λ schema.
@@ -184,12 +184,12 @@ step task state i =
     else None)
     (slice_get task.schemas i.schema)
 
--- the goal holds; it has no parameters (PDDL 1.2 manual, "Problems")
+-- the goal holds; it has no free variables (PDDL 1.2 manual, "Problems")
 abbrev pub meets_goal : Task → State → Bool
 meets_goal task state = holds task task.goal [] state
 
--- What an instance costs: where the total cost is to be least, what its schema increases it by (action costs, 2008), and
--- else 1. An instance that has no value for it is never applicable, and its cost is of no account.
+-- The cost of an instance: if the total cost is minimized, the amount of its schema's increase (action costs, 2008), otherwise 1.
+-- An instance without a value is never applicable, so its cost does not matter.
 abbrev pub cost_of : Task → Instance → ℕ
 cost_of task i =
     if task.has_metric then option_map_or (λ (s : Schema). unwrap_or (amount_of task s.increase i.objects) 0) (slice_get task.schemas i.schema) 0

@@ -1,5 +1,5 @@
--- Literals and changes by the numbers of their atoms: the sure literals of an instance's precondition and of the goal, and
--- the changes that count. Static atoms and equalities have no number, and are in none of these lists.
+-- Literals and changes by the numbers of their atoms: the sure literals of an instance's precondition and of the goal, and the
+-- counting changes. Static atoms and equalities have no number, and are in none of these lists.
 use Rattle.std.specs.Prelude.{ℕ, Bool, true, false, not, List, [], slice_get, get_or, if◌then◌else◌, Option, None}
 use Rattle.std.specs.List.{filter_map}
 use Rattle.std.specs.Option.{option_map, option_map_or}
@@ -9,35 +9,35 @@ use Rattle.model.specs.SureLiterals.{Literal, is_true, is_false, sure}
 use Rattle.model.specs.StaticallyFalse.{kept_instances, counting_changes, is_unconditional}
 use Rattle.model.specs.NumberedAtoms.{number_of}
 
--- a numbered atom is true, or false
+-- a literal of a numbered atom
 pub record NumberedLiteral : Type 0 where
   pub atom : ℕ
   pub value : Bool
 
--- none where the atom has no number, and of an equality
+-- none if the atom has no number, and for an equality
 abbrev pub numbered_literal : List Atom → Literal → Option NumberedLiteral
 numbered_literal atoms (is_true a) = option_map (λ (number : ℕ). record { atom = number; value = true }) (number_of atoms a)
 numbered_literal atoms (is_false a) = option_map (λ (number : ℕ). record { atom = number; value = false }) (number_of atoms a)
 numbered_literal atoms _ = None
 
--- the sure literals of a formula that are of numbered atoms, in order
+-- the sure literals of a formula with numbered atoms, in order
 abbrev pub numbered_literals : Task → List Atom → Formula → List ℕ → List NumberedLiteral
 numbered_literals task atoms formula binding = filter_map (numbered_literal atoms) (sure task formula binding)
 
--- those of an instance's precondition
+-- the literals of an instance's precondition
 abbrev pub literals_of_instance : Task → List Atom → Instance → List NumberedLiteral
 literals_of_instance task atoms i =
     option_map_or (λ (s : Schema). numbered_literals task atoms s.precondition i.objects) (slice_get task.schemas i.schema) []
 
--- those of the instance of this number
+-- the literals of the instance with this number
 abbrev pub literals_of_number : Task → List Atom → ℕ → List NumberedLiteral
 literals_of_number task atoms number = option_map_or (literals_of_instance task atoms) (slice_get (kept_instances task) number) []
 
--- those of the goal
+-- the literals of the goal
 abbrev pub literals_of_goal : Task → List Atom → List NumberedLiteral
 literals_of_goal task atoms = numbered_literals task atoms task.goal []
 
--- a numbered atom becomes true, or false, under a condition or under none
+-- a numbered atom becomes true or false, with or without a condition
 pub record NumberedChange : Type 0 where
   pub atom : ℕ
   pub value : Bool
@@ -51,14 +51,14 @@ abbrev pub numbered_change : List Atom → Change → Option NumberedChange
 numbered_change atoms c =
     option_map (λ (l : NumberedLiteral). record { atom = l.atom; value = l.value; is_unconditional = is_unconditional c }) (numbered_ground_literal atoms c.literal)
 
--- the changes of an instance that count, in order
+-- the counting changes of an instance, in order
 abbrev pub counting_of_instance : Task → List Atom → Instance → List NumberedChange
 counting_of_instance task atoms i = filter_map (numbered_change atoms) (counting_changes task i)
 
--- those of the instance of this number
+-- the counting changes of the instance with this number
 abbrev pub counting_of_number : Task → List Atom → ℕ → List NumberedChange
 counting_of_number task atoms number = option_map_or (counting_of_instance task atoms) (slice_get (kept_instances task) number) []
 
--- the literal's atom is true in the packed state, or false, as the literal says
+-- the packed state agrees with the literal
 abbrev pub agrees : List Bool → NumberedLiteral → Bool
 agrees bits l = if l.value then get_or bits l.atom false else not (get_or bits l.atom false)

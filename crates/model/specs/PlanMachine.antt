@@ -1,12 +1,12 @@
--- The form of a plan text as a machine that takes its words one by one, which the reader of plans is compared with. It stops at the first word
--- that no plan text goes on with.
+-- The syntax of a plan text as a machine that takes its words one by one, to which the plan reader is compared. It stops at the
+-- first unexpected word.
 use Rattle.std.specs.Prelude.{ℕ, ◌+◌, Bool, cond, List, [], ◌∷◌, ◌++◌}
 use Rattle.model.specs.Fault.{Span, Fault}
 use Rattle.model.specs.Words.{Form, blank, comment, opening, closing, run, stray, Part, form, bytes, size, is_name}
 use Rattle.model.specs.Trees.{Name}
 use Rattle.model.specs.PlanText.{Placed, Step, is_stamp}
 
--- what a word may be in a step
+-- the role that a word may have in a step
 pub data Sort : Type 0 where
   an_opening : Sort
   a_closing : Sort
@@ -25,13 +25,13 @@ sort_by stray named stamp = strange
 abbrev pub sort_of : Part → Sort
 sort_of part = sort_by (form part) (is_name (bytes part)) (is_stamp (bytes part))
 
--- outside of steps, after the `(` of a step, and after the names of its action and of these objects
+-- outside of steps, after the `(` of a step, or after the names of its action and of these objects
 pub data PlanPlace : Type 0 where
   outside : PlanPlace
   opened : PlanPlace
   inside : Name → List Name → PlanPlace
 
--- what a word does: nothing goes on with it, and it is reported by this number, or the step goes on, or it ends
+-- the effect of a word: it is refused with this number, or the step continues, or it ends
 pub data Advance : Type 0 where
   stops : ℕ → Advance
   goes : PlanPlace → Advance
@@ -61,7 +61,7 @@ span_at word = record { start = word.start; end = word.start + size word.part }
 abbrev pub name_at : Placed → Name
 name_at word = record { text = bytes word.part; span = span_at word }
 
--- the steps, or what is refused
+-- the steps, or the refusal
 pub data Outcome : Type 0 where
   reads : List Step → Outcome
   refuses : Fault → Outcome
@@ -88,7 +88,7 @@ after_turn span (stops code) rest = refuses (record { code = code; span = span }
 after_turn span (goes place) rest = rest place
 after_turn span (ends step) rest = with_step step (rest outside)
 
--- what is read of these words, from this place on, where the text ends at `end`
+-- the outcome for these words, from this state, if the text ends at `end`
 abbrev pub outcome : ℕ → List Placed → PlanPlace → Outcome
 outcome end [] place = at_end end place
 outcome end (word ∷ words) place =

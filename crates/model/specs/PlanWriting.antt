@@ -1,6 +1,6 @@
--- What the writer of plan texts writes: each step on a line, in lower case, with one blank between words, and last the
--- line `; cost = N`, where every line ends with LF. And what the names of a task have to be, so that each such text reads
--- as its list of instances (`PlanText`).
+-- The text that the plan writer produces: each step on a line, in lower case, with one blank between words, and the last line `;
+-- cost = N`; every line ends with LF. And the conditions on a task's names under which each such text reads back as its list of
+-- instances (`PlanText`).
 use Rattle.std.specs.Prelude.{ℕ, Bool, true, ◌&&◌, not, nat_le, List, [], ◌∷◌, ◌++◌, codes, length, map, slice_get}
 use Rattle.std.specs.Char.{to_ascii_lowercase}
 use Rattle.std.specs.Fmt.{decimal}
@@ -13,11 +13,11 @@ use Rattle.model.specs.PlanText.{schema_names, object_names}
 
 -- ---- the writer's text
 
--- the name of the schema of this number, and no bytes where there is none
+-- the name of the schema with this number; empty if there is none
 abbrev pub schema_name : Task → ℕ → Name
 schema_name task number = option_map_or (λ (s : Schema). s.name) (slice_get task.schemas number) []
 
--- the name of the object of this number, and no bytes where there is none
+-- the name of the object with this number; empty if there is none
 abbrev pub object_name : Task → ℕ → Name
 object_name task number = option_map_or (λ (o : Object). o.name) (slice_get task.objects number) []
 
@@ -37,7 +37,7 @@ step_line task i = step_text task i ++ codes "\n"
 abbrev pub cost_line : ℕ → List ℕ
 cost_line cost = codes "; cost = " ++ decimal cost ++ codes "\n"
 
--- the steps, and then their cost
+-- the steps, followed by their cost
 abbrev pub plan_text : Task → List Instance → ℕ → List ℕ
 plan_text task plan cost = flat_map (step_line task) plan ++ cost_line cost
 
@@ -47,7 +47,7 @@ plan_text task plan cost = flat_map (step_line task) plan ++ cost_line cost
 abbrev pub is_lower_name : Name → Bool
 is_lower_name name = is_name name && is_same (map to_ascii_lowercase name) name && nat_le (length name) longest_run
 
--- no two of these names are the same
+-- the names are pairwise different
 abbrev pub differ : List Name → Bool
 differ [] = true
 differ (name ∷ names) = not (list_any (is_same name) names) && differ names
@@ -55,6 +55,6 @@ differ (name ∷ names) = not (list_any (is_same name) names) && differ names
 abbrev pub are_lower_names : List Name → Bool
 are_lower_names names = list_all is_lower_name names && differ names
 
--- the schemas have names of their own, and the objects have
+-- the schemas have valid, pairwise different names, and so have the objects
 abbrev pub has_names : Task → Bool
 has_names task = are_lower_names (schema_names task) && are_lower_names (object_names task)

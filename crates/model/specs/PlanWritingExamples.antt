@@ -1,11 +1,11 @@
--- Worked examples of what is written for plans, each chosen so that a wrong reading says otherwise.
+-- Worked examples of plan texts as written, each chosen to expose a wrong reading.
 use Rattle.std.specs.Prelude.{◌≡◌, ℕ, true, false, List, [], ◌∷◌, codes, length, map, replicate}
 use Rattle.model.specs.Task.{Name, Object, Task, by_number, Schema, and, no_formula, both, no_effect}
 use Rattle.model.specs.Examples.{instance}
 use Rattle.model.specs.PlanText.{IsPlanText}
 use Rattle.model.specs.PlanWriting.{step_text, plan_text, is_lower_name, has_names}
 
--- an object, or an action, of this name
+-- an object, or an action, with this name
 abbrev pub an_object : Name → Object
 an_object name = record { name = name; type = 0 }
 
@@ -18,8 +18,8 @@ an_action name parameters = record {
   increase = by_number 3;
 }
 
--- a task of actions and objects of these names, in which `object` is the one type; the first action has two parameters,
--- and the others none
+-- a task with actions and objects of these names, with the single type `object`; the first action has two parameters, and the
+-- others none
 abbrev pub task_of_names : Name → List Name → List Name → Task
 task_of_names first others objects = record {
   types = record { name = codes "object"; supertypes = 0 ∷ [] } ∷ [];
@@ -38,21 +38,21 @@ abbrev pub hop : Task
 hop = task_of_names (codes "hop") (codes "wait-2" ∷ []) (codes "a" ∷ codes "b" ∷ codes "c" ∷ [])
 
 pub record AreWritten : Type 0 where
-  -- a plan of two steps, and of cost 6
+  -- a plan of two steps with cost 6
   pub two_steps : plan_text hop (instance 0 (0 ∷ 1 ∷ []) ∷ instance 0 (1 ∷ 2 ∷ []) ∷ []) 6 ≡ codes "(hop a b)\n(hop b c)\n; cost = 6\n"
   pub its_length : length (plan_text hop (instance 0 (0 ∷ 1 ∷ []) ∷ instance 0 (1 ∷ 2 ∷ []) ∷ []) 6) ≡ 31
-  -- a step alone has no LF
+  -- a single step has no LF
   pub one_step : step_text hop (instance 0 (2 ∷ 0 ∷ [])) ≡ codes "(hop c a)"
   pub no_objects : plan_text hop (instance 1 [] ∷ []) 15 ≡ codes "(wait-2)\n; cost = 15\n"
   pub no_step : plan_text hop [] 0 ≡ codes "; cost = 0\n"
-  -- the text of the two steps reads as them
+  -- the text of the two steps reads back as them
   pub reads_back : IsPlanText hop (codes "(hop a b)\n(hop b c)\n; cost = 6\n") (instance 0 (0 ∷ 1 ∷ []) ∷ instance 0 (1 ∷ 2 ∷ []) ∷ [])
-  -- an action and an object may have one name; two actions, or two objects, may not
+  -- an action and an object may share a name; two actions, or two objects, may not
   pub named : has_names hop ≡ true
   pub an_action_as_an_object : has_names (task_of_names (codes "a") [] (codes "b" ∷ codes "a" ∷ [])) ≡ true
   pub one_action_twice : has_names (task_of_names (codes "hop") (codes "a" ∷ codes "hop" ∷ []) []) ≡ false
   pub one_object_twice : has_names (task_of_names (codes "hop") [] (codes "a" ∷ codes "b" ∷ codes "a" ∷ [])) ≡ false
-  -- a name is in lower case, begins with a letter, and has 255 bytes at the most
+  -- a name is in lower case, begins with a letter, and has at most 255 bytes
   pub in_upper_case : is_lower_name (codes "hOp") ≡ false
   pub with_a_digit_first : is_lower_name (codes "2a") ≡ false
   pub no_name : is_lower_name [] ≡ false

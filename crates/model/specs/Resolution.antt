@@ -1,7 +1,6 @@
--- What the names of a domain and a problem resolve to: which names are the same, what typed lists declare, the types and
--- those above them, what may be named where, and the task of the pair. The rules are those for types,
--- declarations and uses (PDDL 1.2 manual, "Domains", "Actions", "Goal descriptions", "Effects", "Problems").
--- `TypingFaults` says by these definitions which faults a pair has.
+-- Name resolution for a domain and a problem: which names are equal, what typed lists declare, the types and their supertypes,
+-- which names are visible where, and the task of the pair. The rules are those for types, declarations and uses (PDDL 1.2 manual,
+-- "Domains", "Actions", "Goal descriptions", "Effects", "Problems"). `TypingFaults` defines the faults of a pair on this basis.
 use Rattle.std.specs.Prelude.{◌≡◌, ℕ, zero, suc, ◌+◌, Bool, true, ◌&&◌, ◌==◌, nat_eq, nat_le, List, [], ◌∷◌, ◌++◌, codes, length, map, fold, slice_get, slice_index, is_some, if◌then◌else◌, Option, Some}
 use Rattle.std.specs.Char.{to_ascii_lowercase}
 use Rattle.std.specs.Cmp.Lexicographic.{pointwise}
@@ -20,7 +19,7 @@ use Rattle.model.specs.Trees as tree
 abbrev pub folded : Name → task.Name
 folded name = map to_ascii_lowercase name.text
 
--- the names are the same
+-- the names are equal
 abbrev pub is_same : task.Name → task.Name → Bool
 is_same = pointwise ◌==◌
 
@@ -28,62 +27,62 @@ is_same = pointwise ◌==◌
 abbrev pub is_known : List task.Name → Name → Bool
 is_known names name = list_any (is_same (folded name)) names
 
--- the number of a name: the place of the first that is the same, or how many there are where none is
+-- the number of a name: the index of the first equal one, or the number of names if there is none
 abbrev pub number_in : List task.Name → Name → ℕ
 number_in names name = position_or_len (is_same (folded name)) names
 
--- these names and one more, unless it is among them
+-- these names and one more, unless it is there already
 abbrev pub with_name : List task.Name → Name → List task.Name
 with_name names name = if is_known names name then names else names ++ folded name ∷ []
 
 -- ---- what typed lists declare
 
--- a name that a typed list of a file declares, and the types after its `-`
+-- a name declared in a typed list, with the types after its `-`
 pub record Declared : Type 0 where
   pub file : TaskFile
   pub name : Name
   pub types : List Name
 
--- what one group of it declares
+-- the declarations of one group
 abbrev pub declared_in_group : TaskFile → Group → List Declared
 declared_in_group file g = map (λ (name : Name). record { file = file; name = name; types = g.types }) g.names
 
--- what a typed list declares, in order
+-- the declarations of a typed list, in order
 abbrev pub declared : TaskFile → List Group → List Declared
 declared file groups = flat_map (declared_in_group file) groups
 
--- the names that are declared
+-- the declared names
 abbrev pub names_of : List Declared → List Name
 names_of xs = map (λ (x : Declared). x.name) xs
 
--- what `:types` and `:constants` declare
+-- the declarations of `:types` and `:constants`
 abbrev pub declared_types : Domain → List Declared
 declared_types d = declared domain_file d.types
 
 abbrev pub declared_constants : Domain → List Declared
 declared_constants d = declared domain_file d.constants
 
--- the constants and the objects, which are declared in one space of names
+-- the constants and the objects, which share a name space
 abbrev pub declared_objects : Domain → Problem → List Declared
 declared_objects d p = declared_constants d ++ declared problem_file p.objects
 
 -- ---- types
 
--- The names of all types: `object`, and then those that the domain declares, each once.
+-- The names of all types: `object`, and then the declared ones, without repetition.
 abbrev pub type_names : Domain → List task.Name
 type_names d = fold with_name (codes "object" ∷ []) (names_of (declared_types d))
 
--- the types that are written after a `-`, by their numbers; where none is written, `object`
+-- the numbers of the types after a `-`; `object` if there are none
 abbrev pub union_in : List task.Name → List Name → task.Union
 union_in types [] = 0 ∷ []
 union_in types (first ∷ others) = map (number_in types) (first ∷ others)
 
--- the number of the type that is written after a `-`, or that of `object`
+-- the number of the type after a `-`, or that of `object`
 abbrev pub type_in : List task.Name → List Name → ℕ
 type_in types [] = 0
 type_in types (first ∷ others) = number_in types first
 
--- the parents of `object` and of these types, in the order of their numbers; `object` is its own
+-- the parents of `object` and of these types, by number; `object` is its own parent
 abbrev pub parents_in : List task.Name → List Declared → List ℕ
 parents_in types xs = 0 ∷ map (λ (x : Declared). type_in types x.types) xs
 
@@ -91,25 +90,25 @@ parents_in types xs = 0 ∷ map (λ (x : Declared). type_in types x.types) xs
 abbrev pub parents_of : Domain → List ℕ
 parents_of d = parents_in (type_names d) (declared_types d)
 
--- The first type descends from the second: it is that one, or its parent does (PDDL 1.2 manual, "Domains").
+-- The first type is a descendant of the second: it is that one, or its parent is a descendant (PDDL 1.2 manual, "Domains").
 pub data Descends (parents : List ℕ) : ℕ → ℕ → Type 0 where
   itself : (type : ℕ) → Descends parents type type
   by_parent : (type parent above : ℕ) → slice_get parents type ≡ Some parent → Descends parents parent above → Descends parents type above
 
--- the type is below itself: its parent descends from it
+-- the type is its own proper ancestor: its parent is a descendant of it
 pub record DescendsFromItself (parents : List ℕ) (type : ℕ) : Type 0 where
   pub parent : ℕ
   pub is_parent : slice_get parents type ≡ Some parent
   pub descends : Descends parents parent type
 
--- The types that a type descends from, in order: itself and its chain of parents, up to `object`; of a chain that comes
--- back, so many.
+-- The ancestors of a type, in order: itself and its chain of parents, up to `object`; for a cyclic chain, a limited number of
+-- them.
 abbrev pub chain : List ℕ → ℕ → ℕ → List ℕ
 chain parents zero number = []
 chain parents (suc most) zero = zero ∷ []
 chain parents (suc most) (suc number) = suc number ∷ chain parents most (slice_index parents (suc number))
 
--- a chain that does not come back has no more types than there are
+-- a chain without a cycle is no longer than the number of types
 abbrev pub whole_chain : List ℕ → ℕ → List ℕ
 whole_chain parents number = chain parents (length parents) number
 
@@ -128,7 +127,7 @@ pub record Variable : Type 0 where
   pub name : task.Name
   pub types : task.Union
 
--- what may be named where a formula, an effect or an atom is
+-- the names visible at the place of a formula, an effect or an atom
 pub record Known : Type 0 where
   pub type_names : List task.Name
   pub types : List task.ObjectType
@@ -140,7 +139,7 @@ pub record Known : Type 0 where
 abbrev pub names_of_predicates : List task.Predicate → List task.Name
 names_of_predicates predicates = map (λ (p : task.Predicate). p.name) predicates
 
--- the name of the total cost among those of functions (action costs, 2008)
+-- the name of the total cost among the functions (action costs, 2008)
 abbrev pub total_cost : task.Name
 total_cost = codes "total-cost"
 
@@ -148,8 +147,8 @@ total_cost = codes "total-cost"
 abbrev pub has_cost : Known → Bool
 has_cost known = list_any (is_same total_cost) (names_of_predicates known.functions)
 
--- What may be named in a function of terms or objects: its name is a function's where an atom's is a predicate's, and all
--- else is as in an atom (Fox & Long 2003, "Numeric Expressions").
+-- The names visible in a function of terms or objects: its name is that of a function instead of a predicate, and all else is as
+-- in an atom (Fox & Long 2003, "Numeric Expressions").
 abbrev pub in_function : Known → Known
 in_function known = record known { predicates = known.functions }
 
@@ -159,18 +158,18 @@ names_of_variables variables = map (λ (v : Variable). v.name) variables
 abbrev pub names_of_objects : List task.Object → List task.Name
 names_of_objects objects = map (λ (o : task.Object). o.name) objects
 
--- these variables and one more, unless one of its name is among them: the first declaration counts
+-- these variables and one more, unless its name is there already: the first declaration counts
 abbrev pub with_variable : List Variable → Variable → List Variable
 with_variable variables v = if list_any (is_same v.name) (names_of_variables variables) then variables else variables ++ v ∷ []
 
 abbrev pub variable_in : List task.Name → Declared → Variable
 variable_in types x = record { name = folded x.name; types = union_in types x.types }
 
--- these variables and those that are declared, each once
+-- these variables and the declared ones, without repetition
 abbrev pub variables_after : List task.Name → List Variable → List Declared → List Variable
 variables_after types variables xs = fold with_variable variables (map (variable_in types) xs)
 
--- what each of the variables has to be, in order
+-- the types of the variables, in order
 abbrev pub unions_in : List task.Name → List Declared → List task.Union
 unions_in types xs = map (λ (x : Declared). union_in types x.types) xs
 
@@ -185,7 +184,7 @@ lifted_atom_in known a = record {
   terms = map (term_in known) a.terms;
 }
 
--- one quantifier for each of some variables, of these types, the first outermost
+-- nested quantifiers for variables of these types, the first outermost
 abbrev pub exists_each : List task.Union → task.Formula → task.Formula
 exists_each [] part = part
 exists_each (types ∷ others) part = task.exists types (exists_each others part)
@@ -194,8 +193,8 @@ abbrev pub forall_each : List task.Union → task.Formula → task.Formula
 forall_each [] part = part
 forall_each (types ∷ others) part = task.forall types (forall_each others part)
 
--- The quantifier of a file over variables of these types (PDDL 1.2 manual, "Goal descriptions"). Over no variable it holds
--- where its part does, and stays a formula around it: `exists` an `or` of it alone, `forall` an `and`.
+-- The quantifier of a file over variables of these types (PDDL 1.2 manual, "Goal descriptions"). Over no variables it is
+-- equivalent to its part but still encloses it: `exists` as an `or` with a single part, `forall` as an `and`.
 abbrev pub exists_over : List task.Union → task.Formula → task.Formula
 exists_over [] part = task.or (task.more_formulas part task.no_formula)
 exists_over (types ∷ others) part = exists_each (types ∷ others) part
@@ -204,7 +203,7 @@ abbrev pub forall_over : List task.Union → task.Formula → task.Formula
 forall_over [] part = task.and (task.more_formulas part task.no_formula)
 forall_over (types ∷ others) part = forall_each (types ∷ others) part
 
--- what may be named where these variables are in scope too
+-- the names visible if these variables are in scope too
 abbrev pub known_with : Known → List Declared → Known
 known_with known xs = record known { variables = variables_after known.type_names known.variables xs }
 
@@ -232,7 +231,7 @@ abbrev pub effect_literal_in : Known → tree.EffectLiteral → task.EffectLiter
 effect_literal_in known (tree.add a) = task.add (lifted_atom_in known a)
 effect_literal_in known (tree.delete a) = task.delete (lifted_atom_in known a)
 
--- one `forall` for each of some variables, of these types
+-- nested `forall`s for variables of these types
 abbrev pub each_of : List task.Union → task.Effect → task.Effect
 each_of [] part = part
 each_of (types ∷ others) part = task.each types (each_of others part)
@@ -257,31 +256,31 @@ atom_in known a = record {
   objects = map (number_in (names_of_objects known.objects)) a.objects;
 }
 
--- the atoms of the initial state; a negated one is a fault, and the total cost at the start and values of functions are none
+-- the atoms of the initial state; a negated one is a fault, and the initial total cost and values of functions are not atoms
 abbrev pub atoms_in : Known → tree.Fact → List task.Atom
 atoms_in known (tree.fact a) = atom_in known a ∷ []
 atoms_in known (tree.negated word a) = []
 atoms_in known (tree.initial_cost c) = []
 atoms_in known (tree.initial_value v) = []
 
--- each name of the atom is known, and it has no more objects than it may have
+-- all names in the atom are known, and it does not have too many objects
 abbrev pub is_named : Known → tree.GroundAtom → Bool
 is_named known a =
     is_known (names_of_predicates known.predicates) a.predicate
     && nat_le (length a.objects) max_arguments
     && list_all (is_known (names_of_objects known.objects)) a.objects
 
--- the value that a fact gives, if it gives one and each of its names is known
+-- the value that a fact gives, if it gives one and all its names are known
 abbrev pub values_in : Known → tree.Fact → List task.FunctionValue
 values_in known (tree.initial_value v) =
     if is_named (in_function known) v.function then record { function = atom_in (in_function known) v.function; value = v.value } ∷ [] else []
 values_in known _ = []
 
--- these values and one more, unless one of them is of its function and objects
+-- these values and one more, unless its function of these objects already has one
 abbrev pub with_value : List task.FunctionValue → task.FunctionValue → List task.FunctionValue
 with_value values v = if is_some (value_in values v.function) then values else values ++ v ∷ []
 
--- the values that these facts give after some values were given, each function of the same objects once
+-- the values that these facts add to earlier ones, one for each function of the same objects
 abbrev pub values_after : Known → List task.FunctionValue → List tree.Fact → List task.FunctionValue
 values_after known given facts = fold with_value given (flat_map (values_in known) facts)
 
@@ -297,7 +296,7 @@ constants_of d = map (object_in (type_names d)) (declared_constants d)
 abbrev pub objects_of : Domain → Problem → List task.Object
 objects_of d p = map (object_in (type_names d)) (declared_objects d p)
 
--- a predicate, or a function, with what each of its arguments has to be; those of the domain
+-- a predicate, or a function, with the types of its arguments; those of the domain
 abbrev pub predicate_in : List task.Name → tree.Predicate → task.Predicate
 predicate_in types p = record { name = folded p.name; arguments = unions_in types (declared domain_file p.parameters) }
 
@@ -307,7 +306,7 @@ predicates_of d = map (predicate_in (type_names d)) d.predicates
 abbrev pub functions_of : Domain → List task.Predicate
 functions_of d = map (predicate_in (type_names d)) d.functions
 
--- in the domain: what it declares
+-- in the domain: its declarations
 abbrev pub known_in_domain : Domain → Known
 known_in_domain d = record {
   type_names = type_names d;
@@ -322,11 +321,11 @@ known_in_domain d = record {
 abbrev pub declares_cost : Domain → Bool
 declares_cost d = has_cost (known_in_domain d)
 
--- in an action: what the domain declares, and the action's parameters
+-- in an action: the domain's declarations and the action's parameters
 abbrev pub known_in_action : Known → tree.Action → Known
 known_in_action known a = record known { variables = variables_after known.type_names [] (declared domain_file a.parameters) }
 
--- in the initial state and the goal: what the domain declares, and the problem's objects
+-- in the initial state and the goal: the domain's declarations and the problem's objects
 abbrev pub known_in_problem : Domain → Problem → Known
 known_in_problem d p = record {
   type_names = type_names d;
@@ -337,16 +336,16 @@ known_in_problem d p = record {
   objects = objects_of d p;
 }
 
--- what an increase is by
+-- the amount of an increase
 abbrev pub increase_in : Known → tree.Amount → task.Increase
 increase_in known (tree.by_number n) = task.by_number n
 increase_in known (tree.by_function f) = task.by_function (lifted_atom_in (in_function known) f)
 
--- what an action increases the total cost by, and 0 where it does not
+-- the amount by which an action increases the total cost; 0 if it does not
 abbrev pub increase_of : Known → tree.Action → task.Increase
 increase_of known a = option_map_or (λ (i : tree.Increase). increase_in known i.amount) (slice_get a.increases 0) (task.by_number 0)
 
--- an action, in the domain where this is known (PDDL 1.2 manual, "Actions")
+-- an action, given the names visible in the domain (PDDL 1.2 manual, "Actions")
 abbrev pub schema_in : Known → tree.Action → task.Schema
 schema_in known a = record {
   name = folded a.name;
@@ -356,7 +355,7 @@ schema_in known a = record {
   increase = increase_of (known_in_action known a) a;
 }
 
--- the task, where the pair is well-typed: each name is its number
+-- the task of a well-typed pair, with a number for each name
 abbrev pub task_of_trees : Domain → Problem → task.Task
 task_of_trees d p = record {
   types = types_of d;
@@ -372,7 +371,7 @@ task_of_trees d p = record {
 
 -- ---- words and faults
 
--- a fault of a pair of trees: the file that it is in, its number, and the span of the word that it refuses
+-- a fault of a pair of trees: its file, its number, and the span of the refused word
 pub record TypingFault : Type 0 where
   pub file : TaskFile
   pub fault : Fault
@@ -389,7 +388,7 @@ placed file word = record { file = file; word = word }
 abbrev pub words_of : List Declared → List Placed
 words_of xs = map (λ (x : Declared). placed x.file x.name) xs
 
--- the words `=` that are in the initial state
+-- the words `=` in the initial state
 abbrev pub equals_in : TaskFile → List tree.Fact → List Placed
 equals_in file [] = []
 equals_in file (tree.initial_cost c ∷ facts) = placed file c.equals ∷ equals_in file facts
@@ -400,14 +399,14 @@ abbrev pub rank_of : TaskFile → ℕ
 rank_of domain_file = 0
 rank_of problem_file = 1
 
--- ---- what the rules of use look up
+-- ---- what the typing rules look up
 
--- the declaration of a predicate (or of a function, in one), if there is one
+-- the declaration of a predicate (or of a function, inside one), if there is one
 abbrev pub predicate_in_known : Known → Name → Option task.Predicate
 predicate_in_known known name = slice_get known.predicates (number_in (names_of_predicates known.predicates) name)
 
--- A term fits an argument of these types: a variable each of whose types is one of them or is below one, an object
--- whose type does. What is not known is no misfit.
+-- A term fits an argument of these types: a variable if each of its types is one of them or a subtype of one, an object if its
+-- type is. Unknown terms fit.
 abbrev pub fits_in : Known → task.Union → task.Term → Bool
 fits_in known wanted (task.variable number) =
     option_map_or (λ (v : Variable). list_all (is_below_in known.types wanted) v.types) (slice_get known.variables number) true
@@ -419,6 +418,6 @@ abbrev pub word_of : tree.Term → Name
 word_of (tree.variable name) = name
 word_of (tree.object name) = name
 
--- the type of this number is on the chain of its own parent, and so descends from itself
+-- the type with this number is on the chain of its own parent, so it is its own ancestor
 abbrev pub comes_back : List ℕ → ℕ → Bool
 comes_back parents number = list_any (nat_eq number) (whole_chain parents (slice_index parents number))

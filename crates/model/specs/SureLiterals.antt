@@ -1,6 +1,5 @@
--- The sure literals of a formula: what it says outright, so that it holds in no state where one of them does not. They
--- are what an instance may be ruled out by before any state is looked at (a planner's own notion; the meaning of a task
--- does not rest on it).
+-- The sure literals of a formula: those that every state must satisfy in which the formula holds. They allow instances to be
+-- ruled out before any state is examined (a notion of the planner; the semantics of a task does not depend on it).
 use Rattle.std.specs.Prelude.{ℕ, Bool, ◌≡◌, nat_eq, true, IsTrue, List, [], ◌∷◌, ◌++◌}
 use Rattle.std.specs.Prelude as bool
 use Rattle.std.specs.List.{flat_map, list_all}
@@ -8,7 +7,7 @@ use Rattle.std.specs.FinSet.{contains}
 use Rattle.model.specs.Task.{Task, Atom, Formula, Formulas, atom, equal, and, not, forall, no_formula, more_formulas}
 use Rattle.model.specs.Meaning.{State, object_of, objects_of, ground_atom, holds}
 
--- an atom that is true or false, or two objects that are one or are not
+-- an atom that is true or false, or two objects that are equal or different
 pub data Literal : Type 0 where
   is_true : Atom → Literal
   is_false : Atom → Literal
@@ -28,8 +27,8 @@ sure_not (atom a) binding = is_false (ground_atom binding a) ∷ []
 sure_not (equal t u) binding = are_different (object_of binding t) (object_of binding u) ∷ []
 sure_not _ binding = []
 
--- The sure literals where the variables have these objects: the atoms, the equalities and the `not` of one of these under
--- nothing but `and` and `forall`, for each object of the variable of a `forall`.
+-- The sure literals under a binding: the atoms, the equalities and their negations that are under nothing but `and` and `forall`,
+-- for each object of a `forall`'s variable.
 abbrev mutual
   pub sure : Task → Formula → List ℕ → List Literal
   sure task (atom a) binding = is_true (ground_atom binding a) ∷ []
@@ -43,7 +42,7 @@ abbrev mutual
   all_sure task no_formula binding = []
   all_sure task (more_formulas first rest) binding = sure task first binding ++ all_sure task rest binding
 
--- where a formula holds, its sure literals do
+-- if a formula holds, its sure literals hold
 abbrev pub SureLiteralsHold : Type 0
 SureLiteralsHold =
     (task : Task) (formula : Formula) (binding : List ℕ) (state : State) → IsTrue (holds task formula binding state)

@@ -1,50 +1,49 @@
--- A planning task: what a domain and a problem say once their names are resolved to numbers.
--- Types, objects, predicates, functions, schemas and variables are numbered from 0, in the order of their declarations; type 0 is
--- `object`.
+-- A planning task: a domain and a problem with their names resolved to numbers. Types, objects, predicates, functions, schemas
+-- and variables are numbered from 0, in the order of their declarations; type 0 is `object`.
 use Rattle.std.specs.Prelude.{ℕ, Bool, List}
 
 -- the bytes of a name, in lower case (PDDL 1.2 manual, "Domains": case does not matter in names)
 abbrev pub Name : Type 0
 Name = List ℕ
 
--- A type, and all types that its objects are of: itself and those above it, up to `object` (PDDL 1.2 manual, "Domains").
+-- A type with all its supertypes: itself and its ancestors, up to `object` (PDDL 1.2 manual, "Domains").
 pub record ObjectType : Type 0 where
   pub name : Name
   pub supertypes : List ℕ
 
--- an object and the type that it is declared with
+-- an object with its declared type
 pub record Object : Type 0 where
   pub name : Name
   pub type : ℕ
 
--- Types of which an object has to be of one, as `(either t u)` says (PDDL 1.2 manual, "Domains").
+-- Alternative types, as in `(either t u)`: an object must be of one of them (PDDL 1.2 manual, "Domains").
 abbrev pub Union : Type 0
 Union = List ℕ
 
--- a predicate, and what each of its arguments has to be (PDDL 1.2 manual, "Domains"); or a function, which has a number for
--- its arguments in place of being true or false of them (Fox & Long 2003, "Numeric Expressions")
+-- a predicate with the types of its arguments (PDDL 1.2 manual, "Domains"); or a function, which has numbers as values instead of
+-- truth values (Fox & Long 2003, "Numeric Expressions")
 pub record Predicate : Type 0 where
   pub name : Name
   pub arguments : List Union
 
--- a ground atom: a predicate of some objects
+-- a ground atom: a predicate applied to objects
 pub record Atom : Type 0 where
   pub predicate : ℕ
   pub objects : List ℕ
 
--- An argument of an atom in an action or a goal: a variable in scope, or an object. The parameters of the action come
--- first in scope, then the variables of the quantifiers around, the outermost first.
+-- An argument of an atom in an action or a goal: a variable in scope, or an object. The parameters of the action come first in
+-- scope, then the variables of the enclosing quantifiers, outermost first.
 pub data Term : Type 0 where
   variable : ℕ → Term
   object : ℕ → Term
 
--- a predicate of some terms: an atom once the variables have objects
+-- a predicate applied to terms: an atom once the variables are bound to objects
 pub record LiftedAtom : Type 0 where
   pub predicate : ℕ
   pub terms : List Term
 
--- A goal description (PDDL 1.2 manual, "Goal descriptions"). A quantifier is of one variable of these types, which is
--- the last in the scope of its formula.
+-- A goal description (PDDL 1.2 manual, "Goal descriptions"). A quantifier has one variable of these types, which is the last in
+-- the scope of its formula.
 mutual
   pub data Formula : Type 0 where
     atom : LiftedAtom → Formula
@@ -65,8 +64,8 @@ pub data EffectLiteral : Type 0 where
   add : LiftedAtom → EffectLiteral
   delete : LiftedAtom → EffectLiteral
 
--- An effect (PDDL 1.2 manual, "Effects"): a literal, several effects together, an effect for each object of these types,
--- which is the last variable in the scope of it (`forall`), or literals under a condition (`when`).
+-- An effect (PDDL 1.2 manual, "Effects"): a literal, several effects together, an effect for each object of these types, bound to
+-- the last variable in its scope (`forall`), or literals under a condition (`when`).
 mutual
   pub data Effect : Type 0 where
     literal : EffectLiteral → Effect
@@ -78,24 +77,24 @@ mutual
     no_effect : Effects
     more_effects : Effect → Effects → Effects
 
--- What an action increases the total cost by (action costs, 2008): a number, or the value of a function of some terms. A
--- function of terms or objects is written as an atom is, with the function's number in the place of the predicate's.
+-- The amount by which an action increases the total cost (action costs, 2008): a number, or the value of a function of terms. A
+-- function of terms or objects is written like an atom, with the function's number in place of the predicate's.
 pub data Increase : Type 0 where
   by_number : ℕ → Increase
   by_function : LiftedAtom → Increase
 
--- the value that `:init` gives to a function of some objects
+-- the value that `:init` gives to a function of objects
 pub record FunctionValue : Type 0 where
   pub function : Atom
   pub value : ℕ
 
--- an action schema, and what each of its parameters has to be (PDDL 1.2 manual, "Actions")
+-- an action schema, with the types of its parameters (PDDL 1.2 manual, "Actions")
 pub record Schema : Type 0 where
   pub name : Name
   pub parameters : List Union
   pub precondition : Formula
   pub effect : Effect
-  -- what it increases the total cost by, 0 where it does not (action costs, 2008)
+  -- the amount by which it increases the total cost, 0 if it does not (action costs, 2008)
   pub increase : Increase
 
 -- a planning task (PDDL 1.2 manual, "Domains", "Problems")
@@ -103,15 +102,15 @@ pub record Task : Type 0 where
   pub types : List ObjectType
   pub objects : List Object
   pub predicates : List Predicate
-  -- which have a name space of their own, and `total-cost` among them where it is declared
+  -- these have a name space of their own, and include `total-cost` if it is declared
   pub functions : List Predicate
   pub schemas : List Schema
   -- the atoms that are in `:init`
   pub init : List Atom
-  -- the values of functions that are there, each function of the same objects once
+  -- the given values of functions, one for each function of the same objects
   pub values : List FunctionValue
   pub goal : Formula
-  -- the metric is the total cost, which is to be least
+  -- the metric is the total cost, to be minimized
   pub has_metric : Bool
 
 -- an action: a schema with an object for each of its parameters

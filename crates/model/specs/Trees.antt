@@ -1,4 +1,4 @@
--- The trees of a domain file and of a problem file: what is in them, name by name, before names are resolved.
+-- The trees of a domain file and of a problem file: their contents before names are resolved.
 use Rattle.std.specs.Prelude.{ℕ, List, [], ◌∷◌, Option}
 use Rattle.std.specs.List.{flat_map}
 use Rattle.model.specs.Fault.{Span}
@@ -8,12 +8,12 @@ pub data TaskFile : Type 0 where
   domain_file : TaskFile
   problem_file : TaskFile
 
--- a name or a variable: its bytes as they are in its file, and where they are
+-- a name or a variable: its bytes as written, and their place
 pub record Name : Type 0 where
   pub text : List ℕ
   pub span : Span
 
--- the name that is nowhere
+-- a name without a place
 abbrev pub no_name : Name
 no_name = record { text = []; span = record { start = 0; end = 0 } }
 
@@ -22,13 +22,13 @@ pub data Term : Type 0 where
   variable : Name → Term
   object : Name → Term
 
--- a predicate of some terms
+-- a predicate applied to terms
 pub record Atom : Type 0 where
   pub predicate : Name
   pub terms : List Term
 
--- Names or variables of one type, as `a b - place` or `?x ?y - (either t u)`: the types after their `-`, and none where
--- no type comes after them (PDDL 1.2 manual, "Domains"). A typed list is a list of such groups.
+-- Names or variables of one type, such as `a b - place` or `?x ?y - (either t u)`: the types after the `-`; none if no type
+-- follows (PDDL 1.2 manual, "Domains"). A typed list is a list of such groups.
 pub record Group : Type 0 where
   pub names : List Name
   pub types : List Name
@@ -85,8 +85,8 @@ pub record Predicate : Type 0 where
   pub name : Name
   pub parameters : List Group
 
--- What an increase of the total cost is by (action costs, 2008): a number, or the value of a function of some terms, which
--- is there as an atom does, with the function's name in the place of the predicate's.
+-- The amount of an increase of the total cost (action costs, 2008): a number, or the value of a function of terms, which is
+-- stored like an atom, with the function's name in place of the predicate's.
 pub data Amount : Type 0 where
   by_number : ℕ → Amount
   by_function : Atom → Amount
@@ -102,7 +102,7 @@ pub record Action : Type 0 where
   pub parameters : List Group
   pub precondition : Formula
   pub effect : Effect
-  -- what is in its effect besides; more than one is a fault
+  -- the increases in its effect; more than one is a fault
   pub increases : List Increase
 
 -- a domain file (PDDL 1.2 manual, "Domains")
@@ -111,31 +111,31 @@ pub record Domain : Type 0 where
   pub types : List Group
   pub constants : List Group
   pub predicates : List Predicate
-  -- what `:functions` declares: functions of objects, and `total-cost`, which has no arguments
+  -- the declarations in `:functions`: functions of objects, and `total-cost`, which has no arguments
   pub functions : List Predicate
   pub actions : List Action
 
--- an atom of objects
+-- a predicate applied to objects
 pub record GroundAtom : Type 0 where
   pub predicate : Name
   pub objects : List Name
 
--- what `(= (total-cost) N)` in `:init` says (action costs, 2008): its words `=` and `total-cost`, its number, and the
--- number's word
+-- the fact `(= (total-cost) N)` of `:init` (action costs, 2008): its words `=` and `total-cost`, its number, and the number's
+-- word
 pub record InitialCost : Type 0 where
   pub equals : Name
   pub function : Name
   pub amount : ℕ
   pub number : Name
 
--- What `(= (f o ..) N)` in `:init` says (Fox & Long 2003, "Numeric Expressions"): the function of these objects, which
--- is there as an atom does, and its value.
+-- the fact `(= (f o ..) N)` of `:init` (Fox & Long 2003, "Numeric Expressions"): the function of these objects, stored like an
+-- atom, and its value
 pub record InitialValue : Type 0 where
   pub function : GroundAtom
   pub value : ℕ
 
--- what is in `:init`: an atom, or a negated one, with its word `not`, or the total cost at the start, or the value of a
--- function of objects
+-- a fact of `:init`: an atom, or a negated one, with its word `not`, or the initial total cost, or the value of a function of
+-- objects
 pub data Fact : Type 0 where
   fact : GroundAtom → Fact
   negated : Name → GroundAtom → Fact

@@ -1,7 +1,7 @@
--- The faults of a domain and a problem as lists: of each phase whole, in the order in which a walk over the trees meets
--- them, and the least of them. They are what the walks of the code are compared with. No clause of what `typing` gives its
--- callers cites them, nor do the worked examples: which faults a pair has is reported by the table, `TypingFaults`, and
--- `proofs/TypingFaultsReported` proves that the lists say the same.
+-- The faults of a domain and a problem as lists: those of each phase, in the order in which a walk over the trees meets them, and
+-- the least of them. The code's walks are compared to these lists. No clause of the contracts that `typing` offers its callers
+-- cites them, nor do the worked examples: the faults of a pair are defined by the table, `TypingFaults`, and
+-- `proofs/TypingFaultsReported` proves that the lists agree with it.
 use Rattle.std.specs.Prelude.{◌≡◌, ℕ, ◌+◌, ◌-◌, Bool, true, false, not, ◌==◌, nat_le, List, [], ◌∷◌, ◌++◌, codes, length, map, filter, take, drop, slice_get, if◌then◌else◌, Option, None, Some, All, Contains}
 use Rattle.std.specs.Cmp.Lexicographic.{slice_cmp}
 use Rattle.std.specs.List.{flat_map, list_any}
@@ -16,15 +16,15 @@ pub use Rattle.model.specs.Resolution.{folded, is_same, is_known, number_in, wit
 
 -- ---- faults
 
--- each of these words is refused by this number
+-- each of these words is refused with this number
 abbrev pub refused : ℕ → List Placed → List TypingFault
 refused code words = map (λ (w : Placed). record { file = w.file; fault = record { code = code; span = w.word.span } }) words
 
--- this word of the file is
+-- this word of the file is refused
 abbrev pub refused_word : TaskFile → ℕ → Name → List TypingFault
 refused_word file code word = record { file = file; fault = record { code = code; span = word.span } } ∷ []
 
--- the words that are the same as one that comes before them, in the list or among these
+-- the words that equal an earlier one, in the list or among these names
 abbrev pub repeated_after : List task.Name → List Placed → List Placed
 repeated_after before [] = []
 repeated_after before (w ∷ rest) = (if is_known before w.word then w ∷ [] else []) ++ repeated_after (with_name before w.word) rest
@@ -32,11 +32,11 @@ repeated_after before (w ∷ rest) = (if is_known before w.word then w ∷ [] el
 abbrev pub repeated : List Placed → List Placed
 repeated words = repeated_after [] words
 
--- the one that comes after this many, if there are so many
+-- the word after this many, if there are more
 abbrev pub one_after : ℕ → List Placed → List Placed
 one_after count words = take 1 (drop count words)
 
--- by this number, a name that is none of these
+-- with this number, a name that is none of these
 abbrev pub unknown_faults : TaskFile → ℕ → List task.Name → Name → List TypingFault
 unknown_faults file code names name = if is_known names name then [] else refused_word file code name
 
@@ -47,25 +47,25 @@ types_faults types x = flat_map (unknown_faults x.file 14 types) x.types
 abbrev pub type_faults : List task.Name → List Declared → List TypingFault
 type_faults types xs = flat_map (types_faults types) xs
 
--- 17: there is no declaration. 18: it has another count of arguments
+-- 17: there is no declaration. 18: it has another number of arguments
 abbrev pub faults_against : TaskFile → Option task.Predicate → Name → ℕ → List TypingFault
 faults_against file None name count = refused_word file 17 name
 faults_against file (Some p) name count = if count == length p.arguments then [] else refused_word file 18 name
 
--- of a predicate with this count of terms
+-- for a predicate with this number of terms
 abbrev pub predicate_faults : TaskFile → Known → Name → ℕ → List TypingFault
 predicate_faults file known name count = faults_against file (predicate_in_known known name) name count
 
--- what each argument of a predicate has to be, if it is known
+-- the types of each argument of a predicate, if it is known
 abbrev pub arguments_in : Known → Name → List task.Union
 arguments_in known name = option_map_or (λ (p : task.Predicate). p.arguments) (predicate_in_known known name) []
 
--- 17: a variable or an object that is not known
+-- 17: an unknown variable or object
 abbrev pub term_faults : TaskFile → Known → tree.Term → List TypingFault
 term_faults file known (tree.variable name) = unknown_faults file 17 (names_of_variables known.variables) name
 term_faults file known (tree.object name) = unknown_faults file 17 (names_of_objects known.objects) name
 
--- it fits what is wanted, if anything is
+-- the term fits the required types, if there are any
 abbrev pub fits_wanted : Known → Option task.Union → task.Term → Bool
 fits_wanted known wanted term = option_map_or (λ types. fits_in known types term) wanted true
 
@@ -73,7 +73,7 @@ fits_wanted known wanted term = option_map_or (λ types. fits_in known types ter
 abbrev pub misfit_faults : TaskFile → Known → Option task.Union → tree.Term → List TypingFault
 misfit_faults file known wanted term = if fits_wanted known wanted (term_in known term) then [] else refused_word file 19 (word_of term)
 
--- of terms that are at the places of these arguments
+-- for terms at the positions of these arguments
 abbrev pub terms_faults : TaskFile → Known → List task.Union → List tree.Term → List TypingFault
 terms_faults file known arguments [] = []
 terms_faults file known arguments (term ∷ terms) =
@@ -87,12 +87,12 @@ atom_faults file known a =
 abbrev pub known_among : List task.Name → List Placed → List Placed
 known_among names words = filter (λ (w : Placed). is_known names w.word) words
 
--- the variable that makes 17 in scope, where so many are already
+-- the variable that makes 17 in scope, given how many are there already
 abbrev pub one_too_many : ℕ → List Placed → List Placed
 one_too_many count words = if nat_le count max_variables then one_after (max_variables - count) words else []
 
--- Of a list of variables, where these are in scope. 14: an unknown type. 16: a variable twice in the list. 20: one whose
--- name is in scope. 25: the one that makes 17 in scope.
+-- For a list of variables, given those in scope. 14: an unknown type. 16: a variable twice in the list. 20: one whose name is in
+-- scope. 25: the one that makes 17 in scope.
 abbrev pub variable_faults : List task.Name → List Variable → List Declared → List TypingFault
 variable_faults types variables xs =
     type_faults types xs
@@ -141,7 +141,7 @@ ground_atom_faults file known a =
     predicate_faults file known a.predicate (length a.objects)
     ++ terms_faults file known (arguments_in known a.predicate) (map (λ (name : Name). tree.object name) a.objects)
 
--- 23: the total cost where it is not declared, and a start other than 0
+-- 23: the total cost if it is not declared, and an initial value other than 0
 abbrev pub initial_cost_faults : TaskFile → Known → tree.InitialCost → List TypingFault
 initial_cost_faults file known c =
     (if has_cost known then [] else refused_word file 23 c.function) ++ (if c.amount == 0 then [] else refused_word file 23 c.number)
@@ -153,7 +153,7 @@ fact_faults file known (tree.negated word a) = refused_word file 24 word
 fact_faults file known (tree.initial_cost c) = initial_cost_faults file known c
 fact_faults file known (tree.initial_value v) = ground_atom_faults file (in_function known) v.function
 
--- 16: a value that is not the one that was given before
+-- 16: a value that differs from the one given before
 abbrev pub differing : List task.FunctionValue → task.FunctionValue → Bool
 differing given v = option_map_or (λ value. not (value == v.value)) (value_in given v.function) false
 
@@ -162,17 +162,17 @@ value_faults file known given (tree.initial_value v) =
     if list_any (differing given) (values_in known (tree.initial_value v)) then refused_word file 16 v.function.predicate else []
 value_faults file known given _ = []
 
--- of facts, where these values were given before them
+-- for facts, given the values before them
 abbrev pub facts_faults : TaskFile → Known → List task.FunctionValue → List tree.Fact → List TypingFault
 facts_faults file known given [] = []
 facts_faults file known given (f ∷ facts) =
     fact_faults file known f ++ value_faults file known given f ++ facts_faults file known (values_after known given (f ∷ [])) facts
 
--- and 23: each `=` after the first
+-- 23 also for each `=` after the first
 abbrev pub init_faults : TaskFile → Known → List tree.Fact → List TypingFault
 init_faults file known facts = facts_faults file known [] facts ++ refused 23 (drop 1 (equals_in file facts))
 
--- 21: the problem is for a domain of another name
+-- 21: the problem is for a domain with another name
 abbrev pub domain_name_faults : Domain → Problem → List TypingFault
 domain_name_faults d p = if is_same (folded p.domain) (folded d.name) then [] else refused_word problem_file 21 p.domain
 
@@ -184,7 +184,7 @@ type_declaration_faults d =
     ++ type_faults (type_names d) (declared_types d)
     ++ refused 25 (one_after max_types (words_of (declared_types d)))
 
--- 15: a type that descends from itself, where the first of these types has this number
+-- 15: a type that is its own ancestor, if the first of these types has this number
 abbrev pub cycle_faults_from : List ℕ → ℕ → List Declared → List TypingFault
 cycle_faults_from parents number [] = []
 cycle_faults_from parents number (x ∷ xs) =
@@ -207,7 +207,7 @@ argument_faults types q =
     type_faults types (declared domain_file q.parameters)
     ++ refused 25 (one_after max_arguments (words_of (declared domain_file q.parameters)))
 
--- 16: a predicate, or a function, declared before. And the faults of its arguments
+-- 16: a predicate, or a function, declared before; also the faults of its arguments
 abbrev pub declaration_faults : List task.Name → List tree.Predicate → List TypingFault
 declaration_faults types qs =
     refused 16 (repeated (map (λ (q : tree.Predicate). placed domain_file q.name) qs)) ++ flat_map (argument_faults types) qs
@@ -216,11 +216,11 @@ declaration_faults types qs =
 abbrev pub increase_words : TaskFile → tree.Action → List Placed
 increase_words file a = map (λ (i : tree.Increase). placed file i.word) a.increases
 
--- 23: each `increase` after the first, and each where the total cost is not declared
+-- 23: each `increase` after the first, and each if the total cost is not declared
 abbrev pub increase_faults : TaskFile → Known → tree.Action → List TypingFault
 increase_faults file known a = refused 23 (drop (if has_cost known then 1 else 0) (increase_words file a))
 
--- of the function that an increase is by
+-- for the function of an increase
 abbrev pub amount_faults : TaskFile → Known → tree.Amount → List TypingFault
 amount_faults file known (tree.by_number n) = []
 amount_faults file known (tree.by_function f) = atom_faults file (in_function known) f
@@ -235,12 +235,12 @@ abbrev pub schema_faults : Known → tree.Action → List TypingFault
 schema_faults known a =
     variable_faults known.type_names [] (declared domain_file a.parameters) ++ body_faults domain_file (known_in_action known a) a
 
--- 16: an action declared before. And the faults of each action
+-- 16: an action declared before; also the faults of each action
 abbrev pub action_faults : Known → List tree.Action → List TypingFault
 action_faults known as' =
     refused 16 (repeated (map (λ (a : tree.Action). placed domain_file a.name) as')) ++ flat_map (schema_faults known) as'
 
--- those of the declarations of functions, in a name space of their own. 22: `total-cost` in `:metric`, where it is not declared
+-- the faults of the declarations of functions, in a name space of their own. 22: `total-cost` in `:metric`, if it is not declared
 abbrev pub function_faults : Domain → Problem → List TypingFault
 function_faults d p =
     declaration_faults (type_names d) d.functions
@@ -266,8 +266,8 @@ first_filled [] = []
 first_filled ([] ∷ later) = first_filled later
 first_filled ((f ∷ more) ∷ later) = f ∷ more
 
--- The faults of the pair: those of the first phase that has any. A later phase has none to report then, as what it
--- would say rests on the declarations before it.
+-- The faults of the pair: those of the first phase that has any. Later phases are not examined then, since they depend on the
+-- declarations before them.
 abbrev pub faults_of : Domain → Problem → List TypingFault
 faults_of d p = first_filled (phases d p)
 
@@ -284,7 +284,7 @@ key_of f = rank_of f.file ∷ f.fault.span.start ∷ f.fault.code ∷ []
 abbrev pub is_before : TypingFault → TypingFault → Bool
 is_before f g = is_lt (slice_cmp nat_cmp (key_of f) (key_of g))
 
--- it is one of these faults, and none of them is before it
+-- the fault is one of these, and none of them comes before it
 pub record IsLeastOf (faults : List TypingFault) (f : TypingFault) : Type 0 where
   pub is_fault : Contains faults f
   pub is_least : All (λ g. is_before g f ≡ false) faults

@@ -1,13 +1,12 @@
--- What it means that a text reads as words, and which fault is reported for a text that does not. This is the part
--- that is read here (PDDL 1.2 manual, "Syntactic Notation": comments; "Domains": names): bytes for characters, names of
--- ASCII letters, numbers of digits alone, and limits on the length of a text, the length of a run and the depth of its
--- lists.
+-- When a text reads as words, and which fault is reported for a text that does not. This is the lexical profile (PDDL 1.2 manual,
+-- "Syntactic Notation": comments; "Domains": names): bytes as characters, names of ASCII letters, numbers of digits only, and
+-- limits on the length of a text, the length of a run and the depth of its lists.
 use Rattle.std.specs.Prelude.{◌≡◌, ℕ, zero, suc, ◌+◌, ◌-◌, ◌<◌, ◌≤◌, ◌⊎◌, Bool, true, false, ◌&&◌, ◌||◌, not, ◌==◌, nat_le, if◌then◌else◌, IsTrue, List, [], ◌∷◌, ◌++◌, length, slice_range, map, fold, sum_by, Option, None, Some, ⊤}
 use Rattle.std.specs.List.{list_all}
 use Rattle.std.specs.Char.{is_ascii_alphabetic, is_ascii_digit}
 use Rattle.model.specs.Fault.{Fault}
 
--- what a word may be
+-- the kind of a word
 pub data Kind : Type 0 where
   name : Kind
   variable : Kind
@@ -18,7 +17,7 @@ pub data Kind : Type 0 where
   opens : Kind
   closes : Kind
 
--- a word: its kind, its bytes as they are in the text, and the offset of the first of them
+-- a word: its kind, its bytes as written, and the offset of the first of them
 pub record Word : Type 0 where
   pub kind : Kind
   pub text : List ℕ
@@ -38,10 +37,11 @@ longest_run = 255
 abbrev pub deepest : ℕ
 deepest = 64
 
--- Parts of a text. Each text is cut into parts in one way: a part is a byte and the longest stretch of bytes that go on
--- with it.
+-- The parts of a text. Each text is cut into parts in exactly one way: a part is a byte and the longest sequence of bytes that
+-- continue it.
 
--- what begins with a byte: blanks are space, tab, LF and CR; a run is made of printable bytes other than `(`, `)` and `;`
+-- the kind of part that begins with a byte: blanks are space, tab, LF and CR; a run consists of printable bytes other than `(`,
+-- `)` and `;`
 pub data Form : Type 0 where
   blank : Form
   comment : Form
@@ -63,8 +63,8 @@ abbrev pub is_run : Form → Bool
 is_run run = true
 is_run _ = false
 
--- whether a byte goes on with a part of this form: a comment goes on to before the next LF, a run while bytes of runs
--- follow, and each other part is one byte
+-- whether a byte continues a part of this form: a comment ends before the next LF, a run continues while run bytes follow, and
+-- each other part is a single byte
 abbrev pub goes_on : Form → ℕ → Bool
 goes_on comment byte = not (byte == 10)
 goes_on run byte = is_run (form_of byte)
@@ -83,7 +83,7 @@ bytes part = part.first ∷ part.others
 abbrev pub size : Part → ℕ
 size part = length (bytes part)
 
--- no byte follows that would go on with a part of this form
+-- no byte follows that continues a part of this form
 abbrev pub EndsBefore : Form → List ℕ → Type 0
 EndsBefore f [] = ⊤
 EndsBefore f (byte ∷ _) = goes_on f byte ≡ false
@@ -105,7 +105,7 @@ abbrev pub is_name : List ℕ → Bool
 is_name [] = false
 is_name (byte ∷ others) = is_ascii_alphabetic byte && list_all is_name_byte others
 
--- a mark and a name
+-- a mark followed by a name
 abbrev pub is_marked_name : ℕ → List ℕ → Bool
 is_marked_name mark [] = false
 is_marked_name mark (byte ∷ others) = (byte == mark) && is_name others
@@ -115,7 +115,7 @@ abbrev pub is_number : List ℕ → Bool
 is_number [] = false
 is_number (byte ∷ others) = is_ascii_digit byte && list_all is_ascii_digit others
 
--- one byte, alone
+-- a single byte
 abbrev pub is_only : ℕ → List ℕ → Bool
 is_only byte [] = false
 is_only byte (only ∷ []) = only == byte
@@ -132,7 +132,7 @@ kind_of_run text =
     else (if is_only 61 text then Some equals
     else None)))))
 
--- the kind of the word that a part is, if it is a word
+-- the kind of a part, if it is a word
 abbrev pub kind_by : Form → List ℕ → Option Kind
 kind_by opening text = Some opens
 kind_by closing text = Some closes
@@ -155,7 +155,7 @@ pub record IsWordAt (start : ℕ) (part : Part) (word : Word) : Type 0 where
   pub start_at : word.start ≡ start
   pub short : form part ≡ run → size part ≤ longest_run
 
--- from the offset `start` on, the parts are gaps and these words, in their order
+-- from the offset `start` on, the parts are gaps and these words, in order
 abbrev pub AreGapsAndWords : ℕ → List Part → List Word → Type 0
 AreGapsAndWords start [] words = words ≡ []
 AreGapsAndWords start (part ∷ parts) [] = IsTrue (is_gap (form part)) × AreGapsAndWords (start + size part) parts []
@@ -163,8 +163,8 @@ AreGapsAndWords start (part ∷ parts) (word ∷ words) =
     (IsTrue (is_gap (form part)) × AreGapsAndWords (start + size part) parts (word ∷ words))
     ⊎ (IsWordAt start part word × AreGapsAndWords (start + size part) parts words)
 
--- where so many lists are open, each `)` closes a `(`, at most 64 lists are open at once, nothing follows the `)` that
--- closes the first list, and no list is open at the end
+-- given the number of open lists, each `)` closes a `(`, at most 64 lists are open at once, nothing follows the `)` that closes
+-- the first list, and no list is open at the end
 abbrev pub AreNested : ℕ → List Kind → Type 0
 AreNested open_lists [] = open_lists ≡ 0
 AreNested open_lists (opens ∷ kinds) = (open_lists < deepest) × AreNested (suc open_lists) kinds
@@ -176,8 +176,8 @@ AreNested open_lists (_ ∷ kinds) = AreNested open_lists kinds
 abbrev pub kinds_of : List Word → List Kind
 kinds_of words = map (λ (word : Word). word.kind) words
 
--- The text reads as these words: it is gaps (blanks and comments) and words in turn, no run is against the next,
--- and its lists are well nested, within the limits.
+-- The text reads as these words: it consists of gaps (blanks and comments) and words, no two runs are adjacent, and its lists are
+-- well nested, within the limits.
 pub record ReadsAs (text : List ℕ) (words : List Word) : Type 0 where
   pub short : length text ≤ longest_text
   pub parts : List Part
@@ -189,26 +189,26 @@ pub record ReadsAs (text : List ℕ) (words : List Word) : Type 0 where
 abbrev pub Reads : List ℕ → Type 0
 Reads text = (words : List Word) × ReadsAs text words
 
--- from the offset `low` on, the words follow one another in the text, each the slice of its span
+-- from the offset `low` on, the words are in order in the text, each the slice at its span
 abbrev pub AreInOrder : ℕ → List ℕ → List Word → Type 0
 AreInOrder low text [] = low ≤ length text
 AreInOrder low text (word ∷ words) =
     (low ≤ word.start) × (0 < length word.text) × (slice_range text word.start (end_of word) ≡ word.text)
     × AreInOrder (end_of word) text words
 
--- Faults: what keeps a text from reading as words, with the number that is reported for it
+-- Faults: why a text does not read as words, with the number that is reported
 
--- how many lists are open after a part of this form, where so many are open before it
+-- the number of open lists after a part of this form, given the number before it
 abbrev pub open_with : ℕ → Form → ℕ
 open_with open_lists opening = suc open_lists
 open_with open_lists closing = open_lists - 1
 open_with open_lists _ = open_lists
 
--- how many lists are open after these parts
+-- the number of open lists after these parts
 abbrev pub open_after : List Part → ℕ
 open_after parts = fold (λ open_lists (part : Part). open_with open_lists (form part)) 0 parts
 
--- the parenthesis that closed the first list is one of these parts
+-- one of these parts is the parenthesis that closed the first list
 abbrev pub HasClosedAList : List Part → Type 0
 HasClosedAList parts =
     (before after : List Part) × (part : Part) × (parts ≡ before ++ part ∷ after) × (form part ≡ closing)
@@ -221,15 +221,15 @@ IsWord closing = ⊤
 IsWord run = ⊤
 IsWord _ = ⊥
 
--- a part that comes after the parts `before` is at fault, by this number
+-- a part after the parts `before` is faulty, with this number
 pub data IsAtFault (before : List Part) (part : Part) : ℕ → Type 0 where
-  -- a byte that is neither blank nor printable, and is in no comment
+  -- a byte that is neither blank nor printable, outside comments
   bad_byte : form part ≡ stray → IsAtFault before part 1
-  -- a run of no kind
+  -- a run that is not a word of any kind
   bad_word : form part ≡ run → kind_of_part part ≡ None → IsAtFault before part 2
-  -- a `)` that closes nothing
+  -- a `)` without a `(`
   unbalanced : form part ≡ closing → open_after before ≡ 0 → IsAtFault before part 3
-  -- a `(` that makes the depth 65
+  -- a `(` that opens a list at depth 65
   too_deep : form part ≡ opening → open_after before ≡ deepest → IsAtFault before part 4
   -- a run over 255 bytes
   too_long : form part ≡ run → longest_run < size part → IsAtFault before part 5
@@ -241,19 +241,19 @@ size_of_all parts = sum_by size parts
 
 -- the fault is one of the text
 pub data IsFault (text : List ℕ) (fault : Fault) : Type 0 where
-  -- a part is at fault, and the span is the part's
+  -- a part is faulty, and the span is the part's
   at_part : (before after : List Part) (part : Part) → AreParts text (before ++ part ∷ after) → IsAtFault before part fault.code
       → fault.span.start ≡ size_of_all before → fault.span.end ≡ size_of_all before + size part → IsFault text fault
-  -- a list is open at the end, and the span is the end's
+  -- a list is open at the end, and the span is at the end
   open_at_end : (parts : List Part) → AreParts text parts → 0 < open_after parts → fault.code ≡ 3
       → fault.span.start ≡ length text → fault.span.end ≡ length text → IsFault text fault
 
--- by the least start, and at equal starts by the lower number
+-- ordered by start, and at equal starts by number
 abbrev pub ComesNoLater : Fault → Fault → Type 0
 ComesNoLater a b =
     (a.span.start < b.span.start) ⊎ ((a.span.start ≡ b.span.start) × (a.code ≤ b.code))
 
--- the fault that is reported for the text: its length before all others, and then the first
+-- the fault reported for the text: an excessive length before all others, and then the first fault
 pub data IsReported (text : List ℕ) (fault : Fault) : Type 0 where
   text_too_long : longest_text < length text → fault.code ≡ 5 → fault.span.start ≡ longest_text
       → fault.span.end ≡ length text → IsReported text fault

@@ -5,7 +5,7 @@ ghost use Rattle.std.specs.Prelude.{◌≡◌};
 ghost use Rattle.std.specs.List.{list_all};
 ghost use Rattle.model.specs.Words.{is_name_byte, is_name};
 
-/// Whether the bytes are a letter, and then letters, digits, `-` and `_`.
+/// Whether the bytes are a name: a letter, then letters, digits, `-` and `_`.
 pub fn is_name(bytes: &[u8]) -> bool
     ensures { result ≡ is_name bytes.now }
 {

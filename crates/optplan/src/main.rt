@@ -8,7 +8,7 @@ use std::alloc::AllocError;
 use std::process::ExitCode;
 use std::{env, io};
 
-/// The status of an I/O error.
+/// The exit status of an I/O error.
 const DEVICE: u8 = 21;
 
 fn main(rt: HostRuntime) -> ExitCode {
@@ -36,7 +36,7 @@ fn main(rt: HostRuntime) -> ExitCode {
     ExitCode::from(status)
 }
 
-/// The arguments after the program's name. Arguments that are no text are no words of the program.
+/// The arguments after the program's name; none if one of them is not valid text.
 fn arguments(rt: &HostRuntime) -> Result<Vec<String>, AllocError> {
     match env::args(rt) {
         Ok(arguments) => arguments.skip(1).collect(rt.alloc()),
@@ -45,7 +45,7 @@ fn arguments(rt: &HostRuntime) -> Result<Vec<String>, AllocError> {
     }
 }
 
-/// After an I/O error of `explain`: what is the matter with the first of its files that cannot be read.
+/// After an I/O error of `explain`: reports the problem of the first file that cannot be read.
 fn report_files<E: Sink>(rt: &HostRuntime, words: &[&str], err: &mut E) {
     if let Ok(
         Order::Explain {
@@ -63,7 +63,7 @@ fn report_files<E: Sink>(rt: &HostRuntime, words: &[&str], err: &mut E) {
     }
 }
 
-/// Says what is the matter with the file of this name, as far as a look shows: whether there was anything to say.
+/// Reports the problem of the file with this name, as far as a second attempt shows. Returns whether there was one.
 fn report_file<E: Sink>(rt: &HostRuntime, name: &str, err: &mut E) -> bool {
     let Some(found) = look_at(rt, name) else {
         return false;

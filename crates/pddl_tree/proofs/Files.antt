@@ -13,11 +13,11 @@ use Rattle.model.specs.GrammarWords as words
 use Rattle.model.specs.Grammar.{section, section_of, section_after, keyword_in, seen_with, has_all, left_of}
 use Rattle.model.proofs.GrammarBegins.{is_left, same_section}
 
--- the code's test of all of some sections
+-- the code's test that all of these sections have occurred
 pub all_seen : (tested : List code.SectionKeyword) (all seen : List SectionKeyword) (b c : Bool) → map section_view tested ≡ all → b ≡ list_all (λ k. has_section seen (section_view k)) tested → b ≡ c → has_all all seen ≡ c
 all_seen tested all seen b c are is same = ap (λ l. has_all l seen) (sym are) ∙ passes_map (has_section seen) section_view tested ∙ sym is ∙ same
 
--- ---- what is left
+-- ---- remaining sections
 
 none_left : (all seen : List SectionKeyword) → has_all all seen ≡ true → left_of all seen ≡ []
 none_left [] seen e = refl
@@ -27,7 +27,7 @@ none_left (k ∷ all) seen e = by_first (has_section seen k) (none_left all seen
     by_first true rest e = rest e
     by_first false rest e = absurd (cc)
 
--- of sections that are not all seen, one is left
+-- if not all sections have occurred, one remains
 data AreLeft (left : List SectionKeyword) : Type 0 where
   some_left : (k : SectionKeyword) (others : List SectionKeyword) → left ≡ k ∷ others → AreLeft left
 
@@ -39,7 +39,7 @@ are_left (k ∷ all) seen e = by_first (has_section seen k) (are_left all seen) 
     by_first true rest e = rest e
     by_first false rest e = some_left k (left_of all seen) refl
 
--- what is left is one of all, and was not seen
+-- a remaining section is one of all, and has not occurred
 left_is : (j : SectionKeyword) (all seen : List SectionKeyword) → has_section (left_of all seen) j ≡ true → (has_section all j ≡ true) × (has_section seen j ≡ false)
 left_is j [] seen e = absurd (cc)
 left_is j (k ∷ all) seen e = by_first (has_section seen k) refl (is_section j k) refl (left_is j all seen) e
@@ -69,7 +69,7 @@ of_kind words.init q = refl
 of_kind words.goal q = refl
 of_kind words.metric q = refl
 
--- the `(` and the keyword of a section that is new: what follows them
+-- the `(` and the keyword of a section that has not occurred, and what follows them
 begun : (f : TaskFile) (seen : List SectionKeyword) (j : SectionKeyword) (c : Contents) (list : List Word) (at : ℕ) → first (from list at) ≡ Some opens → first (from list (at + 1)) ≡ Some (keyword (of_section j))
     → has_section (sections_of f) j ≡ true → has_section seen j ≡ false → phrase (sections_on f seen c) (from list at) ≡ bind (phrase (section_into j c) (from list (at + 2))) (λ d w. phrase (sections_on f (seen_with seen j) d) w)
 begun f seen j c list at o e here new = by_left (left_of (sections_of f) seen) refl (is_left j (sections_of f) seen here new)
@@ -91,14 +91,14 @@ section_answers f seen j c d list at (Ok next) o e here new h = (begun f seen j 
 section_answers f seen j c d list at (Err fault) o e here new h =
     reported_along list _ _ fault (begun f seen j c list at o e here new) (reported_first list _ (λ d w. phrase (sections_on f (seen_with seen j) d) w) fault h)
 
--- `)` after what is required
+-- `)` after everything required
 pub sections_end : (f : TaskFile) (seen : List SectionKeyword) (c : Contents) (list : List Word) (at : ℕ) → closes_first (first (from list at)) ≡ true → has_all (required_of f) seen ≡ true → phrase (sections_on f seen c) (from list at) ≡ made c (from list (at + 1))
 sections_end f seen c list at e all =
     ap (λ r. bind r (λ ss w. made (fold with_section c ss) w)) (taken (sections f seen) list at closes (is_closes (first (from list at)) e) (ap (λ b. cond b (Some (gives [])) None) all))
 
 -- ---- words that may not occur there
 
--- any word, where all sections are
+-- any word, if all sections have occurred
 pub sections_full : (f : TaskFile) (seen : List SectionKeyword) (list : List Word) (at : ℕ) → has_all (sections_of f) seen ≡ true → closes_first (first (from list at)) ≡ false → part (sections f seen) (from list at) ≡ stops (number_seen define_word (first (from list at))) (from list at)
 sections_full f seen list at all e = let h = by_word (first (from list at)) e in refused_here (sections f seen) define_word list at h.0 h.1
   where
@@ -108,7 +108,7 @@ sections_full f seen list at all e = let h = by_word (first (from list at)) e in
     by_word (Some opens) e = (ap (section_of f seen) (none_left (sections_of f) seen all), refl)
     by_word (Some t) e = (refl, refl)
 
--- a word that is no `(`
+-- a word other than `(`
 pub sections_not_open : (f : TaskFile) (seen : List SectionKeyword) (list : List Word) (at : ℕ) → opens_first (first (from list at)) ≡ false → closes_first (first (from list at)) ≡ false → part (sections f seen) (from list at) ≡ stops (number_seen define_word (first (from list at))) (from list at)
 sections_not_open f seen list at n e = let h = by_word (first (from list at)) n e in refused_here (sections f seen) define_word list at h.0 h.1
   where
@@ -118,7 +118,7 @@ sections_not_open f seen list at n e = let h = by_word (first (from list at)) n 
     by_word (Some opens) n e = absurd (cc)
     by_word (Some t) n e = (refl, refl)
 
--- `)` before what is required
+-- `)` before everything required
 pub sections_missing : (f : TaskFile) (seen : List SectionKeyword) (c : Contents) (list : List Word) (at : ℕ) → has_all (required_of f) seen ≡ false → closes_first (first (from list at)) ≡ true → phrase (sections_on f seen c) (from list at) ≡ stops (number_seen define_word (first (from list at))) (from list at)
 sections_missing f seen c list at none e = let h = by_word (first (from list at)) e in ap (λ r. bind r (λ ss w. made (fold with_section c ss) w)) (refused_here (sections f seen) define_word list at h.0 h.1)
   where
@@ -126,7 +126,7 @@ sections_missing f seen c list at none e = let h = by_word (first (from list at)
     by_word (Some closes) e = (ap (λ b. cond b (Some (gives [])) None) none, refl)
     by_word o e = absurd (cc)
 
--- no keyword of a new section after `(`
+-- no keyword of a remaining section after `(`
 pub no_section : (f : TaskFile) (seen : List SectionKeyword) (list : List Word) (at : ℕ) (refusal : WordRefusal) → first (from list at) ≡ Some opens → has_all (sections_of f) seen ≡ false → IsNotNew list (at + 1) f seen refusal → Stops list (part (sections f seen) (from list at)) refusal
 no_section f seen list at refusal o some h = by_left (are_left (sections_of f) seen some)
   where

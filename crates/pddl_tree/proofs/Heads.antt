@@ -13,7 +13,7 @@ use Rattle.pddl_tree.proofs.Reported.{same_tokens}
 
 -- ---- one word
 
--- a word is taken alone
+-- a single word is taken
 abbrev IsAlone : {A : Type 0} → Option (Phrase A) → Type 0
 IsAlone None = Unit {0}
 IsAlone (Some (gives x)) = Unit {0}
@@ -56,7 +56,7 @@ close_alone t = tt
 
 -- ---- the words of a head
 
--- one word more
+-- one more word
 on_word : {T : Type 0} (s : Sort) (t : Token) (w : List Token) (x : Value s) (k : Value s → Phrase T) → after s t ≡ Some (gives x) → after_all (t ∷ w) (s >>= k) ≡ after_all w (k x)
 on_word s t w x k e = ap (λ o. option_and_then (λ q. after_all w q) (option_map (λ p. and_then p k) o)) e
 
@@ -88,7 +88,7 @@ no_head f list head (inl short) =
     omega (arith, same, head.0)
 no_head f list head (inr none) = none (subst (λ w. Begins f (take 6 w)) (same_tokens list) head.1)
 
--- no `(` where the file's list, or that of its kind, is wanted
+-- no `(` where the file's list, or that of its kind, is required
 pub file_not_open : (f : TaskFile) (list : List Word) (at : ℕ) → opens_first (first (from list at)) ≡ false → part (file f) (from list at) ≡ stops (number_seen close (first (from list at))) (from list at)
 file_not_open f list at e = let h = by_word (first (from list at)) e in refused_here (file f) close list at h.0 h.1
   where

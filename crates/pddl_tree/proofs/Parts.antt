@@ -9,7 +9,7 @@ use Rattle.model.specs.GrammarWords.{PartKeyword}
 use Rattle.model.specs.GrammarWords as words
 use Rattle.model.specs.Grammar.{value, precondition_list, parts, part_after, parts_after, with_part}
 
--- the keyword of a part that is new: what follows it
+-- the keyword of a part that has not occurred, and what follows it
 begun : (seen : List PartKeyword) (p : PartKeyword) (a : Action) (list : List Word) (at : ℕ) → first (from list at) ≡ Some (keyword (of_part p)) → has_part seen p ≡ false
     → phrase (parts_on seen a) (from list at) ≡ bind (phrase (part_into (seen ++ p ∷ []) p a) (from list (at + 1))) (λ b w. phrase (parts_on (seen ++ p ∷ []) b) w)
 begun seen p a list at e new =
@@ -24,7 +24,7 @@ part_answers seen p a b list at (Ok next) e new h = (begun seen p a list at e ne
 part_answers seen p a b list at (Err fault) e new h =
     reported_along list _ _ fault (begun seen p a list at e new) (reported_first list _ (λ b w. phrase (parts_on (seen ++ p ∷ []) b) w) fault h)
 
--- `)` after the parameters, and where they are missing
+-- `)` after the parameters, or where they are missing
 pub parts_end : (seen : List PartKeyword) (a : Action) (list : List Word) (at : ℕ) → closes_first (first (from list at)) ≡ true → has_part seen words.parameters ≡ true → phrase (parts_on seen a) (from list at) ≡ made a (from list (at + 1))
 parts_end seen a list at e all = ap (λ r. bind r (λ ps w. made (fold with_part a ps) w)) (taken (parts seen) list at closes (is_closes (first (from list at)) e) (ap (λ b. cond b (Some (gives [])) None) all))
 

@@ -1,4 +1,4 @@
--- What the machine makes of a whole file, in the terms of the public contracts.
+-- How the machine reads a whole file, in the terms of the public contracts.
 use Rattle.pddl_tree_values.proofs.Names.{◌≡◌, ℕ, zero, suc, ◌-◌, ◌<◌, ◌≤◌, List, [], ◌∷◌, map, drop, length, fold, Option, None, Some, refl, sym, ◌∙◌, ap, arith, option_map, Word, word_of, from, first, At, NoMemory, WordFault, reported, Reading, made, stops, bind, part, phrase, number_seen, Reports, Tree, Section, Contents, gives, close, file, sections, tree_from, with_section, TaskFile, Name, Token, token_of, tokens_of, start, Outcome, run, stopped}
 use Rattle.std.proofs.Common.{◌≢◌}
 use Rattle.std.specs.Prelude.{IfSome, slice_get}
@@ -72,7 +72,7 @@ trailing words at h = by_words (from words at) (not_past words at h)
     by_words [] apart = absurd (apart refl)
     by_words (t ∷ w) apart = refl
 
--- it is reported whatever was read before it
+-- it is reported whatever was read before
 pub trailing_all : {A : Type 0} (x : A) (w : List Token) (n : ℕ) (v : List Token) → no_more w ≡ stops n v → at_end x w ≡ stops n v
 trailing_all x [] n v e = absurd (cc)
 trailing_all x (t ∷ w) n v e = let number : by_word t ≡ n = cc in let left : t ∷ w ≡ v = cc in λ i. stops (number i) (left i)
@@ -94,7 +94,7 @@ file_ends f n w v e = run_part (file f) w gives ∙ ap (λ r. ends_as r gives) e
     by_sections (made ss (t ∷ u)) = refl
     by_sections (stops m u) = refl
 
--- in the terms of what is reported
+-- in terms of what is reported
 pub head_stops : (f : TaskFile) (words : List Word) (refusal : WordFault) → Reports words (part (file f) (from words 0)) refusal → StopsAs f words (reported refusal)
 head_stops f words (At r) h = run_part (file f) (from words 0) gives ∙ ap (λ r. ends_as r gives) h
 head_stops f words NoMemory h = tt

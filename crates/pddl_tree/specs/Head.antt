@@ -12,23 +12,23 @@ use Rattle.model.specs.Trees.{TaskFile, Name}
 use Rattle.model.specs.Grammar.{Tree, Phrase, gives, ◌>>=◌, file, sections, tree_from, with_section, no_contents}
 use Rattle.model.specs.Refusals.{Begins, by_word}
 
--- the words of a head
+-- the number of words in a head
 abbrev pub head_length : ℕ
 head_length = 6
 
--- a file of this kind begins with so many of the words
+-- this many of the words are a prefix of a file of this kind
 abbrev pub HasHead : TaskFile → List Token → Type 0
 HasHead f w = (head_length ≤ length w) × Begins f (take head_length w)
 
--- the words end within the head, or no file of this kind begins with so many of them
+-- the words end within the head, or their first words are not the head of a file of this kind
 abbrev pub HasNoHead : TaskFile → List Token → Type 0
 HasNoHead f w = (length w < head_length) ⊎ (Begins f (take head_length w) → ⊥)
 
--- what has to follow the head
+-- what must follow the head
 abbrev pub after_head : TaskFile → Name → Phrase Tree
 after_head f n = sections f [] >>= λ ss. gives (tree_from f n (fold with_section no_contents ss))
 
--- the name, and the index after the head, or where the words stop in it
+-- the name, and the index after the head; or where the words stop within it
 abbrev pub ReadsHead : TaskFile → List Word → ℕ → Result (code.Name × ℕ) WordRefusal → Type 0
 ReadsHead f words at (Ok (n, next)) = part (file f) (from words at) ≡ phrase (after_head f (name_of n)) (from words next)
 ReadsHead f words at (Err refusal) = Stops words (part (file f) (from words at)) refusal

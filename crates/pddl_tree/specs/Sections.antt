@@ -1,4 +1,4 @@
--- The parts of an action and the sections of a file, and what the grammar makes of some of them.
+-- The parts of an action and the sections of a file, and how the grammar reads some of them.
 use Rattle.std.specs.Option.{option_map}
 use Rattle.std.specs.Prelude.{map, fold, [], ◌≡◌, ℕ, List, true, Some}
 use Rattle.syntax_tree.specs.Name.{name_of}
@@ -15,11 +15,11 @@ use Rattle.model.specs.Grammar.{Phrase, gives, ◌>>=◌, ◌>>◌, and_then, a_
 use Rattle.model.specs.Grammar as grammar
 use Rattle.model.specs.GrammarWords as grammar_words
 
--- the parts of an action that follow those seen, taken into the action as it is with these
+-- the parts of an action after those that have occurred, added to the action
 abbrev pub parts_on : List PartKeyword → Action → Phrase Action
 parts_on seen a = parts seen >>= λ ps. gives (fold with_part a ps)
 
--- the value of a part, which is seen, taken into the action
+-- the value of a part, which is then recorded, added to the action
 abbrev pub part_into : List PartKeyword → PartKeyword → Action → Phrase Action
 part_into seen p a = and_then (part_after seen p) (λ x. gives (with_part a x))
 
@@ -41,11 +41,11 @@ contents_of c = record {
   metric = option_map name_of c.metric;
 }
 
--- the sections of a file that follow those seen, taken into the contents as they are with these
+-- the sections of a file after those that have occurred, added to the contents
 abbrev pub sections_on : TaskFile → List SectionKeyword → grammar.Contents → Phrase grammar.Contents
 sections_on f seen c = sections f seen >>= λ ss. gives (fold with_section c ss)
 
--- a section of this keyword, taken into the contents
+-- a section with this keyword, added to the contents
 abbrev pub section_into : SectionKeyword → grammar.Contents → Phrase grammar.Contents
 section_into k c = and_then (section_after k) (λ x. gives (with_section c x))
 
@@ -53,7 +53,7 @@ section_into k c = and_then (section_after k) (λ x. gives (with_section c x))
 abbrev pub the_domain : Phrase Name
 the_domain = a_name >>= λ n. close >> gives n
 
--- the word at an index is no keyword of a section of the file that is new, and is reported as such
+-- the word at an index is not the keyword of a section that may still occur, and is reported as such
 abbrev pub IsNotNew : List Word → ℕ → TaskFile → List SectionKeyword → WordRefusal → Type 0
 IsNotNew words at f seen refusal =
     ((k : SectionKeyword) → first (from words at) ≡ Some (keyword (of_section k)) → has_section (sections_of f) k ≡ true → has_section seen k ≡ true)

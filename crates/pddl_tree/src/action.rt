@@ -1,4 +1,4 @@
-//! Actions, from the word after `:action` on.
+//! Actions, from the word after `:action`.
 ghost use Rattle.std.specs.Prelude.{◌≡◌, [], IfOk, IfErr, map, Some, false};
 ghost use Rattle.model.specs.GrammarWords.{keyword, of_part};
 ghost use Rattle.model.specs.Grammar as grammar;
@@ -18,7 +18,7 @@ use std::alloc::Global;
 use syntax_tree::{Action, Formula, Name};
 use tokens::Word;
 
-/// An action of which no part was read: what may be left out is `(and)`.
+/// An action with only a name: each optional part is `(and)`.
 fn bare(alloc: Global, name: Name<'_>) -> Action<'_>
     ensures { action_of result ≡ grammar.bare_action (name_of name.entry) }
 {
@@ -31,18 +31,18 @@ fn bare(alloc: Global, name: Name<'_>) -> Action<'_>
     }
 }
 
-/// An action whose `:action` was read, and the index after its `)`.
+/// Parses an action after its `:action`: the action, and the index after its `)`.
 pub(crate) fn action<'a>(alloc: Global, words: &[Word<'a>], at: usize) -> Parsed<Action<'a>>
     ensures { Reads (phrase the_action) words.now at action_of result }
 {
     let (name, next) = action_name(words, at)?;
-    // Boxed, since a box is dropped in one step of a proof, and an action in one for each form that its parts may have.
+    // Boxed: dropping a box takes one proof step, while dropping an action takes one for each form of its parts.
     let mut action = Box::new(alloc, bare(alloc, name))?;
     let end = parts(alloc, words, next, &mut action)?;
     Ok((Box::into_inner(action), end))
 }
 
-/// Parts of an action, each at most once, and `)`, taken into the action: the index after the parenthesis.
+/// Parses the parts of an action, each at most once, and `)` into the action: the index after the parenthesis.
 fn parts<'a>(
     alloc: Global,
     words: &[Word<'a>],
@@ -63,7 +63,7 @@ fn parts<'a>(
     }
 }
 
-/// A part that is not seen yet, taken into the action and those seen: the index after it.
+/// Parses a part that has not occurred yet into the action and records it: the index after it.
 fn part<'a>(
     alloc: Global,
     words: &[Word<'a>],
@@ -79,7 +79,7 @@ fn part<'a>(
     value(alloc, words, at + 1, keyword, seen, action)
 }
 
-/// The keyword of a part that is not seen yet.
+/// Reads the keyword of a part that has not occurred yet.
 #[tactic(auto, using(pddl_tree_values::proofs::Read::part_here))]
 fn part_keyword(words: &[Word], at: usize, seen: &[PartKeyword]) -> Result<PartKeyword, WordRefusal>
     ensures word { IfOk result (λ part. first (from words.now at) ≡ Some (keyword (of_part (part_view part)))) }
@@ -98,7 +98,7 @@ fn part_keyword(words: &[Word], at: usize, seen: &[PartKeyword]) -> Result<PartK
     }
 }
 
-/// The value of a part whose keyword was read, which is seen, taken into the action: the index after it.
+/// Parses the value of a part, whose keyword was read, into the action: the index after it.
 #[tactic(auto, using(crate::proofs::Parts::of_value))]
 fn value<'a>(
     alloc: Global,
@@ -130,7 +130,7 @@ fn value<'a>(
     }
 }
 
-/// A precondition whose `(` was read, and the index after its `)`: a formula, or nothing, which is `(and)`.
+/// Parses a precondition after its `(`: the formula, `(and)` if empty, and the index after its `)`.
 #[tactic(auto, using(crate::proofs::Parts::of_precondition))]
 fn precondition<'a>(alloc: Global, words: &[Word<'a>], at: usize) -> Parsed<Formula<'a>>
     ensures { Reads (part grammar.precondition_list) words.now at formula_of result }

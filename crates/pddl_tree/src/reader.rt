@@ -1,12 +1,12 @@
 //! From words to trees.
 //!
-//! A file is read as by a deterministic pushdown automaton, whose stack are the calls that are open: the next word alone
-//! decides what is done, and the reader never goes back. It has the viable-prefix property: the words that it went
-//! through begin a file, so the first word that it refuses is the first with which no file goes on. The automaton is
-//! crates/model/specs/GrammarMachine.antt, and the property is proved in crates/model/proofs/GrammarBegins.antt. It differs
-//! from the textbook's in three things. A state is a function from the tree that comes next to the state after it, so
-//! that a run ends in the file's tree and not in a yes. Which sections and parts are already belongs to the state, since
-//! each is at most once and their order is free. And where it stops, it says by a number why.
+//! A file is read by a deterministic pushdown automaton whose stack is the call stack: the next word alone decides each step, and
+//! the reader never backtracks. It has the viable-prefix property: the words read so far are a prefix of some file, so the
+//! refused word is the first that no file has after them. The automaton is crates/model/specs/GrammarMachine.antt, and the
+//! property is proved in crates/model/proofs/GrammarBegins.antt. It differs from the textbook automaton in three ways. A state is
+//! a function from the next tree to the state after it, so that a run ends in the file's tree instead of a mere acceptance. The
+//! state records the sections and parts read so far, since each occurs at most once and in any order. And a refusing run ends
+//! with a number that gives the reason.
 ghost use Rattle.std.specs.Prelude.{◌≡◌, List, map, IfOk, IfErr, IsErrAnd, IfSome, IsSome, None, []};
 ghost use Rattle.tokens.specs.Reported.{reported_by};
 ghost use Rattle.tokens.specs.Word.{word_of};
@@ -33,23 +33,22 @@ use std::alloc::Global;
 use syntax_tree::{Domain, Name, Problem, TaskFile};
 use tokens::Word;
 
-/// The domain that the words are: the whole file, in the words of its text.
+/// Parses the words of a domain file: all words of its text.
 ///
-/// Refusals report the first word such that the words up to and including it begin no domain, and its span; where the
-/// words run out, `BadForm` at the end of the last word, or at `0..0` where there is none:
+/// A refusal reports the first word such that the words up to and including it begin no domain, with its span. If the words end
+/// too early, it is `BadForm` at the end of the last word, or at `0..0` if there is no word. The codes:
 ///
-/// - `RepeatedSection`: the keyword of a section or of a part of an action that is a second time in its list.
+/// - `RepeatedSection`: the keyword of a section, or of a part of an action, that occurs for the second time in its list.
 /// - `NumberTooLarge`: a number over 2,147,483,647 where a number may occur.
-/// - `LeftOut`: the keyword of a section or part that the language profile leaves out, where one is wanted, or the name
-///   of a form that it leaves out, as `preference`; the `(` of an `(either ..)` as the type of a name; `when` or `forall`
-///   at the head of a list under a `when`; a function other than `total-cost` as what is increased or as the metric; or
-///   `maximize`.
-/// - `UnknownSection`: any other keyword where that of a section or part is wanted.
-/// - `UnknownRequirement`: a keyword in `:requirements` that is no key.
+/// - `LeftOut`: the keyword of an unsupported section or part, where one may occur; the name of an unsupported construct, such as
+///   `preference`; the `(` of an `(either ..)` as the type of a name; `when` or `forall` at the head of a list under a `when`; a
+///   function other than `total-cost` that is increased or is the metric; or `maximize`.
+/// - `UnknownSection`: any other keyword where the keyword of a section or part is required.
+/// - `UnknownRequirement`: an unknown keyword in `:requirements`.
 /// - `MissingSection`: the `)` of the file without `:predicates`, or of an action without `:parameters`.
 /// - `BadForm`: any other word.
 ///
-/// `NoMemory` says nothing about the words. The head, `( define ( domain NAME )`, is read before any memory is asked for.
+/// `NoMemory` says nothing about the words. The head, `( define ( domain NAME )`, is read before anything is allocated.
 ///
 /// # Examples
 /// The words of `(define (domain d) (:predicates (at ?x)))` are a domain of one predicate and no action:
@@ -84,9 +83,9 @@ pub fn domain<'a>(alloc: Global, words: &[Word<'a>]) -> Result<Domain<'a>, Fault
     })
 }
 
-/// The problem that the words are: the whole file, in the words of its text.
+/// Parses the words of a problem file: all words of its text.
 ///
-/// Refusals are those of [`domain`]; `MissingSection` is reported at the `)` of a file without `:domain`, `:init` or `:goal`.
+/// The refusals are those of [`domain`]; `MissingSection` is reported at the `)` of a file without `:domain`, `:init` or `:goal`.
 ///
 /// # Examples
 /// The words of `(define (problem p) (:domain d) (:init (at a)) (:goal (at a)))` are a problem of one fact:
@@ -119,13 +118,13 @@ pub fn problem<'a>(alloc: Global, words: &[Word<'a>]) -> Result<Problem<'a>, Fau
     })
 }
 
-/// A law of the grammar: a list of words has at most one tree as a domain, and at most one as a problem.
+/// A law of the grammar: a list of words is at most one domain tree, and at most one problem tree.
 pub fn one_reading()
     ensures domain { EachIsOneDomain }
     ensures problem { EachIsOneProblem }
 {}
 
-/// A law of refusals: at most one fault is reported for words, and none of a whole file.
+/// A law of refusals: at most one fault is reported for words, and none for a whole file.
 pub fn one_fault()
     ensures one { (file : tree.TaskFile) (words : List text.Word) (fault other : model.Fault)
         → IsRefused file words fault → IsRefused file words other → fault ≡ other }
@@ -133,12 +132,12 @@ pub fn one_fault()
         → IsWhole file (tokens_of words) → IsRefused file words fault → ⊥ }
 {}
 
-/// The worked examples of the definitions: small files with their tree, or with the fault that is reported for them.
+/// The worked examples of the definitions: small files with their tree or with the fault reported for them.
 pub fn examples_are_as_reported()
     ensures { AreAsReported }
 {}
 
-/// What a refusal says of the file.
+/// The fault that a refusal is, in bytes of the file.
 fn fault(words: &[Word], refusal: WordFault) -> Fault
     ensures { reported_by result ≡ fault_of (map word_of words.now) (reported refusal) }
 {
@@ -151,7 +150,7 @@ fn fault(words: &[Word], refusal: WordFault) -> Fault
     }
 }
 
-/// The span of the word at an index; where the words run out, the end of the last word, or 0.
+/// The span of the word at an index; at end of input, the empty span at the end of the last word, or at 0.
 fn span_at(words: &[Word], at: usize) -> Span
     ensures start { result.start ≡ (span_of_place (map word_of words.now) at).start }
     ensures end { result.end ≡ (span_of_place (map word_of words.now) at).end }
@@ -166,7 +165,7 @@ fn span_at(words: &[Word], at: usize) -> Span
     Span { start: end, end }
 }
 
-/// A file of this kind that the words are, whole: its name, and what is in its sections.
+/// Parses the words as a whole file of this kind: its name, and the contents of its sections.
 fn file<'a>(
     alloc: Global,
     words: &[Word<'a>],
@@ -188,7 +187,7 @@ fn file<'a>(
     }
 }
 
-/// What follows the head of a file, taken into the contents, or the refused word.
+/// Parses what follows the head of a file into the contents.
 #[tactic(auto, using(crate::proofs::Reported::of_rest))]
 fn rest<'a>(
     alloc: Global,
@@ -204,7 +203,7 @@ fn rest<'a>(
     Ok(())
 }
 
-/// `( define ( domain NAME )`, or `problem` in place of `domain`: the name, and the index after the parenthesis.
+/// Reads `( define ( domain NAME )`, or `problem` in place of `domain`: the name, and the index after the parenthesis.
 #[tactic(auto, using(crate::proofs::Heads::of_heads))]
 fn head<'a>(words: &[Word<'a>], at: usize, file: TaskFile) -> Result<(Name<'a>, usize), WordRefusal>
     ensures head { IfOk result (λ _. HasHead (file_of file) (from words.now at)) }
@@ -219,7 +218,7 @@ fn head<'a>(words: &[Word<'a>], at: usize, file: TaskFile) -> Result<(Name<'a>, 
     Ok((name, next))
 }
 
-/// No word is at this index.
+/// Succeeds at end of input; refuses the word at this index otherwise.
 fn end(words: &[Word], at: usize) -> Result<(), WordRefusal>
     ensures none { IfOk result (λ _. from words.now at ≡ []) }
     ensures reported { IfErr result (λ refusal. Stops words.now (no_more (from words.now at)) refusal) }

@@ -1,4 +1,4 @@
-//! The sections of a file, one loop for both kinds.
+//! The sections of a file: one loop for both kinds of file.
 ghost use Rattle.std.specs.Prelude.{◌≡◌, ◌+◌, [], IfOk, IfErr, map, Some, true, false};
 ghost use Rattle.std.specs.List.{list_all};
 ghost use Rattle.model.specs.GrammarWords.{opens, keyword, of_section};
@@ -20,7 +20,7 @@ use std::alloc::Global;
 use syntax_tree::{Action, Fact, Formula, Group, Name, Predicate, TaskFile};
 use tokens::Word;
 
-/// What is in a file's sections; what does not is empty.
+/// The contents of a file's sections. A section that the file does not have is empty.
 #[derive(Drop)]
 pub(crate) struct Contents<'a> {
     pub(crate) types: Vec<Group<'a>>,
@@ -36,7 +36,7 @@ pub(crate) struct Contents<'a> {
 }
 
 impl<'a> Contents<'a> {
-    /// No section.
+    /// The contents of a file without sections.
     pub(crate) fn new(alloc: Global) -> Contents<'a>
         ensures { contents_of result ≡ grammar.no_contents }
     {
@@ -58,8 +58,7 @@ impl<'a> Contents<'a> {
     }
 }
 
-/// Sections of a file, each but `:action` at most once, and `)`, taken into the contents: the index after the
-/// parenthesis.
+/// Parses the sections of a file, each but `:action` at most once, and `)` into the contents: the index after the parenthesis.
 pub(crate) fn sections<'a>(
     alloc: Global,
     words: &[Word<'a>],
@@ -81,7 +80,7 @@ pub(crate) fn sections<'a>(
     }
 }
 
-/// A section that may occur, taken into the contents and those seen: the index after it.
+/// Parses a section that may occur here into the contents and records it: the index after it.
 fn section<'a>(
     alloc: Global,
     words: &[Word<'a>],
@@ -98,14 +97,14 @@ fn section<'a>(
     section_rest(alloc, words, at + 2, keyword, contents)
 }
 
-/// Whether all of some sections are seen.
+/// Whether all of these sections have occurred.
 fn has_all(seen: &[SectionKeyword], sections: &[SectionKeyword]) -> bool
     ensures { result ≡ list_all (λ section. grammar.has_section (map section_view seen.now) (section_view section)) sections.now }
 {
     sections.iter().all(|section| has_section(seen, *section))
 }
 
-/// Remembers a section that was read, save an action, of which there may be more.
+/// Records a section that was read, except for an action, of which there may be several.
 fn see(seen: &mut Vec<SectionKeyword>, section: SectionKeyword) -> Result<(), NoMemory>
     ensures { IfOk result (λ _. map section_view seen.new.items ≡ grammar.seen_with (map section_view seen.old.items) (section_view section)) }
 {
@@ -115,7 +114,7 @@ fn see(seen: &mut Vec<SectionKeyword>, section: SectionKeyword) -> Result<(), No
     Ok(())
 }
 
-/// The `(` and the keyword of a section that may occur.
+/// Reads the `(` and the keyword of a section that may occur here.
 fn section_head(
     words: &[Word],
     at: usize,
@@ -134,7 +133,7 @@ fn section_head(
     section_keyword(words, inside, file, seen)
 }
 
-/// The keyword of a section that may occur.
+/// Reads the keyword of a section that may occur here.
 fn section_keyword(
     words: &[Word],
     at: usize,
@@ -157,7 +156,7 @@ fn section_keyword(
     }
 }
 
-/// A section whose keyword was read, taken into the contents: the index after it.
+/// Parses a section, whose keyword was read, into the contents: the index after it.
 #[tactic(auto, using(pddl_tree_values::proofs::Looks::put_in))]
 fn section_rest<'a>(
     alloc: Global,
@@ -211,7 +210,7 @@ fn section_rest<'a>(
     }
 }
 
-/// A name, and `)`: the name, and the index after the parenthesis.
+/// Reads a name and `)`: the name, and the index after the parenthesis.
 fn domain_name<'a>(words: &[Word<'a>], at: usize) -> Parsed<Name<'a>>
     ensures { Reads (phrase the_domain) words.now at name_of result }
 {

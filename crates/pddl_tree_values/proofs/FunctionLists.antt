@@ -9,7 +9,7 @@ use Rattle.model.specs.Grammar.{function_type, number_type}
 pub functions_end : (list : List Word) (at : ℕ) → closes_first (first (from list at)) ≡ true → part function_list (from list at) ≡ made [] (from list (at + 1))
 functions_end list at e = taken function_list list at closes (is_closes (first (from list at)) e) refl
 
--- after one that no type follows, as before one
+-- after a function without a type, as before one
 pub untyped_here : (list : List Word) (at : ℕ) → dash_first (first (from list at)) ≡ false → part function_type (from list at) ≡ part function_list (from list at)
 untyped_here list at e = by_words (from list at) e
   where

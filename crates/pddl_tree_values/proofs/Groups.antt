@@ -20,7 +20,7 @@ names_end : (ns ts : List Name) (gs : List Group) → with_names ns (ends_group 
 names_end [] ts gs = refl
 names_end (m ∷ ns) ts gs = ap (with_name m) (names_end ns ts gs)
 
--- ---- a name of the list, at the head of a group or in one
+-- ---- a name of the list, at the head of a group or within one
 
 named_here : (l : ListElement) (list : List Word) (at : ℕ) (n : Name) → option_and_then (listed_in l) (first (from list at)) ≡ Some n → part (typed l) (from list at) ≡ bind (part (group l) (from list (at + 1))) (λ gs w. made (with_name n gs) w)
 named_here l list at n e = by_word l (first (from list at)) refl e
@@ -48,7 +48,7 @@ named_inside l list at n e = by_word l (first (from list at)) refl e
     by_word l None is e = absurd (cc)
     by_word l (Some t) is e = taken (group l) list at t is (by_rule l t e)
 
--- ---- a word that is no name of the list
+-- ---- a word that is not a name of the list
 
 pub unnamed_here : (l : ListElement) (list : List Word) (at : ℕ) → option_and_then (listed_in l) (first (from list at)) ≡ None → closes_first (first (from list at)) ≡ false → part (typed l) (from list at) ≡ stops (number_seen close (first (from list at))) (from list at)
 unnamed_here l list at none e = let h = by_word (first (from list at)) none e in refused_here (typed l) close list at h.0 h.1
@@ -67,7 +67,7 @@ unnamed_inside l list at none e = let h = by_word (first (from list at)) none e 
     by_word (Some dash) none e = absurd (cc)
     by_word (Some t) none e = (ap (option_map (group_after l)) none, refl)
 
--- ---- these names were read of a group, which goes on with the words left
+-- ---- these names of a group were read, and the rest of the group follows
 
 pub record IsGroupOn (l : ListElement) (list : List Word) (at : ℕ) (ns : List Name) (next : ℕ) : Type 0 where
   pub goes : part (typed l) (from list at) ≡ bind (part (group l) (from list next)) (λ gs w. made (with_names ns gs) w)
@@ -92,7 +92,7 @@ is_dash (Some dash) e n = refl
 is_dash (Some closes) e n = absurd (cc)
 is_dash o e n = absurd (cc)
 
--- the types after its `-`
+-- the types after the `-`
 pub group_typed : (l : ListElement) {list : List Word} {at next : ℕ} (end : ℕ) {ns ts : List Name} → IsGroupOn l list at ns next → first (from list next) ≡ Some dash → part (type l) (from list (next + 1)) ≡ made ts (from list end) → part (typed l) (from list at) ≡ one_of (part (typed l)) (record { names = ns; types = ts }) (from list end)
 group_typed l {list} {next = next} end {ns} {ts} h e r =
     h.goes ∙ ap (λ r. bind r (λ gs w. made (with_names ns gs) w)) (taken (group l) list next dash e refl ∙ ap (λ r. bind r (λ us w. bind (part (typed l) w) (λ gs v. made (ends_group us ∷ gs) v))) r)
@@ -109,7 +109,7 @@ group_untyped l {list} {next = next} {ns} h e =
 
 pub ruleset of_groups = (unnamed_here, unnamed_inside, dash_reported)
 
--- ---- a typed list that `)` ends
+-- ---- a typed list ended by `)`
 
 pub typed_end : (l : ListElement) (list : List Word) (at : ℕ) → closes_first (first (from list at)) ≡ true → part (typed l) (from list at) ≡ made [] (from list (at + 1))
 typed_end l list at e = taken (typed l) list at closes (is_closes (first (from list at)) e) refl

@@ -1,4 +1,4 @@
--- The words from an index on: the one that is there, and the rest.
+-- The words from an index on: the one at the index, and the rest.
 use Rattle.std.proofs.Common.{◌≡◌, ℕ, ◌+◌, ◌<◌, List, ◌∷◌, map, drop, length, get_or, Some, sym, ◌∙◌, ap}
 use Rattle.std.proofs.lemmas.List.{drop_more, drop-map}
 use Rattle.tokens.specs.declared.word.Word.{Word}

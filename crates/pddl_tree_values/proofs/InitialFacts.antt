@@ -9,7 +9,7 @@ use Rattle.pddl_tree_values.proofs.Read.{phrase_then}
 use Rattle.pddl_tree_values.proofs.Looks.{open_here, passed, reported_first, reported_along}
 use Rattle.model.specs.Grammar.{◌>>◌, Valued, valued, amount, initial_fact}
 
--- no number, and `)`, after what has a value
+-- no number, or no `)`, after what has a value
 pub number_reported : (list : List Word) (at inside next : ℕ) (n : Name) {f : Valued} (refusal : WordRefusal) (r : Result (Fact × ℕ) WordFault) → first (from list at) ≡ Some opens → inside ≡ at + 1 → part valued (from list inside) ≡ made f (from list next) → Stops list (phrase the_last_number (from list next)) refusal → IsErrAnd r (λ e. e ≡ At refusal) → Reads (phrase (the_initial_fact n)) list at fact_of r
 number_reported list at inside next n {f} refusal r o is read reported err =
     let occurs : part (listed valued) (from list at) ≡ made f (from list next) = open_here valued list at o ∙ ap (λ i. part valued (from list i)) (sym is) ∙ read in

@@ -1,4 +1,4 @@
--- What a look at the next word says of what is read there.
+-- What tests of the next word say about what is read there.
 use Rattle.pddl_tree_values.proofs.Names.{◌≡◌, ℕ, ◌+◌, true, false, List, [], ◌∷◌, ◌++◌, map, Option, Some, None, refl, sym, ◌∙◌, ap, subst, ◌≤◌, arith, option_map, option_and_then, At, NoMemory, WordFault, Word, from, first, Reading, made, stops, bind, by_rule, part, phrase, number_seen, one_of, Reports, Reads, ReadsInto, closes_first, opens_first, the_either, Name, Token, opens, closes, reserved, Sort, Value, Phrase, gives, ◌>>=◌, and_then, after, listed, many, a_name, close, number_at}
 use Rattle.std.specs.Prelude.{Result, Ok, Err}
 use Rattle.std.specs.Result.{IsErrAnd}
@@ -12,7 +12,7 @@ use Rattle.model.specs.GrammarWords as words
 use Rattle.model.specs.GrammarWords.{large_number}
 use Rattle.model.specs.Grammar.{amount, increase_amount, more, either_word, conditional, conditional_literal}
 
--- `)` and `and` are there
+-- the next word is `)` or `and`
 pub is_closes : (o : Option Token) → closes_first o ≡ true → o ≡ Some closes
 is_closes (Some closes) e = refl
 is_closes o e = absurd (cc)
@@ -26,7 +26,7 @@ is_and o e = absurd (cc)
 pub passed : {T E : Type 0} (P : Result T E → Type 0) (r : Result T E) {e : E} → IsErrAnd r (λ y. y ≡ e) → P (Err e) → P r
 passed P r h p = let is = err_from_is_err_and r h in subst P (sym (is.1 ∙ ap Err is.2)) p
 
--- what is reported for a reading is reported for what begins with it
+-- what is reported for a reading is reported for one that begins with it
 pub reported_first : {A B : Type 0} (list : List Word) (r : Reading A) (f : A → List Token → Reading B) (e : WordFault) → Reports list r e → Reports list (bind r f) e
 reported_first list r f (At refusal) h = ap (λ r. bind r f) h
 reported_first list r f NoMemory h = tt
@@ -47,7 +47,7 @@ put_in {A = A} {B} read list at view k (Err fault) placed result h is = subst (R
 
 -- ---- words
 
--- a word that may not occur there, and is reported as where another thing is wanted
+-- a word that may not occur there, reported as where something else is required
 pub refused_here : (s u : Sort) (list : List Word) (at : ℕ) → option_and_then (after s) (first (from list at)) ≡ None → number_seen u (first (from list at)) ≡ number_seen s (first (from list at)) → part s (from list at) ≡ stops (number_seen u (first (from list at))) (from list at)
 refused_here s u list at none same = part_here s list at ∙ by_word (first (from list at)) none ∙ ap (λ n. stops n (from list at)) (sym same)
   where
@@ -59,7 +59,7 @@ refused_here s u list at none same = part_here s list at ∙ by_word (first (fro
 pub by_reserved : (s : Sort) {p : Phrase (Value s)} (list : List Word) (at : ℕ) {word q : ReservedName} (n : Name) → Some (reserved (reserved_view word) n) ≡ first (from list at) → word ≡ q → after s (reserved (reserved_view q) n) ≡ Some p → part s (from list at) ≡ phrase p (from list (at + 1))
 by_reserved s list at {q = q} n occurs is rule = taken s list at (reserved (reserved_view q) n) (sym occurs ∙ ap (λ r. Some (reserved (reserved_view r) n)) is) rule
 
--- no `(` where a list is wanted
+-- no `(` where a list is required
 pub not_open : (s : Sort) (list : List Word) (at : ℕ) → opens_first (first (from list at)) ≡ false → part (listed s) (from list at) ≡ stops (number_seen close (first (from list at))) (from list at)
 not_open s list at e = let h = by_word (first (from list at)) e in refused_here (listed s) close list at h.0 h.1
   where
@@ -75,15 +75,15 @@ pub ruleset of_lists_inside = (open_here, not_open)
 
 pub ruleset of_words_inside = (part_here, not_open)
 
--- what is reported where an amount is wanted is what is reported where a number is
+-- what is reported where an amount is required is what is reported where a number is
 pub number_of_an_amount : (o : Option Token) → number_seen amount o ≡ number_seen increase_amount o
 number_of_an_amount None = refl
 number_of_an_amount (Some large_number) = refl
 number_of_an_amount (Some t) = refl
 
--- ---- what is wanted is another thing, by its next word
+-- ---- another nonterminal is required, depending on the next word
 
--- what is read as u, and f of its tree
+-- what is read as u, mapped by f
 abbrev pub as_other : (s u : Sort) → (Value u → Value s) → Option Token → Type 0
 as_other s u f None = Unit {0}
 as_other s u f (Some t) = (after s t ≡ option_map (λ p. and_then p (λ x. gives (f x))) (after u t)) × (number_at s t ≡ number_at u t)
@@ -99,7 +99,7 @@ other_of s u f (t ∷ w) h =
 
 -- ---- lists
 
--- a word that closes no list is one of an item
+-- a word that closes no list belongs to an item
 item_of : (s : Sort) (w : List Token) → closes_first (first w) ≡ false → part (many s) w ≡ bind (part s w) (one_of (part (many s)))
 item_of s [] e = part_none (many s) ∙ ap (λ r. bind r (one_of (part (many s)))) (sym (part_none s))
 item_of s (t ∷ w) e = part_of (many s) w t ∙ by_word s t w e ∙ ap (λ r. bind r (one_of (part (many s)))) (sym (part_of s w t))
@@ -120,7 +120,7 @@ end_here s list at e = taken (many s) list at closes (is_closes (first (from lis
 
 pub ruleset of_lists = (item_here, end_here, append-nil, not_open, open_here)
 
--- these were read of a list, which goes on with the words left
+-- these elements of a list were read, and the rest of the list follows
 pub record IsReadOn {X : Type 0} (read : List Token → Reading (List X)) (list : List Word) (at : ℕ) (done : List X) (next : ℕ) : Type 0 where
   pub goes : read (from list at) ≡ bind (read (from list next)) (λ xs w. made (done ++ xs) w)
 
@@ -146,7 +146,7 @@ pub one_inside : (s : Sort) (list : List Word) (at inside end : ℕ) (x : Value 
 one_inside s list at inside end x o is one =
     one_item (listed s) list at end x (ap closes_first o) (open_here s list at o ∙ ap (λ i. part s (from list i)) (sym is) ∙ one)
 
--- names, of which there is one at least
+-- names, at least one
 pub some_names : (list : List Word) (at end : ℕ) (n : Name) → part a_name (from list at) ≡ made n (from list end) → bind (part a_name (from list at)) (one_of (part (many a_name))) ≡ part (many a_name) (from list at)
 some_names list at end n e = sym (item_of a_name (from list at) (by_word (first (from list at)) (sym (part_here a_name list at) ∙ e)))
   where

@@ -1,4 +1,4 @@
--- What most proofs of this crate cite of other modules.
+-- Definitions of other modules that most proofs of this crate use.
 pub use Rattle.std.proofs.Common.{ℕ, ◌++◌, ◌+◌, ◌-◌, ◌<◌, ◌||◌, ◌∙◌, ◌∷◌, ◌≡◌, ◌≤◌, Err, List, None, Ok, Option, Result, Some, [], ap, arith, cond, drop, false, fold, length, map, refl, rules, subst, suc, sym, true, zero}
 pub use Rattle.std.specs.Option.{option_and_then, option_map}
 pub use Rattle.faults.specs.declared.refused.Refused.TheVariants.{At, NoMemory}

@@ -1,4 +1,4 @@
--- What the grammar makes of words: the first of them decides, and the machine ends as it says.
+-- How the grammar reads words: the first word decides, and the machine ends accordingly.
 use Rattle.pddl_tree_values.proofs.Names.{◌≡◌, ℕ, suc, zero, ◌+◌, ◌<◌, ◌≤◌, List, [], ◌∷◌, map, drop, length, Option, Some, None, refl, sym, ◌∙◌, ap, arith, option_map, Word, word_of, from, first, Token, token_of, Sort, Value, Tree, Phrase, gives, ◌>>=◌, and_then, after, Outcome, stopped, run, number_at, Reading, made, stops, bind, by_rule, phrase}
 use Rattle.std.proofs.Common.{add-one}
 use Rattle.model.specs.GrammarMachine.{go_on}
@@ -12,7 +12,7 @@ by_first s (Some t) w here = by_rule part (after s t) w (stops (number_at s t) h
 abbrev Parts : Type 0
 Parts = (s : Sort) → List Token → Reading (Value s)
 
--- ---- what is left is shorter
+-- ---- the rest is shorter
 
 abbrev Shortens : Parts → Type 0
 Shortens f = (s : Sort) (w : List Token) (x : Value s) (v : List Token) → f s w ≡ made x v → length v < length w
@@ -35,7 +35,7 @@ within_shortens (suc n) s (t ∷ w) x v e = by_after (within_shortens n) (after 
     by_after short (Some p) e = let left = phrase_shortens (within n) short p w x v e in omega arith
     by_after short None e = absurd (cc)
 
--- ---- how many words are allowed for makes no difference
+-- ---- the bound on the number of words makes no difference
 
 abbrev Agree : ℕ → Parts → Parts → Type 0
 Agree n f g = (s : Sort) (w : List Token) → length w < n → f s w ≡ g s w
@@ -100,13 +100,13 @@ first_is : (w : List Token) (t : Token) → first w ≡ Some t → w ≡ t ∷ r
 first_is [] t e = absurd (cc)
 first_is (u ∷ w) t e = let same : u ≡ t = cc in ap (λ x. x ∷ w) same
 
--- the words from an index on, where this one is there
+-- the words from an index on, given the one at the index
 pub from_first : (words : List Word) (at : ℕ) (t : Token) → first (from words at) ≡ Some t → from words at ≡ t ∷ from words (at + 1)
 from_first words at t e =
     let all = map (λ w. token_of (word_of w)) words in
     first_is (from words at) t e ∙ ap (λ w. t ∷ w) (rest-drop at all ∙ ap (λ i. drop i all) (sym (add-one at)))
 
--- a word that may occur there leads on
+-- a word that may occur there is taken
 pub taken : (s : Sort) {p : Phrase (Value s)} (words : List Word) (at : ℕ) (t : Token) → first (from words at) ≡ Some t → after s t ≡ Some p → part s (from words at) ≡ phrase p (from words (at + 1))
 taken s words at t e f =
     part_here s words at ∙ ap (λ o. by_first s o (from words (at + 1)) (from words at)) e ∙ ap (λ o. by_rule part o (from words (at + 1)) (stops (number_at s t) (from words at))) f
@@ -138,12 +138,12 @@ run_within (suc n) s (t ∷ w) l k = by_after (run_within n) (after s t)
     by_after ends (Some p) = run_phrase_by n (within n) (within_shortens n) ends p w (omega arith) k
     by_after ends None = refl
 
--- the machine goes through what is wanted as the grammar reads it
+-- the machine goes through a nonterminal as the grammar reads it
 pub run_part : (s : Sort) (w : List Token) (k : Value s → Phrase Tree) → run w (s >>= k) ≡ ends_as (part s w) k
 unfolding part
 run_part s w k = run_within (suc (length w)) s w (omega arith) k
 
--- ---- one thing after another
+-- ---- sequences
 
 pub bind_bind : {A B C : Type 0} (r : Reading A) (f : A → List Token → Reading B) (g : B → List Token → Reading C) → bind (bind r f) g ≡ bind r (λ x w. bind (f x w) g)
 bind_bind (made x w) f g = refl
@@ -165,6 +165,6 @@ pub in_turn : {A B C : Type 0} (p : Phrase A) (f : A → Phrase B) (k : B → Ph
 in_turn (gives a) f k = refl
 in_turn (s >>= h) f k = λ i. s >>= λ x. in_turn (h x) f k i
 
--- what is read first, kept as g says, and then what k says
+-- what is read first, mapped by g, and then what k gives
 pub read_in_turn : {A B C : Type 0} (p : Phrase A) (f : A → Phrase B) (k : B → Phrase C) (w : List Token) → bind (phrase (and_then p f) w) (λ y v. phrase (k y) v) ≡ phrase (and_then p (λ x. and_then (f x) k)) w
 read_in_turn p f k w = sym (phrase_then (and_then p f) k w) ∙ ap (λ q. phrase q w) (in_turn p f k)

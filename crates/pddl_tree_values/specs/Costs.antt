@@ -1,4 +1,4 @@
--- Costs: what the grammar makes of the words of the total cost and of functions.
+-- Costs: how the grammar reads the words of the total cost and of functions.
 use Rattle.std.specs.Prelude.{ℕ, Bool, true, false, Option, Some, None}
 use Rattle.model.specs.Trees.{Name, Increase, Fact}
 use Rattle.model.specs.GrammarWords.{Token, dash, reserved}
@@ -10,7 +10,7 @@ abbrev pub increase_in : Token → Option Name
 increase_in (reserved words.increase n) = Some n
 increase_in _ = None
 
--- a look at a `-`
+-- whether the first word is `-`
 abbrev pub dash_first : Option Token → Bool
 dash_first (Some dash) = true
 dash_first _ = false

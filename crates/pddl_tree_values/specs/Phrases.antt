@@ -1,4 +1,4 @@
--- What the grammar makes of what follows some words of formulas and effects.
+-- How the grammar reads what follows some words of formulas and effects.
 use Rattle.std.specs.Prelude.{map}
 use Rattle.pddl_tree_values.specs.declared.refusals.Literals.{Literals}
 use Rattle.pddl_tree_values.specs.declared.refusals.Literals.TheVariants as literals
@@ -13,7 +13,7 @@ use Rattle.model.specs.Grammar as grammar
 abbrev pub the_equality : Phrase Formula
 the_equality = term >>= λ t. term >>= λ u. close >> gives (tree.equal t u)
 
--- a formula in its parentheses, and the `)` of what it is in
+-- a formula in its parentheses, and the `)` of the enclosing list
 abbrev pub the_last : Phrase Formula
 the_last = listed formula >>= λ f. close >> gives f
 
@@ -21,7 +21,7 @@ the_last = listed formula >>= λ f. close >> gives f
 abbrev pub the_implication : Phrase Formula
 the_implication = listed formula >>= λ f. listed formula >>= λ g. close >> gives (tree.imply f g)
 
--- an effect in its parentheses, and the `)` of what it is in
+-- an effect in its parentheses, and the `)` of the enclosing list
 abbrev pub the_last_effect : Phrase Effect
 the_last_effect = listed effect_list >>= λ e. close >> gives e
 
@@ -29,12 +29,12 @@ the_last_effect = listed effect_list >>= λ e. close >> gives e
 abbrev pub the_when : Phrase Effect
 the_when = listed formula >>= λ f. listed conditional >>= λ ls. close >> gives (tree.when f ls)
 
--- an atom in its parentheses, and the `)` of what it is in
+-- an atom in its parentheses, and the `)` of the enclosing list
 abbrev pub the_last_atom : Literals → Phrase Atom
 the_last_atom literals.Plain = listed atom >>= λ a. close >> gives a
 the_last_atom literals.UnderWhen = listed conditional_atom >>= λ a. close >> gives a
 
--- items of an `:effect`, and the `)` of their `and`; and its value
+-- the items of an `:effect`, and the `)` of their `and`; and their value
 abbrev pub the_items : Phrase grammar.EffectValue
 the_items = many (listed grammar.item) >>= λ xs. gives (value_of_all xs)
 

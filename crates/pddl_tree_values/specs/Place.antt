@@ -1,4 +1,4 @@
--- Places of the code, and what the model wants there.
+-- The code's places, and the nonterminals that the model requires there.
 use Rattle.std.specs.Prelude.{[], map}
 use Rattle.pddl_tree_values.specs.declared.refusals.Place.{Place}
 use Rattle.pddl_tree_values.specs.declared.refusals.Place.TheVariants as place
@@ -14,7 +14,7 @@ abbrev pub listed_view : ListElement → grammar.ListElement
 listed_view listed.Names = grammar.names
 listed_view listed.Variables = grammar.variables
 
--- something that is wanted there, whose numbers are the place's
+-- a nonterminal required there, with the refusal numbers of the place
 abbrev pub wanted : Place → Sort
 wanted place.Incomplete = define_word
 wanted place.Parts = parts []

@@ -1,4 +1,4 @@
--- What a word of the code is, in the model's terms, and the words from an index on.
+-- Classes of the code's words in the model's terms, and the words from an index on.
 use Rattle.std.specs.Prelude.{ℕ, nat_le, if◌then◌else◌, List, [], ◌∷◌, map, drop, Option, None, Some, ⊤}
 use Rattle.tokens.specs.declared.word.Word.{Word}
 use Rattle.tokens.specs.Word.{word_of}
@@ -80,7 +80,7 @@ seen (token.Number v n) = Some (words.number v (name_of n))
 seen token.LargeNumber = Some words.large_number
 seen token.End = None
 
--- a number that may be written
+-- a number within the limit
 abbrev pub small : ℕ → Option ℕ
 small n = if nat_le n max_number then Some n else None
 

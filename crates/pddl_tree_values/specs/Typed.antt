@@ -1,4 +1,4 @@
--- Typed lists: what the grammar makes of one name, and of one group.
+-- Typed lists: how the grammar reads one name, and one group.
 use Rattle.std.specs.Prelude.{◌≡◌, ◌+◌, ◌≤◌, ℕ, Bool, true, false, List, ◌∷◌, Option, Some, None, Result, Ok, Err, length}
 use Rattle.std.specs.Option.{option_and_then}
 use Rattle.faults.specs.Fault.{number_of}
@@ -12,12 +12,12 @@ use Rattle.model.specs.Trees as tree
 use Rattle.model.specs.GrammarWords.{Token, closes, dash}
 use Rattle.model.specs.Grammar.{ListElement, listed_in, Phrase, gives, ◌>>=◌, ◌>>◌, either_word, a_name, many, close}
 
--- a name of a typed list was read, or was not there
+-- a name of a typed list was read, or there was none
 abbrev pub NamesOne : ListElement → List Word → ℕ → Result (Name × ℕ) WordRefusal → Type 0
 NamesOne l words at (Ok (n, next)) = (option_and_then (listed_in l) (first (from words at)) ≡ Some (name_of n)) × ((next ≡ at + 1) × (next ≤ length words))
 NamesOne l words at (Err refusal) = (option_and_then (listed_in l) (first (from words at)) ≡ None) × ((number_of refusal.code ≡ number_seen close (first (from words at))) × (refusal.at ≡ at))
 
--- a look at the word that ends a group's names
+-- whether the first word ends a group's names
 abbrev pub ends_group_first : Option Token → Bool
 ends_group_first (Some dash) = true
 ends_group_first (Some closes) = true

@@ -16,7 +16,7 @@ use std::alloc::Global;
 use syntax_tree::{Amount, Atom, Fact, GroundAtom, Increase, InitialCost, InitialValue, Name};
 use tokens::Word;
 
-/// `( total-cost )`: its name, and the index after the parenthesis.
+/// Parses `( total-cost )`: its name, and the index after the parenthesis.
 #[tactic(auto, using(crate::proofs::Looks::of_lists_inside))]
 fn listed_total_cost<'a>(words: &[Word<'a>], at: usize) -> Result<(Name<'a>, usize), WordRefusal>
     ensures { ReadsWords (part (listed wants_total_cost)) words.now at name_of result }
@@ -25,7 +25,7 @@ fn listed_total_cost<'a>(words: &[Word<'a>], at: usize) -> Result<(Name<'a>, usi
     total_cost(words, inside)
 }
 
-/// `minimize ( total-cost )`, and `)`: the function's name, and the index after the last parenthesis.
+/// Parses `minimize ( total-cost )` and `)`: the function's name, and the index after the last parenthesis.
 pub fn metric<'a>(words: &[Word<'a>], at: usize) -> Result<(Name<'a>, usize), WordRefusal>
     ensures { ReadsWords (phrase the_metric) words.now at name_of result }
 {
@@ -35,7 +35,7 @@ pub fn metric<'a>(words: &[Word<'a>], at: usize) -> Result<(Name<'a>, usize), Wo
     Ok((function, next))
 }
 
-/// What follows a word `increase`, and `)`: the increase, and the index after the parenthesis.
+/// Parses what follows `increase`, up to `)`: the increase, and the index after the parenthesis.
 pub(crate) fn increase<'a>(
     alloc: Global,
     words: &[Word<'a>],
@@ -50,7 +50,7 @@ pub(crate) fn increase<'a>(
     Ok((Increase { word, amount }, next))
 }
 
-/// A number, or a function of terms in its parentheses: what an increase is by, and the index after it.
+/// Parses the amount of an increase, a number or a function of terms in parentheses: the amount, and the index after it.
 #[tactic(auto, using(crate::proofs::Read::part_here, crate::proofs::Looks::number_of_an_amount))]
 fn amount<'a>(alloc: Global, words: &[Word<'a>], at: usize) -> Parsed<Amount<'a>>
     ensures { Reads (part increase_amount) words.now at amount_of result }
@@ -65,7 +65,7 @@ fn amount<'a>(alloc: Global, words: &[Word<'a>], at: usize) -> Parsed<Amount<'a>
     }
 }
 
-/// A function of terms whose `(` was read, and the index after its `)`.
+/// Parses a function of terms after its `(`: the function, and the index after its `)`.
 #[tactic(auto, using(crate::proofs::Read::part_here))]
 fn function<'a>(alloc: Global, words: &[Word<'a>], at: usize) -> Parsed<Atom<'a>>
     ensures { Reads (part atom) words.now at atom_of result }
@@ -79,8 +79,8 @@ fn function<'a>(alloc: Global, words: &[Word<'a>], at: usize) -> Parsed<Atom<'a>
     }
 }
 
-/// What follows a `=` in `:init`, and `)`: the total cost at the start or the value of a function of objects, and the index
-/// after the parenthesis.
+/// Parses what follows `=` in `:init`, up to `)`: the initial total cost or a function's value, and the index after the
+/// parenthesis.
 #[tactic(auto, using(crate::proofs::Looks::of_words_inside))]
 pub(crate) fn initial_fact<'a>(
     alloc: Global,
@@ -113,7 +113,7 @@ pub(crate) fn initial_fact<'a>(
     }
 }
 
-/// A number, and `)`: the number with its word, and the index after the parenthesis.
+/// Parses a number and `)`: the number with its word, and the index after the parenthesis.
 fn last_number<'a>(words: &[Word<'a>], at: usize) -> Result<((u32, Name<'a>), usize), WordRefusal>
     ensures { ReadsWords (phrase the_last_number) words.now at (λ v. (v.0, name_of v.1)) result }
 {

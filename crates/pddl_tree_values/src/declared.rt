@@ -34,7 +34,7 @@ impl<'a> Item<'a> for Predicate<'a> {
     }
 }
 
-/// Functions, and `)`: their declarations, and the index after the parenthesis.
+/// Parses functions up to `)`: their declarations, and the index after the parenthesis.
 #[tactic(auto, using(crate::proofs::FunctionLists::of_functions))]
 pub fn functions<'a>(alloc: Global, words: &[Word<'a>], at: usize) -> Parsed<Vec<Predicate<'a>>>
     ensures { Reads (part function_list) words.now at (λ functions. map predicate_of functions.items) result }
@@ -49,8 +49,7 @@ pub fn functions<'a>(alloc: Global, words: &[Word<'a>], at: usize) -> Parsed<Vec
     Ok((functions, next + 1))
 }
 
-/// A function's declaration in its parentheses, and `- number` where a `-` follows: the declaration, and the index of what
-/// follows.
+/// Parses a function's declaration in parentheses, and `- number` if a `-` follows: the declaration, and the next index.
 #[tactic(auto, using(crate::proofs::FunctionLists::of_function))]
 fn function<'a>(alloc: Global, words: &[Word<'a>], at: usize) -> Parsed<Predicate<'a>>
     requires { closes_first (first (from words.now at)) ≡ false }
@@ -65,7 +64,7 @@ fn function<'a>(alloc: Global, words: &[Word<'a>], at: usize) -> Parsed<Predicat
     Ok((function, next))
 }
 
-/// A function's declaration whose `(` was read, and the index after its `)`: `total-cost` has no arguments.
+/// Parses a function's declaration after its `(`: the declaration, and the index after its `)`. `total-cost` has no arguments.
 #[tactic(auto, using(crate::proofs::Read::part_here))]
 fn declared_function<'a>(alloc: Global, words: &[Word<'a>], at: usize) -> Parsed<Predicate<'a>>
     ensures { Reads (part function_declaration) words.now at predicate_of result }
@@ -96,7 +95,7 @@ impl<'a> Item<'a> for Fact<'a> {
     }
 }
 
-/// A fact whose `(` was read, and the index after its `)`.
+/// Parses a fact after its `(`: the fact, and the index after its `)`.
 #[tactic(auto, using(crate::proofs::Read::part_here))]
 fn fact<'a>(alloc: Global, words: &[Word<'a>], at: usize) -> Parsed<Fact<'a>>
     ensures { Reads (part wants_fact) words.now at fact_of result }
@@ -116,7 +115,7 @@ fn fact<'a>(alloc: Global, words: &[Word<'a>], at: usize) -> Parsed<Fact<'a>>
     }
 }
 
-/// An atom of objects in its parentheses, and the index after them.
+/// Parses a ground atom in parentheses: the atom, and the index after them.
 #[tactic(auto, using(crate::proofs::Looks::of_words_inside))]
 fn ground_atom<'a>(alloc: Global, words: &[Word<'a>], at: usize) -> Parsed<GroundAtom<'a>>
     ensures { Reads (part (listed wants_ground_atom)) words.now at ground_atom_of result }

@@ -1,4 +1,4 @@
-//! Effects, from the word after their parenthesis on, and their literals.
+//! Effects and their literals, each from the word after its `(`.
 ghost use Rattle.std.specs.Prelude.{◌≡◌, [], map};
 ghost use Rattle.model.specs.Trees as tree;
 ghost use Rattle.model.specs.Trees.{both};
@@ -25,7 +25,7 @@ pub fn no_effect<'a>(alloc: Global) -> Effect<'a>
     Effect::And(Vec::new(alloc))
 }
 
-/// An effect whose `(` was read, and the index after its `)`.
+/// Parses an effect after its `(`: the effect, and the index after its `)`.
 #[cycle(effect)]
 #[tactic(auto, using(crate::proofs::Read::part_here))]
 pub(crate) fn effect<'a>(alloc: Global, words: &[Word<'a>], at: usize) -> Parsed<Effect<'a>>
@@ -55,8 +55,7 @@ pub(crate) fn effect<'a>(alloc: Global, words: &[Word<'a>], at: usize) -> Parsed
     }
 }
 
-/// A formula in its parentheses, literals, and `)`: the literals where the formula holds, and the index after the
-/// parenthesis.
+/// Parses a formula in parentheses, literals and `)`: the conditional effect, and the index after the parenthesis.
 #[tactic(auto, using(crate::proofs::Looks::of_lists_inside))]
 fn when<'a>(alloc: Global, words: &[Word<'a>], at: usize) -> Parsed<Effect<'a>>
     ensures { Reads (phrase the_when) words.now at effect_of result }
@@ -68,7 +67,7 @@ fn when<'a>(alloc: Global, words: &[Word<'a>], at: usize) -> Parsed<Effect<'a>>
     Ok((Effect::When(Box::into_inner(condition), literals), next))
 }
 
-/// An effect in its parentheses, and `)`: the effect, and the index after the last parenthesis.
+/// Parses an effect in parentheses and `)`: the effect, and the index after the last parenthesis.
 #[cycle(effect)]
 #[tactic(auto, using(crate::proofs::Looks::of_lists_inside))]
 fn last<'a>(alloc: Global, words: &[Word<'a>], at: usize) -> Parsed<Box<Effect<'a>>>
@@ -81,7 +80,7 @@ fn last<'a>(alloc: Global, words: &[Word<'a>], at: usize) -> Parsed<Box<Effect<'
     Ok((part, next))
 }
 
-/// Effects, and `)`: the effects, and the index after the parenthesis.
+/// Parses effects up to `)`: the effects, and the index after the parenthesis.
 #[cycle(effect)]
 #[tactic(auto, using(crate::proofs::Looks::of_lists))]
 fn effects<'a>(alloc: Global, words: &[Word<'a>], at: usize) -> Parsed<Vec<Effect<'a>>>
@@ -98,7 +97,7 @@ fn effects<'a>(alloc: Global, words: &[Word<'a>], at: usize) -> Parsed<Vec<Effec
     Ok((parts, next + 1))
 }
 
-/// What is under a `when`, of which the `(` was read, and the index after its `)`: literals.
+/// Parses what is under a `when`, after its `(`: the literals, and the index after its `)`.
 #[tactic(auto, using(crate::proofs::Looks::of_conditional))]
 fn conditional<'a>(alloc: Global, words: &[Word<'a>], at: usize) -> Parsed<Vec<EffectLiteral<'a>>>
     ensures { Reads (part wants_conditional) words.now at (λ ls. map effect_literal_of ls.items) result }
@@ -123,7 +122,7 @@ impl<'a> Item<'a> for EffectLiteral<'a> {
     }
 }
 
-/// A literal under a `when`, of which the `(` was read, and the index after its `)`.
+/// Parses a literal under a `when`, after its `(`: the literal, and the index after its `)`.
 #[tactic(auto, using(crate::proofs::Read::part_here))]
 fn literal<'a>(alloc: Global, words: &[Word<'a>], at: usize) -> Parsed<EffectLiteral<'a>>
     ensures { Reads (part conditional_literal) words.now at effect_literal_of result }
@@ -141,7 +140,7 @@ fn literal<'a>(alloc: Global, words: &[Word<'a>], at: usize) -> Parsed<EffectLit
     }
 }
 
-/// An atom in its parentheses, and `)`: the atom, and the index after the last parenthesis.
+/// Parses an atom in parentheses and `)`: the atom, and the index after the last parenthesis.
 #[tactic(auto, using(crate::proofs::Looks::of_words_inside))]
 fn last_atom<'a>(
     alloc: Global,

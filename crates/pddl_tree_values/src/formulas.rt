@@ -1,4 +1,4 @@
-//! Formulas, from the word after their parenthesis on.
+//! Formulas, each from the word after its `(`.
 ghost use Rattle.std.specs.Prelude.{◌≡◌, [], map};
 ghost use Rattle.model.specs.Trees as tree;
 ghost use Rattle.model.specs.Grammar.{many, listed, formula as wants_formula};
@@ -23,7 +23,7 @@ pub fn no_condition<'a>(alloc: Global) -> Formula<'a>
     Formula::And(Vec::new(alloc))
 }
 
-/// A formula whose `(` was read, and the index after its `)`.
+/// Parses a formula after its `(`: the formula, and the index after its `)`.
 #[cycle(formula)]
 #[tactic(auto, using(crate::proofs::Read::part_here))]
 pub fn formula<'a>(alloc: Global, words: &[Word<'a>], at: usize) -> Parsed<Formula<'a>>
@@ -62,7 +62,7 @@ pub fn formula<'a>(alloc: Global, words: &[Word<'a>], at: usize) -> Parsed<Formu
     }
 }
 
-/// Two terms, and `)`: that they are one object, and the index after the parenthesis.
+/// Parses two terms and `)`: their equality, and the index after the parenthesis.
 fn equality<'a>(words: &[Word<'a>], at: usize) -> Parsed<Formula<'a>>
     ensures { Reads (phrase the_equality) words.now at formula_of result }
 {
@@ -72,7 +72,7 @@ fn equality<'a>(words: &[Word<'a>], at: usize) -> Parsed<Formula<'a>>
     Ok((Formula::Equal(first, second), next))
 }
 
-/// Two formulas, and `)`: that the first implies the second, and the index after the parenthesis.
+/// Parses two formulas and `)`: the implication, and the index after the parenthesis.
 #[cycle(formula)]
 fn implication<'a>(alloc: Global, words: &[Word<'a>], at: usize) -> Parsed<Formula<'a>>
     ensures { Reads (phrase the_implication) words.now at formula_of result }
@@ -82,7 +82,7 @@ fn implication<'a>(alloc: Global, words: &[Word<'a>], at: usize) -> Parsed<Formu
     Ok((Formula::Imply(premise, conclusion), next))
 }
 
-/// A formula in its parentheses, and `)`: the formula, and the index after the last parenthesis.
+/// Parses a formula in parentheses and `)`: the formula, and the index after the last parenthesis.
 #[cycle(formula)]
 pub fn last<'a>(alloc: Global, words: &[Word<'a>], at: usize) -> Parsed<Box<Formula<'a>>>
     ensures { Reads (phrase the_last) words.now at (λ f. formula_of f.value) result }
@@ -92,7 +92,7 @@ pub fn last<'a>(alloc: Global, words: &[Word<'a>], at: usize) -> Parsed<Box<Form
     Ok((part, next))
 }
 
-/// A formula in its parentheses, and the index after them.
+/// Parses a formula in parentheses: the formula, and the index after them.
 #[cycle(formula)]
 #[tactic(auto, using(crate::proofs::Looks::of_lists_inside))]
 pub(crate) fn part<'a>(alloc: Global, words: &[Word<'a>], at: usize) -> Parsed<Box<Formula<'a>>>
@@ -104,7 +104,7 @@ pub(crate) fn part<'a>(alloc: Global, words: &[Word<'a>], at: usize) -> Parsed<B
     Ok((part, next))
 }
 
-/// Formulas, and `)`: the formulas, and the index after the parenthesis.
+/// Parses formulas up to `)`: the formulas, and the index after the parenthesis.
 #[cycle(formula)]
 #[tactic(auto, using(crate::proofs::Looks::of_lists))]
 fn formulas<'a>(alloc: Global, words: &[Word<'a>], at: usize) -> Parsed<Vec<Formula<'a>>>

@@ -1,6 +1,6 @@
 //! Parses what both files contain: typed lists, formulas, effects, declarations and facts.
 //!
-//! It also classifies words for the grammar, and says what is reported of a word that may not occur.
+//! It also classifies words for the grammar, and chooses the fault for an unexpected word.
 #![tactic(auto)]
 
 mod costs;

@@ -1,4 +1,4 @@
-//! Lists up to the parenthesis that closes them, whatever they are of.
+//! Lists of any kind of item, up to the parenthesis that closes them.
 ghost use Rattle.std.specs.Prelude.{map};
 ghost use Rattle.model.specs.Grammar.{Sort, Value, many, a_name, term as wants_term, key as wants_key};
 ghost use Rattle.syntax_tree.specs.Name.{name_of, term_of};
@@ -12,18 +12,18 @@ use std::alloc::Global;
 use syntax_tree::{Name, Term};
 use tokens::Word;
 
-/// What a list may be of.
+/// What a list may contain.
 pub trait Item<'a>: Sized + Drop {
     ghost sort: { Sort };
 
     ghost view: { Self → Value sort };
 
-    /// One of them, and the index after it.
+    /// Parses one item: the item, and the index after it.
     fn read(alloc: Global, words: &[Word<'a>], at: usize) -> Parsed<Self>
         ensures { Reads (part sort) words.now at view result };
 }
 
-/// Items, and `)`: the items, and the index after the parenthesis.
+/// Parses items up to `)`: the items, and the index after the parenthesis.
 #[tactic(auto, using(crate::proofs::Looks::of_lists))]
 pub fn list<'a, T: Item<'a>>(alloc: Global, words: &[Word<'a>], at: usize) -> Parsed<Vec<T>>
     ensures { Reads (part (many T.sort)) words.now at (λ items. map T.view items.items) result }
@@ -60,7 +60,7 @@ impl<'a> Item<'a> for Term<'a> {
     }
 }
 
-/// A key of `:requirements`, which switches nothing on or off, so that nothing is kept of it.
+/// A key of `:requirements`. Nothing of it is kept: it does not change how the file is read.
 #[derive(Clone, Copy)]
 pub struct Key;
 

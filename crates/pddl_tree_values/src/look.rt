@@ -1,4 +1,4 @@
-//! Single words: what is at an index, taken or refused.
+//! Single words: each function reads or tests the word at an index.
 ghost use Rattle.std.specs.Prelude.{◌≡◌, ◌<◌, IfSome, IsTrue, length};
 ghost use Rattle.std.specs.Option.{option_map, option_and_then};
 ghost use Rattle.model.specs.Grammar.{a_name, action_name as wants_action_name, term as wants_term, close as wants_close, either_word as wants_either, define_word, kind_word, total_cost as wants_total_cost, amount as wants_amount, number_type, minimize_word};
@@ -16,11 +16,11 @@ use crate::word_fault::{WordFault, WordRefusal};
 use syntax_tree::{Name, TaskFile, Term};
 use tokens::Word;
 
-/// Something that was read, and the index of the word after it; else the first word that may not occur there, by its
-/// code and index, or running out of memory, which says nothing about the words.
+/// What was read, with the index of the next word; or the first unexpected word, by code and index; or running out of memory,
+/// which says nothing about the words.
 pub type Parsed<T> = Result<(T, usize), WordFault>;
 
-/// Whether `)` is at an index.
+/// Whether the word at an index is `)`.
 pub fn is_close(words: &[Word], at: usize) -> bool
     ensures within { IsTrue result → at < length words.now }
     ensures first { result ≡ closes_first (first (from words.now at)) }
@@ -28,7 +28,7 @@ pub fn is_close(words: &[Word], at: usize) -> bool
     matches!(token_at(words, at), Token::Close)
 }
 
-/// Whether `and` is at an index.
+/// Whether the word at an index is `and`.
 pub(crate) fn is_and(words: &[Word], at: usize) -> bool
     ensures within { IsTrue result → at < length words.now }
     ensures first { result ≡ and_first (first (from words.now at)) }
@@ -36,7 +36,7 @@ pub(crate) fn is_and(words: &[Word], at: usize) -> bool
     matches!(token_at(words, at), Token::Reserved(ReservedName::And, _))
 }
 
-/// Whether `-` is at an index.
+/// Whether the word at an index is `-`.
 pub(crate) fn is_dash(words: &[Word], at: usize) -> bool
     ensures within { IsTrue result → at < length words.now }
     ensures first { result ≡ dash_first (first (from words.now at)) }
@@ -44,7 +44,7 @@ pub(crate) fn is_dash(words: &[Word], at: usize) -> bool
     matches!(token_at(words, at), Token::Dash)
 }
 
-/// Whether `-` or `)` is at an index, which end a group of a typed list.
+/// Whether the word at an index is `-` or `)`, either of which ends a group of a typed list.
 pub(crate) fn ends_group(words: &[Word], at: usize) -> bool
     ensures within { IsTrue result → at < length words.now }
     ensures first { result ≡ ends_group_first (first (from words.now at)) }
@@ -52,7 +52,7 @@ pub(crate) fn ends_group(words: &[Word], at: usize) -> bool
     matches!(token_at(words, at), Token::Dash | Token::Close)
 }
 
-/// The word `increase`, where it is at an index.
+/// The word `increase`, if it is at the index.
 pub(crate) fn increase_word<'a>(words: &[Word<'a>], at: usize) -> Option<Name<'a>>
     ensures within { IfSome result (λ _. at < length words.now) }
     ensures word { option_map name_of result ≡ option_and_then increase_in (first (from words.now at)) }
@@ -63,7 +63,7 @@ pub(crate) fn increase_word<'a>(words: &[Word<'a>], at: usize) -> Option<Name<'a
     }
 }
 
-/// `(`, and the index after it.
+/// Reads `(`: the index after it.
 pub fn open(words: &[Word], at: usize, place: Place) -> Result<usize, WordRefusal>
     ensures { Opens words.now at place.entry result }
 {
@@ -73,7 +73,7 @@ pub fn open(words: &[Word], at: usize, place: Place) -> Result<usize, WordRefusa
     }
 }
 
-/// `)`, and the index after it.
+/// Reads `)`: the index after it.
 #[tactic(auto, using(crate::proofs::Read::part_here))]
 pub fn close(words: &[Word], at: usize) -> Result<usize, WordRefusal>
     ensures { Passes (part wants_close) words.now at tt result }
@@ -84,7 +84,7 @@ pub fn close(words: &[Word], at: usize) -> Result<usize, WordRefusal>
     }
 }
 
-/// A name, whichever it is, and the index after it.
+/// Reads any name: the name, and the index after it.
 #[tactic(auto, using(crate::proofs::Read::part_here))]
 pub fn name<'a>(words: &[Word<'a>], at: usize) -> Result<(Name<'a>, usize), WordRefusal>
     ensures { ReadsWords (part a_name) words.now at name_of result }
@@ -96,7 +96,7 @@ pub fn name<'a>(words: &[Word<'a>], at: usize) -> Result<(Name<'a>, usize), Word
     }
 }
 
-/// The name of an action, and the index after it.
+/// Reads the name of an action: the name, and the index after it.
 #[tactic(auto, using(crate::proofs::Read::part_here))]
 pub fn action_name<'a>(words: &[Word<'a>], at: usize) -> Result<(Name<'a>, usize), WordRefusal>
     ensures { ReadsWords (part wants_action_name) words.now at name_of result }
@@ -109,7 +109,7 @@ pub fn action_name<'a>(words: &[Word<'a>], at: usize) -> Result<(Name<'a>, usize
     }
 }
 
-/// A name, or a variable, of a typed list, and the index after it.
+/// Reads a name or a variable of a typed list: the word, and the index after it.
 pub(crate) fn listed_name<'a>(
     words: &[Word<'a>],
     at: usize,
@@ -128,7 +128,7 @@ pub(crate) fn listed_name<'a>(
     }
 }
 
-/// A term, and the index after it.
+/// Reads a term: the term, and the index after it.
 #[tactic(auto, using(crate::proofs::Read::part_here))]
 pub(crate) fn term<'a>(words: &[Word<'a>], at: usize) -> Result<(Term<'a>, usize), WordRefusal>
     ensures { ReadsWords (part wants_term) words.now at term_of result }
@@ -141,7 +141,7 @@ pub(crate) fn term<'a>(words: &[Word<'a>], at: usize) -> Result<(Term<'a>, usize
     }
 }
 
-/// `define`, and the index after it.
+/// Reads `define`: the index after it.
 #[tactic(auto, using(crate::proofs::Read::part_here))]
 pub fn define(words: &[Word], at: usize) -> Result<usize, WordRefusal>
     ensures { Passes (part define_word) words.now at tt result }
@@ -152,7 +152,7 @@ pub fn define(words: &[Word], at: usize) -> Result<usize, WordRefusal>
     }
 }
 
-/// `domain` or `problem`, as the file is, and the index after it.
+/// Reads `domain` or `problem`, whichever fits the file: the index after it.
 #[tactic(auto, using(crate::proofs::Read::part_here))]
 pub fn kind(words: &[Word], at: usize, file: TaskFile) -> Result<usize, WordRefusal>
     ensures { Passes (part (kind_word (file_of file))) words.now at tt result }
@@ -169,7 +169,7 @@ pub fn kind(words: &[Word], at: usize, file: TaskFile) -> Result<usize, WordRefu
     }
 }
 
-/// `either`, and the index after it.
+/// Reads `either`: the index after it.
 #[tactic(auto, using(crate::proofs::Read::part_here))]
 pub(crate) fn either_word(words: &[Word], at: usize) -> Result<usize, WordRefusal>
     ensures { Passes (part wants_either) words.now at tt result }
@@ -180,7 +180,7 @@ pub(crate) fn either_word(words: &[Word], at: usize) -> Result<usize, WordRefusa
     }
 }
 
-/// `total-cost` and its `)`: the name, and the index after the parenthesis.
+/// Reads `total-cost` and `)`: the name, and the index after the parenthesis.
 #[tactic(auto, using(crate::proofs::Read::part_here))]
 pub(crate) fn total_cost<'a>(
     words: &[Word<'a>],
@@ -197,7 +197,7 @@ pub(crate) fn total_cost<'a>(
     }
 }
 
-/// A number with its word, and the index after it.
+/// Reads a number: the number with its word, and the index after it.
 #[tactic(auto, using(crate::proofs::Read::part_here))]
 pub(crate) fn number<'a>(
     words: &[Word<'a>],
@@ -211,7 +211,7 @@ pub(crate) fn number<'a>(
     }
 }
 
-/// `number`, the type of a function, and the index after it.
+/// Reads `number`, the type of a function: the index after it.
 #[tactic(auto, using(crate::proofs::Read::part_here))]
 pub(crate) fn number_word(words: &[Word], at: usize) -> Result<usize, WordRefusal>
     ensures { Passes (part number_type) words.now at tt result }
@@ -222,7 +222,7 @@ pub(crate) fn number_word(words: &[Word], at: usize) -> Result<usize, WordRefusa
     }
 }
 
-/// `minimize`, and the index after it.
+/// Reads `minimize`: the index after it.
 #[tactic(auto, using(crate::proofs::Read::part_here))]
 pub(crate) fn minimize(words: &[Word], at: usize) -> Result<usize, WordRefusal>
     ensures { Passes (part minimize_word) words.now at tt result }

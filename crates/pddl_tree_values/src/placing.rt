@@ -1,19 +1,18 @@
-//! A value in the place of another, which is dropped. Both are of any type, so that the proofs of the callers need not
-//! take them apart.
+//! Replaces a value by another and drops the old one. Generic, so that callers' proofs need not unfold either value.
 ghost use Rattle.std.specs.Prelude.{◌≡◌};
 ghost use Rattle.pddl_tree_values.specs.Reading.{IsPut};
 
 use crate::look::Parsed;
 use crate::word_fault::WordFault;
 
-/// Puts a value where another is.
+/// Puts a value in place of another.
 pub fn replace<T: Drop>(place: &mut T, value: T)
     ensures { place.new ≡ value }
 {
     *place = value;
 }
 
-/// Puts what was read where another value is: the index after it.
+/// Puts the value that was read in place of another: the index after it.
 pub fn put<T: Drop>(place: &mut T, read: Parsed<T>) -> Result<usize, WordFault>
     ensures { IsPut read place.new result }
 {

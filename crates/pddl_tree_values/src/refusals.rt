@@ -1,4 +1,4 @@
-//! What is reported for a word that may not occur where it does: the table of refusals, by what is wanted at the place.
+//! What is reported for an unexpected word: the table of refusals, by what the place requires.
 ghost use Rattle.std.specs.Prelude.{◌≡◌, map};
 ghost use Rattle.faults.specs.Fault.{number_of};
 ghost use Rattle.pddl_tree_values.specs.Token.{from, first, seen, part_view, section_view};
@@ -37,7 +37,7 @@ pub fn allowed(file: TaskFile) -> &'static [SectionKeyword]
     }
 }
 
-/// The sections that a file has to have.
+/// The sections that a file must have.
 pub fn required(file: TaskFile) -> &'static [SectionKeyword]
     ensures { map section_view result.now ≡ grammar.required_of (file_of file) }
 {
@@ -51,7 +51,7 @@ pub fn required(file: TaskFile) -> &'static [SectionKeyword]
     }
 }
 
-/// What a typed list is of.
+/// The elements of a typed list.
 #[derive(Clone, Copy)]
 pub enum ListElement {
     /// Names, each group of one type.
@@ -60,23 +60,23 @@ pub enum ListElement {
     Variables,
 }
 
-/// Which literals an atom is of.
+/// The context of an atom that stands as a literal.
 #[derive(Clone, Copy)]
 pub(crate) enum Literals {
-    /// Those of an effect.
+    /// A plain effect.
     Plain,
-    /// Those under a `when`.
+    /// An effect under a `when`.
     UnderWhen,
 }
 
-/// A place in a file, as far as it decides what is reported for a word that may not occur there.
+/// A place in a file, as far as it determines the refusal of an unexpected word.
 #[derive(Clone, Copy)]
 pub enum Place<'s> {
-    /// In a list that lacks what is required, where its `)` is no other list's.
+    /// In a list that lacks a required part, where `)` can only close that list.
     Incomplete,
-    /// Where the keyword of a part of an action may occur, or its `)`.
+    /// Where the keyword of an action's part, or the action's `)`, may occur.
     Parts,
-    /// Where the value of a part is wanted; these parts are seen.
+    /// Where the value of a part is required. The parts listed here have occurred.
     Value(&'s [PartKeyword]),
     /// After the `(` of a section.
     Section(TaskFile),
@@ -86,7 +86,7 @@ pub enum Place<'s> {
     Type(ListElement),
     /// At the head of a list under a `when`.
     UnderWhen,
-    /// Where `total-cost` alone may occur.
+    /// Where only `total-cost` may occur.
     TotalCost,
     /// After `:metric`.
     Metric,
@@ -96,14 +96,14 @@ pub enum Place<'s> {
     Elsewhere,
 }
 
-/// Whether a part is among those that are seen.
+/// Whether the part is among those already read.
 pub fn has_part(seen: &[PartKeyword], part: PartKeyword) -> bool
     ensures { result ≡ grammar.has_part (map part_view seen.now) (part_view part) }
 {
     seen.contains(&part)
 }
 
-/// Whether a section is among these.
+/// Whether the section is among these.
 pub fn has_section(sections: &[SectionKeyword], section: SectionKeyword) -> bool
     ensures { result ≡ grammar.has_section (map section_view sections.now) (section_view section) }
 {
@@ -121,9 +121,9 @@ pub fn refusal(words: &[Word], at: usize, place: Place) -> WordRefusal
     }
 }
 
-/// What is reported for a word, or of none: the first line that fits. A keyword that may not occur where one is wanted is
-/// already or is none; an `(either ..)` is left out as the type of a name, and so are other metrics, and other functions
-/// where `total-cost` alone may occur.
+/// The code for an unexpected word, or for the end of the words: the first matching arm. A keyword rejected here is repeated or
+/// unknown. An `(either ..)` as the type of a name is left out of the language, as are other metrics, and other functions where
+/// only `total-cost` may occur.
 fn code_of(token: Token, place: Place) -> Code
     ensures { number_of result ≡ number_seen (wanted place.entry) (seen token.entry) }
 {

@@ -1,4 +1,4 @@
-//! What a word is to the grammar.
+//! Words classified for the grammar.
 ghost use Rattle.std.specs.Prelude.{◌≡◌, ◌||◌, ◌<◌, length, codes, Some};
 ghost use Rattle.std.specs.Option.{option_map, option_and_then};
 ghost use Rattle.model.specs.Grammar.{name_in, variable_in};
@@ -12,10 +12,10 @@ ghost use Rattle.pddl_tree_values.specs.Token.{seen, keyword_view, small, IsToke
 use syntax_tree::Name;
 use tokens::{Kind, Word};
 
-/// The greatest number that a file may write.
+/// The greatest number allowed in a file.
 const MAX_NUMBER: u32 = 2_147_483_647;
 
-/// A name that may be a predicate's, its letters folded to lower case.
+/// A name that may name a predicate, folded to lower case.
 #[derive(Clone, Copy, PartialEq, Eq)]
 pub enum FreeName {
     /// `define`
@@ -34,7 +34,7 @@ pub enum FreeName {
     Ordinary,
 }
 
-/// A name that is no predicate's, its letters folded to lower case.
+/// A name that cannot name a predicate, folded to lower case.
 #[derive(Clone, Copy, PartialEq, Eq)]
 pub enum ReservedName {
     /// `and`
@@ -57,7 +57,7 @@ pub enum ReservedName {
     Increase,
     /// `total-cost`
     TotalCost,
-    /// The name of a form that is left out.
+    /// The name of an unsupported construct.
     LeftOut,
 }
 
@@ -99,35 +99,35 @@ pub enum PartKeyword {
     Effect,
 }
 
-/// What a keyword is, its letters folded to lower case.
+/// The class of a keyword, folded to lower case.
 #[derive(Clone, Copy)]
 pub enum Keyword {
-    /// That of a section.
+    /// A section.
     Section(SectionKeyword),
-    /// That of a part of an action.
+    /// A part of an action.
     Part(PartKeyword),
     /// A key of `:requirements`.
     Requirement,
-    /// That of a section or part that is left out.
+    /// An unsupported section or part.
     LeftOut,
     /// Any other keyword.
     Unknown,
 }
 
-/// What a word is. Any name may name an object or an action.
+/// The class of a word. Any name may name an object or an action.
 #[derive(Clone, Copy)]
 pub enum Token<'a> {
     /// `(`
     Open,
     /// `)`
     Close,
-    /// A name that may be a predicate's.
+    /// A name that may name a predicate.
     Free(FreeName, Name<'a>),
-    /// A name that may not.
+    /// A reserved name.
     Reserved(ReservedName, Name<'a>),
-    /// A variable, as `?x`.
+    /// A variable, such as `?x`.
     Variable(Name<'a>),
-    /// A keyword, as `:goal`.
+    /// A keyword, such as `:goal`.
     Keyword(Keyword),
     /// `-`
     Dash,
@@ -137,12 +137,12 @@ pub enum Token<'a> {
     Number(u32, Name<'a>),
     /// A number over 2,147,483,647.
     LargeNumber,
-    /// No word: the words run out.
+    /// The end of the words.
     End,
 }
 
 impl<'a> Token<'a> {
-    /// The name that it is, if it is one.
+    /// The name, if the word is one.
     pub fn name(self) -> Option<Name<'a>>
         ensures { option_map name_of result ≡ option_and_then name_in (seen self.entry) }
     {
@@ -152,7 +152,7 @@ impl<'a> Token<'a> {
         }
     }
 
-    /// The variable that it is, if it is one.
+    /// The variable, if the word is one.
     pub fn variable(self) -> Option<Name<'a>>
         ensures { option_map name_of result ≡ option_and_then variable_in (seen self.entry) }
     {
@@ -163,7 +163,7 @@ impl<'a> Token<'a> {
     }
 }
 
-/// What is at an index.
+/// The class of the word at an index.
 pub fn token_at<'a>(words: &[Word<'a>], at: usize) -> Token<'a>
     ensures within { IsToken (seen result) → at < length words.now }
     ensures first { seen result ≡ first (from words.now at) }
@@ -175,7 +175,7 @@ pub fn token_at<'a>(words: &[Word<'a>], at: usize) -> Token<'a>
     }
 }
 
-/// What a word is.
+/// The class of a word.
 fn token_of<'a>(word: &Word<'a>) -> Token<'a>
     ensures { seen result ≡ Some (words.token_of (word_of word.now)) }
 {
@@ -195,7 +195,7 @@ fn token_of<'a>(word: &Word<'a>) -> Token<'a>
     }
 }
 
-/// What a name is.
+/// The class of a name.
 fn named(name: Name) -> Token
     ensures { seen result ≡ Some (words.named (str_to_ascii_lowercase name.entry.text.now) (name_of name.entry)) }
 {
@@ -239,7 +239,7 @@ fn named(name: Name) -> Token
     }
 }
 
-/// What a number is.
+/// The class of a number.
 fn numbered(name: Name) -> Token
     ensures { seen result ≡ Some (words.number_from (number_of_digits (str_to_ascii_lowercase name.entry.text.now)) (name_of name.entry)) }
 {
@@ -249,7 +249,7 @@ fn numbered(name: Name) -> Token
     }
 }
 
-/// The number that digits write, and none where it is over 2,147,483,647.
+/// The number that the digits denote; `None` if it is over 2,147,483,647.
 fn number_of(digits: &[u8]) -> Option<u32>
     ensures { result ≡ small (number_of_digits (str_to_ascii_lowercase digits.now)) }
 {
@@ -265,7 +265,7 @@ fn number_of(digits: &[u8]) -> Option<u32>
     Some(number)
 }
 
-/// What a keyword is.
+/// The class of a keyword.
 fn keyword_of(text: &[u8]) -> Keyword
     ensures { keyword_view result ≡ words.keyword_of (str_to_ascii_lowercase text.now) }
 {
@@ -302,7 +302,7 @@ fn keyword_of(text: &[u8]) -> Keyword
     }
 }
 
-/// What a keyword is that begins no section and no part.
+/// The class of a keyword that begins no section and no part.
 fn other_keyword(text: &[u8]) -> Keyword
     ensures { keyword_view result ≡ words.other_keyword_of (str_to_ascii_lowercase text.now) }
 {
@@ -315,14 +315,14 @@ fn other_keyword(text: &[u8]) -> Keyword
     }
 }
 
-/// Whether a text is this word, its letters folded to lower case.
+/// Whether a text is this word once folded to lower case.
 fn is(text: &[u8], word: &[u8]) -> bool
     ensures { result ≡ bytes_eq (str_to_ascii_lowercase text.now) (str_to_ascii_lowercase word.now) }
 {
     text.eq_ignore_ascii_case(word)
 }
 
-/// Whether a name is reserved for a form that is left out.
+/// Whether a name is reserved for an unsupported construct.
 fn is_left_out_name(text: &[u8]) -> bool
     ensures { result ≡ is_among (str_to_ascii_lowercase text.now) left_out_names }
 {
@@ -352,7 +352,7 @@ fn is_requirement_key(text: &[u8]) -> bool
         || is(text, b":numeric-fluents")
 }
 
-/// Whether a keyword is that of a section or part that is left out.
+/// Whether a keyword is that of an unsupported section or part.
 fn is_left_out_keyword(text: &[u8]) -> bool
     ensures { result ≡ is_among (str_to_ascii_lowercase text.now) left_out_keywords }
 {

@@ -1,4 +1,4 @@
-//! Typed lists, up to the parenthesis that closes them: names, or variables, in groups of one type.
+//! Typed lists of names or variables, in groups of one type, up to the parenthesis that closes them.
 ghost use Rattle.std.specs.Prelude.{◌≡◌, map, false};
 ghost use Rattle.model.specs.Grammar.{listed, typed as wants_typed, type as wants_type, variables};
 ghost use Rattle.syntax_tree.specs.Name.{name_of};
@@ -17,7 +17,7 @@ use std::alloc::Global;
 use syntax_tree::{Group, Name};
 use tokens::Word;
 
-/// A typed list, and `)`: its groups, and the index after the parenthesis.
+/// Parses a typed list up to `)`: its groups, and the index after the parenthesis.
 #[tactic(auto, using(crate::proofs::Groups::of_typed))]
 pub fn typed<'a>(
     alloc: Global,
@@ -37,7 +37,7 @@ pub fn typed<'a>(
     Ok((groups, next + 1))
 }
 
-/// A typed list of variables in its parentheses: its groups, and the index after them.
+/// Parses a typed list of variables in parentheses: its groups, and the index after them.
 #[tactic(auto, using(crate::proofs::Looks::of_lists_inside))]
 pub(crate) fn variables<'a>(alloc: Global, words: &[Word<'a>], at: usize) -> Parsed<Vec<Group<'a>>>
     ensures { Reads (part (listed (wants_typed variables))) words.now at groups_of result }
@@ -46,7 +46,7 @@ pub(crate) fn variables<'a>(alloc: Global, words: &[Word<'a>], at: usize) -> Par
     typed(alloc, words, inside, ListElement::Variables)
 }
 
-/// Names, and their types after a `-`, or none before a `)`: the group, and the index of what follows it.
+/// Parses names with their types after a `-`, or without types before a `)`: the group, and the next index.
 #[tactic(auto, using(crate::proofs::Groups::of_groups))]
 fn group<'a>(alloc: Global, words: &[Word<'a>], at: usize, listed: ListElement) -> Parsed<Group<'a>>
     requires { closes_first (first (from words.now at)) ≡ false }
@@ -67,7 +67,7 @@ fn group<'a>(alloc: Global, words: &[Word<'a>], at: usize, listed: ListElement) 
     Ok((Group { names, types }, next))
 }
 
-/// The type after a `-`, or the types of an `either`, and the index after it.
+/// Parses the type after a `-`, or the types of an `either`: the types, and the index after them.
 #[tactic(auto, using(crate::proofs::Groups::type_here))]
 fn types<'a>(
     alloc: Global,
@@ -88,7 +88,7 @@ fn types<'a>(
     }
 }
 
-/// `either`, one name or more, and `)`: the names, and the index after the parenthesis.
+/// Parses `either`, at least one name, and `)`: the names, and the index after the parenthesis.
 fn either<'a>(alloc: Global, words: &[Word<'a>], at: usize) -> Parsed<Vec<Name<'a>>>
     ensures { Reads (phrase the_either) words.now at (λ names. map name_of names.items) result }
 {

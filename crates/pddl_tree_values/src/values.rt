@@ -1,4 +1,4 @@
-//! The value of an `:effect`: an effect, and increases of the total cost.
+//! The value of an `:effect`: an effect and increases of the total cost.
 ghost use Rattle.std.specs.Prelude.{◌≡◌};
 ghost use Rattle.model.specs.Grammar.{effect_value as wants_effect_value};
 ghost use Rattle.pddl_tree_values.specs.Reading.{part, phrase, Reads};
@@ -22,7 +22,7 @@ pub struct EffectValue<'a> {
     pub increases: Vec<Increase<'a>>,
 }
 
-/// The value of an `:effect` whose `(` was read, and the index after its `)`: nothing, which is `(and)`, or some items.
+/// Parses the value of an `:effect` after its `(`: the value, and the index after its `)`. An empty value is `(and)`.
 #[tactic(auto, using(crate::proofs::EffectValues::value_here))]
 pub fn effect_value<'a>(alloc: Global, words: &[Word<'a>], at: usize) -> Parsed<EffectValue<'a>>
     ensures { Reads (part wants_effect_value) words.now at value_tree result }
@@ -48,7 +48,7 @@ pub fn effect_value<'a>(alloc: Global, words: &[Word<'a>], at: usize) -> Parsed<
     }
 }
 
-/// Items, each an increase of the total cost or an effect, and `)`: their value, and the index after the parenthesis.
+/// Parses items, each a cost increase or an effect, up to `)`: their value, and the index after the parenthesis.
 #[tactic(auto, using(crate::proofs::EffectValues::of_items))]
 fn items<'a>(alloc: Global, words: &[Word<'a>], at: usize) -> Parsed<EffectValue<'a>>
     ensures { Reads (phrase the_items) words.now at value_tree result }

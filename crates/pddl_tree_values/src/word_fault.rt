@@ -1,7 +1,7 @@
-//! Why the words from some place on are refused, before it is reported in bytes of the file.
+//! Why words are refused, by index, before the fault is reported in bytes of the file.
 use faults::{Code, Refused};
 
-/// The word at this index is refused; the words run out where it is their number.
+/// The refused word. `at` equals `words.len()` at end of input.
 #[derive(Clone, Copy, Debug, PartialEq, Eq)]
 pub struct WordRefusal {
     /// What is wrong.
@@ -10,7 +10,7 @@ pub struct WordRefusal {
     pub at: usize,
 }
 
-/// Why words were not read.
+/// Why words could not be read.
 pub type WordFault = Refused<WordRefusal>;
 
 impl From<WordRefusal> for Refused<WordRefusal> {

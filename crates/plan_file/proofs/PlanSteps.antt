@@ -1,4 +1,4 @@
--- The instances of the reader of plan texts, and the faults of steps.
+-- The instances built by the plan reader, and the faults of steps.
 use Rattle.std.proofs.Common.{◌≡◌, ◌≢◌, ℕ, ◌+◌, ◌<◌, ◌≤◌, true, false, List, [], ◌∷◌, ◌++◌, length, map, get_or, take, drop, Option, Some, None, IfSome, sym, refl, ap, ◌∙◌, subst, arith}
 use Rattle.std.specs.Prelude.{slice_get}
 use Rattle.std.specs.Cmp.Lexicographic.{pointwise}
@@ -19,7 +19,7 @@ use Rattle.formulas.proofs.Quantifiers.{pointwise_push}
 use Rattle.tokens.proofs.Cut.{cut_unique}
 use Rattle.plan_file.specs.PlanFile.{IsNoObject, IsWrongObject, IsFirstFault}
 
--- what is reported, where it is known
+-- what is reported, if it is known
 pub reported_some : (P : Fault → Type 0) (o : Option Fault) (fault : Fault) → o ≡ Some fault → P fault → IfSome o P
 reported_some P o fault e h = subst (λ p. IfSome p P) (sym e) h
 
@@ -41,7 +41,7 @@ pub taken_at : {A B : Type 0} (f : A → B) (xs : List A) (i : ℕ) (x : A) → 
 taken_at f xs i x inside is =
     ap (map f) (take_more xs i x inside ∙ ap (λ y. take i xs ++ y ∷ []) (sym is)) ∙ map-append f (take i xs) (x ∷ [])
 
--- one element more
+-- one more element
 pub numbers_more : {A B : Type 0} (declared : List (List ℕ)) (f : A → Name) (xs : List A) (i : ℕ) (x : A) (g : B → ℕ) (items more : List B) (y : B) → i < length xs → x ≡ get_or xs i x → more ≡ items ++ y ∷ []
     → AreNumbersOf declared (map f (take i xs)) (map g items) → IsNumberOf declared (f x) (g y) → AreNumbersOf declared (map f (take (i + 1) xs)) (map g more)
 numbers_more declared f xs i x g items more y inside is more_is are number =
@@ -49,7 +49,7 @@ numbers_more declared f xs i x g items more y inside is more_is are number =
     (subst (AreNumbersOf declared (map f (take i xs) ++ f x ∷ [])) (sym (ap (map g) more_is ∙ map-append g items (y ∷ [])))
     (numbers_push declared (map f (take i xs)) (map g items) (f x) (g y) are number))
 
--- a number that a name has is below the count of the declared
+-- the number of a name is below the number of declared names
 number_within : (declared : List (List ℕ)) (name : Name) (number : ℕ) → IsNumberOf declared name number → number < length declared
 number_within declared name number is = (position-Some (is_same (folded name)) declared number [] is).0
 
@@ -74,7 +74,7 @@ found task number unions e = by_schema (slice_get task.schemas number) refl e
     by_schema None here e = absurd (cc)
     by_schema (Some schema) here e = record { schema = schema; here = here; parameters = cc }
 
--- what is reported for a step, and what it means
+-- the fault of a step, and its meaning
 module _ (task : Task) (step : Step) where
   pub action_refused : position (is_same (folded step.action)) (schema_names task) ≡ None → (o : Option Fault) → o ≡ Some (record { code = 32; span = step.action.span }) → IfSome o (IsStepFault task step)
   action_refused none o reported =
@@ -100,14 +100,14 @@ module _ (task : Task) (step : Step) where
         fits = ap (λ (o : Option Schema). option_map_or (λ (s : Schema). fits task s i.objects) o false) f.here ∙ ap (λ us. pointwise (is_of task) us i.objects) f.parameters ∙ fit;
       }
 
--- the objects so far are of the types in their places, and one more is
+-- the objects so far are of the types at their indices, and one more is
 pub fit_more : {A B : Type 0} (task : Task) (f : A → Union) (xs : List A) (i : ℕ) (x : A) (g : B → ℕ) (items more : List B) (y : B) → i < length xs → x ≡ get_or xs i x → more ≡ items ++ y ∷ []
     → pointwise (is_of task) (map f (take i xs)) (map g items) ≡ true → is_of task (f x) (g y) ≡ true → pointwise (is_of task) (map f (take (i + 1) xs)) (map g more) ≡ true
 fit_more task f xs i x g items more y inside is more_is fit here =
     (λ j. pointwise (is_of task) (taken_at f xs i x inside is j) ((ap (map g) more_is ∙ map-append g items (y ∷ [])) j))
     ∙ pointwise_push (is_of task) (map f (take i xs)) (map g items) (f x) (g y) fit here
 
--- what is reported for the first object that is not of the types in its place
+-- the fault of the first object that is not of the types at its index
 pub object_refused : {A B C : Type 0} (task : Task) (f : A → Union) (xs : List A) (g : B → Name) (ys : List B) (i : ℕ) (x : A) (y : B) (h : C → ℕ) (items : List C) → i < length xs → i < length ys → x ≡ get_or xs i x → y ≡ get_or ys i y
     → AreNumbersOf (object_names task) (map g (take i ys)) (map h items) → pointwise (is_of task) (map f (take i xs)) (map h items) ≡ true
     → (o : Option Fault) → IfSome o (IsNoObject task (f x) (g y)) → IfSome o (IsWrongObject task (map f xs) (map g ys))
@@ -126,7 +126,7 @@ object_refused task f xs g ys i x y h items inside within types_are name_is are 
       wrong = wrong;
     }) reported
 
--- what is reported for a text
+-- the fault of a text
 pub form_refused : (task : Task) (text : List ℕ) (o : Option Fault) → IfSome o (IsFormFault text) → IfSome o (IsPlanFault task text)
 form_refused task text o h = reported_more (IsFormFault text) (IsPlanFault task text) o (λ fault wrong. of_form wrong) h
 
@@ -153,7 +153,7 @@ none_of_plan task text o h plan is =
     reported_none (IsPlanFault task text) o h
     (λ fault. no_fault_of_plan task text plan fault is)
 
--- a text has not too many steps for a plan
+-- the number of a text's steps is within the limit of a plan
 pub few_instances : (task : Task) (text : List ℕ) (steps : List Step) (plan : List Instance) → HasSteps text steps → AllMean task steps plan → length plan ≤ 16777216
 few_instances task text steps plan has mean =
     let few = few_steps text steps has in

@@ -1,4 +1,4 @@
--- The steps of the reader of plan texts: a gap, a word, and the end.
+-- The steps of the plan reader: a gap, a word, and the end.
 use Rattle.std.proofs.Common.{◌≡◌, ℕ, ◌+◌, ◌-◌, ◌<◌, ◌≤◌, true, false, cond, List, [], ◌∷◌, ◌++◌, length, get_or, take, drop, Option, Some, None, IfSome, sym, refl, ap, ◌∙◌, subst, append_assoc, append-nil}
 use Rattle.std.specs.List.{prefix_len}
 use Rattle.std.proofs.lemmas.List.{drop_all}
@@ -10,7 +10,7 @@ use Rattle.model.proofs.PlanReading.{form_fault, has_steps}
 use Rattle.tokens.proofs.Cut.{cut, cut_parts, PartBetween, part_between}
 use Rattle.plan_file.specs.PlanFile.{read_from, ReportsStop}
 
--- one part more
+-- one more part
 module _ (text : List ℕ) (start end : ℕ) (f : Form) (inside_text : start < length text)
     (f_is : f ≡ form_of (get_or text start 0))
     (longest : end ≡ start + 1 + prefix_len (goes_on f) (drop (start + 1) text)) where
@@ -56,7 +56,7 @@ module _ (text : List ℕ) (start end : ℕ) (f : Form) (inside_text : start < l
       ap (λ (read : PlanPlace → Outcome). read place) (sym same) ∙ word_read e slice slice_is place
       ∙ ap (λ t. after_turn (record { start = start; end = start + length slice }) (turn place t (record { text = slice; span = record { start = start; end = start + length slice } })) (read_from text (start + length slice))) (sym s_is)
 
--- nothing more
+-- the end
 pub end_read : (text : List ℕ) (start : ℕ) → length text ≤ start → (place : PlanPlace) → read_from text start place ≡ at_end (length text) place
 end_read text start past place = ap (λ rest. outcome (length text) (placed_from start (cut rest)) place) (drop_all start text past)
 
@@ -64,7 +64,7 @@ end_read text start past place = ap (λ rest. outcome (length text) (placed_from
 abbrev pub whole : List ℕ → Outcome
 whole text = outcome (length text) (placed_from 0 (cut text)) outside
 
--- what the reader keeps: the steps so far and what is read from here on are what is read of the whole text
+-- the reader's invariant: the steps so far and what is read from here on are what is read of the whole text
 pub record Keeps (text : List ℕ) (at : ℕ) (place : PlanPlace) (so_far : List Step) : Type 0 where
   pub same : with_steps so_far (read_from text at place) ≡ whole text
 
@@ -79,7 +79,7 @@ one_step_more : (so_far : List Step) (step : Step) (o : Outcome) → with_steps 
 one_step_more so_far step (reads steps) = ap reads (append_assoc so_far (step ∷ []) steps)
 one_step_more so_far step (refuses fault) = refl
 
--- what a word does here
+-- the effect of a word here
 module _ (text : List ℕ) (at end : ℕ) (place : PlanPlace) (t : Advance) (span : Span) (so_far : List Step)
     (read : read_from text at place ≡ after_turn span t (read_from text end)) (keeps : Keeps text at place so_far) where
   pub keeps_on : (next : PlanPlace) → t ≡ goes next → Keeps text end next so_far

@@ -1,4 +1,4 @@
--- What the reader of plan texts keeps from word to word: the form of the text so far, and what its steps mean.
+-- The plan reader's invariant from word to word: the form of the text so far, and the meaning of its steps.
 use Rattle.std.proofs.Common.{◌≡◌, ℕ, ◌≤◌, List, [], ◌∷◌, ◌++◌, length, map, Option, Some, None, IfSome, ap, ◌∙◌, subst, sym, append_assoc, true, false, true≢false}
 use Rattle.std.specs.Prelude.{is_some}
 use Rattle.std.proofs.lemmas.List.{map-append}
@@ -16,13 +16,13 @@ use Rattle.plan_file.specs.declared.steps.Meaning.{Meaning}
 use Rattle.plan_file.proofs.PlanWords.{Keeps, keeps_on, keeps_step, all_read}
 use Rattle.plan_file.proofs.PlanSteps.{reported_more, meaning_refused}
 
--- There are steps so far, of which no list is in memory: the text is read as them up to here, and this is what they mean
+-- There are steps so far, which are not stored in memory: the text up to here reads as them, and this is their meaning.
 pub record IsReadSoFar (task : Task) (text : List ℕ) (at : ℕ) (place : PlanPlace) (meaning : Meaning) : Type 0 where
   pub steps : List Step
   pub keeps : Keeps text at place steps
   pub mean : IsMeaning task steps meaning
 
--- one step more
+-- one more step
 module _ (task : Task) (steps : List Step) (step : Step) where
   more_mean : {A : Type 0} (f : A → Instance) (items more : List A) (x : A) → more ≡ items ++ x ∷ [] → AllMean task steps (map f items) → Means task step (f x)
       → AllMean task (steps ++ step ∷ []) (map f more)
@@ -30,7 +30,7 @@ module _ (task : Task) (steps : List Step) (step : Step) where
       subst (AllMean task (steps ++ step ∷ [])) (sym (ap (map f) more_is ∙ map-append f items (x ∷ [])))
       (all_mean_push task steps (map f items) step (f x) mean means)
 
-  -- what is refused stays the first
+  -- the first refusal stays
   stays_first : (o : Option Fault) → IfSome o (IsFirstFault task steps) → IfSome o (IsFirstFault task (steps ++ step ∷ []))
   stays_first o h =
       reported_more (IsFirstFault task steps) (IsFirstFault task (steps ++ step ∷ [])) o
@@ -44,7 +44,7 @@ module _ (task : Task) (steps : List Step) (step : Step) where
         wrong = first.wrong;
       }) h
 
-  -- after the first at fault nothing is taken
+  -- after the first faulty step none is taken
   pub none_taken : (o : Option TextRefusal) → is_some o ≡ true → (plan : List Instance) → MeanOrRefused task steps o plan → MeanOrRefused task (steps ++ step ∷ []) o plan
   none_taken None refused plan mean = absurd (true≢false (sym refused))
   none_taken (Some refusal) refused plan first = stays_first (reported_by (At refusal)) first
@@ -54,7 +54,7 @@ module _ (task : Task) (steps : List Step) (step : Step) where
   instance_taken f items more x more_is None unrefused mean means = more_mean f items more x more_is mean means
   instance_taken f items more x more_is (Some refusal) unrefused mean means = absurd (true≢false unrefused)
 
--- what a word does here
+-- the effect of a word here
 module _ (task : Task) (text : List ℕ) (at end : ℕ) (place : PlanPlace) (t : Advance) (span : Span) (meaning : Meaning)
     (read : read_from text at place ≡ after_turn span t (read_from text end)) (so_far : IsReadSoFar task text at place meaning) where
   pub goes_on : (next : PlanPlace) → t ≡ goes next → IsReadSoFar task text end next meaning

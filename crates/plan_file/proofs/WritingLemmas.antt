@@ -1,4 +1,4 @@
--- A text that is written piece by piece, and what a device has taken of it; the bytes of a step.
+-- A text written piece by piece, and what a device has taken of it; the bytes of a step.
 use Rattle.std.proofs.Common.{◌≡◌, ℕ, ◌+◌, ◌<◌, ◌≤◌, true, List, [], ◌∷◌, ◌++◌, length, map, take, drop, get_or, Option, None, Some, refl, sym, ap, ◌∙◌, subst, append_assoc, append-nil, arith}
 use Rattle.std.specs.Prelude.{IsTrue, slice_get}
 use Rattle.std.specs.Char.{is_ascii_alphabetic}
@@ -20,16 +20,16 @@ use Rattle.model.specs.PlanWriting.{schema_name, object_name, object_text, step_
 use Rattle.model.proofs.Pieces.{pieces_split, pieces_more, pieces_all}
 use Rattle.model.proofs.Tests.{passes_got}
 
--- some was taken, and a beginning of what comes next
+-- some of it was taken, and a prefix of what comes next
 next_partly : (before now after : Option (List ℕ)) (done next later whole : List ℕ) → whole ≡ (done ++ next) ++ later → Appends before now done → AppendsBeginning now after next → AppendsBeginning before after whole
 next_partly before now after done next later whole whole_is taken (front, rest, next_is, more) =
     let split : (done ++ (front ++ rest)) ++ later ≡ (done ++ front) ++ (rest ++ later) = simp append_assoc in
     (done ++ front, rest ++ later, whole_is ∙ ap (λ bs. (done ++ bs) ++ later) next_is ∙ split, Appends-trans before now after done front taken more)
 
--- of the pieces of a list the first i were taken
+-- the first i pieces of a list were taken
 module _ {X Y : Type 0} (f : Y → List ℕ) (v : X → Y) (xs : List X) (i : ℕ) (before now after : Option (List ℕ))
     (taken : Appends before now (flat_map f (map v (take i xs)))) where
-  -- and then the next
+  -- and then the next one
   module _ (x : X) (within : i < length xs) (is : x ≡ get_or xs i x) where
     pub piece_partly : (ys : List Y) (last : List ℕ) → map v xs ≡ ys → AppendsBeginning now after (f (v x)) → AppendsBeginning before after (flat_map f ys ++ last)
     piece_partly ys last same part =
@@ -38,7 +38,7 @@ module _ {X Y : Type 0} (f : Y → List ℕ) (v : X → Y) (xs : List X) (i : �
         ∙ ap (λ bs. bs ++ (flat_map f (map v (drop (i + 1) xs)) ++ last)) (pieces_more f v xs i x within is))
         taken part
 
-  -- and they are all
+  -- and that is all of them
   module _ (past : length xs ≤ i) (ys : List Y) (same : map v xs ≡ ys) (last : List ℕ) where
     all_taken : Appends before now (flat_map f ys)
     all_taken = subst (Appends before now) (pieces_all f v xs i past ∙ ap (flat_map f) same) taken
@@ -84,7 +84,7 @@ objects_ascii task (k ∷ objects) named =
     IsAscii-append (object_text task k) (flat_map (object_text task) objects)
     (IsAscii-cons 32 (object_name task k) (omega arith) (name_of_ascii (λ (o : Object). o.name) task.objects k named)) (objects_ascii task objects named)
 
--- where the names of a task are names, a step has ASCII alone
+-- if the names of a task are valid names, a step is all ASCII
 pub step_ascii : (task : Task) (i : Instance) → IsTrue (has_names task) → IsAscii (step_text task i)
 step_ascii task i named =
     let both = and_parts (are_lower_names (schema_names task)) (are_lower_names (object_names task)) named in

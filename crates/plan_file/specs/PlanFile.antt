@@ -34,11 +34,11 @@ span_of word = record { start = word.start; end = word.start + length word.text.
 abbrev pub name_of : PlanWord → tree.Name
 name_of word = record { text = word.text.now; span = span_of word }
 
--- the step of this action and these objects
+-- the step with this action and these objects
 abbrev pub step_of : PlanWord → List PlanWord → text.Step
 step_of action objects = record { action = name_of action; objects = map name_of objects }
 
--- the place, where these are the names of the open step's objects
+-- the parser's state, with these names of the open step's objects
 abbrev pub place_of : PlanPlace → List PlanWord → machine.PlanPlace
 place_of Outside objects = machine.outside
 place_of Opened objects = machine.opened
@@ -48,28 +48,28 @@ abbrev pub turn_of : Advance → List PlanWord → machine.Advance
 turn_of (Goes place) objects = machine.goes (place_of place objects)
 turn_of (Ends action) objects = machine.ends (step_of action objects)
 
--- the word stops the reading, by the number that is reported, and its span is reported
+-- reading stops at the word, with this number, and its span is reported
 abbrev pub ReportsStop : machine.Advance → Span → Fault → Type 0
 ReportsStop t span fault = (t ≡ machine.stops fault.code) × (fault.span ≡ span)
 
--- what is read of the text from this offset and place on
+-- the outcome of reading the text from this offset on, in this state
 abbrev pub read_from : List ℕ → ℕ → machine.PlanPlace → Outcome
 read_from text at = outcome (length text) (placed_from at (cut (drop at text)))
 
--- what is read from this offset on is this word and what is read after it, or nothing
+-- what is read from this offset on is this word and what follows it, or nothing
 abbrev pub GivesWord : List ℕ → ℕ → Option PlanWord → Type 0
 GivesWord text at None = (place : machine.PlanPlace) → read_from text at place ≡ at_end (length text) place
 GivesWord text at (Some word) =
     (place : machine.PlanPlace) → read_from text at place
     ≡ after_turn (span_of word) (turn place (sort_of word.sort) (name_of word)) (read_from text (word.start + length word.text.now))
 
--- the name is not that of an object of one of these types, and the fault is reported for it
+-- the name is not that of an object of one of these types, and this fault is reported for it
 pub record IsNoObject (task : Task) (types : Union) (name : tree.Name) (fault : Fault) : Type 0 where
   pub is_none : NamesObject task types name → ⊥
   pub code : fault.code ≡ 34
   pub span : fault.span ≡ name.span
 
--- of these names the first that is not that of an object of the types in its place, and the fault that is reported for it
+-- the first of these names that is not that of an object of the types at its index, and the fault reported for it
 pub record IsWrongObject (task : Task) (unions : List Union) (names : List tree.Name) (fault : Fault) : Type 0 where
   pub before : List tree.Name
   pub after : List tree.Name
@@ -82,7 +82,7 @@ pub record IsWrongObject (task : Task) (unions : List Union) (names : List tree.
   pub objects_before : NameObjects task theirs before
   pub wrong : IsNoObject task types name fault
 
--- of these steps the first that is at fault, and its fault
+-- the first faulty step of these, and its fault
 pub record IsFirstFault (task : Task) (steps : List text.Step) (fault : Fault) : Type 0 where
   pub before : List text.Step
   pub after : List text.Step
@@ -92,11 +92,11 @@ pub record IsFirstFault (task : Task) (steps : List text.Step) (fault : Fault) :
   pub mean : AllMean task before plan
   pub wrong : IsStepFault task step fault
 
--- the steps name these instances, or the first that is at fault is refused so
+-- the steps name these instances, or the first faulty one is refused like this
 abbrev pub MeanOrRefused : Task → List text.Step → Option TextRefusal → List Instance → Type 0
 MeanOrRefused task steps None plan = AllMean task steps plan
 MeanOrRefused task steps (Some refusal) plan = IfSome (reported_by (At refusal)) (IsFirstFault task steps)
 
--- it is what these steps mean
+-- the meaning of these steps
 abbrev pub IsMeaning : Task → List text.Step → Meaning → Type 0
 IsMeaning task steps meaning = MeanOrRefused task steps meaning.refusal (map instance_of meaning.instances.items)

@@ -1,5 +1,5 @@
-//! From a plan text to the plan, in one pass: what a step means is taken as it ends, so that no list of steps is made. The
-//! first fault of a step's meaning then waits for the end of the text, since a fault of form goes before it.
+//! From a plan text to the plan, in one pass: each step is resolved as it ends, so that no list of steps is built. The first
+//! fault of meaning is held back until the end of the text, since faults of form take precedence.
 ghost use Rattle.std.specs.Prelude.{◌≡◌, ◌<◌, List, IsTrue, IfOk, IfErr, IsErrAnd, IfSome, None, Some, ℕ, length, map};
 ghost use Rattle.std.specs.List.{list_all};
 ghost use Rattle.tokens.specs.Reported.{reported_by};
@@ -21,19 +21,18 @@ use std::alloc::Global;
 use task::Task;
 use tokens::LONGEST_TEXT;
 
-/// The plan that a text is for the task.
+/// Reads a text as a plan for the task.
 ///
-/// A text is a list of steps and nothing else, with blanks and comments as in a domain file. A step is `(`, the
-/// name of an action, the names of an object for each of its parameters, and `)`. Case does not matter.
+/// A text is a list of steps and nothing else, with blanks and comments as in a domain file. A step is `(`, the name of an
+/// action, the name of an object for each parameter, and `)`. Case does not matter.
 ///
 /// # Errors
-/// Form goes before meaning: the text's first parenthesis, run or stray byte that no plan text goes on with is
-/// refused: code 31 where it is a time stamp, a run outside of steps that begins with a digit, `.` or `[`, and else 30.
-/// A text that ends in a step is refused at its end, and one over 16,777,216 bytes at what is over, by 30.
-/// Else the first step at fault is: 32 at an action that is not declared, 33 at the action where the count of objects
-/// is not that of its parameters, 34 at the first object that is not declared or not of the types of its parameter.
-/// `NoMemory` is answered only where memory that was asked for was refused; a text over 16,777,216 bytes is refused
-/// before any is asked for.
+/// Faults of form take precedence over faults of meaning. Form: the first unexpected parenthesis, run or stray byte is refused,
+/// with code 31 if it is a time stamp (a run outside a step that begins with a digit, `.` or `[`), otherwise with code 30. A text
+/// that ends inside a step is refused at its end, and a text over 16,777,216 bytes at the bytes beyond, both with code 30.
+/// Meaning: the first faulty step is refused, with code 32 at an undeclared action, 33 at the action if the number of objects is
+/// not that of its parameters, 34 at the first object that is undeclared or not of its parameter's types. `NoMemory` means that
+/// an allocation failed; a text over 16,777,216 bytes is refused before anything is allocated.
 ///
 /// # Examples
 /// For a task with the action `go` of two parameters and the objects `a` and `b`, the text `(go a b) ; there` is a plan
@@ -44,9 +43,9 @@ use tokens::LONGEST_TEXT;
 /// assert_eq!(rt; plan.steps().len(), 2);
 /// ```
 ///
-/// `(go a b` is refused by `PlanForm` at `7..7`, `0: (go a b)` by `TimedStep` at `0..2`, `(fly a b)` by `UnknownAction`
-/// at `1..4`, `(go a)` by `StepArity` at `1..3`, and `(go a c)` by `StepType` at `6..7`, where there is no object `c` or
-/// it is not of the types of the second parameter.
+/// `(go a b` is refused by `PlanForm` at `7..7`, `0: (go a b)` by `TimedStep` at `0..2`, `(fly a b)` by `UnknownAction` at
+/// `1..4`, `(go a)` by `StepArity` at `1..3`, and `(go a c)` by `StepType` at `6..7`, where there is no object `c` or `c` is not
+/// of the second parameter's types.
 pub fn read_plan(alloc: Global, task: &Task, text: &[u8]) -> Result<Plan, Fault>
     ensures plan { IfOk result (λ plan. IsPlanText (task_of task.now) text.now (plan_of plan)) }
     ensures instances { IfOk result (λ plan. IsTrue (list_all (is_instance (task_of task.now)) (plan_of plan))) }
@@ -61,7 +60,7 @@ pub fn read_plan(alloc: Global, task: &Task, text: &[u8]) -> Result<Plan, Fault>
         ≡ Some (record { code = 30; span = record { start = longest_text; end = length text.now } })) }
 {
     let instances = instances_of(alloc, task, text)?;
-    // a step has at least three bytes, so that there are never too many
+    // A step has at least three bytes, so there are never too many steps.
     Ok(Plan::new(instances).unwrap())
 }
 
@@ -97,8 +96,8 @@ fn instances_of(alloc: Global, task: &Task, text: &[u8]) -> Result<Vec<Instance>
     }
 }
 
-/// A text is at most one plan for a task, and no fault is reported for one that is a plan. It is stated of all texts, and
-/// proved; the call does nothing.
+/// A text is at most one plan for a task, and no fault is reported for a text that is a plan. Proved for all texts; the function
+/// does nothing.
 pub fn one_plan()
     ensures one { (task : model.Task) (text : List ℕ) (plan other : List model.Instance)
         → IsPlanText task text plan → IsPlanText task text other → plan ≡ other }
@@ -106,13 +105,13 @@ pub fn one_plan()
         → IsPlanText task text plan → IsPlanFault task text fault → ⊥ }
 {}
 
-/// Of a text at most one fault is reported for a task. It is stated of all texts, and proved; the call does nothing.
+/// At most one fault is reported for a text and a task. Proved for all texts; the function does nothing.
 pub fn one_fault()
     ensures { (task : model.Task) (text : List ℕ) (fault other : reported.Fault)
         → IsPlanFault task text fault → IsPlanFault task text other → fault ≡ other }
 {}
 
-/// The worked examples of plan texts: small texts with their plan, or with the fault that is reported for them.
+/// The worked examples of plan texts: small texts with their plan or with the fault reported for them.
 pub fn examples_are_as_reported()
     ensures { ArePlans }
 {}

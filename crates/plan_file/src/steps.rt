@@ -1,4 +1,4 @@
-//! What the steps of a plan text mean.
+//! The meaning of the steps of a plan text.
 ghost use Rattle.std.specs.Prelude.{◌≡◌, ◌<◌, ◌≤◌, ◌++◌, ◌∷◌, [], ℕ, List, Some, IsTrue, IfOk, IfErr, IfSome, OnOk, length, map, position, slice_get};
 ghost use Rattle.std.specs.Cmp.Lexicographic.{pointwise};
 ghost use Rattle.std.specs.Option.{option_map};
@@ -19,19 +19,19 @@ use formulas::{Binding, Instance};
 use std::alloc::Global;
 use task::{ObjectId, SchemaId, Task, TypeUnion};
 
-/// What the steps of a text mean, up to one: their instances, in order, or the refusal of the first that is at fault.
+/// The meaning of the steps read so far: their instances, in order, or the refusal of the first faulty step.
 #[derive(Drop)]
 pub(super) struct Meaning {
-    /// The instances of the steps before the first at fault.
+    /// The instances of the steps before the first faulty one.
     instances: Vec<Instance>,
-    /// What is reported for the first at fault.
+    /// The fault of the first faulty step.
     refusal: Option<TextRefusal>,
-    /// Where each name is folded: it grows to the longest.
+    /// The buffer in which names are folded; it grows to the longest name.
     buffer: Vec<u8>,
 }
 
 impl Meaning {
-    /// What no steps mean.
+    /// The meaning of no steps.
     pub(super) fn new(alloc: Global) -> Meaning
         ensures { (task : model.Task) → IsMeaning task [] result }
     {
@@ -42,7 +42,7 @@ impl Meaning {
         }
     }
 
-    /// Takes one step more, of this action and these objects. After the first that is at fault none is looked at.
+    /// Adds one step, with this action and these objects. After the first faulty step, none is examined.
     pub(super) fn take(
         &mut self,
         task: &Task,
@@ -63,7 +63,7 @@ impl Meaning {
         Ok(())
     }
 
-    /// The instances of all the steps, or the refusal of the first that is at fault.
+    /// The instances of all steps, or the refusal of the first faulty one.
     pub(super) fn into_instances(self) -> Result<Vec<Instance>, Fault>
         ensures mean { IfOk result (λ found. (task : model.Task) (steps : List text.Step) → IsMeaning task steps self
             → AllMean task steps (map view.instance_of found.items)) }
@@ -82,7 +82,7 @@ impl Meaning {
     }
 }
 
-/// The instance of the step of this action and these objects. Its names are folded in the buffer that is lent.
+/// The instance of the step with this action and these objects. Names are folded in the given buffer.
 fn instance_of(
     task: &Task,
     action: PlanWord<'_>,
@@ -103,7 +103,7 @@ fn instance_of(
     Ok(Instance { schema, objects })
 }
 
-/// What each parameter of a schema of the task has to be.
+/// The types of each parameter of a schema of the task.
 fn parameters_of(task: &Task, schema: SchemaId) -> &[TypeUnion]
     requires { schema.0 < length (task_of task.now).schemas }
     ensures few { length result.now ≤ 16 }
@@ -112,7 +112,7 @@ fn parameters_of(task: &Task, schema: SchemaId) -> &[TypeUnion]
     task.schema(schema).unwrap().parameters.as_slice()
 }
 
-/// The objects of these names, in order, each of one of the types in its place.
+/// The objects with these names, in order, each of one of the types at its index.
 fn objects_of(
     task: &Task,
     parameters: &[TypeUnion],
@@ -133,7 +133,7 @@ fn objects_of(
     Ok(objects)
 }
 
-/// The object of this name, which has to be of one of these types.
+/// The object with this name, which must be of one of these types.
 fn object_of(
     task: &Task,
     types: &TypeUnion,

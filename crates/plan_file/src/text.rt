@@ -1,4 +1,4 @@
-//! The form of a plan text.
+//! The syntax of a plan text.
 ghost use Rattle.std.specs.Prelude.{◌≡◌, IfOk, IfErr, IfSome};
 ghost use Rattle.tokens.specs.Reported.{reported_by};
 ghost use Rattle.plan_file.specs.PlanFile.{place_of, turn_of, sort_of, name_of, span_of, ReportsStop};
@@ -7,28 +7,28 @@ ghost use Rattle.model.specs.PlanMachine.{turn};
 use crate::word::{PlanWord, Sort};
 use faults::{Code, Fault};
 
-/// Where in a plan text a word is. The names of the objects of a step that is open are in a buffer beside it.
+/// The parser's state. The object names of an open step are in a separate buffer.
 #[derive(Clone, Copy)]
 pub(super) enum PlanPlace<'a> {
     /// Outside of steps.
     Outside,
     /// After the `(` of a step.
     Opened,
-    /// After the name of this action, and those of some objects.
+    /// After the name of this action and any number of objects.
     Inside(PlanWord<'a>),
 }
 
-/// What a word does.
+/// The effect of a word on the parser.
 #[derive(Clone, Copy)]
 pub(super) enum Advance<'a> {
-    /// The step goes on.
+    /// The parser moves to this state.
     Goes(PlanPlace<'a>),
     /// The step of this action ends.
     Ends(PlanWord<'a>),
 }
 
 impl<'a> PlanPlace<'a> {
-    /// What this word does here, or its refusal. The names of the open step's objects are kept in `objects`.
+    /// What this word does in this state, or its refusal. The object names of the open step are kept in `objects`.
     pub(super) fn after(
         self,
         word: PlanWord<'a>,

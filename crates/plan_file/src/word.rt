@@ -10,7 +10,7 @@ use faults::{Code, Fault, NoMemory, Refused, Span, TextRefusal};
 use names::is_name;
 use tokens::{Form, part_end};
 
-/// What a word may be in a step.
+/// The role that a word may have in a step.
 #[derive(Clone, Copy)]
 pub(super) enum Sort {
     Open,
@@ -25,7 +25,7 @@ impl Sort {
     ghost use Rattle.model.specs.Words as words;
     ghost use Rattle.model.specs.PlanMachine.{sort_by};
 
-    /// The sort of a part of this form and these bytes.
+    /// The role of a part with this form and these bytes.
     fn of(form: Form, bytes: &[u8]) -> Sort
         ensures { sort_of result ≡ sort_by (view form) (words.is_name bytes.now) (is_stamp bytes.now) }
     {
@@ -49,7 +49,7 @@ impl Sort {
 /// A parenthesis, a run or a stray byte.
 #[derive(Clone, Copy)]
 pub(super) struct PlanWord<'a> {
-    /// What it may be in a step.
+    /// The role it may have in a step.
     pub sort: Sort,
     text: &'a [u8],
     start: usize,
@@ -61,7 +61,7 @@ impl<'a> PlanWord<'a> {
     ghost use Rattle.plan_file.specs.PlanFile.{span_of, name_of, GivesWord};
     ghost use Rattle.model.specs.Typing.{folded};
 
-    /// The first word of the text from this offset on.
+    /// The first word of the text at or after this offset.
     pub(super) fn first_from(text: &'a [u8], at: usize) -> Option<PlanWord<'a>>
         requires { at ≤ length text.now }
         ensures word { GivesWord text.now at result }
@@ -86,7 +86,7 @@ impl<'a> PlanWord<'a> {
         None
     }
 
-    /// Its bytes in lower case, which take the place of what is in the buffer.
+    /// Writes its bytes, in lower case, into the buffer, replacing the buffer's contents.
     pub(super) fn fold_into(self, buffer: &mut Vec<u8>) -> Result<(), NoMemory>
         ensures { OnOk result (buffer.new.items ≡ folded (name_of self.entry)) }
     {
@@ -103,7 +103,7 @@ impl<'a> PlanWord<'a> {
         self.start + self.text.len()
     }
 
-    /// Its refusal by this code.
+    /// Its refusal with this code.
     pub(super) fn refused(self, code: Code) -> Fault
         ensures { reported_by result ≡ Some (record { code = number_of code; span = span_of self.entry }) }
     {
@@ -111,7 +111,7 @@ impl<'a> PlanWord<'a> {
     }
 }
 
-/// The refusal of what is between these offsets.
+/// The refusal of the bytes between these offsets.
 pub(super) fn refusal(code: Code, start: usize, end: usize) -> Fault
     ensures { reported_by result ≡ Some (record { code = number_of code; span = record { start = start; end = end } }) }
 {
@@ -119,7 +119,7 @@ pub(super) fn refusal(code: Code, start: usize, end: usize) -> Fault
     Refused::At(TextRefusal { code, span })
 }
 
-/// Whether these bytes begin as those of a time stamp do: with a digit, `.` or `[`.
+/// Whether the bytes begin like a time stamp: with a digit, `.` or `[`.
 fn is_stamp(bytes: &[u8]) -> bool
     ensures { result ≡ is_stamp bytes.now }
 {

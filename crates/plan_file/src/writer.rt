@@ -21,14 +21,13 @@ use formulas::{Instance, Plan};
 use std::alloc::{AllocError, Global};
 use task::{ObjectId, SchemaId, Task};
 
-/// Writes the text of a plan of this cost.
+/// Writes the text of a plan with this cost.
 ///
-/// Each step is on a line, in lower case and with one blank between words, and last the line `; cost = N`. Every
-/// line ends with LF. An empty plan of cost 0 is `; cost = 0` and LF. A line is made in memory and then written, and
-/// never the whole text.
+/// Each step is on a line of its own, in lower case with one blank between words; the last line is `; cost = N`. Every line ends
+/// with LF. An empty plan of cost 0 is `; cost = 0` and LF. Lines are built in memory one at a time, never the whole text.
 ///
 /// # Errors
-/// The device failed, or memory was refused. It has then taken a beginning of the text.
+/// The device failed, or an allocation failed. A prefix of the text has then been written.
 ///
 /// # Examples
 /// ```
@@ -54,12 +53,12 @@ pub fn write_plan<W: Sink>(
     write_cost(alloc, cost, out)
 }
 
-/// One step as the writer spells it, without its LF: `(hop a b)`.
+/// One step as the writer formats it, without LF: `(hop a b)`.
 ///
 /// # Errors
-/// Memory was refused.
+/// An allocation failed.
 pub fn step_text(alloc: Global, task: &Task, step: &Instance) -> Result<String, NoMemory>
-    // Bytes of names that are no text are replaced, and there are none where the task's names are names.
+    // Bytes of names that are not valid UTF-8 are replaced; names that are PDDL names have none.
     ensures text { IfOk result (λ text. string_bytes text ≡ utf8_lossy (step_text (task_of task.now) (instance_of step.now))) }
     ensures names { IsTrue (has_names (task_of task.now)) → IfOk result (λ text.
         string_bytes text ≡ step_text (task_of task.now) (instance_of step.now)) }
@@ -69,9 +68,9 @@ pub fn step_text(alloc: Global, task: &Task, step: &Instance) -> Result<String, 
     Ok(String::from_utf8_lossy(alloc, text.as_slice())?)
 }
 
-/// What the writer writes reads as its list: where a task's names are names and differ, the text of a list of its
-/// instances is that list, unless the text is over 16,777,216 bytes; and the names of each task of files are such. It is
-/// stated of all tasks, lists and costs, and proved; the call does nothing.
+/// What the writer writes reads back as the same list: if a task's names are valid names and distinct, the text of a list of its
+/// instances reads as that list, unless the text is over 16,777,216 bytes. The names of every task read from files are such.
+/// Proved for all tasks, lists and costs; the function does nothing.
 pub fn written_text_reads_back()
     ensures reads { (task : model.Task) (plan : List model.Instance) (cost : ℕ)
         → IsTrue (has_names task) → IsTrue (list_all (is_instance task) plan)
@@ -80,12 +79,12 @@ pub fn written_text_reads_back()
     ensures names { (domain problem : List ℕ) (task : model.Task) → IsTaskOf domain problem task → IsTrue (has_names task) }
 {}
 
-/// The worked examples of what is written: small plans with their texts.
+/// The worked examples of written texts: small plans with their texts.
 pub fn examples_are_written()
     ensures { AreWritten }
 {}
 
-/// Writes a step on a line of its own, which is made in the buffer that is lent.
+/// Writes a step on a line of its own, built in the given buffer.
 fn write_step<W: Sink>(
     task: &Task,
     step: &Instance,
@@ -141,7 +140,7 @@ fn add_object(task: &Task, object: ObjectId, text: &mut Vec<u8>) -> Result<(), A
     Ok(())
 }
 
-/// The schema's name; no bytes where there is no such schema.
+/// The schema's name; empty if there is no such schema.
 fn schema_name(task: &Task, schema: SchemaId) -> &[u8]
     ensures { result.now ≡ schema_name (task_of task.now) schema.0 }
 {
@@ -151,7 +150,7 @@ fn schema_name(task: &Task, schema: SchemaId) -> &[u8]
     }
 }
 
-/// The object's name; no bytes where there is no such object.
+/// The object's name; empty if there is no such object.
 fn object_name(task: &Task, object: ObjectId) -> &[u8]
     ensures { result.now ≡ object_name (task_of task.now) object.0 }
 {

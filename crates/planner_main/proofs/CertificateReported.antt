@@ -1,4 +1,4 @@
--- What came of a certificate to a reader, and what it says of the certificate's whole text.
+-- What a reader has read of a certificate, and what it implies for the certificate's whole text.
 use Rattle.std.proofs.Common.{◌≡◌, ℕ, inl, inr, List, [], ◌++◌, sym, ap, subst, ◌∙◌, append-nil}
 use Rattle.std.specs.Prelude.{Option, None, Some, IfSome, Result, Ok, Err, IfOk, IfErr}
 use Rattle.std.specs.Io.KnownBytes.{Consumes, IsAtEnd}
@@ -30,7 +30,7 @@ use Rattle.file_answers.specs.Checked.{IsChecked, IsRefusedAs, IsTrueCheck}
 use Rattle.printed_answers.specs.CheckReported.{IsReportedRefusal, failure_of}
 use Rattle.planner_main.specs.Program.{CountsFailure, IsCheckOn, IsCheckedIn, IsTextIfNamed}
 
--- What came to the end is all that there was, and what came is a beginning of it.
+-- What was read to the end is everything, and what was read is a prefix of it.
 whole_known : (known before after : Option (List ℕ)) (text : List ℕ) → IsKept known before → Consumes before after text → IsAtEnd after → IfSome known (λ bytes. text ≡ bytes)
 whole_known None before after text kept consumed ended = tt
 whole_known (Some bytes) before None text kept consumed ended = absurd (subst (λ b. Consumes b None text) kept consumed)
@@ -83,7 +83,7 @@ module _ {R : Type 0} (remaining : R → Option (List ℕ)) (task : Task) (first
       inr (c, record { is_text = read.is_text; lines = read.lines; text_is = read.text_is; right = read.right }, is_true, is_first),
     )
 
-    -- what is true of what came is true of a text that is the whole, where that is known
+    -- what is true of what was read is true of the whole text, if that is known
     true_of_text : (answer : Result Accepted Refusal) → IsReportedRefusal answer → IfOk answer (IsShown task plan)
         → IfOk answer (Accepts remaining task first now plan most) → IfErr answer (Refuses remaining task first now plan most)
         → (text : List ℕ) × IfSome known (λ bytes. text ≡ bytes) × IsTrueCheck task text plan most answer
@@ -112,14 +112,14 @@ module _ {R : Type 0} (remaining : R → Option (List ℕ)) (task : Task) (first
     true_of_text (Err refusal.Device) is shown accepts refuses = absurd (cc is)
     true_of_text (Err refusal.Failed) is shown accepts refuses = absurd (cc is)
 
-  -- what is reported is true of a text that is the whole, where that is known
+  -- the answer is true of the whole text, if that is known
   pub checked_in : (domain problem : List ℕ) (plan : Option (List ℕ)) (most : ℕ) (answer : Result Accepted Refusal) → IsTaskOf domain problem task
       → IsChecked remaining task first now plan most answer → IsReportedRefusal answer → IsCheckedIn known domain problem plan most task answer
   checked_in domain problem plan most answer is_task checked said =
       let (text, whole, is_true) = true_of_text checked.plan most answer said checked.shown checked.accepted checked.refused in
       (text, checked.plan, whole, is_task, checked.given, is_true, said)
 
--- What is reported for the texts of files is reported for the files.
+-- The result for the texts of files is the result for the files.
 pub check_on_inputs : (contents : List ℕ → Option (List ℕ)) (domain problem cert : List ℕ) (plan : Option (List ℕ)) (d p : List ℕ) (l : Option (List ℕ))
     → IsText contents domain d → IsText contents problem p → IsTextIfNamed contents plan l → (most : ℕ) (r : Result Report Failure)
     → IfOk r (λ found. (c : Checked) × (found ≡ report.Check c) × IsCheckedIn (contents cert) d p l most (task_of c.task) c.answer)
@@ -127,7 +127,7 @@ pub check_on_inputs : (contents : List ℕ → Option (List ℕ)) (domain proble
 check_on_inputs contents domain problem cert plan d p l d_is p_is l_is most (Ok found) (c, is, checked) = (c, is, (d, p, l, d_is, p_is, l_is, checked))
 check_on_inputs contents domain problem cert plan d p l d_is p_is l_is most (Err f) h = tt
 
--- What is counted of an answer: nothing where it is reported, and else the failure that is in place of it.
+-- The failures counted for an answer: none if it is printed, otherwise the failure that takes its place.
 pub reported_unfailed : (answer : Result Accepted Refusal) (before after : ℕ) → CountsRefusal before after answer → IsReportedRefusal answer → after ≡ before
 reported_unfailed (Ok accepted) before after counts said = counts
 reported_unfailed (Err (refusal.Line code line)) before after counts said = counts

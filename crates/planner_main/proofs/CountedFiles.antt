@@ -1,4 +1,4 @@
--- What a file holds once it was made, written by way of a count of its bytes, and closed.
+-- The contents of a file after it was created, written through a byte counter, and closed.
 use Rattle.std.proofs.Common.{◌≡◌, ℕ, List, [], ◌∙◌, ap, subst}
 use Rattle.std.specs.Prelude.{Option, Some, IfSome, Result, Ok}
 use Rattle.std.specs.Io.KnownBytes.{Appends}

@@ -1,4 +1,4 @@
--- What an order asks for, in the terms of the calls that carry it out.
+-- The order, in the terms of the calls that carry it out.
 use Rattle.std.proofs.Common.{◌≡◌, ℕ, Bool, List, ◌∙◌, sym, ap, ap₂}
 use Rattle.std.specs.Prelude.{Option}
 use Rattle.std.specs.Borrow.{Bor}
@@ -9,7 +9,7 @@ use Rattle.command_line.specs.declared.max_count.MaxCount.{MaxCount}
 use Rattle.command_line.specs.declared.order.Order.{Order}
 use Rattle.command_line.specs.declared.order.Order.TheVariants.{Solve, Check, Explain}
 
--- this is asked for, with these numbers
+-- this is the order, with these numbers
 abbrev asked_with : (plan cert : Option (Bor (List ℕ))) (json progress : Bool) (states instances : ℕ) → Asked
 asked_with plan cert json progress states instances =
     record { states = states; instances = instances; plan = text_in plan; cert = text_in cert; json = json; progress = progress }

@@ -1,4 +1,4 @@
--- What the program reports, and which files are written, of an answer, of a command and of the words that ask for it.
+-- What the program prints and which files it writes: for an answer, for a command, and for the words that give it.
 use Rattle.std.proofs.Common.{◌≡◌, ℕ, List, [], ◌∷◌, ◌++◌, ◌∙◌, sym, refl, ap, ap₂, subst}
 use Rattle.std.specs.Prelude.{Option, None, Some, Bool, true, false, IsTrue, if◌then◌else◌, unwrap_or}
 use Rattle.std.specs.Borrow.{Bor}
@@ -16,7 +16,7 @@ use Rattle.planner_main.specs.Program.{IsReported, IsReportedPartly, nothing, in
 use Rattle.devices.specs.Texts.{AreKept}
 use Rattle.planner_main.proofs.ProgramWords.{IsOfReport, answered_status}
 
--- What is written over the same files is the same.
+-- What is written over equal files is equal.
 with_files_same : (before now : List ℕ → Option (List ℕ)) (files : List NamedText) → AreKept before now → AreKept (with_files before files) (with_files now files)
 with_files_same before now [] kept = kept
 with_files_same before now (file ∷ rest) kept = with_files_same (with_file before file) (with_file now file) rest
@@ -27,7 +27,7 @@ with_files_more : (contents : List ℕ → Option (List ℕ)) (files more : List
 with_files_more contents [] more name = refl
 with_files_more contents (file ∷ rest) more name = with_files_more (with_file contents file) rest more name
 
--- Files are written after others, or where the files were the same before.
+-- Files are written after others, or after a step that left the files unchanged.
 module _ (before now after : List ℕ → Option (List ℕ)) (done : List NamedText) (written : AreWritten before now done) where
   pub written_after : (files : List NamedText) → AreWritten now after files → AreWritten before after (done ++ files)
   written_after files more = λ name.
@@ -49,7 +49,7 @@ module _ (before now after : List ℕ → Option (List ℕ)) (kept : AreKept bef
     others = λ other differs. partly.others other differs ∙ with_files_same before now files kept other;
   }
 
--- What is reported, in another way, where the files were the same before.
+-- The same outcome in another form, if the files were unchanged before.
 module _ (P Q : List ℕ → ℕ → List NamedText → Type 0) (means : (text : List ℕ) (status : ℕ) (written : List NamedText) → P text status written → Q text status written)
     (known : Bool) (before now after : List ℕ → Option (List ℕ)) (kept : AreKept before now) (out out_after : Option (List ℕ)) where
   pub reported_as : (status : ℕ) → IsReported P known now after out out_after status → IsReported Q known before after out out_after status
@@ -64,26 +64,26 @@ module _ (P Q : List ℕ → ℕ → List NamedText → Type 0) (means : (text :
   partly_as (on_the_output text status written is said held) =
       on_the_output text status written (means text status written is) said (λ is_known. written_since before now after kept written (held is_known))
 
--- What says what is found out says what is asked for.
+-- What states the result states what the order asks for.
 pub report_written : (contents : List ℕ → Option (List ℕ)) (wanted : Wanted) (found : Report) → IsReportOn contents wanted found
     → (outputs : Outputs) → outputs ≡ outputs_of wanted
     → (text : List ℕ) (status : ℕ) (written : List NamedText) → WritesReport found outputs text status written → IsAnswerTo contents wanted text status written
 report_written contents wanted found is outputs same text status written says =
     (found, is, subst (λ (o : Outputs). WritesReport found o text status written) same says)
 
--- What is reported on the standard output: the line of JSON where that is wanted, and else the text.
+-- What is printed on standard output: the line of JSON if that is asked for, otherwise the text.
 pub reported_is : (r : Report) (json : Bool) (line : Option (List ℕ)) (text said : List ℕ)
     → line ≡ (if json then Some (line_of_members (of_report r)) else None) → text ≡ text_of r → said ≡ unwrap_or line text → said ≡ reported_of json r
 reported_is r true line text said line_is text_is is = is ∙ ap (λ (o : Option (List ℕ)). unwrap_or o text) line_is
 reported_is r false line text said line_is text_is is = is ∙ ap (λ (o : Option (List ℕ)). unwrap_or o text) line_is ∙ text_is
 
--- The file of a document that is there, where it is named.
+-- The file of a document, if there is one and a file is named.
 pub one_file : (name : Option (Bor (List ℕ))) (word : Bor (List ℕ)) → name ≡ Some word → {D : Type 0} (text : D → List ℕ) (document : Option D) (d : D) → document ≡ Some d
     → in_file (text_in name) (option_map text document) ≡ record { name = word.now; text = text d } ∷ []
 one_file name word named text document d is =
     ap (λ name. in_file (text_in name) (option_map text document)) named ∙ ap (λ document. in_file (Some word.now) (option_map text document)) is
 
--- A report is reported, whole or in part, by the file of its certificate, then that of its plan and then the standard output.
+-- A result is printed, wholly or partly: its certificate's file, then its plan's, and then standard output.
 module _ (r : Report) (outputs : Outputs) (known : Bool) (before now after : List ℕ → Option (List ℕ)) (cert plan : Option (List ℕ))
     (cert_is : cert ≡ cert_text r) (plan_is : plan ≡ plan_text r) where
   are_for : in_file outputs.cert cert ++ in_file outputs.plan plan ≡ files_for r outputs
@@ -107,7 +107,7 @@ partly_in_cert r outputs known before after cert cert_is (next, is, held) =
     in_a_file (reported_of outputs.json r) (status_of r) [] rest next
     (refl, refl, ap (λ files. files ++ rest) (sym is) ∙ ap (λ cert. in_file outputs.cert cert ++ rest) cert_is) refl held
 
--- What is reported for what is asked for is reported for the words that ask for it.
+-- What is reported for the order is reported for the words that give it.
 module _ (words : List (List ℕ)) (wanted : Wanted) (asks : Asks words wanted) (known : Bool) (files after : List ℕ → Option (List ℕ)) (out out_after : Option (List ℕ)) where
   answers_words : (text : List ℕ) (status : ℕ) (written : List NamedText) → IsAnswerTo files wanted text status written → IsAnswer files words text status written
   answers_words text status written is = (wanted, asks, is)

@@ -1,4 +1,4 @@
--- What the program says of what the words ask for.
+-- What the program reports for the order given by its words.
 use Rattle.std.proofs.Common.{◌≡◌, ℕ, ◌⊎◌, inl, inr, List, take, refl, sym, ap, ◌∙◌, subst, arith}
 use Rattle.std.specs.Prelude.{Result, Ok, Err, Option, None, Some, IfSome, OnOk, IsTrue, Bool, true, false}
 use Rattle.std.specs.Io.KnownBytes.{Appends}
@@ -42,7 +42,7 @@ use Rattle.file_answers.specs.declared.explanation.Grounded.TheVariants as groun
 use Rattle.model.specs.Runs.{Verdict, valid, not_applicable, goal_missed}
 use Rattle.model.specs.Files.{FileFault, IsTaskFault, IsFileFault}
 
--- A text that a file has after other files were read is one that it had.
+-- The text of a file after other files were read is a text that it had.
 pub text_kept : (before after : List ℕ → Option (List ℕ)) → ((other : List ℕ) → after other ≡ before other) → (name text : List ℕ)
     → IsText after name text → IsText before name text
 text_kept before after kept name text is = subst (λ (known : Option (List ℕ)). IfSome known (λ bytes. text ≡ take 16777217 bytes)) (kept name) is
@@ -54,8 +54,8 @@ text_if_named_kept before after kept None (Some text) is = absurd is
 text_if_named_kept before after kept (Some name) None is = absurd is
 text_if_named_kept before after kept (Some name) (Some text) is = text_kept before after kept name text is
 
--- What is refused for what is asked for is refused for the words that ask for it: the status of a text is reported with the line of the
--- fault that the failure is.
+-- A refusal for the order is a refusal for the words that give it: the exit status for a text comes with the line of the fault in
+-- the failure.
 module _ (contents : List ℕ → Option (List ℕ)) (words : List (List ℕ)) (wanted : Wanted) (asks : Asks words wanted) (after : List ℕ → Option (List ℕ)) (out out_after : Option (List ℕ)) (Says : List ℕ → Type 0) where
   pub refuses_of_words : (f : Failure) (status : ℕ) → IsReportedOn f Says status → status ≡ 20
       → IfSome (fault_in f) (λ fault. IsFaultFor contents wanted fault × (out_after ≡ out) × AreKept contents after)
@@ -67,13 +67,13 @@ module _ (contents : List ℕ → Option (List ℕ)) (words : List (List ℕ)) (
   refuses_of_words (failure.Device device.Device) status (is, line) same h = absurd (omega arith)
   refuses_of_words (failure.Device device.NoMemory) status (is, line) same h = absurd (omega arith)
 
--- The files that words name are those of what they ask for.
+-- The files that words name are those of their order.
 pub files_named : (files_of : Wanted → List (List ℕ)) (words : List (List ℕ)) (wanted : Wanted) (name : List ℕ) → Asks words wanted
     → (other : Wanted) × Asks words other × IsOneOf (files_of other) name → IsOneOf (files_of wanted) name
 files_named files_of words wanted name asks (other, others, is) =
     subst (λ (w : Wanted). IsOneOf (files_of w) name) (one_wanted words other wanted others asks) is
 
--- The status of what is reported is none of a failure, but that of a text that is refused, where this is explained.
+-- The exit status of a result is not that of a failure, except that of a refused text, if it is explained.
 abbrev pub IsOfReport : ℕ → Type 0
 IsOfReport status = (is_failure status ≡ false) ⊎ (status ≡ 20)
 
@@ -107,7 +107,7 @@ pub answered_status : (contents : List ℕ → Option (List ℕ)) (wanted : Want
     → IsAnswerTo contents wanted text status written → IsOfReport status
 answered_status contents wanted text status written (found, is_found, (is_text, is_status, files)) = subst IsOfReport (sym is_status) (report_status found)
 
--- what is found out of files can be reported
+-- the result for files can be printed
 pub can_be_reported : (contents : List ℕ → Option (List ℕ)) (wanted : Wanted) (found : Report) → IsReportOn contents wanted found → reported.IsReported found
 can_be_reported contents (to_validate domain problem plan json) found (v, is, on) = subst reported.IsReported (sym is) tt
 can_be_reported contents (to_solve domain problem asked) found (s, is, on) = subst reported.IsReported (sym is) tt
@@ -119,7 +119,8 @@ pub no_failure : (n status : ℕ) → IsOfReport status → is_failure n ≡ tru
 no_failure n status (inl answers) fails other same = absurd (cc (ap is_failure same))
 no_failure n status (inr is) fails other same = absurd (other (sym same ∙ is))
 
--- What is reported for a failure has its status: not that of words that are no command, and that of a device or of memory with its line.
+-- A reported failure has its exit status: not that of words that are not a command, and that of a device or of memory with its
+-- line.
 module _ (Says : List ℕ → Type 0) (status : ℕ) where
   pub failed_status : (f : Failure) → IsReportedOn f Says status → status ≡ 2 → ⊥
   failed_status (failure.Text (refusal.At file code span)) (inl (is, line)) same = absurd (omega arith)
@@ -142,7 +143,7 @@ module _ (Says : List ℕ → Type 0) (status : ℕ) where
   memory_reported (failure.Device device.Device) (is, line) same = absurd (omega arith)
   memory_reported (failure.Device device.NoMemory) (is, line) same = line
 
-  -- Where no fault of a text is reported, the status is that of a device or of memory.
+  -- If no fault of a text is reported, the exit status is that of a device or of memory.
   pub unread_status : (f : Failure) → fault_in f ≡ None → IsReportedOn f Says status → (status ≡ 21) ⊎ (status ≡ 22)
   unread_status (failure.Text (refusal.At file code span)) unread said = absurd (cc unread)
   unread_status (failure.Text refusal.NoMemory) unread (is, line) = inr is
@@ -155,7 +156,8 @@ module _ (Says : List ℕ → Type 0) (status : ℕ) where
       → IsReportedOn f Says status
   fault_reported f t named code span first second said = subst (λ f. IsReportedOn f Says status) (sym (first ∙ ap failure.Text second)) said
 
--- What is reported for words that are no order has the status of such words, with what is said of them, or that of memory, with its line.
+-- Words that are not an order are reported with the exit status for such words and what is wrong with them, or that of memory
+-- with its line.
 module _ (fault : WordsFault) (Says : List ℕ → Type 0) (status : ℕ) where
   pub words_failed : IsReportedOfWords fault Says status → is_failure status ≡ true
   words_failed (inl (is, of_words, says)) = ap is_failure is
@@ -187,23 +189,23 @@ module _ (fault : WordsFault) (Says : List ℕ → Type 0) (status : ℕ) where
   words_fail_no_device (inl (is, of_words, says)) same = absurd (omega arith)
   words_fail_no_device (inr (is, said)) same = absurd (omega arith)
 
-  -- Of words that are a command it is that memory was refused.
+  -- For words that are a command the only failure is one of memory.
   pub unread_words : (words : List (List ℕ)) → IsReportedOfWords fault Says status → (IsOfWords fault → IsCommand words → ⊥) → IsCommand words
       → (status ≡ 21) ⊎ (status ≡ 22)
   unread_words words (inl (is, of_words, says)) refused command = absurd (refused of_words command)
   unread_words words (inr (is, said)) refused command = inr is
 
--- What counts as a failure of a device, in a call of the files after another that counted none.
+-- The failures counted for a device, in a call of the files after another that counted none.
 pub device_counted : (T : Type 0) (before opened after : ℕ) (fault : IoFault) → opened ≡ before → CountsDevice {T = T} opened after (Err fault)
     → CountsFailure before after (failure.Device fault)
 device_counted T before opened after device.Device same counted = counted ∙ ap one_more same
 device_counted T before opened after device.NoMemory same counted = counted ∙ same
 
--- Of a failure without a fault nothing is asked.
+-- Nothing is required of a failure without a fault.
 pub without_fault : (f : Failure) (P : FileFault → Type 0) → fault_in f ≡ None → IfSome (fault_in f) P
 without_fault f P is = subst (λ (fault : Option FileFault). IfSome fault P) (sym is) tt
 
--- What is refused is refused where this is so too.
+-- A refusal is a refusal with this additional property.
 pub refused_and : (P : FileFault → Type 0) (Q R : Type 0) (o : Option FileFault) → Q → R → IfSome o P → IfSome o (λ fault. P fault × Q × R)
 refused_and P Q R None q r refused = tt
 refused_and P Q R (Some fault) q r refused = (refused, q, r)
@@ -223,7 +225,7 @@ module _ (files files_after out out_after : ℕ) where
   others_have_not_failed Says status (failure.Device device.Device) said counted other = absurd (other said.0)
   others_have_not_failed Says status (failure.Device device.NoMemory) said counted other = counted
 
--- What is refused of the texts of files.
+-- The refusals for the texts of files.
 module _ (contents : List ℕ → Option (List ℕ)) where
   pub refused_on_two : (domain problem d p : List ℕ) → IsText contents domain d → IsText contents problem p
       → (o : Option FileFault) → IfSome o (IsTaskFault d p)
@@ -243,7 +245,7 @@ module _ (contents : List ℕ → Option (List ℕ)) where
   refused_on_inputs domain problem plan d p l d_is p_is l_is None h = tt
   refused_on_inputs domain problem plan d p l d_is p_is l_is (Some fault) h = (d, p, l, d_is, p_is, l_is, h)
 
--- what a call says that writes all of the bytes or says why not
+-- the guarantee of a call that writes all of the bytes or says why not
 pub written_by : {T : Type 0} (wants_memory : Bool) (failures failures_after : ℕ) (before after : Option (List ℕ)) (bytes : List ℕ) (r : Result T IoFault)
     → OnOk r (Appends before after bytes) → AppendsBeginning before after bytes → CountsDevice failures failures_after r
     → (r ≡ Err device.NoMemory → IsTrue wants_memory) → IsWritten wants_memory failures failures_after before after bytes

@@ -1,4 +1,4 @@
--- What is said on the way, and what is reported after it.
+-- Progress reports, and what is reported after them.
 use Rattle.std.proofs.Common.{◌≡◌, ◌∙◌, ℕ, ◌⊎◌, inl, inr, Bool, true, false, List, ◌++◌, refl, sym, ap, subst, arith}
 use Rattle.std.specs.Prelude.{Option, None, Some, Result, Ok, Err, IfOk, IfSome, IsTrue}
 use Rattle.command_line.proofs.OrderLemmas.{one_wanted}
@@ -27,7 +27,7 @@ use Rattle.planner_main.specs.declared.failures.Failure.TheVariants as failure
 use Rattle.printed_answers.specs.declared.reports.Report.{Report}
 use Rattle.printed_answers.specs.declared.reports.Report.TheVariants as report
 
--- What is reported of a failure is reported after what was said before.
+-- A failure reported is also reported after earlier lines.
 pub reported_more : (Says More : List ℕ → Type 0) → ((line : List ℕ) → Says line → More line) → (f : Failure) (status : ℕ) → IsReportedOn f Says status → IsReportedOn f More status
 reported_more Says More more (failure.Text (refusal.At file code span)) status (inl (is, line)) = inl (is, more _ line)
 reported_more Says More more (failure.Text (refusal.At file code span)) status (inr (is, line)) = inr (is, more _ line)
@@ -43,7 +43,7 @@ after_progress IsLine wants_memory failures now_failures failures_after taken no
     reported_more (IsWritten wants_memory now_failures failures_after now_taken taken_after) (SaysAfter IsLine wants_memory failures failures_after taken taken_after)
     (λ line written. (stream now_failures now_taken, said, written)) f status reported
 
--- a failure has the status of neither a plan nor of there being none
+-- a failure has the exit status of neither a plan nor unsolvability
 pub no_answer : (Says : List ℕ → Type 0) (f : Failure) (status : ℕ) → IsReportedOn f Says status → (status ≡ 0) ⊎ (status ≡ 10) → ⊥
 no_answer Says (failure.Text (refusal.At file code span)) status (inl (is, line)) (inl same) = absurd (omega arith)
 no_answer Says (failure.Text (refusal.At file code span)) status (inl (is, line)) (inr same) = absurd (omega arith)
@@ -58,13 +58,13 @@ no_answer Says (failure.Device device.NoMemory) status (is, line) (inr same) = a
 
 -- ---- which lines
 
--- no line of a file is one where no file is written
+-- there is no line about a file if no file is written
 no_line : (r : Report) (json : Bool) (line : List ℕ) → IsWritingLine r (record { json = json; cert = None; plan = None; progress = false }) line → ⊥
 no_line r json line (inl (inl (is, named))) = absurd (cc)
 no_line r json line (inl (inr is)) = absurd (cc)
 no_line r json line (inr (is, named)) = absurd (cc)
 
--- a line of the files that are written is one that is asked for
+-- a line about the written files is one that was asked for
 pub written_is_progress : (contents : List ℕ → Option (List ℕ)) (wanted : Wanted) (found : Report) → IsReportOn contents wanted found → (line : List ℕ)
     → IsWritingLine found (outputs_of wanted) line → IsProgressOn contents wanted line
 written_is_progress contents (to_validate domain problem plan json) found on line is = absurd (no_line found json line is)
@@ -72,7 +72,7 @@ written_is_progress contents (to_solve domain problem asked) found on line is = 
 written_is_progress contents (to_check domain problem cert asked) found on line is = absurd (no_line found asked.json line is)
 written_is_progress contents (to_explain domain problem asked) found on line is = absurd (no_line found asked.json line is)
 
--- what is so of what comes of a file is so of what the file holds, where that is known
+-- what holds of what was read of a file holds of its contents, if they are known
 known_if_kept : (known came : Option (List ℕ)) → IsKept known came → (P : List ℕ → Type 0) → IfSome came P → IfSome known P
 known_if_kept None came kept P so = tt
 known_if_kept (Some bytes) came kept P so = subst (λ (o : Option (List ℕ)). IfSome o P) kept so
@@ -83,7 +83,7 @@ known_of_kept known came kept domain problem line (task, is, inl (lines, rest, s
 known_of_kept known came kept domain problem line (task, is, inr (text, c, so, is_text, same)) =
     (task, is, inr (text, c, known_if_kept known came kept (λ bytes. bytes ≡ text) so, is_text, same))
 
--- where there is a line, it is asked for
+-- if there is a line, it was asked for
 size_asked : (progress : Bool) (size : Option ℕ) (line : List ℕ) → line_if progress size ≡ Some line → IsTrue progress
 size_asked true size line is = search
 size_asked false size line is = absurd (cc)
@@ -99,16 +99,16 @@ wanted_of_line contents (to_explain domain problem asked) line is = absurd is
 
 module _ (contents : List ℕ → Option (List ℕ)) (words : List (List ℕ)) (wanted : Wanted) (asks : Asks words wanted) (wants_memory : Bool) (before after : Stream)
     (said : AreSaid (IsProgressOn contents wanted) wants_memory before after) where
-  -- what is said of what is asked for is said of the words that ask for it
+  -- progress of the order is progress for the words that give it
   pub said_of_words : AreSaid (IsProgress contents words) wants_memory before after
   said_of_words = said_of_more (λ line is. (wanted, asks, is)) said
 
-  -- nothing is said where it is not asked for
+  -- nothing is reported if it is not asked for
   pub quiet_unasked : (AsksForProgress words → ⊥) → after.taken ≡ before.taken
   quiet_unasked unasked =
       ap (λ (s : Stream). s.taken) (none_said (IsProgressOn contents wanted) wants_memory before after (λ line is. unasked (wanted, asks, wanted_of_line contents wanted line is)) said)
 
--- what is said while it is found out, and then of the files that are written of it
+-- progress while the result is computed, and then about the files written for it
 pub said_of_both : (contents : List ℕ → Option (List ℕ)) (wanted : Wanted) (found : Report) → IsReportOn contents wanted found → (outputs : Outputs) → outputs ≡ outputs_of wanted
     → (wants_memory : Bool) (before now after : Stream)
     → AreSaid (IsProgressOn contents wanted) wants_memory before now → AreSaid (IsWritingLine found outputs) wants_memory now after → AreSaid (IsProgressOn contents wanted) wants_memory before after
@@ -124,7 +124,7 @@ ended_of_answer wants_memory failures taken (Unsolvable cert) status (now, writt
 ended_of_answer wants_memory failures taken (Unknown limit) status ended is (inl same) = absurd (omega arith)
 ended_of_answer wants_memory failures taken (Unknown limit) status ended is (inr same) = absurd (omega arith)
 
--- What is said at the end of a search, and then of the certificate that is written, is what is said by the status.
+-- The end of a search, followed by the written certificate, is reported as the exit status implies.
 module _ (contents contents_after : List ℕ → Option (List ℕ)) (known wants_memory : Bool) (after : Stream) where
   pub ended_by_status : (before : Stream) (wanted : Wanted) (found : Report) (status : ℕ) → IsReportOn contents wanted found
       → HasEndedFor wanted wants_memory before.failures before.taken found
@@ -150,7 +150,7 @@ module _ (contents contents_after : List ℕ → Option (List ℕ)) (known wants
   end_of_words words wanted asks status ended (other, others, wants) which =
       (wanted, asks, end_wanted wanted status ended (subst WantsSearchProgress (one_wanted words other wanted others asks) wants) which)
 
--- So it is once all is written.
+-- The same once everything is written.
 pub ended_written : (wants_memory : Bool) (before after : Stream) (contents : List ℕ → Option (List ℕ)) (wanted : Wanted) (found : Report) → IsReportOn contents wanted found
     → HasEndedFor wanted wants_memory before.failures before.taken found
     → (known : Bool) (now files_after : List ℕ → Option (List ℕ)) → AreKept contents now → (out out_after : Option (List ℕ)) (outputs : Outputs) → outputs ≡ outputs_of wanted

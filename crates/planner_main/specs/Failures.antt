@@ -1,4 +1,4 @@
--- What is on the standard error where the program has no answer, and the statuses beside it.
+-- The standard error of the program without an answer, and the exit statuses.
 use Rattle.std.specs.Prelude.{ℕ, ◌==◌, Bool, List, [], ◌∷◌, ◌++◌, codes}
 use Rattle.std.specs.List.{list_any}
 use Rattle.std.specs.Fmt.{decimal}
@@ -13,17 +13,17 @@ line_of_fault f =
     ++ (codes " in " ++ (name_of_file f.file
     ++ (codes " at " ++ (decimal f.fault.span.start ++ (codes ".." ++ (decimal f.fault.span.end ++ codes "\n")))))))))
 
--- the line of a device that failed, and that of memory that was refused
+-- the line for a failed device, and that for a failed allocation
 abbrev pub device_line : List ℕ
 device_line = codes "fault 61 Device\n"
 
 abbrev pub no_memory_line : List ℕ
 no_memory_line = codes "fault 60 NoMemory\n"
 
--- the last line where the words are no command, or ask for help
+-- the last line if the words are not a command, or ask for help
 abbrev pub nothing_done_line : List ℕ
 nothing_done_line = codes "optplan: nothing was done\n"
 
--- the statuses where there is no verdict: words that are no command; a text that is refused; a device; memory
+-- the exit statuses without a verdict: words that are not a command; a refused text; a failed device; a failed allocation
 abbrev pub is_failure : ℕ → Bool
 is_failure status = list_any (λ n. n == status) (2 ∷ 20 ∷ 21 ∷ 22 ∷ [])

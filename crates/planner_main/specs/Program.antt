@@ -1,4 +1,4 @@
--- What the program does: what its words ask for, which texts its files have, and what it says of them with which status.
+-- The behaviour of the program: the order given by its words, the texts of its files, what it prints, and its exit status.
 use Rattle.std.specs.Prelude.{◌≡◌, ℕ, ◌⊎◌, Bool, List, [], ◌∷◌, ◌++◌, Option, None, Some, IfOk, IfErr, IfSome, IsTrue, Result, Ok, Err}
 use Rattle.std.specs.Io.KnownBytes.{Appends}
 use Rattle.solver.specs.Solver.{IsTrueAnswer}
@@ -40,55 +40,55 @@ abbrev pub IsOneOf : List (List ℕ) → List ℕ → Type 0
 IsOneOf [] name = ⊥
 IsOneOf (first ∷ rest) name = (name ≡ first) ⊎ IsOneOf rest name
 
--- the file of this name, if one is named
+-- the file with this name, if one is given
 abbrev pub if_named : Option (List ℕ) → List (List ℕ)
 if_named None = []
 if_named (Some name) = name ∷ []
 
--- the names of the files that are read
+-- the names of the input files
 abbrev pub inputs_of : Wanted → List (List ℕ)
 inputs_of (to_validate domain problem plan json) = domain ∷ problem ∷ plan ∷ []
 inputs_of (to_solve domain problem asked) = domain ∷ problem ∷ []
 inputs_of (to_check domain problem cert asked) = domain ∷ problem ∷ cert ∷ if_named asked.plan
 inputs_of (to_explain domain problem asked) = domain ∷ problem ∷ if_named asked.plan
 
--- the names of the files whose texts are read whole: all but that of the certificate
+-- the names of the files that are read whole: all but that of the certificate
 abbrev pub texts_of : Wanted → List (List ℕ)
 texts_of (to_validate domain problem plan json) = domain ∷ problem ∷ plan ∷ []
 texts_of (to_solve domain problem asked) = domain ∷ problem ∷ []
 texts_of (to_check domain problem cert asked) = domain ∷ problem ∷ if_named asked.plan
 texts_of (to_explain domain problem asked) = domain ∷ problem ∷ if_named asked.plan
 
--- The words are a command that reads the file of this name; and its text whole.
+-- The words are a command that reads the file with this name; and that reads its text whole.
 abbrev pub NamesInput : List (List ℕ) → List ℕ → Type 0
 NamesInput words name = (wanted : Wanted) × Asks words wanted × IsOneOf (inputs_of wanted) name
 
 abbrev pub NamesText : List (List ℕ) → List ℕ → Type 0
 NamesText words name = (wanted : Wanted) × Asks words wanted × IsOneOf (texts_of wanted) name
 
--- this is true of the texts of a domain file and a problem file
+-- this holds for the texts of a domain file and a problem file
 abbrev pub OnTwo : (List ℕ → Option (List ℕ)) → (domain problem : List ℕ) → (List ℕ → List ℕ → Type 0) → Type 0
 OnTwo contents domain problem Holds =
     (d : List ℕ) × (p : List ℕ) × IsText contents domain d × IsText contents problem p × Holds d p
 
--- this is true of the texts of a domain file, a problem file and a plan file
+-- this holds for the texts of a domain file, a problem file and a plan file
 abbrev pub OnThree : (List ℕ → Option (List ℕ)) → (domain problem plan : List ℕ) → (List ℕ → List ℕ → List ℕ → Type 0) → Type 0
 OnThree contents domain problem plan Holds =
     (d : List ℕ) × (p : List ℕ) × (l : List ℕ) × IsText contents domain d × IsText contents problem p × IsText contents plan l × Holds d p l
 
--- the text of the file of this name, and none where no file is named
+-- the text of the file with this name; none if no file is given
 abbrev pub IsTextIfNamed : (List ℕ → Option (List ℕ)) → (name text : Option (List ℕ)) → Type 0
 IsTextIfNamed contents None None = Unit {0}
 IsTextIfNamed contents None (Some text) = ⊥
 IsTextIfNamed contents (Some name) None = ⊥
 IsTextIfNamed contents (Some name) (Some text) = IsText contents name text
 
--- this is true of the texts of a domain file, a problem file and a plan file, if one is named
+-- this holds for the texts of a domain file, a problem file and a plan file, if one is given
 abbrev pub OnInputs : (List ℕ → Option (List ℕ)) → (domain problem : List ℕ) → (plan : Option (List ℕ)) → (List ℕ → List ℕ → Option (List ℕ) → Type 0) → Type 0
 OnInputs contents domain problem plan Holds =
     (d : List ℕ) × (p : List ℕ) × (l : Option (List ℕ)) × IsText contents domain d × IsText contents problem p × IsTextIfNamed contents plan l × Holds d p l
 
--- What is found out is true of the texts of these files: it is the verdict on a plan,
+-- The result is correct for the texts of these files: it is the verdict on a plan,
 abbrev pub IsVerdictOn : (List ℕ → Option (List ℕ)) → (domain problem plan : List ℕ) → Report → Type 0
 IsVerdictOn contents domain problem plan found =
     (v : Verdict) × (found ≡ report.Validate v) × OnThree contents domain problem plan (λ d p l. IsVerdictOf d p l (verdict_of v))
@@ -99,8 +99,8 @@ IsSolutionOn contents domain problem states instances found =
     (s : Solved) × (found ≡ report.Solve s)
     × OnTwo contents domain problem (λ d p. IsTaskOf d p (task_of s.task) × IsTrueAnswer (task_of s.task) states instances s.answer)
 
--- or what is reported for a certificate, for the task of two texts and the plan of a third, if that is given. This is known of
--- the certificate: it is the whole text, where it is known.
+-- or the checker's answer to a certificate, for the task of two texts and the plan of a third, if one is given. This much is
+-- known of the certificate's text: if anything, all of it.
 abbrev pub IsCheckedIn : (known : Option (List ℕ)) → (domain problem : List ℕ) → (plan : Option (List ℕ)) → (most : ℕ) → Task → Result Accepted Refusal → Type 0
 IsCheckedIn known domain problem plan most task answer =
     (cert : List ℕ) × (steps : Option (List Instance)) × IfSome known (λ bytes. cert ≡ bytes) × IsTaskOf domain problem task
@@ -111,26 +111,27 @@ IsCheckOn contents domain problem cert plan most found =
     (c : Checked) × (found ≡ report.Check c)
     × OnInputs contents domain problem plan (λ d p l. IsCheckedIn (contents cert) d p l most (task_of c.task) c.answer)
 
--- the files of these names with their texts: a domain, a problem, and a plan, if one is named
+-- the files with these names and their texts: a domain, a problem, and a plan, if one is given
 abbrev pub named_inputs : (domain problem : List ℕ) → (plan : Option (List ℕ)) → (d p : List ℕ) → (l : Option (List ℕ)) → Files
 named_inputs domain problem plan d p l =
     record { domain = record { name = domain; text = d }; problem = record { name = problem; text = p }; plan = named_as plan l }
 
--- or what is explained of two texts, and of the plan of a third, if one is named: it is true, and its lines and its location say it.
+-- or the explanation of two texts, and of the plan of a third, if one is given: it is correct, and its lines and its location
+-- state it.
 abbrev pub IsExplanationOn : (List ℕ → Option (List ℕ)) → (domain problem : List ℕ) → (plan : Option (List ℕ)) → (most : ℕ) → Report → Type 0
 IsExplanationOn contents domain problem plan most found =
     (e : Explanation) × (found ≡ report.Explain e)
     × OnInputs contents domain problem plan (λ d p l. IsTrueOf d p l most e.subject × IsSaidOf (named_inputs domain problem plan d p l) e)
 
--- what is found out is what is asked for, and true
+-- the result is the one asked for, and correct
 abbrev pub IsReportOn : (List ℕ → Option (List ℕ)) → Wanted → Report → Type 0
 IsReportOn contents (to_validate domain problem plan json) = IsVerdictOn contents domain problem plan
 IsReportOn contents (to_solve domain problem asked) = IsSolutionOn contents domain problem asked.states asked.instances
 IsReportOn contents (to_check domain problem cert asked) = IsCheckOn contents domain problem cert asked.plan asked.instances
 IsReportOn contents (to_explain domain problem asked) = IsExplanationOn contents domain problem asked.plan asked.instances
 
--- This text, with this status and the files that are written before it, says what is found out, which is true of the texts of
--- the files, as it is asked for; and as the words ask for it.
+-- This text, with this exit status and the files written before it, states a result that is correct for the texts of the files,
+-- as the order asks; and as the words ask.
 abbrev pub IsAnswerTo : (List ℕ → Option (List ℕ)) → Wanted → (text : List ℕ) → (status : ℕ) → List NamedText → Type 0
 IsAnswerTo contents wanted text status written =
     (found : Report) × IsReportOn contents wanted found × WritesReport found (outputs_of wanted) text status written
@@ -138,15 +139,15 @@ IsAnswerTo contents wanted text status written =
 abbrev pub IsAnswer : (List ℕ → Option (List ℕ)) → List (List ℕ) → (text : List ℕ) → (status : ℕ) → List NamedText → Type 0
 IsAnswer contents words text status written = (wanted : Wanted) × Asks words wanted × IsAnswerTo contents wanted text status written
 
--- A true answer is reported: its files hold their texts, where files are known, and the standard output grew by its text.
+-- A correct answer is printed: its files hold their texts, if files are known, and standard output has grown by its text.
 abbrev pub IsReported : (IsTrueText : List ℕ → ℕ → List NamedText → Type 0) → (known : Bool)
     → (files files_after : List ℕ → Option (List ℕ)) → (out out_after : Option (List ℕ)) → ℕ → Type 0
 IsReported IsTrueText known files files_after out out_after status =
     (text : List ℕ) × (written : List NamedText) × IsTrueText text status written × Appends out out_after text
     × (IsTrue known → AreWritten files files_after written)
 
--- A true answer is reported in part. Nothing was written; or some of its files are, the next one is being written, and nothing of
--- the standard output; or its files are written, and the standard output took a beginning of the text.
+-- A correct answer is partly printed. Nothing was written; or some of its files are, the next one partly, and nothing of standard
+-- output; or its files are written, and standard output took a prefix of the text.
 pub data IsReportedPartly (IsTrueText : List ℕ → ℕ → List NamedText → Type 0) (known : Bool)
     (files files_after : List ℕ → Option (List ℕ)) (out out_after : Option (List ℕ)) : Type 0 where
   nothing : out_after ≡ out → AreKept files files_after → IsReportedPartly IsTrueText known files files_after out out_after
@@ -156,46 +157,45 @@ pub data IsReportedPartly (IsTrueText : List ℕ → ℕ → List NamedText → 
   on_the_output : (text : List ℕ) (status : ℕ) (written : List NamedText) → IsTrueText text status written → AppendsBeginning out out_after text
       → (IsTrue known → AreWritten files files_after written) → IsReportedPartly IsTrueText known files files_after out out_after
 
--- what the words ask for is reported, whole or in part
+-- the order given by the words is carried out, with whole or partial output
 abbrev pub Reports : List (List ℕ) → (known : Bool) → (files files_after : List ℕ → Option (List ℕ)) → (out out_after : Option (List ℕ)) → ℕ → Type 0
 Reports words known files files_after = IsReported (IsAnswer files words) known files files_after
 
 abbrev pub ReportsPartly : List (List ℕ) → (known : Bool) → (files files_after : List ℕ → Option (List ℕ)) → (out out_after : Option (List ℕ)) → Type 0
 ReportsPartly words known files files_after = IsReportedPartly (IsAnswer files words) known files files_after
 
--- The texts of the files that are named are refused, and this fault is the first. Where it is asked for what is wrong, that is
--- the answer.
+-- The texts of the named files are refused, and this is the first fault. For `explain` that is the answer.
 abbrev pub IsFaultFor : (List ℕ → Option (List ℕ)) → Wanted → FileFault → Type 0
 IsFaultFor contents (to_validate domain problem plan json) fault = OnThree contents domain problem plan (λ d p l. IsFileFault d p l fault)
 IsFaultFor contents (to_solve domain problem asked) fault = OnTwo contents domain problem (λ d p. IsTaskFault d p fault)
 IsFaultFor contents (to_check domain problem cert asked) fault = OnInputs contents domain problem asked.plan (λ d p l. IsInputFault d p l fault)
 IsFaultFor contents (to_explain domain problem asked) fault = ⊥
 
--- The texts of the files that the words name are refused, and this fault is the first.
+-- The texts of the files that the words name are refused, and this is the first fault.
 abbrev pub IsRefusedFor : (List ℕ → Option (List ℕ)) → List (List ℕ) → FileFault → Type 0
 IsRefusedFor contents words fault = (wanted : Wanted) × Asks words wanted × IsFaultFor contents wanted fault
 
--- The texts are refused: the standard output and the files are as they were, and the standard error says the line of the fault.
+-- The texts are refused: standard output and the files are unchanged, and standard error has the line of the fault.
 abbrev pub Refuses : List (List ℕ) → (files files_after : List ℕ → Option (List ℕ)) → (out out_after : Option (List ℕ)) → (Says : List ℕ → Type 0) → Type 0
 Refuses words files files_after out out_after Says =
     (fault : FileFault) × IsRefusedFor files words fault × (out_after ≡ out) × AreKept files files_after × Says (line_of_fault fault)
 
--- a failure was counted of the files, or of the standard output
+-- a failure of the files or of standard output was counted
 abbrev pub HasFailed : (files files_after out out_after : ℕ) → Type 0
 HasFailed files files_after out out_after = (files_after ≡ one_more files) ⊎ (out_after ≡ one_more out)
 
--- no failure was counted of either
+-- no failure of either was counted
 abbrev pub HasNotFailed : (files files_after out out_after : ℕ) → Type 0
 HasNotFailed files files_after out out_after = (files_after ≡ files) × (out_after ≡ out)
 
--- what is asked for is reported, whole or in part
+-- the order is carried out, with whole or partial output
 abbrev pub ReportsFor : Wanted → (known : Bool) → (files files_after : List ℕ → Option (List ℕ)) → (out out_after : Option (List ℕ)) → ℕ → Type 0
 ReportsFor wanted known files files_after = IsReported (IsAnswerTo files wanted) known files files_after
 
 abbrev pub ReportsPartlyFor : Wanted → (known : Bool) → (files files_after : List ℕ → Option (List ℕ)) → (out out_after : Option (List ℕ)) → Type 0
 ReportsPartlyFor wanted known files files_after = IsReportedPartly (IsAnswerTo files wanted) known files files_after
 
--- the fault of a text that the failure is, and None of a device or of memory
+-- the fault of a text in the failure; None for a device or memory
 abbrev pub fault_in : Failure → Option FileFault
 fault_in (failure.Text fault) = reported_in fault
 fault_in (failure.Device fault) = None
@@ -208,7 +208,7 @@ of_device fault = failure.Device fault
 abbrev pub device_failure : Failure
 device_failure = of_device device.Device
 
--- A failure of a device counts one failure, another none: of the files, and of the files or the standard output.
+-- A device failure counts as one failure, any other as none: of the files, and of the files or standard output.
 abbrev pub CountsFailure : (before after : ℕ) → Failure → Type 0
 CountsFailure before after (failure.Text fault) = after ≡ before
 CountsFailure before after (failure.Device device.Device) = after ≡ one_more before
@@ -219,8 +219,8 @@ CountsEither files files_after out out_after (failure.Text fault) = HasNotFailed
 CountsEither files files_after out out_after (failure.Device device.Device) = HasFailed files files_after out out_after
 CountsEither files files_after out out_after (failure.Device device.NoMemory) = HasNotFailed files files_after out out_after
 
--- A failure is reported: its line is said, and the status is 20 of a text that is refused, 21 of a device and 22 of memory.
--- Where there is no memory for the line of a fault, that is reported in its place.
+-- A failure is reported: its line is printed, and the exit status is 20 for a refused text, 21 for a device and 22 for memory. If
+-- there is no memory for the line of a fault, that failure is reported instead.
 abbrev pub IsReportedOn : Failure → (Says : List ℕ → Type 0) → ℕ → Type 0
 IsReportedOn (failure.Text (refusal.At file code span)) Says status =
     ((status ≡ 20) × Says (line_of_fault (fault_at file code span))) ⊎ ((status ≡ 22) × Says no_memory_line)
@@ -228,11 +228,11 @@ IsReportedOn (failure.Text refusal.NoMemory) Says status = (status ≡ 22) × Sa
 IsReportedOn (failure.Device device.Device) Says status = (status ≡ 21) × Says device_line
 IsReportedOn (failure.Device device.NoMemory) Says status = (status ≡ 22) × Says no_memory_line
 
--- It is said what is wrong with the words, or the help that they ask for, and after it that nothing was done.
+-- What is wrong with the words is printed, or the help that they ask for, followed by the line that nothing was done.
 abbrev pub SaysOfWords : (Says : List ℕ → Type 0) → Type 0
 SaysOfWords Says = (text : List ℕ) × Says (text ++ nothing_done_line)
 
--- Words that are no order are reported with the status 2 where they are no command, and with 22 where memory was refused.
+-- Words that are not an order are reported with exit status 2 if they are not a command, and with 22 if an allocation failed.
 abbrev pub IsReportedOfWords : WordsFault → (Says : List ℕ → Type 0) → ℕ → Type 0
 IsReportedOfWords fault Says status =
     ((status ≡ 2) × IsOfWords fault × SaysOfWords Says) ⊎ ((status ≡ 22) × Says no_memory_line)
@@ -242,8 +242,8 @@ abbrev pub IsUnread : {T : Type 0} → Result T Failure → Type 0
 IsUnread (Ok said) = ⊥
 IsUnread (Err failure) = fault_in failure ≡ None
 
--- What is found out of what is asked for is true of these files, or the fault is the first of their texts; and where a file that is read
--- is missing, or a text cannot be read, there is neither.
+-- The result is correct for these files, or the fault is the first of their texts; if an input file is missing or a text cannot
+-- be read, there is neither.
 pub record IsFound (contents : List ℕ → Option (List ℕ)) (is_missing is_unreadable : List ℕ → Bool) (wanted : Wanted) (result : Result Report Failure) : Type 0 where
   pub report : IfOk result (IsReportOn contents wanted)
   pub refused : IfErr result (λ failure. IfSome (fault_in failure) (IsFaultFor contents wanted))

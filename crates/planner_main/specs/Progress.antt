@@ -1,4 +1,4 @@
--- What the standard error takes on the way, where `--progress` asks for it.
+-- The progress reports on standard error, with `--progress`.
 use Rattle.std.specs.Prelude.{◌≡◌, ℕ, ◌⊎◌, ◌-◌, ◌^◌, min, Bool, if◌then◌else◌, IsTrue, List, ◌++◌, length, codes, Option, None, Some, ⊤}
 use Rattle.std.specs.Fmt.{decimal}
 use Rattle.std.specs.Option.{option_map}
@@ -21,28 +21,28 @@ use Rattle.printed_answers.specs.declared.reports.Report.TheVariants as report
 abbrev pub IsSearchLine : (List ℕ → Option (List ℕ)) → (domain problem : List ℕ) → (progress : Bool) → List ℕ → Type 0
 IsSearchLine contents domain problem progress line = IsTrue progress × OnTwo contents domain problem (λ d p. IsTrueLineOf d p line)
 
--- a line of a check, so of the task of two files and of the text of a third
+-- the same for a check, for the task of two files and the text of a third
 abbrev pub IsCheckingLine : (List ℕ → Option (List ℕ)) → (domain problem cert : List ℕ) → (progress : Bool) → List ℕ → Type 0
 IsCheckingLine contents domain problem cert progress line = IsTrue progress × OnTwo contents domain problem (λ d p. IsCheckLineOf d p (contents cert) line)
 
--- the line of a file that fails, if one is named: its name is the rest of the line
+-- the line for a failed file, if one is named: the rest of the line is its name
 abbrev pub failed_line : (name : List ℕ) → List ℕ
 failed_line name = codes "progress=failed file=" ++ (name ++ codes "\n")
 
 abbrev pub IsFailedLineOf : (progress : Bool) → (name : Option (List ℕ)) → List ℕ → Type 0
 IsFailedLineOf progress named line = IsTrue progress × ((name : List ℕ) × (named ≡ Some name) × (line ≡ failed_line name))
 
--- how many bytes a text has; at 18446744073709551615 the count stays
+-- the length of a text in bytes, saturating at 18446744073709551615
 abbrev pub byte_count : List ℕ → ℕ
 byte_count text = min (length text) (2 ^ 64 - 1)
 
--- how many bytes are written to a file, where one is named and there is a text for it
+-- the number of bytes written to a file, if one is given and there is a text for it
 abbrev pub size_in : (named text : Option (List ℕ)) → Option ℕ
 size_in None text = None
 size_in (Some name) None = None
 size_in (Some name) (Some text) = Some (byte_count text)
 
--- the line of a certificate that is written: how many bytes it has
+-- the line for a written certificate: its size
 abbrev pub size_line : ℕ → List ℕ
 size_line size = codes "progress=certificate bytes=" ++ (decimal size ++ codes "\n")
 
@@ -53,20 +53,20 @@ line_if progress size = if progress then option_map size_line size else None
 abbrev pub size_line_for : (named text : Option (List ℕ)) → (progress : Bool) → Option (List ℕ)
 size_line_for named text progress = line_if progress (size_in named text)
 
--- a line of a certificate: that its file fails, or how many bytes were written to it
+-- a line about a certificate: that its file failed, or its size
 abbrev pub IsCertificateLine : (progress : Bool) → (named text : Option (List ℕ)) → List ℕ → Type 0
 IsCertificateLine progress named text line = IsFailedLineOf progress named line ⊎ (size_line_for named text progress ≡ Some line)
 
--- a line of the files that are written of what is reported
+-- a line about the files written for a result
 abbrev pub IsWritingLine : Report → Outputs → List ℕ → Type 0
 IsWritingLine r outputs line = IsCertificateLine outputs.progress outputs.cert (cert_text r) line ⊎ IsFailedLineOf outputs.progress outputs.plan line
 
--- a line of the files that are written of what is found out, which is true of the texts of the files that are read
+-- a line about the files written for a result that is correct for the texts of the input files
 abbrev pub IsWritingLineOn : (List ℕ → Option (List ℕ)) → Wanted → List ℕ → Type 0
 IsWritingLineOn contents wanted line = (found : Report) × IsReportOn contents wanted found × IsWritingLine found (outputs_of wanted) line
 
--- What is asked for says this line on the way: `solve`, where progress is asked for, one that is true of the task, or that a file fails
--- which it was to write, or how many bytes its certificate has; and `check` one that is so of the certificate.
+-- An order reports this line as progress: `solve`, if progress is asked for, a line that is true of the task, or that one of its
+-- output files failed, or the size of its certificate; and `check` a line that is true of the certificate.
 abbrev pub IsProgressOn : (List ℕ → Option (List ℕ)) → Wanted → List ℕ → Type 0
 IsProgressOn contents (to_validate domain problem plan json) line = ⊥
 IsProgressOn contents (to_solve domain problem asked) line =
@@ -77,7 +77,7 @@ IsProgressOn contents (to_explain domain problem asked) line = ⊥
 abbrev pub IsProgress : (List ℕ → Option (List ℕ)) → List (List ℕ) → List ℕ → Type 0
 IsProgress contents words line = (wanted : Wanted) × Asks words wanted × IsProgressOn contents wanted line
 
--- ---- whether it is asked for
+-- ---- whether progress is asked for
 
 abbrev pub WantsProgress : Wanted → Type 0
 WantsProgress (to_validate domain problem plan json) = ⊥
@@ -98,9 +98,10 @@ WantsSearchProgress (to_explain domain problem asked) = ⊥
 abbrev pub AsksForSearchProgress : List (List ℕ) → Type 0
 AsksForSearchProgress words = (wanted : Wanted) × Asks words wanted × WantsSearchProgress wanted
 
--- ---- what is there then
+-- ---- standard error then
 
--- Such lines were written, and then these bytes: whole, or a beginning of them where the stream counted a failure, or is one that may want memory.
+-- Such lines were written, followed by these bytes: whole, or a prefix of them if the stream counted a failure or may run out of
+-- memory.
 abbrev pub SaysAfter : (IsLine : List ℕ → Type 0) → (wants_memory : Bool) → (failures failures_after : ℕ) → (before after : Option (List ℕ)) → List ℕ → Type 0
 SaysAfter IsLine wants_memory failures failures_after before after bytes =
     (now : Stream) × AreSaid IsLine wants_memory (stream failures before) now × IsWritten wants_memory now.failures failures_after now.taken after bytes
@@ -110,17 +111,17 @@ abbrev pub EndsByEnd : (wants_memory : Bool) → (failures : ℕ) → (taken : O
 EndsByEnd wants_memory failures taken =
     (now : Stream) × (listed : ℕ) × (expanded : ℕ) × IsWritten wants_memory now.failures failures now.taken taken (line_of (End listed expanded))
 
--- this line was written, if there is one, and else nothing
+-- this line was written, if there is one, otherwise nothing
 abbrev pub SaysIf : Option (List ℕ) → (wants_memory : Bool) → (before after : Stream) → Type 0
 SaysIf None wants_memory before after = after ≡ before
 SaysIf (Some line) wants_memory before after = IsWritten wants_memory before.failures after.failures before.taken after.taken line
 
--- the last line is that of the end of a search, or, if there is this line, that line, and the one before is that of the end
+-- the last line is that of the end of a search; or if this line is given, it is the last, and the one before is that of the end
 abbrev pub EndsBy : Option (List ℕ) → (wants_memory : Bool) → (after : Stream) → Type 0
 EndsBy line wants_memory after = (now : Stream) × EndsByEnd wants_memory now.failures now.taken × SaysIf line wants_memory now after
 
--- So it is of what is found out of what is asked for, which is true: where the certificate is written to a file, the line is that of how
--- many bytes this has. The files hold what is written of it, where they are known.
+-- The same for a correct result of an order: if the certificate is written to a file, the last line has its size. The files hold
+-- what is written, if they are known.
 abbrev pub EndsFor : (contents contents_after : List ℕ → Option (List ℕ)) → (known : Bool) → Wanted → (wants_memory : Bool) → (after : Stream) → Type 0
 EndsFor contents contents_after known wanted wants_memory after =
     (found : Report) × IsReportOn contents wanted found × (IsTrue known → AreWritten contents contents_after (files_for found (outputs_of wanted)))
@@ -129,7 +130,7 @@ EndsFor contents contents_after known wanted wants_memory after =
 abbrev pub Ends : (contents contents_after : List ℕ → Option (List ℕ)) → (known : Bool) → List (List ℕ) → (wants_memory : Bool) → (after : Stream) → Type 0
 Ends contents contents_after known words wants_memory after = (wanted : Wanted) × Asks words wanted × EndsFor contents contents_after known wanted wants_memory after
 
--- Where progress is asked for, the last line says what the certificate of the answer lists, if it has one.
+-- If progress is asked for, the last line describes the listing of the answer's certificate, if it has one.
 abbrev pub HasEndedIf : (progress wants_memory : Bool) → (failures : ℕ) → (taken : Option (List ℕ)) → Report → Type 0
 HasEndedIf progress wants_memory failures taken (report.Solve solved) = IsTrue progress → HasEnded wants_memory failures taken solved.answer
 HasEndedIf progress wants_memory failures taken (report.Validate verdict) = ⊤
@@ -142,7 +143,7 @@ HasEndedFor (to_solve domain problem asked) wants_memory failures taken found = 
 HasEndedFor (to_check domain problem cert asked) wants_memory failures taken found = ⊤
 HasEndedFor (to_explain domain problem asked) wants_memory failures taken found = ⊤
 
--- what is said at the end, by the status: that of a plan or of there being none has a certificate
+-- the report of the end, by exit status: an answer with a plan or without any plan has a certificate
 abbrev pub HasSaidEnd : (contents contents_after : List ℕ → Option (List ℕ)) → (known : Bool) → Wanted → (wants_memory : Bool) → (after : Stream) → (status : ℕ) → Type 0
 HasSaidEnd contents contents_after known (to_validate domain problem plan json) wants_memory after status = ⊤
 HasSaidEnd contents contents_after known (to_solve domain problem asked) wants_memory after status =

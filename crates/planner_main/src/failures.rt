@@ -1,4 +1,4 @@
-//! What the program says where it has no answer: the lines of the standard error, and the statuses beside them.
+//! What the program prints without an answer: lines on standard error, with their exit statuses.
 ghost use Rattle.std.specs.Prelude.{◌≡◌, ◌⊎◌, ◌++◌, ℕ, IfOk, IsTrue, List};
 ghost use Rattle.std.specs.String.{string_bytes};
 ghost use Rattle.command_line.specs.View.{IsOfWords};
@@ -14,24 +14,24 @@ use file_answers::{File, FileFault};
 use printed_answers::REFUSED;
 use std::alloc::{AllocError, Global};
 
-/// The status where the words are no command.
+/// The exit status if the words are not a command.
 const WRONG_WORDS: u8 = 2;
 
-/// The status where a file or the standard output could not be opened, read or written.
+/// The exit status if a file or the standard output could not be opened, read or written.
 const DEVICE: u8 = 21;
 
-/// The status where memory was refused.
+/// The exit status if an allocation failed.
 const NO_MEMORY: u8 = 22;
 
-/// The last line where the words are no command.
+/// The last line if the words are not a command.
 const NOTHING_DONE: &str = "optplan: nothing was done\n";
 
 /// Why the program has no answer.
 #[derive(Clone, Copy)]
 pub(crate) enum Failure {
-    /// A file's text is refused, or memory was.
+    /// A file's text is refused, or an allocation failed.
     Text(FileFault),
-    /// A device failed, or memory was refused.
+    /// A device failed, or an allocation failed.
     Device(IoFault),
 }
 
@@ -69,10 +69,10 @@ impl From<NoMemory> for Failure {
     }
 }
 
-/// Reports a failure on standard error, and answers its status. That the reporting fails changes no status.
+/// Reports a failure on standard error, and returns its exit status. A failure to report changes no status.
 pub(crate) fn report_failure<E: Sink>(alloc: Global, failure: Failure, err: &mut E) -> u8
     ensures failure { IsTrue (is_failure result) }
-    // Where memory for the line is refused, that is reported.
+    // If an allocation for the line fails, that failure is reported.
     ensures said { IsReportedOn failure (IsWritten E.wants_memory (E.failures err.old) (E.failures err.new) (E.taken err.old) (E.taken err.new)) result }
 {
     match failure {
@@ -113,7 +113,7 @@ fn fault_line(alloc: Global, file: File, code: Code, span: Span) -> Result<Strin
     format!(in alloc; "fault {number} {name} in {file} at {start}..{end}\n")
 }
 
-/// Reports that memory was refused, for which no memory is taken: the status.
+/// Reports that an allocation failed, without allocating: the exit status.
 pub fn report_no_memory<E: Sink>(err: &mut E) -> u8
     ensures status { result ≡ NO_MEMORY }
     ensures line { IsWritten E.wants_memory (E.failures err.old) (E.failures err.new) (E.taken err.old) (E.taken err.new) no_memory_line }
@@ -129,7 +129,7 @@ pub(crate) fn say<E: Sink>(err: &mut E, bytes: &[u8])
     let _ = write_all(err, bytes);
 }
 
-/// Reports what is wrong with the words, or the help that they ask for, and that nothing was done: the status.
+/// Reports what is wrong with the words, or the help that they ask for, and that nothing was done: the exit status.
 pub(crate) fn report_words<E: Sink>(alloc: Global, fault: WordsFault, err: &mut E) -> u8
     ensures { IsReportedOfWords fault (IsWritten E.wants_memory (E.failures err.old) (E.failures err.new) (E.taken err.old) (E.taken err.new)) result }
 {
@@ -142,7 +142,7 @@ pub(crate) fn report_words<E: Sink>(alloc: Global, fault: WordsFault, err: &mut 
     }
 }
 
-/// What a fault of the words says, and the last line.
+/// The fault of the words as text, followed by the last line.
 fn words_text(alloc: Global, fault: &WordsFault) -> Result<String, AllocError>
     ensures words { IfOk result (λ _. IsOfWords fault.now) }
     ensures text { IfOk result (λ said. (text : List ℕ) × (string_bytes said ≡ text ++ nothing_done_line)) }

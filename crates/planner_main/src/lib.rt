@@ -1,4 +1,4 @@
-//! The whole program over any files, and the public surface of the library.
+//! The whole program over any files, and the library's public interface.
 #![tactic(auto)]
 
 mod failures;

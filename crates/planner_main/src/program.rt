@@ -31,19 +31,19 @@ use std::alloc::Global;
 use validation::report_of_validate;
 use writing::write_report;
 
-/// The whole program: what the words ask for, with its answer on the standard output and its faults on the standard
-/// error, and the status that it ends with. What the words ask for is `read_words`' matter.
+/// The whole program: executes the order given by the words, with its answer on standard output and its faults on standard error,
+/// and returns the exit status. The words are parsed by `read_words`.
 ///
-/// `solve` reports a cheapest plan, or that there is none. At most so many states are listed, and so many instances kept, those that
-/// are statically applicable. Where so many states do not suffice, it says what each plan costs at least; at another limit
-/// nothing is claimed of plans. The certificate of the answer, at the limit of states too, is written to the file of `--cert`, then a
-/// plan's text to the file of `--plan`, and then the standard output; where one of them fails, those after it are not touched, and
-/// neither is a file for which there is nothing to write. `validate` says whether the plan solves the task. `check` says what the
-/// certificate shows: with a plan, which is read from the file of `--plan`, that it is a cheapest one; else that no plan costs less, or
-/// that there is none. `explain` says for people what is wrong with a text or with a plan, and where, and else what the task holds. Of
-/// a file at most 16,777,217 bytes are read and taken for its whole text, and all files are read before any
-/// fault of their texts is reported; but the certificate is only opened before, and then read line by line, to its end or to its first
-/// fault, whatever its length.
+/// `solve` prints an optimal plan, or that there is none. The numbers of listed states and of kept instances (those not
+/// statically inapplicable) are limited. If the state limit is exceeded, it prints a lower bound of all plan costs; at the other
+/// limits nothing is claimed about plans. The certificate of the answer, also for an exceeded state limit, is written to the file
+/// of `--cert`, then a plan's text to the file of `--plan`, then the answer to standard output; if one of them fails, the later
+/// ones are not touched, and neither is a file for which there is nothing to write. `validate` judges whether the plan solves the
+/// task. `check` prints what the certificate shows: with a plan, read from the file of `--plan`, that it is optimal; otherwise
+/// that no plan costs less, or that there is none. `explain` tells people what is wrong with a text or a plan, and where; if
+/// nothing is, it summarizes the task. At most 16,777,217 bytes of a file are read and taken as its whole text, and all files are
+/// read before any fault in them is reported. The exception is the certificate: it is only opened then, and later read line by
+/// line, to its end or its first fault, whatever its length.
 ///
 /// | What comes | Standard output | Standard error | Status |
 /// |---|---|---|---|
@@ -65,8 +65,8 @@ use writing::write_report;
 /// | a file, or the standard output, fails | | `fault 61 Device` | 21 |
 /// | memory is refused | | `fault 60 NoMemory` | 22 |
 ///
-/// With `--json` the standard output takes a line of JSON in place of the text (`json_line`), with the same status. Where a stream or
-/// a file that is written fails, a beginning of what is reported is there; that the standard error fails changes no status.
+/// With `--json` a line of JSON takes the place of the text on standard output (`json_line`), with the same exit status. If
+/// writing to a stream or a file fails, it has taken a prefix. A failure of standard error changes no status.
 ///
 /// ```
 /// // "domain.pddl" has `(define (domain path) ..)`, and "problem.pddl" has `(define (problem p) (:domain path) ..)`
@@ -83,20 +83,20 @@ pub fn run<F: Files, O: Sink, E: Sink>(
     out: &mut O,
     err: &mut E,
 ) -> u8
-    // What the words ask for is reported, or the status says why not.
+    // The order is carried out and its result printed, or the exit status says why not.
     ensures status { IsTrue (is_failure result)
         ⊎ Reports (texts words.now) F.is_known (F.contents files.old) (F.contents files.new) (O.taken out.old) (O.taken out.new) result }
-    // Without `--progress` the standard error stays as it is beside an answer. With it, it takes lines first, each of them true: of what every
-    // plan costs at least, and how large the task, the search and the certificate are. Beside the answer of a search the last one is that
-    // of the end, or, where a file is named for the certificate, that of how many bytes it has, and the one before that of the end.
+    // Without `--progress`, standard error is unchanged when there is an answer. With it, lines come first, each of them true:
+    // lower bounds of plan costs, and the sizes of the task, the search and the certificate. For the answer of a search the last
+    // line is that of the end; if a certificate file is named, the line with the certificate's size in bytes follows it.
     ensures quiet { (AsksForProgress (texts words.now) → ⊥) → is_failure result ≡ false → E.taken err.new ≡ E.taken err.old }
     ensures progress { is_failure result ≡ false → AreSaid (IsProgress (F.contents files.old) (texts words.now)) E.wants_memory (stream (E.failures err.old) (E.taken err.old)) (stream (E.failures err.new) (E.taken err.new)) }
     ensures ended { AsksForSearchProgress (texts words.now) → (result ≡ 0) ⊎ (result ≡ 10)
         → Ends (F.contents files.old) (F.contents files.new) F.is_known (texts words.now) E.wants_memory (stream (E.failures err.new) (E.taken err.new)) }
 
-    // The status of words that are no command is reported exactly of these, unless memory for reading them is refused; and that of
-    // texts only where they are refused: `explain` reports the fault on the standard output, as what was asked for, and of the other
-    // commands none reports an answer with this status.
+    // The exit status for words that are not a command occurs exactly for such words, unless an allocation for reading them
+    // fails. The one for refused texts occurs only for such texts: `explain` prints the fault on standard output, as asked, and
+    // the other commands print no answer with this status.
     ensures words { result ≡ 2 → IsCommand (texts words.now) → ⊥ }
     ensures no_command { (IsCommand (texts words.now) → ⊥) → (result ≡ 2) ⊎ (result ≡ 22) }
     ensures usage { result ≡ 2 → (O.taken out.new ≡ O.taken out.old) × AreKept (F.contents files.old) (F.contents files.new)
@@ -105,15 +105,15 @@ pub fn run<F: Files, O: Sink, E: Sink>(
         (O.taken out.old) (O.taken out.new) (SaysAfter (IsProgress (F.contents files.old) (texts words.now)) E.wants_memory (E.failures err.old) (E.failures err.new) (E.taken err.old) (E.taken err.new))
         ⊎ (Reports (texts words.now) F.is_known (F.contents files.old) (F.contents files.new) (O.taken out.old) (O.taken out.new) result × AreSaid (IsProgress (F.contents files.old) (texts words.now)) E.wants_memory (stream (E.failures err.old) (E.taken err.old)) (stream (E.failures err.new) (E.taken err.new))) }
 
-    // The status of a device is reported exactly where one failed. An answer may have been reported in part.
+    // The exit status for a device failure occurs exactly if a device failed. Part of an answer may have been printed.
     ensures unfailed { (result ≡ 21 → ⊥) → HasNotFailed (F.failures files.old) (F.failures files.new) (O.failures out.old) (O.failures out.new) }
     ensures device { result ≡ 21 → HasFailed (F.failures files.old) (F.failures files.new) (O.failures out.old) (O.failures out.new)
         × ReportsPartly (texts words.now) F.is_known (F.contents files.old) (F.contents files.new) (O.taken out.old) (O.taken out.new)
         × SaysAfter (IsProgress (F.contents files.old) (texts words.now)) E.wants_memory (E.failures err.old) (E.failures err.new) (E.taken err.old) (E.taken err.new) device_line }
-    // All files are opened before any fault of their texts is reported.
+    // All files are opened before any fault in their texts is reported.
     ensures unread { (name : List ℕ) → NamesInput (texts words.now) name → IsTrue (F.is_missing files.old name)
         → (result ≡ 21) ⊎ (result ≡ 22) }
-    // All texts but the certificate's are read before any fault of them is reported.
+    // All texts except the certificate are read before any fault in them is reported.
     ensures unreadable { (name : List ℕ) → NamesText (texts words.now) name → IsTrue (F.is_unreadable files.old name)
         → (result ≡ 21) ⊎ (result ≡ 22) }
     ensures memory { result ≡ 22 → ReportsPartly (texts words.now) F.is_known (F.contents files.old) (F.contents files.new) (O.taken out.old) (O.taken out.new)
@@ -128,7 +128,7 @@ pub fn run<F: Files, O: Sink, E: Sink>(
     }
 }
 
-/// Does what is asked for: it is found out, and then reported. The status.
+/// Carries out the order: computes the result, then prints it. Returns the exit status.
 fn carry_out<F: Files, O: Sink, E: Sink>(
     alloc: Global,
     order: Order<'_>,
@@ -151,7 +151,7 @@ fn carry_out<F: Files, O: Sink, E: Sink>(
     write_report(alloc, &report, outputs_of(order), files, out, err)
 }
 
-/// What is found out of what is asked for.
+/// Computes the result of the order.
 fn report_of<F: Files, E: Sink>(
     alloc: Global,
     order: Order<'_>,
@@ -216,7 +216,7 @@ fn report_of<F: Files, E: Sink>(
     }
 }
 
-/// These limits of a search.
+/// The limits of a search.
 fn limits_of(states: MaxCount, instances: MaxCount) -> Limits
     ensures states { result.states ≡ states.number }
     ensures instances { result.instances ≡ instances.number }

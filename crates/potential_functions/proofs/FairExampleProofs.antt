@@ -1,4 +1,4 @@
--- What the definitions say of the worked examples of potential functions.
+-- The worked examples of potential functions.
 use Rattle.std.specs.Prelude.{◌≡◌, ℕ, zero, suc, ◌<◌, ℤ, pos, ◌≤ℤ◌, List, [], ◌∷◌, length, slice_get, All, Some, refl}
 use Rattle.std.specs.List.{filter_map}
 use Rattle.std.specs.Int.Signed.{le_z_yes}
@@ -16,7 +16,7 @@ use Rattle.potential_functions.specs.FairExamples.{hop_task, hop_atoms, hop_weig
 use Rattle.model.specs.Examples.{instance}
 
 module _ (task : Task) (atoms : List Atom) where
-  -- what an instance loses, in a form that computes
+  -- the loss of an instance, in a form that computes
   abbrev pub losing : List ℤ → Instance → ℤ
   losing weights i = loses_at_most (length atoms) weights (literals_of_instance task atoms i) (filter_map (numbered_change atoms) (counting task i))
 
@@ -77,7 +77,7 @@ second-unfair = record {
         subst (λ j. IsFairAt (cost_of hop_task j) hop_task hop_atoms dear_second j) same (is_fair_at hop_task hop_atoms dear_second (hop 0 1) (le_z_yes tt))
     first (suc n) i below named = absurd (omega arith)
 
--- ---- a condition that may hold or not
+-- ---- a condition that may or may not hold
 
 abbrev pub the_one : Instance
 the_one = instance 0 []

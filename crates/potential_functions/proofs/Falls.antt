@@ -1,5 +1,5 @@
--- By how much a score falls from one packed state to another, and what it is at a goal. Said of literals and changes by
--- numbers, whatever task they are of.
+-- Upper bounds of how much a score falls from one packed state to another, and of the score in goal states. Stated for numbered
+-- literals and changes of any task.
 use Rattle.std.proofs.Common.{◌≡◌, ℕ, ◌+◌, ◌<◌, ◌≤◌, inl, inr, Bool, true, false, List, [], ◌∷◌, length, get_or, refl, ap, subst, arith, ℤ, pos, negsuc, ◌+ℤ◌, ◌≤ℤ◌}
 use Rattle.std.specs.Prelude.{Contains, if◌then◌else◌, map, fold}
 use Rattle.std.specs.Int.{int_max}
@@ -31,7 +31,7 @@ in_every_pair false true = (1, omega arith, refl)
 in_every_pair true false = (2, omega arith, refl)
 in_every_pair true true = (3, omega arith, refl)
 
--- a pair loses at most the worst
+-- a pair loses no more than the worst
 loss-most : (literals : List NumberedLiteral) (changes : List NumberedChange) (w : ℤ) (number : ℕ) (before after : Bool)
     → is_pair literals changes number (record { before = before; after = after }) ≡ true → loss w (record { before = before; after = after }) ≤ℤ worst literals changes w number
 loss-most literals changes w number before after is =
@@ -39,7 +39,7 @@ loss-most literals changes w number before after is =
     greatest-most (map (loss w) (pairs literals changes number)) (loss w pair)
     (Contains-map (loss w) (pairs literals changes number) pair (Contains-filter (is_pair literals changes number) every_pair pair (in_every_pair before after) is))
 
--- what is given before is at most what is given after and what may be lost
+-- the contribution before is at most that after plus the possible loss
 given-falls : (w most : ℤ) (touched before after : Bool) → (touched ≡ true → loss w (record { before = before; after = after }) ≤ℤ most) → (touched ≡ false → before ≡ after)
     → (if before then w else pos 0) ≤ℤ ((if after then w else pos 0) +ℤ (if touched then most else pos 0))
 given-falls w most true true true loses stays = let h = loses refl in omega (arith, ints)
@@ -65,7 +65,7 @@ given-ends w false false false is_no is_yes = omega (arith, ints, clamps)
 abbrev pub bit : List Bool → ℕ → Bool
 bit bits number = get_or bits number false
 
--- a score falls by no more than the literals and changes may make it lose
+-- a score falls by no more than the literals and changes can make it lose
 pub score-falls : (p : PotentialFunction) (bits next : List Bool) (literals : List NumberedLiteral) (changes : List NumberedChange) (count : ℕ)
     → length bits ≡ count → length next ≡ count
     → ((n : ℕ) → n < count → is_pair literals changes n (record { before = bit bits n; after = bit next n }) ≡ true)
@@ -79,7 +79,7 @@ score-falls p bits next literals changes count long next_long is_pair untouched 
     let after = ap (λ l. sum_below l (given p.weights next)) next_long in
     omega (arith, ints)
 
--- and where literals hold it is no more than the constant and what they leave
+-- and in states that satisfy the literals it is no more than the constant and their contribution
 pub score-ends : (p : PotentialFunction) (bits : List Bool) (literals : List NumberedLiteral) (count : ℕ) → length bits ≡ count
     → ((n : ℕ) (value : Bool) → n < count → says literals n value ≡ true → bit bits n ≡ value)
     → score p bits ≤ℤ (p.constant +ℤ goal_gives_at_most count p.weights literals)

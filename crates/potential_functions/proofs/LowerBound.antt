@@ -29,10 +29,10 @@ use Rattle.potential_functions.specs.Laws.{AreNumberable, AreLowerBounds, FairOn
 use Rattle.potential_functions.proofs.Falls.{score-falls, score-ends, or_zero-most, value-falls, value-ends}
 use Rattle.potential_functions.proofs.Steps.{formula-says, step-is_pair, step-untouched}
 
--- ---- along any list that runs
+-- ---- along any run
 
--- what falls by no more than is allowed to each action, and is at most 0 where the goal is met, is at most what is allowed to
--- all of a list that leads to a goal
+-- a value that falls by no more than each action's allowance, and is at most 0 in goal states, is at most the total allowance of
+-- a list that leads to a goal
 module _ {S A : Type 0} (t : System S A) (allowance : A → ℕ) (among : S → Type 0) (height : S → ℤ)
     (stays : (s next : S) (a : A) → among s → t.step s a ≡ Some next → among next)
     (falls : (s next : S) (a : A) → among s → t.step s a ≡ Some next → height s ≤ℤ (height next +ℤ pos (allowance a)))
@@ -57,7 +57,7 @@ module _ {S A : Type 0} (t : System S A) (allowance : A → ℕ) (among : S → 
 -- ---- steps of the ground task
 
 module _ (task : Task) (atoms : List Atom) where
-  -- where a step of the ground task leads
+  -- the successor in the ground task
   pub led : (bits next : List Bool) (number : ℕ) → ground_step task atoms bits number ≡ Some next
       → (i : Instance) × (state : State) × (slice_get (kept_instances task) number ≡ Some i) × (step task (state_of_bits task atoms bits) i ≡ Some state) × (bits_of_state atoms state ≡ next)
   led bits next number leads =
@@ -110,7 +110,7 @@ module _ (allowance : Instance → ℕ) (task : Task) (atoms : List Atom) (p : P
       let within = fair.goals.within in
       omega (arith, ints)
 
-  -- the value is at most what is allowed to all instances of a list that leads to a goal
+  -- the value is at most the total allowance of the instances of a list that leads to a goal
   state_bound : (s end : State) (plan : List Instance) → HasInitialStatics task s → run (system_of task) s plan ≡ Some end → IsTrue (meets_goal task end)
       → value p (bits_of s) ≤ sum_by allowance plan
   state_bound s end plan statics runs goal =
@@ -132,14 +132,14 @@ module _ (allowance : Instance → ℕ) (task : Task) (atoms : List Atom) (p : P
   packed-statics : (bits : List Bool) → HasInitialStatics task (state_of_bits task atoms bits)
   packed-statics bits q static = contains-static (is_fluent task) task.init atoms numbered-fluent bits q static ∙ sym (contains-from_list atoms_total task.init q)
 
-  -- a packed state has the bits of the state that it stands for
+  -- a packed state has the bits of the state that it represents
   packed-bits : (bits : List Bool) → length bits ≡ length atoms → bits_of (state_of_bits task atoms bits) ≡ bits
   packed-bits bits as_long = bits_of-packed_state (is_fluent task) task.init atoms numbered-fluent numberable.distinct bits as_long
 
   abbrev is_packed : List Bool → Type 0
   is_packed bits = length bits ≡ length atoms
 
-  -- what is allowed to the instance of a number
+  -- the allowance of the instance with a number
   abbrev allowed : ℕ → ℕ
   allowed number = option_map_or allowance (slice_get (kept_instances task) number) 0
 
@@ -172,7 +172,7 @@ module _ (allowance : Instance → ℕ) (task : Task) (atoms : List Atom) (p : P
   ground_value_ends : (bits : List Bool) → is_packed bits → IsTrue ((ground_system task atoms).meets_goal bits) → value p bits ≡ 0
   ground_value_ends bits as_long goal = value-ends p bits (ground-ends bits as_long goal)
 
--- ---- what is allowed is the cost
+-- ---- the allowance is the cost
 
 pub are_lower_bounds : (task : Task) (atoms : List Atom) (p : PotentialFunction) → AreNumberable task atoms → AreFair task atoms p → AreLowerBounds task atoms p
 are_lower_bounds task atoms p numberable fair = record {
@@ -191,7 +191,7 @@ are_lower_bounds task atoms p numberable fair = record {
 pub fair_ones_are_lower_bounds : FairOnesAreLowerBounds
 fair_ones_are_lower_bounds = are_lower_bounds
 
--- ---- nothing is allowed
+-- ---- the allowance is 0
 
 pub sum-nothing : {A : Type 0} (f : A → ℕ) → ((a : A) → f a ≡ 0) → (plan : List A) → sum_by f plan ≡ 0
 sum-nothing f each [] = refl
@@ -208,7 +208,7 @@ nothing-allowed task number =
     ]
 
 module _ (task : Task) (atoms : List Atom) (p : PotentialFunction) (numberable : AreNumberable task atoms) (fair : AreDeadFair task atoms p) where
-  -- what comes only where the value is 0 does not come where a dead end is reported
+  -- what happens only at value 0 does not happen where a dead end is reported
   never-where : (bits : List Bool) (b : Bool) → IsTrue (is_dead_by p bits) → (b ≡ true → value p bits ≤ 0) → b ≡ false
   never-where bits b dead none_left =
       false_from_ne_true b (λ is. let none = none_left is in let some = leb-true 1 (value p bits) dead in absurd (omega arith))

@@ -59,7 +59,7 @@ module _ (atoms : List Atom) where
             change-below it.0 c it.2
       ] at
 
-  -- the lists of a number are those of its instance
+  -- the lists for a number are those of its instance
   pub literals-named : (task : Task) (number : ℕ) (i : Instance) → slice_get (kept_instances task) number ≡ Some i → literals_of_number task atoms number ≡ literals_of_instance task atoms i
   literals-named task number i named = ap (λ o. option_map_or (literals_of_instance task atoms) o []) named
 

@@ -1,4 +1,4 @@
--- Tests that some element of a list passes.
+-- Tests passed by some element of a list.
 use Rattle.std.proofs.Common.{◌≡◌, Bool, true, false, true≢false, ◌||◌, inl, inr, List, [], ◌∷◌, Option, None, Some, refl, sym, ap}
 use Rattle.std.specs.List.{list_any, list_all, filter_map, cons_option}
 use Rattle.std.specs.Option.{option_map_or}
@@ -13,7 +13,7 @@ any-filter_map p h (x ∷ xs) =
       | Some y ↦ ap (λ b. p y || b) rest
     ]
 
--- what each that passes the one test passes too
+-- an element that passes one test also passes the other
 pub any-weaker : {X : Type 0} (p q : X → Bool) → ((x : X) → p x ≡ true → q x ≡ true) → (xs : List X) → list_any p xs ≡ true → list_any q xs ≡ true
 any-weaker p q passes [] none = absurd (true≢false (sym none))
 any-weaker p q passes (x ∷ xs) some =
@@ -22,7 +22,7 @@ any-weaker p q passes (x ∷ xs) some =
       | inr later ↦ or_right (q x) (list_any q xs) (any-weaker p q passes xs later)
     ]
 
--- of two tests
+-- for two tests
 pub any-either : {X : Type 0} (p q r : X → Bool) → ((x : X) → p x ≡ true → (q x || r x) ≡ true) → (xs : List X) → list_any p xs ≡ true → (list_any q xs || list_any r xs) ≡ true
 any-either p q r passes [] none = absurd (true≢false (sym none))
 any-either p q r passes (x ∷ xs) some =
@@ -37,7 +37,7 @@ any-either p q r passes (x ∷ xs) some =
       ]
     ]
 
--- where all pass the one test and some the other, one passes both
+-- if all pass one test and some pass another, some pass both
 pub all-any : {X : Type 0} (p q : X → Bool) (xs : List X) → list_all p xs ≡ true → list_any q xs ≡ true → (x : X) × (p x ≡ true) × (q x ≡ true)
 all-any p q [] all none = absurd (true≢false (sym none))
 all-any p q (x ∷ xs) all some =

@@ -1,4 +1,4 @@
--- Constants, weights and what they give are in range, and so are sums of them.
+-- Constants, weights and their contributions are in range, and so are their sums.
 use Rattle.std.proofs.Common.{◌≡◌, ℕ, zero, suc, ◌*◌, ◌≤◌, inl, inr, Bool, true, false, List, [], ◌∷◌, get_or, ap, arith, ℤ, pos, ◌+ℤ◌, ◌≤ℤ◌}
 use Rattle.std.specs.Prelude.{if◌then◌else◌, All}
 use Rattle.std.proofs.lemmas.Bool.{cases_eq}
@@ -20,7 +20,7 @@ given-range weights bits n all = of_bit (get_or bits n false)
     of_bit true = weight-range weights n all
     of_bit false = zero-range
 
--- how far two sums of numbers in range are apart
+-- the difference of two sums of numbers in range
 pub sum-between : (n m : ℕ) (f : ℕ → ℤ) → ((k : ℕ) → IsInRange (f k)) → n ≤ m
     → ((sum_below m f +ℤ pos (2147483647 * n)) ≤ℤ (sum_below n f +ℤ pos (2147483647 * m))) × ((sum_below n f +ℤ pos (2147483647 * n)) ≤ℤ (sum_below m f +ℤ pos (2147483647 * m)))
 sum-between n zero f each within =

@@ -1,4 +1,4 @@
--- The packed state of the state that some bits stand for: it has those of the numbered atoms, however many bits there are.
+-- The packed state of the state that some bits represent: it has the bits of the numbered atoms, however many bits there are.
 use Rattle.std.proofs.Common.{◌≡◌, ◌∙◌, ℕ, ◌<◌, ◌≤◌, inl, inr, Bool, true, false, List, [], length, get_or, refl, sym, ap, arith, pos, ◌+ℤ◌}
 use Rattle.std.specs.Prelude.{IsTrue, if◌then◌else◌}
 use Rattle.std.specs.FinSet.{contains}
@@ -35,7 +35,7 @@ module _ (task : Task) (atoms : List Atom) (numberable : AreNumberable task atom
       ∙ contains-numbered (is_fluent task) task.init atoms numberable.distinct bits n a (numberable.fluent n anything below) (slice_get-get_or atoms n anything below)
 
   module _ (p : PotentialFunction) (width : length p.weights ≤ length atoms) where
-    -- bits past the atoms have no weight, and where there are less they are as if they were false
+    -- bits past the atoms have no weight, and missing ones count as false
     sum-as-many : (bits : List Bool) → sum_below (length bits) (given p.weights bits) ≡ sum_below (length atoms) (given p.weights bits)
     sum-as-many bits =
         elim (cases_lt (length bits) (length atoms)) [

@@ -1,4 +1,4 @@
--- One weight changed, and when a potential function is settled.
+-- A single changed weight, and when a potential function is settled.
 use Rattle.std.proofs.Common.{◌≡◌, ◌∙◌, ℕ, zero, suc, ◌<◌, ◌≤◌, ◌≢◌, inl, inr, Bool, true, false, List, [], ◌∷◌, set, get_or, length, length-set, refl, sym, ap, subst, arith, ℤ, pos, ◌+ℤ◌, neg_ℤ, ◌≤ℤ◌}
 use Rattle.std.specs.Prelude.{if◌then◌else◌, All}
 use Rattle.std.specs.Int.{int_max}
@@ -25,7 +25,7 @@ weight-past [] n past = refl
 weight-past (w ∷ weights) zero past = absurd (omega arith)
 weight-past (w ∷ weights) (suc n) past = weight-past weights n (omega arith)
 
--- a weight that is set, where none is set past the end but 0
+-- a weight after it is set; past the end it can only be 0
 weight-set : (weights : List ℤ) (n : ℕ) (w : ℤ) → (length weights ≤ n → w ≡ pos 0) → weight (set weights n w) n ≡ w
 weight-set [] n w past = sym (past (omega arith))
 weight-set (v ∷ weights) zero w past = refl
@@ -50,9 +50,9 @@ set-range weights n w all fits k d below =
       | inr other ↦ subst IsInRange (sym (get_or-set_other weights n k w d other)) (all k d (omega (arith, length-set {A = ℤ} weights n w)))
     ]
 
--- ---- near ones
+-- ---- neighbours
 
--- lists of one length with the same weights are one
+-- lists of the same length with the same weights are equal
 same-weights : (ws vs : List ℤ) → length ws ≡ length vs → ((n : ℕ) → weight ws n ≡ weight vs n) → ws ≡ vs
 same-weights [] [] e each = refl
 same-weights [] (v ∷ vs) e each = absurd (omega arith)
@@ -83,7 +83,7 @@ set-same (w ∷ weights) (suc n) = ap (λ l. w ∷ l) (set-same weights n)
 
 -- ---- settled
 
--- with these weights no constant gives potentials that are fair at this allowance and better
+-- with these weights, no constant gives potentials that are fair at this allowance and better
 pub record IsNoneBetter (allowance : Instance → ℕ) (task : Task) (atoms : List Atom) (p : PotentialFunction) (weights : List ℤ) : Type 0 where
   pub none : (constant : ℤ) → IsInRange constant → AreFairAt allowance task atoms (potentials constant weights) → initial_value task atoms (potentials constant weights) ≤ initial_value task atoms p
 
@@ -96,7 +96,7 @@ by-one : {P : Type 0} (x w : ℤ) → w ≤ℤ (x +ℤ pos 1) → x ≤ℤ (w +�
 by-one x w low high less same more =
     by_lt_z x w (λ below. less (omega (arith, ints))) (λ above. by_lt_z w x (λ over. more (omega (arith, ints))) (λ under. same (omega (arith, ints))))
 
--- potentials of which the constant and each weight is tried are settled
+-- potentials for which the constant and each weight was tried are settled
 pub settled : (allowance : Instance → ℕ) (task : Task) (atoms : List Atom) (p : PotentialFunction) → IsNoneBetter allowance task atoms p p.weights → ((n : ℕ) → n < length p.weights → IsTried allowance task atoms p n) → IsSettledAt allowance task atoms p
 settled allowance task atoms p constant tried = record {
   none_better = λ q in_range fair near.

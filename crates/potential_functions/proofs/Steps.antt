@@ -1,4 +1,4 @@
--- What a step of the task does to numbered atoms, by the literals and the changes of its instance.
+-- How a step of the task changes numbered atoms, by the literals and changes of its instance.
 use Rattle.std.proofs.Common.{◌≡◌, ◌∙◌, ℕ, Bool, true, false, true≢false, not, ◌&&◌, ◌||◌, List, [], ◌∷◌, map, Option, None, Some, refl, sym, ap, subst}
 use Rattle.std.specs.Prelude.{◌==◌, if◌then◌else◌, cond, filter, slice_get}
 use Rattle.std.specs.Bool.{beq}
@@ -21,14 +21,14 @@ use Rattle.model.proofs.GroundTaskLemmas.{step-counting}
 use Rattle.potential_functions.specs.Fair.{says, touches, makes, may_become, is_pair}
 use Rattle.potential_functions.proofs.Passing.{any-filter_map, any-weaker, any-either, all-any}
 
--- ---- what may become of an atom
+-- ---- the possible truth values of an atom
 
 -- the atoms that become true, or those that become false
 abbrev pub made_by : Bool → List GroundLiteral → List Atom
 made_by true literals = added_by literals
 made_by false literals = deleted_by literals
 
--- what comes of it is one of the things that may, where some of the changes that may be made are made, and all unconditional ones
+-- the result is one of the possible ones, if some of the possible changes take effect and all unconditional ones do
 pub comes : (added deleted : Bool) (may : Bool → Bool) (adding deleting before : Bool)
     → (added ≡ true → adding ≡ true) → (deleted ≡ true → deleting ≡ true) → (adding ≡ true → (added || may true) ≡ true) → (deleting ≡ true → (deleted || may false) ≡ true)
     → (let after = (before && not deleting) || adding in if added then after else beq after (before && not deleted) || may after) ≡ true
@@ -50,7 +50,7 @@ abbrev is_adding : GroundLiteral → Bool
 is_adding (adds a) = true
 is_adding (deletes a) = false
 
--- the literal makes this atom true, or false
+-- the literal makes this atom true (or false)
 abbrev makes_it : Bool → Atom → GroundLiteral → Bool
 makes_it value a l = beq (is_adding l) value && eq_by_cmp atom_cmp a (atom_of_literal l)
 
@@ -108,7 +108,7 @@ module _ (atoms : List Atom) (distinct : are_distinct atoms ≡ true) (n : ℕ) 
     literal-says value (are_same b c) holding is = absurd (true≢false (sym is))
     literal-says value (are_different b c) holding is = absurd (true≢false (sym is))
 
-    -- where a formula holds, what its literals say of the atom is so
+    -- if a formula holds, its literals are true of the atom
     pub formula-says : (f : Formula) (binding : List ℕ) (value : Bool) → holds task f binding s ≡ true → says (numbered_literals task atoms f binding) n value ≡ true → contains s a ≡ value
     formula-says f binding value holding is =
         let it = all-any (literal_holds s) (λ l. option_map_or (λ (k : NumberedLiteral). k.atom == n && beq k.value value) (numbered_literal atoms l) false) (sure task f binding)
@@ -160,7 +160,7 @@ module _ (atoms : List Atom) (distinct : are_distinct atoms ≡ true) (n : ℕ) 
     abbrev is_made : Change → Bool
     is_made c = holds task c.condition c.binding s
 
-    -- the changes that are made and make the atom true, or false
+    -- the changes that take effect and make the atom true (or false)
     made-any : (value : Bool) (changes : List Change) → occurs_in (made_by value (literals_in task s changes)) a ≡ list_any (λ (c : Change). is_made c && makes_it value a c.literal) changes
     made-any true [] = refl
     made-any false [] = refl
@@ -190,7 +190,7 @@ module _ (atoms : List Atom) (distinct : are_distinct atoms ≡ true) (n : ℕ) 
       touches-any : touches numbered n ≡ list_any (λ (c : Change). eq_by_cmp atom_cmp a (atom_of_literal c.literal)) changes
       touches-any = any-filter_map (λ (k : NumberedChange). k.atom == n) (numbered_change atoms) changes ∙ (λ i. list_any (λ c. numbered-touches c i) changes)
 
-      -- an unconditional change is made
+      -- an unconditional change takes effect
       pub makes-made : (value : Bool) → makes numbered true value n ≡ true → occurs_in (made_by value (literals_in task s changes)) a ≡ true
       makes-made value is =
           made-any value changes
@@ -200,7 +200,7 @@ module _ (atoms : List Atom) (distinct : are_distinct atoms ≡ true) (n : ℕ) 
           and_from (is_made c) (makes_it value a c.literal) (empty_and-holds task c.condition c.binding s (beq-same (is_unconditional c) true parts.1)) parts.0) changes
           (sym (makes-any true value) ∙ is)
 
-      -- what is made is made by an unconditional change or by one under a `when`
+      -- every effect comes from an unconditional change or from one under a `when`
       pub made-makes : (value : Bool) → occurs_in (made_by value (literals_in task s changes)) a ≡ true → (makes numbered true value n || makes numbered false value n) ≡ true
       made-makes value is =
           (λ i. makes-any true value i || makes-any false value i)
@@ -214,7 +214,7 @@ module _ (atoms : List Atom) (distinct : are_distinct atoms ≡ true) (n : ℕ) 
           either true false e = refl
           either false u e = absurd (true≢false (sym e))
 
-      -- and touches the atom
+      -- and the change affects the atom
       pub made-touches : (value : Bool) → occurs_in (made_by value (literals_in task s changes)) a ≡ true → touches numbered n ≡ true
       made-touches value is =
           touches-any
@@ -245,7 +245,7 @@ module _ (atoms : List Atom) (distinct : are_distinct atoms ≡ true) (n : ℕ) 
         held true false y t is = absurd (cc)
         held false v y t is = absurd (cc)
 
-    -- what the literals of the instance say of the atom is so before
+    -- the literals of the instance are true of the atom before the step
     pub instance-says : (value : Bool) → says (literals_of_instance task atoms i) n value ≡ true → contains s a ≡ value
     instance-says value is =
         elim (slice_get task.schemas i.schema) as (λ o. slice_get task.schemas i.schema ≡ o
@@ -254,7 +254,7 @@ module _ (atoms : List Atom) (distinct : are_distinct atoms ≡ true) (n : ℕ) 
           | Some schema ↦ λ named said. formula-says task s schema.precondition i.objects value (precondition-holds schema named) said
         ] refl is
 
-    -- what the atom is before and after is a pair
+    -- the truth values of the atom before and after are a possible pair
     pub step-is_pair : is_pair (literals_of_instance task atoms i) (counting_of_instance task atoms i) n (record { before = contains s a; after = contains next a }) ≡ true
     step-is_pair =
         and_from (not (says (literals_of_instance task atoms i) n (not (contains s a)))) (may_become (counting_of_instance task atoms i) n (contains s a) (contains next a))
@@ -269,7 +269,7 @@ module _ (atoms : List Atom) (distinct : are_distinct atoms ≡ true) (n : ℕ) 
         other true e = absurd (cc)
         other false e = absurd (cc)
 
-    -- and an atom that no change touches stays as it is
+    -- and an atom that no change affects is unchanged
     pub step-untouched : touches (counting_of_instance task atoms i) n ≡ false → contains s a ≡ contains next a
     step-untouched none =
         sym (after-is ∙ kept (contains s a) (occurs_in (made_by false changed) a) (occurs_in (made_by true changed) a) (never false) (never true))

@@ -11,7 +11,7 @@ pub sum-zero : (n : ℕ) → sum_below n (λ k. pos 0) ≡ pos 0
 sum-zero zero = refl
 sum-zero (suc n) = let rest = sum-zero n in omega (arith, ints)
 
--- what is so of each part is so of the sums
+-- equal parts give equal sums
 pub sum-alike : (n : ℕ) (f g : ℕ → ℤ) → ((k : ℕ) → k < n → f k ≡ g k) → sum_below n f ≡ sum_below n g
 sum-alike zero f g each = refl
 sum-alike (suc n) f g each =
@@ -33,7 +33,7 @@ sum-least_both (suc n) f g h each =
     let last = each n (omega arith) in
     omega (arith, ints)
 
--- what is 0 from a number on adds nothing
+-- parts that are 0 from a number on add nothing
 pub sum-past : (n m : ℕ) (f : ℕ → ℤ) → n ≤ m → ((k : ℕ) → n ≤ k → f k ≡ pos 0) → sum_below m f ≡ sum_below n f
 sum-past n zero f within none = ap (λ k. sum_below k f) (let e : zero ≡ n = omega arith in e)
 sum-past n (suc m) f within none =
@@ -45,7 +45,7 @@ sum-past n (suc m) f within none =
       | inr not_below ↦ ap (λ k. sum_below k f) (let e : suc m ≡ n = omega arith in e)
     ]
 
--- two that are alike save at one place
+-- two sums that differ in a single part
 pub sum-changed : (n : ℕ) (f g : ℕ → ℤ) (place : ℕ) → place < n → ((k : ℕ) → k < n → k ≢ place → f k ≡ g k) → (sum_below n f +ℤ g place) ≡ (sum_below n g +ℤ f place)
 sum-changed zero f g place below each = absurd (omega arith)
 sum-changed (suc n) f g place below each =

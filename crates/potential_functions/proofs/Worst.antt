@@ -1,4 +1,4 @@
--- The worst of an atom, by what may become of it.
+-- The greatest loss by an atom, depending on what may happen to it.
 use Rattle.std.proofs.Common.{◌≡◌, ℕ, Bool, true, false, ◌||◌, List, [], ◌∷◌, arith, ℤ, pos, neg_ℤ}
 use Rattle.std.specs.Prelude.{if◌then◌else◌, map}
 use Rattle.std.specs.Int.{int_max}
@@ -8,7 +8,7 @@ use Rattle.potential_functions.specs.PotentialFunctions.{IsInRange}
 use Rattle.potential_functions.specs.Fair.{Pair, is_pair, loss, greatest, worst}
 use Rattle.potential_functions.proofs.Ranges.{zero-range}
 
--- the most that is lost of this weight, where the atom may fall, stay as it is, or rise
+-- the greatest loss for this weight, given whether the atom may fall, stay, or rise
 abbrev pub worst_by : Bool → Bool → Bool → ℤ → ℤ
 worst_by true stays true w = int_max w (neg_ℤ w)
 worst_by true true false w = int_max w (pos 0)
@@ -50,7 +50,7 @@ pub worst-is : (literals : List NumberedLiteral) (changes : List NumberedChange)
 worst-is literals changes w n =
     worst-among (is_pair literals changes n (from false false)) (is_pair literals changes n (from false true)) (is_pair literals changes n (from true false)) (is_pair literals changes n (from true true)) w
 
--- a weight in range loses no more than the range allows
+-- the loss for a weight in range is in range
 pub worst-range : (falls stays rises : Bool) (w : ℤ) → IsInRange w → IsInRange (worst_by falls stays rises w)
 worst-range true true true w is = let l = is.least in let m = is.most in record { least = omega (arith, ints, clamps); most = omega (arith, ints, clamps) }
 worst-range true false true w is = let l = is.least in let m = is.most in record { least = omega (arith, ints, clamps); most = omega (arith, ints, clamps) }

@@ -59,7 +59,7 @@ gives-zero literals count =
 abbrev pub zero_potentials : ℕ → PotentialFunction
 zero_potentials count = record { constant = pos 0; weights = zeros count }
 
--- whatever an instance is allowed
+-- for any allowances of the instances
 pub zero-fair_at : (allowance : Instance → ℕ) (task : Task) (atoms : List Atom) → AreFairAt allowance task atoms (zero_potentials (length atoms))
 zero-fair_at allowance task atoms = record {
   instances = λ k d below.

@@ -1,5 +1,5 @@
--- What fair potential functions are for: their value is a lower bound of what is still to pay. And what dead-fair ones are for:
--- a state whose value is at least 1 is a dead end.
+-- The purpose of fair potential functions: their values are lower bounds of the remaining cost. And of dead-fair ones: a state
+-- with a value of at least 1 is a dead end.
 use Rattle.std.specs.Prelude.{◌≡◌, ℕ, ◌+◌, ◌≤◌, Bool, true, false, IsTrue, List, length, All, Some}
 use Rattle.model.specs.Task.{Atom, Task, Instance}
 use Rattle.model.specs.Runs.{run, cost_of_all}
@@ -15,20 +15,20 @@ pub record AreNumberable (task : Task) (atoms : List Atom) : Type 0 where
   pub distinct : are_distinct atoms ≡ true
   pub fluent : All (λ (a : Atom). IsTrue (is_fluent task a.predicate)) atoms
 
--- From every state with the initial static atoms on, every list of instances that runs to a state which meets the goal, of
--- whatever length, costs at least the value of the state that it starts from.
+-- From every state with the initial static atoms, every list of instances that leads to a goal state, of whatever length, costs
+-- at least the value of the state.
 abbrev pub IsLowerBoundOf : Task → List Atom → PotentialFunction → Type 0
 IsLowerBoundOf task atoms p =
     (state end : State) (plan : List Instance) → HasInitialStatics task state → run (system_of task) state plan ≡ Some end → IsTrue (meets_goal task end)
     → value_of_state atoms p state ≤ cost_of_all (system_of task) plan
 
--- the value of such a state falls by no more than an instance costs, and is 0 where the goal is met
+-- the value of such a state falls by no more than an instance's cost, and is 0 in goal states
 pub record IsConsistent (task : Task) (atoms : List Atom) (p : PotentialFunction) : Type 0 where
   pub falls : (state next : State) (i : Instance) → HasInitialStatics task state → step task state i ≡ Some next
       → value_of_state atoms p state ≤ value_of_state atoms p next + cost_of task i
   pub ends : (state : State) → HasInitialStatics task state → IsTrue (meets_goal task state) → value_of_state atoms p state ≡ 0
 
--- the same of the ground task
+-- the same for the ground task
 abbrev pub IsGroundLowerBoundOf : Task → List Atom → PotentialFunction → Type 0
 IsGroundLowerBoundOf task atoms p =
     (bits end : List Bool) (plan : List ℕ) → length bits ≡ length atoms → run (ground_system task atoms) bits plan ≡ Some end → IsTrue ((ground_system task atoms).meets_goal end)
@@ -39,7 +39,7 @@ pub record IsGroundConsistent (task : Task) (atoms : List Atom) (p : PotentialFu
       → value p bits ≤ value p next + (ground_system task atoms).cost number
   pub ends : (bits : List Bool) → length bits ≡ length atoms → IsTrue ((ground_system task atoms).meets_goal bits) → value p bits ≡ 0
 
--- What fair potential functions are.
+-- The properties of fair potential functions.
 pub record AreLowerBounds (task : Task) (atoms : List Atom) (p : PotentialFunction) : Type 0 where
   pub bound : IsLowerBoundOf task atoms p
   pub consistent : IsConsistent task atoms p
@@ -51,20 +51,20 @@ FairOnesAreLowerBounds = (task : Task) (atoms : List Atom) (p : PotentialFunctio
 
 -- ---- dead ends
 
--- No list of instances, of whatever length, runs from a state with the initial static atoms that is reported as a dead end to one
--- that meets the goal.
+-- No list of instances, of whatever length, leads from a state with the initial static atoms that is reported as a dead end to a
+-- goal state.
 abbrev pub DetectsDeadEndsOf : Task → List Atom → PotentialFunction → Type 0
 DetectsDeadEndsOf task atoms p =
     (state end : State) (plan : List Instance) → HasInitialStatics task state → IsTrue (is_dead_state atoms p state) → run (system_of task) state plan ≡ Some end
     → meets_goal task end ≡ false
 
--- the value of such a state never falls, and is 0 where the goal is met
+-- the value of such a state never falls, and is 0 in goal states
 pub record NeverFalls (task : Task) (atoms : List Atom) (p : PotentialFunction) : Type 0 where
   pub never_falls : (state next : State) (i : Instance) → HasInitialStatics task state → step task state i ≡ Some next
       → value_of_state atoms p state ≤ value_of_state atoms p next
   pub ends : (state : State) → HasInitialStatics task state → IsTrue (meets_goal task state) → value_of_state atoms p state ≡ 0
 
--- the same of the ground task
+-- the same for the ground task
 abbrev pub DetectsGroundDeadEndsOf : Task → List Atom → PotentialFunction → Type 0
 DetectsGroundDeadEndsOf task atoms p =
     (bits end : List Bool) (plan : List ℕ) → length bits ≡ length atoms → IsTrue (is_dead_by p bits) → run (ground_system task atoms) bits plan ≡ Some end
@@ -75,13 +75,13 @@ pub record NeverFallsInGround (task : Task) (atoms : List Atom) (p : PotentialFu
       → value p bits ≤ value p next
   pub ends : (bits : List Bool) → length bits ≡ length atoms → IsTrue ((ground_system task atoms).meets_goal bits) → value p bits ≡ 0
 
--- a packed state that is reported as a dead end leads only to such, and does not meet the goal
+-- a packed state reported as a dead end leads only to such states, and is not a goal state
 pub record StaysDeadInGround (task : Task) (atoms : List Atom) (p : PotentialFunction) : Type 0 where
   pub stays : (bits next : List Bool) (number : ℕ) → length bits ≡ length atoms → IsTrue (is_dead_by p bits) → ground_step task atoms bits number ≡ Some next
       → IsTrue (is_dead_by p next)
   pub no_goal : (bits : List Bool) → length bits ≡ length atoms → IsTrue (is_dead_by p bits) → (ground_system task atoms).meets_goal bits ≡ false
 
--- What dead-fair potential functions do.
+-- The properties of dead-fair potential functions.
 pub record DetectDeadEnds (task : Task) (atoms : List Atom) (p : PotentialFunction) : Type 0 where
   pub dead_ends : DetectsDeadEndsOf task atoms p
   pub consistent : NeverFalls task atoms p

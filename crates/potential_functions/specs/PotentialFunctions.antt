@@ -5,12 +5,12 @@ use Rattle.model.specs.Task.{Atom}
 use Rattle.model.specs.Meaning.{State}
 use Rattle.model.specs.Grounding.{bits_of_state}
 
--- a constant, and weights, each at the place, from 0, that is the number of its atom
+-- a constant, and weights, each at the index of its atom's number, from 0
 pub record PotentialFunction : Type 0 where
   pub constant : ℤ
   pub weights : List ℤ
 
--- the weight of the atom of this number, 0 where none is given
+-- the weight of the atom with this number; 0 if none is given
 abbrev pub weight : List ℤ → ℕ → ℤ
 weight weights number = get_or weights number (pos 0)
 
@@ -19,7 +19,7 @@ abbrev pub sum_below : ℕ → (ℕ → ℤ) → ℤ
 sum_below zero f = pos 0
 sum_below (suc number) f = sum_below number f +ℤ f number
 
--- what the atom of this number gives in the packed state: its weight, where it is true
+-- the contribution of the atom with this number in the packed state: its weight, if it is true
 abbrev pub given : List ℤ → List Bool → ℕ → ℤ
 given weights bits number = if get_or bits number false then weight weights number else pos 0
 
@@ -31,11 +31,11 @@ abbrev pub or_zero : ℤ → ℕ
 or_zero (pos n) = n
 or_zero (negsuc n) = 0
 
--- the value of a packed state: the greater of 0 and that
+-- the value of a packed state: the maximum of 0 and its score
 abbrev pub value : PotentialFunction → List Bool → ℕ
 value p bits = or_zero (score p bits)
 
--- the value of a state, where these atoms have numbers: the others have the weight 0
+-- the value of a state, for these numbered atoms: all others have weight 0
 abbrev pub value_of_state : List Atom → PotentialFunction → State → ℕ
 value_of_state atoms p state = value p (bits_of_state atoms state)
 
@@ -45,7 +45,7 @@ value_of_state atoms p state = value p (bits_of_state atoms state)
 abbrev pub is_dead_by : PotentialFunction → List Bool → Bool
 is_dead_by p bits = nat_le 1 (value p bits)
 
--- the state is reported one, where these atoms have numbers
+-- the state is reported as a dead end, for these numbered atoms
 abbrev pub is_dead_state : List Atom → PotentialFunction → State → Bool
 is_dead_state atoms p state = is_dead_by p (bits_of_state atoms state)
 

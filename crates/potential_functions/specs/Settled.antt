@@ -1,5 +1,5 @@
--- Settled potential functions: fair ones, at the allowance of costs or of dead ends, that no small change makes better; and what
--- improving gives.
+-- Settled potential functions: fair ones, at the allowance of costs or of dead ends, that no small change improves; and the
+-- result of improvement.
 use Rattle.std.specs.Prelude.{◌≡◌, ◌≢◌, ℕ, ◌+◌, ◌≤◌, ◌⊎◌, pos, ◌+ℤ◌, ◌≤ℤ◌, List, length}
 use Rattle.model.specs.Task.{Atom, Task, Instance}
 use Rattle.model.specs.Meaning.{cost_of}
@@ -7,7 +7,7 @@ use Rattle.model.specs.Grounding.{ground_system}
 use Rattle.potential_functions.specs.PotentialFunctions.{PotentialFunction, weight, value, AreInRange}
 use Rattle.potential_functions.specs.Fair.{AreFairAt, nothing}
 
--- they differ by at most one in the weight of one atom, and freely in the constant
+-- they differ by at most one in the weight of one atom, and arbitrarily in the constant
 pub record AreNear (p q : PotentialFunction) : Type 0 where
   pub as_many : length q.weights ≡ length p.weights
   pub number : ℕ
@@ -19,19 +19,19 @@ pub record AreNear (p q : PotentialFunction) : Type 0 where
 abbrev pub initial_value : Task → List Atom → PotentialFunction → ℕ
 initial_value task atoms p = value p (ground_system task atoms).initial
 
--- none near it that is fair at this allowance gives the initial state a greater value
+-- no function near it that is fair at this allowance gives the initial state a greater value
 pub record IsSettledAt (allowance : Instance → ℕ) (task : Task) (atoms : List Atom) (p : PotentialFunction) : Type 0 where
   pub none_better : (q : PotentialFunction) → AreInRange q → AreFairAt allowance task atoms q → AreNear p q → initial_value task atoms q ≤ initial_value task atoms p
 
--- no fair one near it does, and no dead-fair one
+-- no fair function near it does, and no dead-fair one
 abbrev pub IsSettled : Task → List Atom → PotentialFunction → Type 0
 IsSettled task = IsSettledAt (cost_of task) task
 
 abbrev pub IsDeadSettled : Task → List Atom → PotentialFunction → Type 0
 IsDeadSettled = IsSettledAt nothing
 
--- What improving those that are fair at an allowance gives: ones that are, too, whose initial value is no lower, and which are
--- settled or have an initial value that is higher by at least so much.
+-- The result of improving functions that are fair at an allowance: they are still fair, their initial value is no lower, and they
+-- are settled or their initial value has grown by at least this much.
 pub record IsImprovedAt (allowance : Instance → ℕ) (task : Task) (atoms : List Atom) (by : ℕ) (p q : PotentialFunction) : Type 0 where
   pub as_many : length q.weights ≡ length p.weights
   pub fair : AreFairAt allowance task atoms q

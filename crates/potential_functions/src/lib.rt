@@ -1,4 +1,4 @@
-//! Defines potential functions, and why fair ones are lower bounds and dead-fair ones detect dead ends. No code.
+//! Defines potential functions; fair ones are lower bounds, and dead-fair ones detect dead ends. No code.
 #![tactic(auto)]
 
 mod laws;

@@ -57,7 +57,7 @@ module _ (task : Task) (atoms : List Atom) (p : PotentialFunction) where
     abbrev pub IsFairInstance : Instance → Type 0
     IsFairInstance i = IsFairAt (allowance i) task atoms p.weights i
 
-    -- the answer says whether the instance of this number is fair
+    -- the answer is whether the instance with this number is fair
     abbrev pub Decides : Bool → ℕ → Type 0
     Decides answer n = (i : Instance) → slice_get (kept_instances task) n ≡ Some i → (IsTrue answer ↔ IsFairInstance i)
 

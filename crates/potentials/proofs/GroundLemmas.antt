@@ -1,4 +1,4 @@
--- What every ground task keeps: how many instances and atoms it has, and that its atoms are numbered once.
+-- Properties of every ground task: its numbers of instances and atoms, and that its atoms are numbered once.
 use Rattle.std.proofs.Common.{◌<◌, ◌≤◌, ◌^◌, length, get_or, ap, arith}
 use Rattle.std.proofs.lemmas.List.{length-map}
 use Rattle.std.proofs.lemmas.List.Elements.{All-contains_itself}

@@ -1,4 +1,4 @@
--- What an instance loses, change by change: each atom counts at the first change of it.
+-- The loss of an instance, change by change: each atom counts at its first change.
 use Rattle.std.proofs.Common.{◌≡◌, ◌∙◌, ℕ, ◌+◌, ◌*◌, ◌<◌, Bool, true, false, ◌||◌, ◌==◌, List, [], ◌∷◌, ◌++◌, length, map, take, get_or, refl, sym, ap, subst, arith, ℤ, pos, ◌+ℤ◌, neg_ℤ, ◌≤ℤ◌}
 use Rattle.std.specs.Prelude.{if◌then◌else◌, All, Some, slice_get}
 use Rattle.std.specs.Int.{int_max}
@@ -19,7 +19,7 @@ use Rattle.potentials.specs.declared.swing.Swing.{Swing}
 use Rattle.potentials.specs.Swing.{IsSwing}
 use Rattle.potentials.proofs.ListLemmas.{some-at, map-take-more}
 
--- ---- the worst of an atom
+-- ---- the greatest loss by an atom
 
 pub worst-swing : (literals : List NumberedLiteral) (changes : List NumberedChange) (n : ℕ) (s : Swing) (w : ℤ) → IsSwing literals changes n s → worst_by s.falls s.stays s.rises w ≡ worst literals changes w n
 worst-swing literals changes n s w is =
@@ -61,7 +61,7 @@ module _ (literals : List NumberedLiteral) (changes : List NumberedChange) (weig
   abbrev losing_part : List NumberedChange → ℕ → ℤ
   losing_part done n = if touches done n then worst_at n else pos 0
 
-  -- what is lost by the atoms that these changes touch
+  -- the loss by the atoms that these changes affect
   abbrev pub losing : List NumberedChange → ℤ
   losing done = sum_below (length weights) (losing_part done)
 
@@ -90,7 +90,7 @@ module _ (literals : List NumberedLiteral) (changes : List NumberedChange) (weig
       elsewhere : (n : ℕ) → (n ≡ c.atom → ⊥) → (touches done n || c.atom == n) ≡ touches done n
       elsewhere n other = ap (λ b. touches done n || b) (false_from_ne_true (c.atom == n) (λ e. other (sym (eqb-true c.atom n e)))) ∙ or_false (touches done n)
 
-  -- one change more
+  -- one more change
   pub losing-more : (done : List NumberedChange) (c : NumberedChange) (x : ℤ) → c.atom < length weights → x ≡ (if touches done c.atom then pos 0 else worst_at c.atom)
       → losing (done ++ c ∷ []) ≡ (losing done +ℤ x)
   losing-more done c x below is =
@@ -121,7 +121,7 @@ module _ (literals : List NumberedLiteral) (changes : List NumberedChange) (weig
       let more = losing-more (map counting_of (take place xs)) (counting_of c) x few (loses c it.1) in
       ap (λ z. z +ℤ x) so_far ∙ sym more ∙ ap losing (sym (map-take-more counting_of xs place c within at))
 
--- ---- what an atom gives at a goal
+-- ---- the contribution of an atom in goal states
 
 pub gives-is : (literals : List NumberedLiteral) (weights : List ℤ) (n : ℕ) (fails holds : Bool) (w v x : ℤ) → fails ≡ says literals n false → holds ≡ says literals n true → w ≡ weight weights n → v ≡ w
     → x ≡ (if fails then pos 0 else if holds then v else int_max (pos 0) v) → x ≡ goal_gives literals weights n

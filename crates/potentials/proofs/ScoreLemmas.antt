@@ -1,4 +1,4 @@
--- A score that is changed atom by atom.
+-- A score updated atom by atom.
 use Rattle.std.proofs.Common.{◌≡◌, ℕ, ◌+◌, ◌*◌, ◌≤◌, Bool, List, length, arith, ℤ, pos, ◌+ℤ◌, neg_ℤ, ◌≤ℤ◌}
 use Rattle.std.specs.Prelude.{All}
 use Rattle.std.proofs.lemmas.Int.{ints}
@@ -6,7 +6,7 @@ use Rattle.potential_functions.specs.PotentialFunctions.{sum_below, given, IsInR
 use Rattle.potential_functions.proofs.Sums.{sum-range}
 use Rattle.potential_functions.proofs.Ranges.{given-range, sum-between}
 
--- the score on the way lies in the range of a score
+-- the intermediate score is in the range of a score
 pub midway-range : (constant : ℤ) (weights : List ℤ) (before after : List Bool) (n : ℕ) (total : ℤ) → IsInRange constant → All IsInRange weights → n ≤ length before
     → total ≡ ((constant +ℤ sum_below (length before) (given weights before)) +ℤ (sum_below n (given weights after) +ℤ neg_ℤ (sum_below n (given weights before))))
     → (neg_ℤ (pos (2147483647 * (length before + 1))) ≤ℤ total) × (total ≤ℤ pos (2147483647 * (length before + 1)))

@@ -36,7 +36,7 @@ sum-both (suc n) f g h each =
     let last = each n (omega arith) in
     omega (arith, ints)
 
--- what is 0 from a number on adds nothing
+-- parts that are 0 from a number on add nothing
 pub sum-past : (n m : ℕ) (f : ℕ → ℤ) → n ≤ m → ((k : ℕ) → n ≤ k → f k ≡ pos 0) → sum_below m f ≡ sum_below n f
 sum-past n zero f within none = ap (λ k. sum_below k f) (let e : zero ≡ n = omega arith in e)
 sum-past n (suc m) f within none =
@@ -138,7 +138,7 @@ differing-bit : (a b i : ℕ) → (bit_at (bit_xor a b) i == 1) ≡ not (beq (bi
 differing-bit a b i = ap (λ n. n == 1) (bit_at_xor a b i) ∙ differing (bit_at a i) (bit_at b i) (bit_at-lt a i) (bit_at-lt b i)
 
 module _ (width : ℕ) (words : List ℕ) (weights : List ℤ) (bits : List Bool) (are : AreWordsOf width words) (is : bits_in width words ≡ bits) where
-  -- the atoms of one word more
+  -- the atoms of one more word
   pub word-given : (place : ℕ) → sum_below (64 * (place + 1)) (given weights bits)
       ≡ (sum_below (64 * place) (given weights bits) +ℤ gained_in_word weights (place * 64) (get_or words place 0) (get_or words place 0))
   unfolding gained_in_word
@@ -151,7 +151,7 @@ module _ (width : ℕ) (words : List ℕ) (weights : List ℤ) (bits : List Bool
       (λ k below. number-given width words weights bits place k are is below ∙ twice (bit_at word k == 1) (weight weights (place * 64 + k))))
 
   module _ (after : List ℕ) (after_bits : List Bool) (are_after : AreWordsOf width after) (is_after : bits_in width after ≡ after_bits) where
-    -- what those of one word more gain
+    -- the gain of the atoms of one more word
     pub word-gained : (place : ℕ) → (sum_below (64 * (place + 1)) (given weights after_bits) +ℤ neg_ℤ (sum_below (64 * (place + 1)) (given weights bits)))
         ≡ ((sum_below (64 * place) (given weights after_bits) +ℤ neg_ℤ (sum_below (64 * place) (given weights bits)))
         +ℤ gained_in_word weights (place * 64) (bit_xor (get_or words place 0) (get_or after place 0)) (get_or after place 0))
@@ -174,7 +174,7 @@ module _ (width : ℕ) (words : List ℕ) (weights : List ℤ) (bits : List Bool
         joined : (f1 f0 fs g1 g0 gs hs : ℤ) → f1 ≡ (f0 +ℤ fs) → g1 ≡ (g0 +ℤ gs) → gs ≡ (fs +ℤ hs) → (g1 +ℤ neg_ℤ f1) ≡ ((g0 +ℤ neg_ℤ f0) +ℤ hs)
         joined f1 f0 fs g1 g0 gs hs a b c = omega (arith, ints)
 
--- no atom is given past the last
+-- past the last atom nothing is contributed
 pub given-past : (weights : List ℤ) (bits : List Bool) (n : ℕ) → length bits ≤ n → sum_below n (given weights bits) ≡ sum_below (length bits) (given weights bits)
 given-past weights bits n within = sum-past (length bits) n (given weights bits) within (λ k past. ap (λ b. if b then weight weights k else pos 0) (get_or_past bits k false past))
 

@@ -1,4 +1,4 @@
--- What is reported for potentials.
+-- The results of the fairness test.
 use Rattle.std.specs.Prelude.{ℕ, List, All}
 use Rattle.model.specs.Task.{Atom, Task, Instance}
 use Rattle.model.specs.Meaning.{cost_of}
@@ -11,7 +11,7 @@ use Rattle.potentials.specs.declared.fairness.Fairness.{Fairness}
 use Rattle.potentials.specs.declared.fairness.Fairness.TheVariants.{Fair, Goal}
 use Rattle.potentials.specs.declared.fairness.Fairness.TheVariants as reported
 
--- how much is allowed to an instance of the task
+-- the allowance of an instance of the task
 abbrev pub allowed_by : Allowance → Task → Instance → ℕ
 allowed_by Cost task = cost_of task
 allowed_by Nothing task = nothing
@@ -20,7 +20,7 @@ allowed_by Nothing task = nothing
 abbrev pub AreInstancesFairAt : (Instance → ℕ) → Task → List Atom → PotentialFunction → Type 0
 AreInstancesFairAt allowance task atoms p = All (λ (i : Instance). IsFairAt (allowance i) task atoms p.weights i) (kept_instances task)
 
--- at its cost; and at nothing
+-- at its cost; and at allowance 0
 abbrev pub AreInstancesFair : Task → List Atom → PotentialFunction → Type 0
 AreInstancesFair task = AreInstancesFairAt (cost_of task) task
 

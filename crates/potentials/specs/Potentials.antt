@@ -1,4 +1,4 @@
--- Potentials of the code, as the potential functions that they are.
+-- Potentials of the code, as potential functions.
 use Rattle.potentials.specs.declared.potentials.Potentials.{Potentials}
 use Rattle.potential_functions.specs.PotentialFunctions.{PotentialFunction}
 

@@ -1,4 +1,4 @@
--- What an instance may do to an atom, as the code keeps it.
+-- What an instance may do to an atom, as represented in the code.
 use Rattle.std.specs.Prelude.{◌≡◌, ℕ, Bool, true, false, ◌||◌, List}
 use Rattle.model.specs.NumberedLiterals.{NumberedLiteral, NumberedChange}
 use Rattle.potential_functions.specs.Fair.{Pair, is_pair, makes}
@@ -9,7 +9,7 @@ use Rattle.potentials.specs.declared.swing.Makers.{Makers}
 use Rattle.potentials.specs.declared.swing.Transition.{Transition}
 use Rattle.potentials.specs.declared.swing.Transition.TheVariants.{StaysFalse, Rises, Falls, StaysTrue}
 
--- whether the atom is true before and after
+-- the atom's truth values before and after
 abbrev pub pair_of : Transition → Pair
 pair_of StaysFalse = record { before = false; after = false }
 pair_of Rises = record { before = false; after = true }
@@ -20,14 +20,14 @@ abbrev pub is_always : Made → Bool
 is_always Always = true
 is_always Sometimes = false
 
--- which of the changes are of the atom of this number
+-- which of the changes affect the atom with this number
 pub record AreMakers (changes : List NumberedChange) (number : ℕ) (m : Makers) : Type 0 where
   pub add : m.add ≡ makes changes true true number
   pub delete : m.delete ≡ makes changes true false number
   pub may_add : m.may_add ≡ makes changes false true number
   pub may_delete : m.may_delete ≡ makes changes false false number
 
--- what an instance of these literals and changes may do to the atom of this number
+-- what an instance with these literals and changes may do to the atom with this number
 pub record IsSwing (literals : List NumberedLiteral) (changes : List NumberedChange) (number : ℕ) (s : Swing) : Type 0 where
   pub falls : s.falls ≡ is_pair literals changes number (record { before = true; after = false })
   pub stays : s.stays ≡ (is_pair literals changes number (record { before = false; after = false }) || is_pair literals changes number (record { before = true; after = true }))

@@ -1,4 +1,4 @@
-//! Whether potentials are fair.
+//! The test of fairness.
 ghost use Rattle.std.specs.Prelude.{◌≡◌, ◌<◌, ◌↔◌, ◌≤ℤ◌, pos, Some, IfOk, MatchOption, IsTrue, length, slice_get};
 ghost use Rattle.grounding.specs.Ground.{task_in, atoms_in};
 ghost use Rattle.model.specs.Task.{Instance};
@@ -16,29 +16,29 @@ use faults::NoMemory;
 use grounding::Ground;
 use std::alloc::Global;
 
-/// Whether potentials are fair for a ground task, or what of them is not.
+/// Whether potentials are fair for a ground task, and what violates fairness if not.
 #[derive(Clone, Copy, Debug, PartialEq, Eq)]
 pub enum Fairness {
-    /// They are.
+    /// They are fair.
     Fair,
-    /// The first kept instance that is not fair, by its number.
+    /// The number of the first kept instance that violates fairness.
     Instance(u32),
-    /// Each kept instance is fair, and the goals are not.
+    /// Each kept instance is fair, but the goal condition is violated.
     Goal,
 }
 
-/// What an instance is allowed to lose.
+/// The amount that an instance may lose.
 #[derive(Clone, Copy, Debug)]
 enum Allowance {
-    /// What it costs.
+    /// Its cost.
     Cost,
-    /// Nothing at all.
+    /// Nothing.
     Nothing,
 }
 
 impl Potentials {
-    /// Whether they are fair for the ground task: no kept instance may lose more than it costs, and at a goal they are at
-    /// most 0. There is a weight for each numbered atom.
+    /// Whether they are fair for the ground task: no kept instance may lose more than it costs, and the value in goal states is
+    /// at most 0. There must be a weight for each numbered atom.
     pub fn fair(&self, _alloc: Global, ground: &Ground<'_>) -> Result<Fairness, NoMemory>
         requires { length (potentials_of self.now).weights ≡ length (atoms_in ground.now) }
         ensures { IfOk result (Reports (task_in ground.now) (atoms_in ground.now) (potentials_of self.now)) }
@@ -46,8 +46,8 @@ impl Potentials {
         Ok(self.fairness(ground, Allowance::Cost))
     }
 
-    /// Whether they are dead-fair for the ground task: no kept instance may lose anything, and at a goal they are at most 0.
-    /// So a state of which the value is at least 1 is a dead end. There is a weight for each numbered atom.
+    /// Whether they are dead-fair for the ground task: no kept instance may lose anything, and the value in goal states is at
+    /// most 0. A state with a value of at least 1 is then a dead end. There must be a weight for each numbered atom.
     pub fn dead_fair(&self, _alloc: Global, ground: &Ground<'_>) -> Result<Fairness, NoMemory>
         requires { length (potentials_of self.now).weights ≡ length (atoms_in ground.now) }
         ensures { IfOk result (DetectsDead (task_in ground.now) (atoms_in ground.now) (potentials_of self.now)) }
@@ -55,7 +55,7 @@ impl Potentials {
         Ok(self.fairness(ground, Allowance::Nothing))
     }
 
-    /// Whether they are fair where this is allowed to each instance.
+    /// Whether they are fair with this allowance for each instance.
     fn fairness(&self, ground: &Ground<'_>, allowance: Allowance) -> Fairness
         requires { length (potentials_of self.now).weights ≡ length (atoms_in ground.now) }
         ensures { ReportsAt (allowed_by allowance (task_in ground.now)) (task_in ground.now) (atoms_in ground.now) (potentials_of self.now) result }
@@ -72,7 +72,7 @@ impl Potentials {
         }
     }
 
-    /// Whether they are fair at goals.
+    /// Whether they satisfy the goal condition.
     fn is_fair_at_goals(&self, ground: &Ground<'_>) -> bool
         requires { length (potentials_of self.now).weights ≡ length (atoms_in ground.now) }
         ensures { IsTrue result ↔ IsFairAtGoals (task_in ground.now) (atoms_in ground.now) (potentials_of self.now) }
@@ -82,7 +82,7 @@ impl Potentials {
         is_at_most(sum, 0)
     }
 
-    /// The number of the first instance that is not fair, if there is one.
+    /// The number of the first instance that violates fairness, if there is one.
     fn first_unfair(&self, ground: &Ground<'_>, allowance: Allowance) -> Option<u32>
         requires { length (potentials_of self.now).weights ≡ length (atoms_in ground.now) }
         ensures { MatchOption result
@@ -97,7 +97,7 @@ impl Potentials {
         None
     }
 
-    /// Whether the instance of this number is fair.
+    /// Whether the instance with this number is fair.
     pub fn is_fair_at(&self, ground: &Ground<'_>, number: u32) -> bool
         requires width { length (potentials_of self.now).weights ≡ length (atoms_in ground.now) }
         requires within { number < length (kept_instances (task_in ground.now)) }
@@ -107,7 +107,7 @@ impl Potentials {
         self.is_fair_within(ground, number, Allowance::Cost)
     }
 
-    /// Whether the instance of this number is dead-fair.
+    /// Whether the instance with this number is dead-fair.
     pub fn is_dead_fair_at(&self, ground: &Ground<'_>, number: u32) -> bool
         requires width { length (potentials_of self.now).weights ≡ length (atoms_in ground.now) }
         requires within { number < length (kept_instances (task_in ground.now)) }
@@ -117,7 +117,7 @@ impl Potentials {
         self.is_fair_within(ground, number, Allowance::Nothing)
     }
 
-    /// Whether the instance of this number is fair where this is allowed to it.
+    /// Whether the instance with this number is fair with this allowance.
     fn is_fair_within(&self, ground: &Ground<'_>, number: u32, allowance: Allowance) -> bool
         requires width { length (potentials_of self.now).weights ≡ length (atoms_in ground.now) }
         requires within { number < length (kept_instances (task_in ground.now)) }
@@ -134,7 +134,7 @@ impl Potentials {
 }
 
 impl Allowance {
-    /// How much is allowed to the instance of this number.
+    /// The allowance of the instance with this number.
     fn of(self, ground: &Ground<'_>, number: u32) -> u32
         requires { number < length (kept_instances (task_in ground.now)) }
         ensures { (i : Instance) → slice_get (kept_instances (task_in ground.now)) number ≡ Some i → result ≡ allowed_by self (task_in ground.now) i }
@@ -146,7 +146,7 @@ impl Allowance {
     }
 }
 
-/// Whether the number is at most what is allowed.
+/// Whether the number is at most the allowance.
 fn is_at_most(number: i64, allowed: u32) -> bool
     ensures { IsTrue result ↔ (number ≤ℤ pos allowed) }
 {

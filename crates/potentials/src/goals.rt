@@ -1,4 +1,4 @@
-//! The most that atoms may give at a goal.
+//! Upper bounds of the value in goal states.
 ghost use Rattle.std.specs.Prelude.{◌≡◌, ◌<◌, ◌≤◌, ◌+◌, ◌*◌, ◌^◌, if◌then◌else◌, ◌≤ℤ◌, neg_ℤ, pos, All, length, map};
 ghost use Rattle.std.specs.Int.{int_max};
 ghost use Rattle.grounding.specs.Views.{numbered_of};
@@ -9,7 +9,7 @@ use crate::losses::weight_of;
 use crate::swing::says;
 use grounding::NumberedLiteral;
 
-/// The most that an atom of this weight may give at a goal that says that it is to be false, or true.
+/// Upper bound of an atom's contribution in goal states, given its weight and whether the goal requires it to be false or true.
 pub fn goal_gives(is_false: bool, is_true: bool, weight: i64) -> i64
     requires { IsInRange weight }
     ensures value { result ≡ (if is_false then pos 0 else if is_true then weight else int_max (pos 0) weight) }
@@ -24,7 +24,7 @@ pub fn goal_gives(is_false: bool, is_true: bool, weight: i64) -> i64
     0
 }
 
-/// The most that atoms of these weights may give at a goal of these literals.
+/// Upper bound of the contribution of all atoms in states that satisfy these goal literals.
 pub fn goal_gives_at_most(literals: &[NumberedLiteral], weights: &[i64]) -> i64
     requires range { All IsInRange weights.now }
     requires few { length weights.now < 2 ^ 32 }

@@ -1,4 +1,4 @@
-//! Potential functions in memory: their values, and the test whether they are fair.
+//! Potential functions in memory: their values, and the test of fairness.
 #![tactic(auto)]
 
 mod fairness;

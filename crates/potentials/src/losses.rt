@@ -1,4 +1,4 @@
-//! The most that an instance may lose.
+//! Upper bounds of an instance's loss.
 ghost use Rattle.std.specs.Prelude.{◌≡◌, ◌<◌, ◌≤◌, ◌^◌, if◌then◌else◌, pos, All, Some, length, map, take, slice_get};
 ghost use Rattle.grounding.specs.Views.{numbered_of};
 ghost use Rattle.grounding.specs.declared.changes.CountingChange.{CountingChange};
@@ -10,7 +10,7 @@ ghost use Rattle.potential_functions.specs.Fair as model;
 use crate::swing::{Swing, touches};
 use grounding::{CountingChange, NumberedLiteral};
 
-/// The weight of the atom of this number.
+/// The weight of the atom with this number.
 pub(crate) fn weight_of(weights: &[i64], atom: u32) -> i64
     requires { All IsInRange weights.now }
     ensures value { result ≡ weight weights.now atom }
@@ -19,7 +19,7 @@ pub(crate) fn weight_of(weights: &[i64], atom: u32) -> i64
     weight_at(weights, atom as usize)
 }
 
-/// The weight at this place, and 0 past the last.
+/// The weight at this index; 0 past the end.
 pub(crate) fn weight_at(weights: &[i64], place: usize) -> i64
     requires { All IsInRange weights.now }
     ensures value { result ≡ weight weights.now place }
@@ -31,7 +31,7 @@ pub(crate) fn weight_at(weights: &[i64], place: usize) -> i64
     }
 }
 
-/// The most that an instance of these literals and changes may lose by atoms of these weights.
+/// Upper bound of the loss of an instance with these literals and changes, for these weights.
 pub fn loses_at_most(
     literals: &[NumberedLiteral],
     changes: &[CountingChange<'_>],
@@ -49,7 +49,7 @@ pub fn loses_at_most(
     total
 }
 
-/// The most that it may lose by the atom of the change at this place; nothing where an earlier change is of that atom.
+/// Upper bound of its loss by the atom of the change at this index; 0 if an earlier change is of the same atom.
 fn loses_by(
     literals: &[NumberedLiteral],
     changes: &[CountingChange<'_>],

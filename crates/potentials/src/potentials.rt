@@ -28,8 +28,8 @@ impl Potentials {
     ghost use Rattle.potential_functions.specs.Fair.{AreFair};
     ghost use Rattle.potentials.specs.Potentials.{potentials_of};
 
-    /// Those of this constant and these weights, each at the place, from 0, that is its atom's number. None exactly where
-    /// one of them is out of range.
+    /// Potentials with this constant and these weights, each at the index of its atom's number. `None` exactly if one of them is
+    /// out of range.
     pub fn new(constant: i64, weights: Vec<i64>) -> Option<Potentials>
         ensures in_range { IsSome result ↔ AreInRange (record { constant = constant; weights = weights.items }) }
         ensures given { IfSome result (λ p. potentials_of p ≡ record { constant = constant; weights = weights.items }) }
@@ -43,7 +43,7 @@ impl Potentials {
         Some(Potentials { constant, weights })
     }
 
-    /// Those that are all 0, for the ground task. They are fair.
+    /// Potentials that are all 0, for the ground task. They are fair.
     pub fn zero(alloc: Global, ground: &Ground<'_>) -> Result<Potentials, NoMemory>
         ensures zero { IfOk result (λ p. potentials_of p ≡ record { constant = pos 0; weights = replicate (length (atoms_in ground.now)) (pos 0) }) }
         ensures fair { IfOk result (λ p. AreFair (task_in ground.now) (atoms_in ground.now) (potentials_of p)) }
@@ -55,10 +55,10 @@ impl Potentials {
         })
     }
 
-    /// The same constant and weights.
+    /// A copy.
     ///
     /// # Errors
-    /// Where memory is refused.
+    /// An allocation failed.
     pub fn copied(&self, alloc: Global) -> Result<Potentials, NoMemory>
         ensures { IfOk result (λ p. potentials_of p ≡ potentials_of self.now) }
     {
@@ -76,14 +76,15 @@ impl Potentials {
         self.constant
     }
 
-    /// The weights, each at the place, from 0, that is its atom's number.
+    /// The weights, each at the index of its atom's number.
     pub fn weights(&self) -> &[i64]
         ensures { result.now ≡ (potentials_of self.now).weights }
     {
         &self.weights
     }
 
-    /// The value of the state: the greater of 0 and its score. There is a weight for each of its atoms. No memory is taken.
+    /// The value of the state: its score, or 0 if that is negative. There must be a weight for each of its atoms. Nothing is
+    /// allocated.
     pub fn value(&self, state: &Packed) -> u64
         requires { length (bits_of state.now) ≡ length (potentials_of self.now).weights }
         ensures { result ≡ potential.value (potentials_of self.now) (bits_of state.now) }
@@ -106,8 +107,8 @@ impl Potentials {
         total
     }
 
-    /// The score of the state `after`, where that of `before` is known: the weights of the atoms that differ are added, or
-    /// taken off.
+    /// The score of the state `after`, updated from that of `before`: the weights of the atoms that differ are added or
+    /// subtracted.
     pub fn score_after(&self, score: i64, before: &Packed, after: &Packed) -> i64
         requires before_width { length (bits_of before.now) ≡ length (potentials_of self.now).weights }
         requires after_width { length (bits_of after.now) ≡ length (potentials_of self.now).weights }
@@ -124,7 +125,7 @@ impl Potentials {
         total
     }
 
-    /// The weight of the atom of this number.
+    /// The weight of the atom with this number.
     pub fn weight(&self, number: u32) -> i64
         requires { number < length (potentials_of self.now).weights }
         ensures value { result ≡ potential.weight (potentials_of self.now).weights number }
@@ -133,7 +134,7 @@ impl Potentials {
         self.weights[number as usize]
     }
 
-    /// Changes the weight of the atom of this number.
+    /// Sets the weight of the atom with this number.
     pub fn set_weight(&mut self, number: u32, weight: i64)
         requires within { number < length (potentials_of self.old).weights }
         requires range { IsInRange weight }
@@ -142,7 +143,7 @@ impl Potentials {
         self.weights[number as usize] = weight;
     }
 
-    /// Changes the constant.
+    /// Sets the constant.
     pub fn set_constant(&mut self, constant: i64)
         requires { IsInRange constant }
         ensures { potentials_of self.new ≡ record { constant = constant; weights = (potentials_of self.old).weights } }
@@ -151,7 +152,7 @@ impl Potentials {
     }
 }
 
-/// The greater of 0 and the number.
+/// The maximum of 0 and the number.
 pub fn or_zero(number: i64) -> u64
     ensures { result ≡ potential.or_zero number }
 {

@@ -2,17 +2,17 @@
 ghost use Rattle.std.specs.Prelude.{◌↔◌, All, IsTrue};
 ghost use Rattle.potential_functions.specs.PotentialFunctions.{IsInRange};
 
-/// The greatest constant and the greatest weight; the least ones are as far below 0.
+/// The greatest constant and weight; the least is its negative.
 pub const MAX_WEIGHT: i64 = 2_147_483_647;
 
-/// Whether it may be a constant or a weight.
+/// Whether the number may be a constant or a weight.
 pub fn is_in_range(number: i64) -> bool
     ensures { IsTrue result ↔ IsInRange number }
 {
     -MAX_WEIGHT <= number && number <= MAX_WEIGHT
 }
 
-/// Whether each may be one.
+/// Whether all numbers may be.
 pub(crate) fn are_in_range(numbers: &[i64]) -> bool
     ensures { IsTrue result ↔ All IsInRange numbers.now }
 {

@@ -1,4 +1,4 @@
-//! What an instance may do to an atom.
+//! What an instance may do to an atom's truth value.
 ghost use Rattle.std.specs.Prelude.{◌≡◌, ℕ, List, map};
 ghost use Rattle.std.specs.Bool.{beq};
 ghost use Rattle.grounding.specs.Views.{numbered_of};
@@ -11,16 +11,16 @@ ghost use Rattle.potentials.specs.Swing.{IsSwing, is_always};
 
 use grounding::{CountingChange, NumberedLiteral};
 
-/// What becomes of an atom in a step.
+/// The truth value of an atom before and after a step.
 #[derive(Clone, Copy)]
 enum Transition {
-    /// It is false, and stays so.
+    /// It is false and stays false.
     StaysFalse,
-    /// It is false, and becomes true.
+    /// It is false and becomes true.
     Rises,
-    /// It is true, and becomes false.
+    /// It is true and becomes false.
     Falls,
-    /// It is true, and stays so.
+    /// It is true and stays true.
     StaysTrue,
 }
 
@@ -37,7 +37,7 @@ impl Transition {
         }
     }
 
-    /// Whether it is true after it.
+    /// Whether the atom is true after the step.
     fn after(self) -> bool
         ensures { result ≡ (pair_of self).after }
     {
@@ -48,7 +48,7 @@ impl Transition {
     }
 }
 
-/// When a change is made.
+/// When a change takes effect.
 #[derive(Clone, Copy)]
 enum Made {
     /// Whenever the instance is applied.
@@ -58,7 +58,7 @@ enum Made {
 }
 
 impl Made {
-    /// Whether it is made whenever the instance is applied.
+    /// Whether it takes effect whenever the instance is applied.
     fn is_always(self) -> bool
         ensures { result ≡ is_always self }
     {
@@ -69,23 +69,23 @@ impl Made {
     }
 }
 
-/// Which of an instance's changes there are of an atom.
+/// The kinds of changes that an instance makes to an atom.
 #[derive(Clone, Copy)]
 struct Makers {
-    /// One that always adds it.
+    /// A change that always adds it.
     add: bool,
-    /// One that always deletes it.
+    /// A change that always deletes it.
     delete: bool,
-    /// One that sometimes adds it.
+    /// A change that sometimes adds it.
     may_add: bool,
-    /// One that sometimes deletes it.
+    /// A change that sometimes deletes it.
     may_delete: bool,
 }
 
 impl Makers {
     ghost use Rattle.potentials.specs.Swing.{AreMakers, pair_of};
 
-    /// Those among these changes of the atom of this number.
+    /// The kinds of changes, among these, to the atom with this number.
     fn new(changes: &[CountingChange<'_>], atom: u32) -> Makers
         ensures { AreMakers (map counting_of changes.now) atom result }
     {
@@ -97,7 +97,7 @@ impl Makers {
         }
     }
 
-    /// Whether this may become of the atom: it is added, or deleted, or it may be made what it is after the step.
+    /// Whether the transition is possible for the atom.
     fn allow(self, transition: Transition) -> bool
         ensures { (changes : List NumberedChange) (atom : ℕ) → AreMakers changes atom self
             → result ≡ model.may_become changes atom (pair_of transition).before (pair_of transition).after }
@@ -111,19 +111,19 @@ impl Makers {
     }
 }
 
-/// What an instance may do to an atom.
+/// The effects that an instance may have on an atom.
 #[derive(Clone, Copy)]
 pub struct Swing {
     /// It may be true and become false.
     pub falls: bool,
-    /// It may stay as it is.
+    /// It may keep its truth value.
     pub stays: bool,
     /// It may be false and become true.
     pub rises: bool,
 }
 
 impl Swing {
-    /// That of an instance of these literals and changes to the atom of this number.
+    /// The possible effects of an instance with these literals and changes on the atom with this number.
     pub fn new(literals: &[NumberedLiteral], changes: &[CountingChange<'_>], atom: u32) -> Swing
         ensures { IsSwing (map numbered_of literals.now) (map counting_of changes.now) atom result }
     {
@@ -138,7 +138,7 @@ impl Swing {
         }
     }
 
-    /// The most that an atom of this weight may lose.
+    /// The greatest loss of an atom with this weight.
     pub fn worst(self, weight: i64) -> i64
         requires { IsInRange weight }
         ensures value { result ≡ worst_by self.falls self.stays self.rises weight }
@@ -160,21 +160,21 @@ fn same(one: bool, other: bool) -> bool
     if one { other } else { !other }
 }
 
-/// Whether one of the literals says that the atom of this number is true, or that it is false.
+/// Whether one of the literals states that the atom with this number is true (or false, by `value`).
 pub fn says(literals: &[NumberedLiteral], atom: u32, value: bool) -> bool
     ensures { result ≡ model.says (map numbered_of literals.now) atom value }
 {
     literals.iter().any(|literal| literal.atom == atom && same(literal.value, value))
 }
 
-/// Whether one of the changes is of the atom of this number.
+/// Whether one of the changes affects the atom with this number.
 pub fn touches(changes: &[CountingChange<'_>], atom: u32) -> bool
     ensures { result ≡ model.touches (map counting_of changes.now) atom }
 {
     changes.iter().any(|change| change.atom == atom)
 }
 
-/// Whether one of the changes that are made so makes the atom true, or false.
+/// Whether one of the changes, made this way, makes the atom true (or false, by `value`).
 fn makes(changes: &[CountingChange<'_>], made: Made, value: bool, atom: u32) -> bool
     ensures { result ≡ model.makes (map counting_of changes.now) (is_always made) value atom }
 {

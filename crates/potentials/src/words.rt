@@ -1,4 +1,4 @@
-//! Sums of weights by the words of packed states.
+//! Sums of weights, word by word, for packed states.
 ghost use Rattle.std.specs.Prelude.{◌≡◌, ◌+◌, ◌^◌, ◌<◌, ◌==◌, neg_ℤ, All, if◌then◌else◌};
 ghost use Rattle.std.specs.Int.{bit_at};
 ghost use Rattle.potential_functions.specs.PotentialFunctions.{weight, IsInRange};
@@ -6,8 +6,8 @@ ghost use Rattle.potentials.specs.Words as model;
 
 use crate::losses::weight_at;
 
-/// What the atoms of one word gain, whose lowest bit stands for the number `first`, where the bits `changed` have become
-/// those of `after`. Only the bits that are set in `changed` are looked at.
+/// The gain of the atoms in one word, whose lowest bit stands for atom `first`, when the bits set in `changed` take their values
+/// from `after`. Other bits are ignored.
 pub(crate) fn gained_in_word(weights: &[i64], first: usize, changed: u64, after: u64) -> i64
     requires range { All IsInRange weights.now }
     requires few { first + 64 < 2 ^ 64 }
@@ -23,7 +23,7 @@ pub(crate) fn gained_in_word(weights: &[i64], first: usize, changed: u64, after:
     total
 }
 
-/// What the atom of this number gains by its bit: its weight where the bit is set in `after`, and else that taken off.
+/// The gain of the atom with this number: its weight if its bit is set in `after`, otherwise the negated weight.
 fn gained_by(weights: &[i64], number: usize, after: u64, bit: u32) -> i64
     requires range { All IsInRange weights.now }
     requires within { bit < 64 }

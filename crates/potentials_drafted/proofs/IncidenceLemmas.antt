@@ -1,4 +1,4 @@
--- The rows of instances that touch an atom, as they are filled.
+-- Filling the rows of instances that touch an atom.
 use Rattle.std.proofs.Common.{◌≡◌, ◌∙◌, ℕ, zero, suc, ◌+◌, ◌<◌, inl, inr, Bool, true, false, true≢false, ◌||◌, ◌==◌, List, [], ◌∷◌, ◌++◌, map, take, get_or, length, refl, sym, ap, subst, arith}
 use Rattle.std.specs.Prelude.{if◌then◌else◌, ◌⊎◌, All, Contains}
 use Rattle.std.proofs.lemmas.Bool.{cases_eq, eq-eqb, eqb-true}
@@ -17,7 +17,7 @@ use Rattle.potentials_drafted.specs.declared.incidence.Incidence.{Incidence}
 use Rattle.potentials_drafted.specs.Incidence.{number_of, touches_at, row_of, IsIncidence, IsAdded}
 use Rattle.potentials.proofs.LossLemmas.{touches-append}
 
--- what is read of a list is there
+-- an element read from a list is in it
 pub got-again : {X : Type 0} (xs : List X) (n : ℕ) (d : X) → n < length xs → get_or xs n d ≡ get_or xs n (get_or xs n d)
 got-again [] n d within = absurd (omega arith)
 got-again (x ∷ xs) zero d within = refl
@@ -52,7 +52,7 @@ Contains-appended (z ∷ xs) x y among = elim (Contains-cases z (xs ++ x ∷ [])
 pub added-none : (number : ℕ) (t : Incidence) → IsAdded number [] t t
 added-none number t = record { width = refl; kept = λ a n among. among; only = λ a n among. inl among; added = λ a touched. absurd (true≢false (sym touched)) }
 
--- one change more
+-- one more change
 pub added-more : (number : ℕ) (done : List NumberedChange) (c : NumberedChange) (old mid new : Incidence) → IsAdded number done old mid → length new.rows.items ≡ length mid.rows.items
     → ((a : ℕ) → row_of new a ≡ (if a == c.atom then row_of mid a ++ number ∷ [] else row_of mid a)) → IsAdded number (done ++ c ∷ []) old new
 added-more number done c old mid new so width rows = record {
@@ -96,7 +96,7 @@ module _ (task : Task) (atoms : List Atom) where
     covers = λ a n below. absurd (omega arith);
   }
 
-  -- one instance more
+  -- one more instance
   pub incidence-more : (number : ℕ) (old new : Incidence) (changes : List NumberedChange) → IsIncidence task atoms number old → changes ≡ counting_of_number task atoms number → IsAdded number changes old new
       → IsIncidence task atoms (number + 1) new
   incidence-more number old new changes so are more = record {
@@ -111,7 +111,7 @@ module _ (task : Task) (atoms : List Atom) where
     ];
   }
 
--- ---- what the code reads of a list
+-- ---- what the code reads from a list
 
 pub atom-below : (xs : List CountingChange) (place m k : ℕ) (d : CountingChange) → All (λ (c : NumberedChange). c.atom < m) (map counting_of xs) → place < length xs → k ≡ m → (get_or xs place d).atom < k
 atom-below xs place m k d all within is =
@@ -134,12 +134,12 @@ row-pushed mid new x atom rows a = ap (map number_of) (rows a) ∙ of_bit (a == 
     of_bit true = map-append number_of (touches_at mid a) (x ∷ [])
     of_bit false = refl
 
--- what is beside the rows is of no account
+-- what is outside the rows does not matter
 pub added-alike : (number : ℕ) (changes : List NumberedChange) (old new other : Incidence) → IsAdded number changes old new → other.rows ≡ new.rows → IsAdded number changes old other
 added-alike number changes old new other so is = subst (λ rows. IsAdded number changes old (record new { rows = rows; atoms = other.atoms; ends = other.ends })) (sym is)
     (record { width = so.width; kept = so.kept; only = so.only; added = so.added })
 
--- one change more of the code's list, of an atom of which an earlier one is
+-- one more change of the code's list, of an atom that an earlier one also changes
 pub added-again : (number : ℕ) (xs : List CountingChange) (place : ℕ) (d : CountingChange) (old new : Incidence) → place < length xs
     → touches (map counting_of (take place xs)) (get_or xs place d).atom ≡ true → IsAdded number (map counting_of (take place xs)) old new
     → IsAdded number (map counting_of (take (place + 1) xs)) old new
@@ -157,7 +157,7 @@ added-again number xs place d old new within known so =
     made a true before e = so.added a before
     made a false before e = so.added a (subst (λ k. touches done k ≡ true) (eqb-true c.atom a e) known)
 
--- one change more of the code's list
+-- one more change of the code's list
 pub added-at : (number : ℕ) (xs : List CountingChange) (place : ℕ) (d : CountingChange) (old mid new : Incidence) → place < length xs → IsAdded number (map counting_of (take place xs)) old mid
     → length new.rows.items ≡ length mid.rows.items → ((a : ℕ) → row_of new a ≡ (if a == (get_or xs place d).atom then row_of mid a ++ number ∷ [] else row_of mid a))
     → IsAdded number (map counting_of (take (place + 1) xs)) old new

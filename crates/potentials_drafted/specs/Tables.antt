@@ -1,4 +1,4 @@
--- What drafts of potentials read of a ground task, and what is there for the moves after them.
+-- The data of a ground task that drafts of potentials read, and what later moves use of it.
 use Rattle.std.specs.Prelude.{length}
 use Rattle.grounding.specs.declared.ground.Ground.{Ground}
 use Rattle.grounding.specs.Ground.{task_in, atoms_in}
@@ -6,6 +6,6 @@ use Rattle.model.specs.StaticallyFalse.{kept_instances}
 use Rattle.potentials_drafted.specs.Incidence.{IsIncidence}
 use Rattle.potentials_drafted.specs.declared.tables.Tables.{Tables}
 
--- of each atom they report the instances of this ground task that touch it
+-- for each atom they list the instances of this ground task that touch it
 abbrev pub AreTablesOf : Ground → Tables → Type 0
 AreTablesOf g t = IsIncidence (task_in g) (atoms_in g) (length (kept_instances (task_in g))) t.incidence

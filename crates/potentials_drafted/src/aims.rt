@@ -1,31 +1,31 @@
-//! What weights are made better for: the values of states.
+//! The objective: the states whose values are to be raised.
 use crate::tables::Tables;
 use faults::NoMemory;
 use std::alloc::Global;
 use std::num::nearest_i64_to_f64;
 
-/// The weight of an atom, one more or one less.
+/// A change of an atom's weight by one.
 #[derive(Clone, Copy)]
 pub(crate) struct Move {
     pub(crate) atom: u32,
     pub(crate) by: i64,
 }
 
-/// States whose values are to be raised: how many there are, and in how many of them each atom is true.
+/// States whose values are to be raised: their number, and for each atom the number of these states in which it is true.
 #[derive(Drop)]
 pub(crate) struct Aim {
     states: i64,
     times: Vec<i64>,
 }
 
-/// The initial state, whose value is to be raised first, and sampled ones.
+/// The initial state, whose value has priority, and sampled states.
 #[derive(Drop)]
 pub(crate) struct Aims {
     initial: Aim,
     sampled: Aim,
 }
 
-/// What weights give in sum: to the initial state, and to the sampled ones.
+/// The gain of the initial state, and the sum of the gains of the sampled states.
 #[derive(Clone, Copy)]
 pub(crate) struct Gain {
     initial: i64,
@@ -33,7 +33,7 @@ pub(crate) struct Gain {
 }
 
 impl Aim {
-    /// No state.
+    /// No states.
     pub(crate) fn none(alloc: Global, width: u32) -> Result<Aim, NoMemory> {
         Ok(Aim {
             states: 0,
@@ -41,14 +41,14 @@ impl Aim {
         })
     }
 
-    /// The state of these true atoms.
+    /// The single state with these true atoms.
     pub(crate) fn one(alloc: Global, width: u32, atoms: &[u32]) -> Result<Aim, NoMemory> {
         let mut aim = Aim::none(alloc, width)?;
         aim.add(atoms);
         Ok(aim)
     }
 
-    /// These states, each by its true atoms.
+    /// These states, each given by its true atoms.
     pub(crate) fn all(alloc: Global, width: u32, states: &[Vec<u32>]) -> Result<Aim, NoMemory> {
         let mut aim = Aim::none(alloc, width)?;
         for atoms in states {
@@ -57,7 +57,7 @@ impl Aim {
         Ok(aim)
     }
 
-    /// One state more, of these true atoms.
+    /// Adds a state with these true atoms.
     fn add(&mut self, atoms: &[u32]) {
         self.states = self.states.saturating_add(1);
         for atom in atoms {
@@ -65,7 +65,7 @@ impl Aim {
         }
     }
 
-    /// The atom is true in one state more.
+    /// Counts one more state in which the atom is true.
     fn count(&mut self, atom: u32) {
         let place = atom as usize;
         if place < self.times.len() {
@@ -73,7 +73,7 @@ impl Aim {
         }
     }
 
-    /// What the states gain in sum, where the atom's weight grows by `more`, and the constant falls by `less`.
+    /// The sum of the states' gains when the atom's weight grows by `more` and the constant falls by `less`.
     fn gain(&self, atom: u32, more: i64, less: i64) -> i64 {
         let times = match self.times.get(atom as usize) {
             Some(times) => *times,
@@ -86,19 +86,19 @@ impl Aim {
 }
 
 impl Aims {
-    /// These two.
+    /// These states.
     pub(crate) fn new(initial: Aim, sampled: Aim) -> Aims {
         Aims { initial, sampled }
     }
 
-    /// What the initial state gains by the move, where the atom has the weight `before`.
+    /// The gain of the initial state by the move, if the atom's weight is `before`.
     pub(crate) fn gain(&self, tables: &Tables, step: Move, before: i64) -> i64 {
         let after = before.saturating_add(step.by);
         let less = tables.at_goal(step.atom).less(before, after);
         self.initial.gain(step.atom, step.by, less)
     }
 
-    /// What the initial state gains by the move from the weight 0, and by this share what the sampled ones gain on average.
+    /// The gain of the initial state by the move from weight 0, plus `share` times the average gain of the sampled states.
     pub(crate) fn shared_gain(&self, tables: &Tables, step: Move, share: f64) -> f64 {
         let less = tables.at_goal(step.atom).less(0, step.by);
         let initial = self.initial.gain(step.atom, step.by, less);
@@ -108,7 +108,7 @@ impl Aims {
             + share * nearest_i64_to_f64(sampled) / nearest_i64_to_f64(states)
     }
 
-    /// What the states gain by these weights.
+    /// The gains by these weights.
     pub(crate) fn gain_of_all(&self, tables: &Tables, weights: &[i64]) -> Gain {
         let (mut initial, mut sampled) = (0i64, 0i64);
         let mut atom = 0u32;
@@ -123,7 +123,7 @@ impl Aims {
 }
 
 impl Gain {
-    /// Whether the initial state has more than by the other, or as much, and the sampled ones have more.
+    /// Whether the initial state gains more than by the other, or equally much and the sampled states gain more.
     pub(crate) fn is_better_than(self, other: Gain) -> bool {
         self.initial > other.initial
             || self.initial == other.initial && self.sampled > other.sampled

@@ -1,7 +1,7 @@
 //! Weights that may detect dead ends.
 //!
-//! Where no instance may lose anything, each multiple of fair weights is fair, so that the linear program has edges without an
-//! end. Along one on which a state gains, its value comes to at least 1, and the state is reported as a dead end.
+//! If no instance may lose anything, every multiple of fair weights is fair, so that the linear program has unbounded rays. Along
+//! a ray on which a state gains, its value eventually reaches 1, and the state is detected as a dead end.
 use crate::aims::{Aim, Aims};
 use crate::linear_program::LinearProgram;
 use crate::mending::is_whole;
@@ -11,33 +11,33 @@ use faults::NoMemory;
 use std::alloc::Global;
 use std::num::{nearest_i64_to_f64, saturating_f64_to_i64};
 
-/// For how many states weights are drafted, at most: the initial one, and sampled ones.
+/// The maximum number of states that weights are drafted for: the initial one, and sampled ones.
 const MAX_STATES: usize = 17;
 
-/// How many numbers the simplex algorithm may look at: in all, and of these after the initial state, for the sampled ones.
+/// Work limits of the simplex algorithm: in total, and of that for the sampled states after the initial one.
 const MAX_WORK: u64 = 524_288;
 
 const MAX_WORK_SAMPLED: u64 = 131_072;
 
-/// By how much the least weight may be multiplied, so that all are whole numbers.
+/// The greatest integer tried for the least weight when weights are scaled to integers.
 const MAX_FACTOR: i64 = 60;
 
-/// What is no more than this is no weight.
+/// Weights up to this size count as 0.
 const NOTHING: f64 = 1e-9;
 
-/// The states for which weights are drafted, and what is read for that.
+/// The states that weights are drafted for, and the linear program.
 #[derive(Drop)]
 pub struct DeadDrafts<'a> {
     tables: &'a Tables,
     program: LinearProgram,
     vertex: Vertex,
-    /// The true atoms of the initial state, and then of the sampled ones.
+    /// The true atoms of the initial state and then of the sampled states.
     states: &'a [Vec<u32>],
-    /// How many of them had their turn.
+    /// The number of states already processed.
     done: usize,
 }
 
-/// Which states weights report dead: whether the initial one, and how many of all.
+/// The states that weights detect as dead ends: whether the initial one, and how many in all.
 #[derive(Clone, Copy)]
 struct Reported {
     is_initial: bool,
@@ -45,7 +45,7 @@ struct Reported {
 }
 
 impl<'a> DeadDrafts<'a> {
-    /// Those for the initial state, and for some on the way from it.
+    /// Drafts for the initial state and for some states reached by random walks from it.
     pub fn new(alloc: Global, tables: &'a Tables) -> Result<DeadDrafts<'a>, NoMemory> {
         let all = tables.states();
         let states = &all[..all.len().min(MAX_STATES)];
@@ -62,8 +62,8 @@ impl<'a> DeadDrafts<'a> {
         })
     }
 
-    /// Weights that may report more of the states dead than these, if some are found for one of those left. Where the initial
-    /// state is reported dead, no more is to be reported.
+    /// The next weights that may detect more of the states as dead ends than the given ones, if there are any. Nothing more is
+    /// drafted once the initial state is detected.
     pub fn next(&mut self, alloc: Global, weights: &[i64]) -> Result<Option<Vec<i64>>, NoMemory> {
         if self.is_reported(0, weights) {
             return Ok(None);
@@ -83,8 +83,8 @@ impl<'a> DeadDrafts<'a> {
         Ok(None)
     }
 
-    /// Weights that may report more of the states dead than these, if some are found for the one at this place: either alone, or
-    /// added to these.
+    /// Weights, drafted for the state at this index, that detect more of the states than the given ones: either alone or added to
+    /// them.
     fn draft(
         &mut self,
         alloc: Global,
@@ -111,7 +111,7 @@ impl<'a> DeadDrafts<'a> {
         })
     }
 
-    /// Weights along an unbounded ray on which the state at this place gains, if there are some.
+    /// Weights along an unbounded ray on which the state at this index gains, if there is one.
     fn found(&mut self, alloc: Global, place: usize) -> Result<Option<Vec<i64>>, NoMemory> {
         let Some(atoms) = self.states.get(place) else {
             return Ok(None);
@@ -128,7 +128,7 @@ impl<'a> DeadDrafts<'a> {
         whole(alloc, &weights)
     }
 
-    /// Which of the states these weights report dead, with the greatest constant that the goal allows.
+    /// Which of the states these weights detect as dead ends, with the greatest constant that the goal allows.
     fn reported(&self, weights: &[i64]) -> Reported {
         let constant = self.tables.constant(weights);
         let mut states = 0usize;
@@ -143,7 +143,7 @@ impl<'a> DeadDrafts<'a> {
         }
     }
 
-    /// Whether they report the one at this place dead.
+    /// Whether they detect the state at this index.
     fn is_reported(&self, place: usize, weights: &[i64]) -> bool {
         match self.states.get(place) {
             Some(atoms) => score(self.tables.constant(weights), weights, atoms) > 0,
@@ -153,7 +153,7 @@ impl<'a> DeadDrafts<'a> {
 }
 
 impl Reported {
-    /// Whether the initial state is reported only here, or in both or neither and here more states are reported.
+    /// Whether only these detect the initial state, or both agree on it and these detect more states.
     fn is_more_than(self, other: Reported) -> bool {
         if self.is_initial == other.is_initial {
             self.states > other.states
@@ -163,7 +163,7 @@ impl Reported {
     }
 }
 
-/// The score of a state of these true atoms.
+/// The score of a state with these true atoms.
 fn score(constant: i64, weights: &[i64], atoms: &[u32]) -> i64 {
     let mut score = constant;
     for atom in atoms {
@@ -174,7 +174,7 @@ fn score(constant: i64, weights: &[i64], atoms: &[u32]) -> i64 {
     score
 }
 
-/// Whole numbers in the proportions of these, if small multiples of the least one are.
+/// Integers in the same proportions, if small multiples of the least weight give them.
 fn whole(alloc: Global, weights: &[f64]) -> Result<Option<Vec<i64>>, NoMemory> {
     let mut least = f64::INFINITY;
     for weight in weights {
@@ -191,7 +191,7 @@ fn whole(alloc: Global, weights: &[f64]) -> Result<Option<Vec<i64>>, NoMemory> {
     Ok(None)
 }
 
-/// The whole numbers nearest to so many times these.
+/// The weights times `scale`, rounded to integers.
 fn scaled(alloc: Global, weights: &[f64], scale: f64) -> Result<Vec<i64>, NoMemory> {
     let mut whole = Vec::with_capacity(alloc, weights.len())?;
     for weight in weights {

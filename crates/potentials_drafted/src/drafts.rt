@@ -1,4 +1,4 @@
-//! Weights that may give the initial state a greater value, and states on the way from it.
+//! Weights that may raise the value of the initial state and of sampled states.
 use crate::aims::{Aim, Aims};
 use crate::linear_program::LinearProgram;
 use crate::mending::Mending;
@@ -7,16 +7,17 @@ use crate::tables::Tables;
 use faults::NoMemory;
 use std::alloc::Global;
 
-/// What the sampled states count for all together, where the initial one counts for 1: nothing at first, and then little.
+/// The weight of the sampled states together in the objective, relative to the initial state's weight of 1: first none, then
+/// little.
 const SHARES: [f64; 2] = [0.0, 0.01];
 
-/// How many numbers the simplex algorithm may look at before it takes no further step.
+/// Work limit of the simplex algorithm.
 const MAX_WORK: u64 = 4_194_304;
 
-/// Weights that may be better than these: those of a linear program, rounded. Its solution is for the initial state alone at
-/// first, and then for the sampled states too. Nothing is claimed of them, not even that there is one for each atom.
+/// Weights that may be better than these: rounded solutions of a linear program, optimized first for the initial state alone and
+/// then also for the sampled states. Nothing is claimed about them, not even that there is one for each atom.
 ///
-/// Both aims are from Seipp, Pommerening & Helmert 2015, "New Optimization Functions for Potential Heuristics".
+/// Both objectives are from Seipp, Pommerening & Helmert 2015, "New Optimization Functions for Potential Heuristics".
 pub fn drafted_weights(
     alloc: Global,
     tables: &Tables,

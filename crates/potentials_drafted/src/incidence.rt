@@ -1,4 +1,4 @@
-//! Which instances touch an atom, and what the one may do to the other.
+//! The incidence of instances and atoms, with what an instance may do to an atom.
 ghost use Rattle.std.specs.Prelude.{◌≡◌, ℕ, ◌+◌, ◌<◌, ◌++◌, ◌∷◌, [], ◌==◌, if◌then◌else◌, All, IfOk, List, OnOk, length, map, take};
 ghost use Rattle.grounding.specs.Changes.{counting_of};
 ghost use Rattle.grounding.specs.Ground.{task_in, atoms_in};
@@ -11,8 +11,8 @@ use grounding::{CountingChange, Ground, NumberedLiteral};
 use potentials::{Swing, instance_count, is_in_range, touches};
 use std::alloc::Global;
 
-/// An instance that touches an atom, or an atom that an instance touches, by its number, and what the one may do to the
-/// other.
+/// An entry for an instance that touches an atom, or for an atom that an instance touches: its number, and what the instance may
+/// do to the atom.
 #[derive(Clone, Copy)]
 pub struct IncidenceEntry {
     /// The number of the instance, or of the atom.
@@ -21,7 +21,7 @@ pub struct IncidenceEntry {
 }
 
 impl IncidenceEntry {
-    /// The most that the instance may lose by the atom, where it has this weight.
+    /// The greatest loss of the instance by the atom, if the atom has this weight.
     pub(crate) fn loss(self, weight: i64) -> i64 {
         if is_in_range(weight) {
             self.swing.worst(weight)
@@ -31,17 +31,17 @@ impl IncidenceEntry {
     }
 }
 
-/// For each numbered atom the instances that touch it, and for each instance the atoms.
+/// For each numbered atom the instances that touch it, and for each instance the atoms that it touches.
 #[derive(Drop)]
 pub struct Incidence {
     rows: Vec<Vec<IncidenceEntry>>,
-    /// The atoms that the instances touch, one instance after the other, and where those of each end.
+    /// The atoms that the instances touch, instance by instance, and the end of each instance's part.
     atoms: Vec<IncidenceEntry>,
     ends: Vec<usize>,
 }
 
 impl Incidence {
-    /// That of the ground task.
+    /// The incidence of the ground task.
     pub(crate) fn new(alloc: Global, ground: &Ground<'_>) -> Result<Incidence, NoMemory>
         ensures { IfOk result (IsIncidence (task_in ground.now) (atoms_in ground.now) (length (kept_instances (task_in ground.now)))) }
     {
@@ -52,7 +52,7 @@ impl Incidence {
         Ok(incidence)
     }
 
-    /// As many empty rows.
+    /// An incidence with this many empty rows.
     fn empty(alloc: Global, width: u32) -> Result<Incidence, NoMemory>
         ensures width { IfOk result (λ t. length t.rows.items ≡ width) }
         ensures empty { IfOk result (λ t. (a : ℕ) → touches_at t a ≡ []) }
@@ -68,7 +68,7 @@ impl Incidence {
         })
     }
 
-    /// The next instance, of this number, touches the atom of each of the changes.
+    /// Adds the next instance, with this number: it touches the atoms of these changes.
     fn add(
         &mut self,
         number: u32,
@@ -85,7 +85,7 @@ impl Incidence {
         Ok(())
     }
 
-    /// The instance touches the atom of the change at this place. Where an earlier one is of the same atom, that is known.
+    /// Adds that the instance touches the atom of the change at this index, unless an earlier change is of the same atom.
     fn add_change(
         &mut self,
         number: u32,
@@ -111,7 +111,7 @@ impl Incidence {
         Ok(())
     }
 
-    /// The instance touches the atom.
+    /// Adds that the instance touches the atom.
     fn push(&mut self, atom: u32, instance: IncidenceEntry) -> Result<(), NoMemory>
         requires { atom < length self.old.rows.items }
         ensures width { OnOk result (length self.new.rows.items ≡ length self.old.rows.items) }
@@ -121,7 +121,7 @@ impl Incidence {
         Ok(())
     }
 
-    /// The instances that touch the atom of this number.
+    /// The instances that touch the atom with this number.
     pub fn of(&self, atom: u32) -> &[IncidenceEntry]
         ensures { result.now ≡ touches_at self.now atom }
     {
@@ -131,7 +131,7 @@ impl Incidence {
         }
     }
 
-    /// The atoms that the instance at this place touches.
+    /// The atoms that the instance at this index touches.
     pub(crate) fn atoms_at(&self, place: usize) -> &[IncidenceEntry] {
         let start = match place.checked_sub(1) {
             Some(before) => self.end(before),
@@ -145,7 +145,7 @@ impl Incidence {
         }
     }
 
-    /// Where the atoms of the instance at this place end.
+    /// The end of the part of the instance at this index.
     fn end(&self, place: usize) -> usize {
         match self.ends.get(place) {
             Some(end) => *end,

@@ -1,7 +1,7 @@
 //! Drafts potentials by a linear program, for the value of states and for dead ends.
 //!
-//! Nothing is claimed of a draft, so that whoever takes one tests it. What is claimed is which instances touch an atom: of
-//! that the moves of single weights after the drafts make use.
+//! Nothing is claimed about a draft, so users must test it. What is proved is which instances touch an atom: the later moves of
+//! single weights rely on that.
 #![tactic(auto)]
 
 mod aims;

@@ -1,31 +1,31 @@
 //! The linear program whose solutions are fair potentials (Pommerening, Helmert, Röger & Seipp 2015, "From Non-Negative to
 //! General Operator Cost Partitioning").
 //!
-//! A weight is the difference of two variables, which are at least 0: how far it is above 0, and how far below. What an
-//! instance may lose is at most a sum of variables then, each once, and what the goal gives is one too.
+//! A weight is the difference of two non-negative variables: its positive and its negative part. The loss of an instance is then
+//! at most a sum of variables, each at most once, and so is the contribution in goal states.
 use crate::aims::{Aims, Move};
 use crate::tables::Tables;
 use faults::NoMemory;
 use std::alloc::Global;
 use std::num::nearest_i64_to_f64;
 
-/// Which variables stand for the weight of an atom, if any.
+/// The variables for an atom's weight, if there are any.
 #[derive(Clone, Copy)]
 struct WeightVariables {
     below: Option<usize>,
     above: Option<usize>,
 }
 
-/// The variables, and where those of each atom are.
+/// The variables of the program, with an index by atom.
 #[derive(Drop)]
 pub(crate) struct LinearProgram {
-    /// What one more of each variable moves.
+    /// The move of a weight that each variable stands for.
     variables: Vec<Move>,
     pairs: Vec<WeightVariables>,
 }
 
 impl LinearProgram {
-    /// That of these tables. A variable is left out where nothing is gained by it, and no instance loses less.
+    /// The program for these tables. A variable is left out if no state gains by it and no instance loses less.
     pub(crate) fn new(
         alloc: Global,
         tables: &Tables,
@@ -45,7 +45,7 @@ impl LinearProgram {
         Ok(program)
     }
 
-    /// Adds the variable of these moves, if it is of use; reports its place.
+    /// Adds the variable for this move if it is useful. Returns its index.
     fn add(&mut self, tables: &Tables, aims: &Aims, step: Move) -> Result<Option<usize>, NoMemory> {
         let is_of_use = aims.shared_gain(tables, step, 1.0) > 0.0
             || tables
@@ -60,12 +60,12 @@ impl LinearProgram {
         Ok(Some(place))
     }
 
-    /// What one more of each variable moves.
+    /// The move of a weight that each variable stands for.
     pub(crate) fn variables(&self) -> &[Move] {
         &self.variables
     }
 
-    /// The place of the variable for moves of the atom by one less or one more, if there is one.
+    /// The index of the variable for moves of the atom's weight by -1 or 1, if there is one.
     pub(crate) fn variable(&self, atom: u32, by: i64) -> Option<usize> {
         match self.pairs.get(atom as usize) {
             Some(pair) => if by < 0 { pair.below } else { pair.above },
@@ -73,7 +73,7 @@ impl LinearProgram {
         }
     }
 
-    /// The weights of variables that have grown so far.
+    /// The weights given by the values of the variables.
     pub(crate) fn weights(&self, alloc: Global, along: &[f64]) -> Result<Vec<f64>, NoMemory> {
         let mut weights = vec![in alloc; 0.0; self.pairs.len()]?;
         for (step, far) in self.variables.iter().zip(along) {

@@ -1,4 +1,4 @@
-//! Weights that are whole numbers: rounded ones, mended where they are not fair.
+//! Integral weights: rounded ones, repaired where they are not fair.
 use crate::aims::{Aims, Gain, Move};
 use crate::incidence::IncidenceEntry;
 use crate::tables::Tables;
@@ -7,28 +7,27 @@ use potentials::is_in_range;
 use std::alloc::Global;
 use std::num::saturating_f64_to_i64;
 
-/// The most moves by one that mend what was rounded in one way, and those of them that may lead away from 0, where all is
-/// fair.
+/// Repair limit per rounding; of these, moves away from zero.
 const MAX_MOVES: u32 = 65_536;
 
 const MAX_MOVES_AWAY: u32 = 1024;
 
-/// How many touches of instances may be looked at before no move leads away from 0, and before nothing more is mended.
+/// Work limits, in instance touches: after the first, no move leads away from zero; after the second, repair stops.
 const MAX_WORK_AWAY: u64 = 4_194_304;
 
 const MAX_WORK: u64 = 8_388_608;
 
-/// How far a number may be from a whole one that it stands for.
+/// The tolerance within which a number counts as an integer.
 const NEAR: f64 = 0.01;
 
-/// What is added to a weight before it goes to the nearest whole number, in each of the ways to round.
+/// The rounding modes: each is an offset added to a weight before rounding to the nearest integer.
 const LIFTS: [f64; 5] = [0.48, 0.25, 0.0, -0.25, -0.48];
 
-/// The weights that are mended, and the best ones so far.
+/// The weights under repair, and the best weights so far.
 #[derive(Drop)]
 pub(crate) struct Mending {
     weights: Vec<i64>,
-    /// What each instance has left, and those that have less than nothing.
+    /// The slack of each instance, and the instances with negative slack.
     slacks: Vec<i64>,
     unfair: Vec<u32>,
     work: u64,
@@ -37,7 +36,7 @@ pub(crate) struct Mending {
 }
 
 impl Mending {
-    /// The best weights are these, so far.
+    /// Starts with these weights as the best so far.
     pub(crate) fn new(
         alloc: Global,
         tables: &Tables,
@@ -59,7 +58,7 @@ impl Mending {
         self.best
     }
 
-    /// Rounds the weights in each way, if they are not whole numbers, mends them, and keeps what is better than the best.
+    /// Rounds the weights in each mode, unless they are integral, repairs them, and keeps them if they are better than the best.
     pub(crate) fn take(
         &mut self,
         tables: &Tables,
@@ -78,7 +77,7 @@ impl Mending {
         Ok(())
     }
 
-    /// Rounds the weights, and lists the instances that are unfair by them.
+    /// Rounds the weights, and lists the instances that are then unfair.
     fn start(&mut self, tables: &Tables, weights: &[f64], lift: f64) -> Result<(), NoMemory> {
         self.weights.clear();
         for weight in weights {
@@ -99,7 +98,7 @@ impl Mending {
         Ok(())
     }
 
-    /// What an instance that touches these atoms has left of its cost.
+    /// The slack of an instance that touches these atoms: its cost minus its loss.
     fn slack(&self, touches: &[IncidenceEntry], cost: i64) -> i64 {
         let mut left = cost;
         for touch in touches {
@@ -108,7 +107,7 @@ impl Mending {
         left
     }
 
-    /// The weights are the best, if they are better than those, and in range.
+    /// Makes the weights the best, if they are better and in range.
     fn keep_if_better(&mut self, tables: &Tables, aims: &Aims) {
         let gain = aims.gain_of_all(tables, &self.weights);
         let are_in_range = self.weights.iter().all(|weight| is_in_range(*weight));
@@ -118,7 +117,7 @@ impl Mending {
         }
     }
 
-    /// Moves single weights by one until each instance is fair; says whether it came to that.
+    /// Changes single weights by one until each instance is fair. Returns whether that succeeds.
     fn mend(&mut self, tables: &Tables, aims: &Aims) -> Result<bool, NoMemory> {
         for moves in 0..MAX_MOVES {
             let Some(number) = self.unfair.pop() else {
@@ -139,7 +138,7 @@ impl Mending {
         Ok(false)
     }
 
-    /// The best move by which the instance loses less; of two alike the first.
+    /// The best move that reduces the loss of the instance; the first of equal ones.
     fn best_move(
         &mut self,
         tables: &Tables,
@@ -167,7 +166,7 @@ impl Mending {
         best
     }
 
-    /// Whether an instance that touches an atom so loses less by the move, and it leads to 0 or may lead away.
+    /// Whether the move reduces the loss of an instance with this touch, and leads toward zero or may lead away from it.
     fn is_of_use(&self, touch: IncidenceEntry, by: i64, may_lead_away: bool) -> bool {
         let before = self.weight(touch.number);
         let after = before.saturating_add(by);
@@ -175,14 +174,14 @@ impl Mending {
         touch.loss(after) < touch.loss(before) && (may_lead_away || !leads_away)
     }
 
-    /// How good the move is: what the initial state gains, and how much less unfair instances are.
+    /// The score of the move: the gain of the initial state and the reduction of unfairness.
     fn score(&mut self, tables: &Tables, aims: &Aims, step: Move) -> i64 {
         let gain = aims.gain(tables, step, self.weight(step.atom));
         let mended = self.mended(tables, step);
         gain.saturating_mul(4).saturating_add(mended)
     }
 
-    /// By how much less unfair instances are by the move, in sum.
+    /// The total reduction of unfairness by the move.
     fn mended(&mut self, tables: &Tables, step: Move) -> i64 {
         let before = self.weight(step.atom);
         let after = before.saturating_add(step.by);
@@ -198,7 +197,7 @@ impl Mending {
         mended
     }
 
-    /// Changes the weight, and lists the instances that are unfair by it.
+    /// Makes the move, and lists the instances that become unfair.
     fn shift(&mut self, tables: &Tables, step: Move) -> Result<(), NoMemory> {
         let before = self.weight(step.atom);
         let after = before.saturating_add(step.by);
@@ -211,7 +210,7 @@ impl Mending {
         Ok(())
     }
 
-    /// What an instance has left, where a weight changes.
+    /// Updates the slack of an instance after a change of a weight.
     fn shift_slack(
         &mut self,
         touch: IncidenceEntry,
@@ -230,7 +229,7 @@ impl Mending {
         Ok(())
     }
 
-    /// So many touches more were looked at.
+    /// Counts this many touches as work.
     fn count(&mut self, more: usize) {
         self.work = self.work.saturating_add(more as u64);
     }
@@ -243,7 +242,7 @@ impl Mending {
         }
     }
 
-    /// Writes the weight.
+    /// Sets the weight.
     fn set_weight(&mut self, atom: u32, weight: i64) {
         let place = atom as usize;
         if place < self.weights.len() {
@@ -251,7 +250,7 @@ impl Mending {
         }
     }
 
-    /// What the instance has left.
+    /// The slack of the instance.
     fn slack_of(&self, number: u32) -> i64 {
         match self.slacks.get(number as usize) {
             Some(slack) => *slack,
@@ -260,7 +259,7 @@ impl Mending {
     }
 }
 
-/// Whether the number stands for a whole one.
+/// Whether the number is an integer, within the tolerance.
 pub(crate) fn is_whole(number: f64) -> bool {
     (number - number.round()).abs() < NEAR
 }

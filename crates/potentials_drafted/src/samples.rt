@@ -1,4 +1,4 @@
-//! States on the way from the initial one, by walks that go where chance leads.
+//! States sampled by random walks from the initial state.
 use faults::NoMemory;
 use grounding::Ground;
 use packed_state::Packed;
@@ -6,22 +6,22 @@ use potentials::instance_count;
 use std::alloc::Global;
 use std::num::nearest_usize_to_f64;
 
-/// The most steps of a walk.
+/// The maximum number of steps of a walk.
 const MAX_STEPS: u32 = 64;
 
-/// How many instances a walk may look at.
+/// Work limit of a walk, in instances.
 const MAX_LOOKS: u32 = 65_536;
 
-/// In how many parts 1 is divided.
+/// The resolution of random fractions.
 const PARTS: usize = 65_536;
 
-/// Numbers by chance, the same ones each time.
+/// A random generator with a fixed seed.
 #[derive(Drop)]
 pub struct Chance {
     state: u64,
 }
 
-/// A walk: the state that it has come to, and room for what comes next.
+/// A random walk: its current state, and scratch for successors.
 #[derive(Drop)]
 struct RandomWalk {
     state: Packed,
@@ -30,8 +30,8 @@ struct RandomWalk {
     chance: Chance,
 }
 
-/// The states in which so many walks from the initial one end, each as its true atoms; none where there are so many instances
-/// that no walk may take a step.
+/// The end states of this many random walks from the initial state, each given by its true atoms; empty if there are too many
+/// instances for a walk to take a step.
 pub(crate) fn sampled(
     alloc: Global,
     ground: &Ground<'_>,
@@ -52,14 +52,14 @@ pub(crate) fn sampled(
     Ok(samples)
 }
 
-/// The numbers of the atoms that are true in the state.
+/// The true atoms of the state, by number.
 pub(crate) fn true_atoms(alloc: Global, state: &Packed) -> Result<Vec<u32>, NoMemory> {
     let mut atoms = Vec::new(alloc);
     state.list_numbers(&mut atoms)?;
     Ok(atoms)
 }
 
-/// The most steps that a walk may take, where there are so many instances.
+/// The maximum number of steps of a walk, given the number of instances.
 fn most_steps(instances: u32) -> u32 {
     if instances == 0 {
         return 0;
@@ -68,17 +68,17 @@ fn most_steps(instances: u32) -> u32 {
 }
 
 impl Chance {
-    /// The numbers from the first one on.
+    /// The generator with its fixed seed.
     pub fn new() -> Chance {
         Chance { state: 1 }
     }
 
-    /// The next number from 0 to 1.
+    /// The next random number from 0 to 1.
     pub(crate) fn part(&mut self) -> f64 {
         nearest_usize_to_f64(self.below(PARTS)) / nearest_usize_to_f64(PARTS)
     }
 
-    /// The next number below this one, and 0 where that is 0: by the linear congruential generator of Knuth's MMIX.
+    /// The next random number below the bound, or 0 for bound 0, by the linear congruential generator of Knuth's MMIX.
     pub fn below(&mut self, bound: usize) -> usize {
         self.state = self
             .state
@@ -92,7 +92,7 @@ impl Chance {
 }
 
 impl RandomWalk {
-    /// One that has not begun.
+    /// A walk that has not started.
     fn new(alloc: Global, width: u32) -> Result<RandomWalk, NoMemory> {
         Ok(RandomWalk {
             state: Packed::empty(alloc, width)?,
@@ -102,14 +102,14 @@ impl RandomWalk {
         })
     }
 
-    /// Goes back to the initial state.
+    /// Returns to the initial state.
     fn start(&mut self, initial: &Packed) {
         if self.state.width() == initial.width() {
             self.state.copy_from(initial);
         }
     }
 
-    /// Takes a number of steps by chance, at most so many, and fewer where no instance is applicable any more.
+    /// Takes a random number of steps, at most `most`, and fewer if no instance is applicable any more.
     fn go(&mut self, ground: &Ground<'_>, most: u32) -> Result<(), NoMemory> {
         let steps = self.chance.below(most as usize + 1);
         for _ in 0..steps {
@@ -120,7 +120,7 @@ impl RandomWalk {
         Ok(())
     }
 
-    /// Goes on by an applicable instance that chance picks, if there is one; says whether there is.
+    /// Applies a random applicable instance, if there is one. Returns whether there was one.
     fn step(&mut self, ground: &Ground<'_>) -> Result<bool, NoMemory> {
         if self.state.width() != ground.width() || self.next.width() != ground.width() {
             return Ok(false);

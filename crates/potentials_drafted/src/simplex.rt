@@ -1,10 +1,10 @@
 //! The simplex algorithm (Dantzig 1951), for fair potentials whose weights need not be whole numbers.
 //!
-//! It goes from vertex to vertex of the fair potentials, and begins where all weights are 0, so that what it has come to is
-//! fair wherever it stops. Where nothing costs anything, the unbounded rays are of use: along them no instance loses.
-//! At a vertex as many constraints are tight as there are variables, and with each goes an edge, along
-//! which it alone loosens. The next edge is the steepest one (Goldfarb & Reid 1977), and costs are taken for a little higher
-//! than they are, each by a part of its own, so that hardly two vertices are in one place (Charnes 1952).
+//! It moves from vertex to vertex of the polyhedron of fair potentials, starting where all weights are 0, so that the current
+//! point is fair whenever it stops. If all allowances are 0, unbounded rays are what matters: along them no instance loses. At a
+//! vertex as many constraints are tight as there are variables, and each has an edge along which it alone loosens. The next edge
+//! is the steepest one (Goldfarb & Reid 1977). To avoid degenerate vertices, each cost is increased by a small random amount
+//! (Charnes 1952).
 use crate::aims::Aims;
 use crate::linear_program::LinearProgram;
 use crate::samples::Chance;
@@ -13,43 +13,43 @@ use faults::NoMemory;
 use std::alloc::Global;
 use std::num::nearest_i64_to_f64;
 
-/// The most pivots.
+/// The maximum number of pivots.
 const MAX_PIVOTS: u32 = 65_536;
 
-/// What is no more than this is nothing: a gain, or how fast a constraint gets nearer.
+/// Gains and rates up to this size count as 0.
 const NOTHING: f64 = 1e-9;
 
-/// What is no more than this is an error of rounding.
+/// Numbers up to this size are rounding errors.
 const ERROR: f64 = 1e-12;
 
-/// By which part of the greatest cost a constraint may be higher than it is.
+/// The perturbation of the constraints, relative to the greatest cost.
 const RISE: f64 = 1e-6;
 
-/// What a tight constraint has left, which is met again only once it has loosened.
+/// The slack of a tight constraint: it cannot block until it has loosened.
 const TIGHT: f64 = f64::INFINITY;
 
-/// What an instance may lose.
+/// The amount that an instance may lose.
 #[derive(Clone, Copy)]
 pub(crate) enum Allowance {
-    /// What it costs.
+    /// Its cost.
     Cost,
     /// Nothing, whatever it costs.
     Nothing,
 }
 
-/// A constraint that is tight, and the edge along which it alone loosens: how far each variable grows along it, what the states
-/// gain by that, and the square of its length.
+/// A tight constraint and the edge along which it alone loosens: the growth of each variable along it, the gain of the states,
+/// and the square of its length.
 #[derive(Drop)]
 struct Edge {
     constraint: usize,
-    /// The variable that alone grows, as long as the edge was never updated, and has nothing in `along`.
+    /// The only variable that grows, as long as the edge was never updated and `along` is empty.
     alone: usize,
     along: Vec<f64>,
     gain: f64,
     square: f64,
 }
 
-/// A constraint that is met along an edge, how far it is, and how fast it gets nearer.
+/// A constraint that blocks an edge, its distance, and the rate at which it approaches.
 #[derive(Clone, Copy)]
 struct BlockingConstraint {
     constraint: usize,
@@ -57,36 +57,36 @@ struct BlockingConstraint {
     rate: f64,
 }
 
-/// What comes of a pivot.
+/// The result of a pivot.
 #[derive(Clone, Copy, PartialEq, Eq)]
 enum Pivot {
-    /// The next vertex.
+    /// The next vertex was reached.
     Made,
-    /// No edge along which anything is gained.
+    /// No edge has a positive gain.
     Optimal,
-    /// An unbounded ray, the last edge now.
+    /// There is an unbounded ray: the last edge.
     Unbounded,
 }
 
-/// A vertex. Its constraints are those of the instances, which lose no more than they may, and then those of the variables, which
-/// are at least 0.
+/// A vertex. Its constraints are first those of the instances, which lose no more than allowed, and then those of the variables,
+/// which are at least 0.
 #[derive(Drop)]
 pub(crate) struct Vertex {
     edges: Vec<Edge>,
     instances: usize,
     variables: usize,
-    /// What each constraint has left.
+    /// The slack of each constraint.
     slacks: Vec<f64>,
-    /// How fast each constraint gets nearer along the edge that is taken, and which do.
+    /// The rate at which each constraint approaches along the current edge, and the constraints that do approach.
     rates: Vec<f64>,
     nearing: Vec<usize>,
-    /// How many numbers were looked at, and may be before no further step is taken.
+    /// Work counter, and its limit, after which no further step is taken.
     work: u64,
     max_work: u64,
 }
 
 impl Allowance {
-    /// What an instance of this cost may lose.
+    /// The amount that an instance with this cost may lose.
     fn of(self, cost: i64) -> i64 {
         match self {
             Allowance::Cost => cost,
@@ -96,7 +96,7 @@ impl Allowance {
 }
 
 impl Vertex {
-    /// That of weights that are all 0, where each instance may lose this. So many numbers may be looked at.
+    /// The vertex with all weights 0, for this allowance and this work limit.
     pub(crate) fn new(
         alloc: Global,
         tables: &Tables,
@@ -123,7 +123,7 @@ impl Vertex {
         Ok(vertex)
     }
 
-    /// Notes what the constraints of the instances have left, and a little more.
+    /// Sets the slacks of the instances' constraints, slightly perturbed.
     fn fill_slacks(&mut self, costs: &[i64], allowance: Allowance) -> Result<(), NoMemory> {
         let mut most = 1;
         for cost in costs {
@@ -139,7 +139,7 @@ impl Vertex {
         Ok(())
     }
 
-    /// Adds the constraint of a variable, and the edge along which it alone grows.
+    /// Adds the constraint of a variable, and the edge along which only this variable grows.
     fn add_edge(&mut self, alloc: Global, variable: usize) -> Result<(), NoMemory> {
         self.slacks.push(TIGHT)?;
         self.edges.push(Edge {
@@ -152,7 +152,8 @@ impl Vertex {
         Ok(())
     }
 
-    /// Goes on as long as the initial state gains by it, and by this share the sampled ones; says whether it took a step.
+    /// Pivots as long as the objective improves: the initial state's gain, plus `share` times that of the sampled states. Returns
+    /// whether a step was taken.
     pub(crate) fn climb(
         &mut self,
         tables: &Tables,
@@ -170,8 +171,7 @@ impl Vertex {
         Ok(true)
     }
 
-    /// Goes on until it comes to an unbounded ray along which the initial state gains: how far each variable grows
-    /// along it.
+    /// Pivots until it finds an unbounded ray along which the initial state gains. Returns the growth of each variable along it.
     pub(crate) fn unbounded_ray(
         &mut self,
         tables: &Tables,
@@ -197,12 +197,12 @@ impl Vertex {
         Ok(None)
     }
 
-    /// Lets no more than so many numbers be looked at from now on.
+    /// Limits the further work to this amount.
     pub(crate) fn limit_work(&mut self, more: u64) {
         self.max_work = self.max_work.min(self.work.saturating_add(more));
     }
 
-    /// Notes what is gained along each edge.
+    /// Computes the gain along each edge.
     fn aim_at(&mut self, tables: &Tables, program: &LinearProgram, aims: &Aims, share: f64) {
         let mut read = self.edges.len();
         for edge in self.edges.iter_mut() {
@@ -212,7 +212,7 @@ impl Vertex {
         self.count(read);
     }
 
-    /// Goes to the next vertex, if there is one.
+    /// Moves to the next vertex, if there is one.
     fn pivot(&mut self, tables: &Tables, program: &LinearProgram) -> Result<Pivot, NoMemory> {
         let Some(place) = self.steepest_edge() else {
             return Ok(Pivot::Optimal);
@@ -237,7 +237,7 @@ impl Vertex {
         Ok(pivot)
     }
 
-    /// The place of the edge along which most is gained for its length.
+    /// The index of the edge with the greatest gain relative to its length.
     fn steepest_edge(&self) -> Option<usize> {
         let mut best = None;
         let mut most = 0.0;
@@ -251,7 +251,7 @@ impl Vertex {
         best
     }
 
-    /// Notes how fast each constraint gets nearer along the edge.
+    /// Computes the rate at which each constraint approaches along the edge.
     fn fill_rates(
         &mut self,
         tables: &Tables,
@@ -275,7 +275,7 @@ impl Vertex {
         Ok(())
     }
 
-    /// The constraint gets nearer so much faster.
+    /// Increases the rate of the constraint by this amount.
     fn add_rate(&mut self, constraint: usize, more: f64) -> Result<(), NoMemory> {
         self.count(1);
         if constraint < self.rates.len() {
@@ -287,7 +287,7 @@ impl Vertex {
         Ok(())
     }
 
-    /// Of the constraints that get nearer along the edge, the first.
+    /// The first constraint that blocks the edge.
     fn blocking_constraint(&self) -> Option<BlockingConstraint> {
         let mut first = None;
         for constraint in &self.nearing {
@@ -306,7 +306,7 @@ impl Vertex {
         first
     }
 
-    /// Goes along the edge to where it stops, if it does, and forgets it.
+    /// Moves along the edge up to the blocking constraint, if there is one, and removes the edge.
     fn advance(&mut self, blocking: Option<BlockingConstraint>) {
         let far = match blocking {
             Some(blocking) => blocking.far,
@@ -321,7 +321,7 @@ impl Vertex {
         self.nearing.clear();
     }
 
-    /// Updates the other edges so that the constraint of this one stays tight along them.
+    /// Updates the other edges so that the new constraint stays tight along them.
     fn update_edges(
         &mut self,
         tables: &Tables,
@@ -345,7 +345,7 @@ impl Vertex {
         Ok(())
     }
 
-    /// How far each variable has grown, by the costs as they are.
+    /// The value of each variable, for the unperturbed costs.
     pub(crate) fn grown(&self, alloc: Global, tables: &Tables) -> Result<Vec<f64>, NoMemory> {
         let mut grown = vec![in alloc; 0.0; self.variables]?;
         for edge in &self.edges {
@@ -359,12 +359,12 @@ impl Vertex {
         Ok(grown)
     }
 
-    /// So many numbers more were looked at.
+    /// Counts this much work.
     fn count(&mut self, more: usize) {
         self.work = self.work.saturating_add(more as u64);
     }
 
-    /// Notes what the constraint has left.
+    /// Sets the slack of the constraint.
     fn set_slack(&mut self, constraint: usize, slack: f64) {
         if constraint < self.slacks.len() {
             self.slacks[constraint] = slack;
@@ -373,7 +373,7 @@ impl Vertex {
 }
 
 impl Edge {
-    /// Notes what is gained along it.
+    /// Computes the gain along the edge.
     fn aim_at(&mut self, tables: &Tables, program: &LinearProgram, aims: &Aims, share: f64) {
         self.gain = match program.variables().get(self.alone) {
             Some(step) if self.along.is_empty() => aims.shared_gain(tables, *step, share),
@@ -386,7 +386,7 @@ impl Edge {
         }
     }
 
-    /// Belongs to the blocking constraint from now on.
+    /// Assigns the edge to the blocking constraint.
     fn exchange(&mut self, blocking: BlockingConstraint) {
         self.constraint = blocking.constraint;
         self.gain /= -blocking.rate;
@@ -396,7 +396,7 @@ impl Edge {
         }
     }
 
-    /// How fast a constraint gets nearer along it: that of a variable, or of the instance at this place.
+    /// The rate at which a constraint approaches along the edge: that of a variable, or of the instance at this index.
     fn rate(
         &self,
         tables: &Tables,
@@ -418,7 +418,7 @@ impl Edge {
         rate
     }
 
-    /// How far the variable grows along it.
+    /// The growth of the variable along the edge.
     fn growth(&self, variable: usize) -> f64 {
         if self.along.is_empty() {
             return if variable == self.alone { 1.0 } else { 0.0 };
@@ -426,7 +426,7 @@ impl Edge {
         at(&self.along, variable)
     }
 
-    /// Makes room for how far each of so many variables grows along it.
+    /// Fills `along` with the growth of each of this many variables.
     fn fill(&mut self, variables: usize) -> Result<(), NoMemory> {
         if self.along.is_empty() {
             for variable in 0..variables {
@@ -437,7 +437,7 @@ impl Edge {
         Ok(())
     }
 
-    /// So many times the other edge comes to it.
+    /// Adds a multiple of the other edge.
     fn add(&mut self, times: f64, other: &Edge) {
         self.gain += times * other.gain;
         let mut square = NOTHING;
@@ -453,7 +453,7 @@ impl Edge {
 }
 
 impl BlockingConstraint {
-    /// The earlier one of the first so far and this one; of two, the one that gets nearer faster.
+    /// The earlier of this constraint and the first one so far; at the same distance, the one that approaches faster.
     fn or_earlier(self, first: Option<BlockingConstraint>) -> BlockingConstraint {
         match first {
             Some(first) => {
@@ -468,7 +468,7 @@ impl BlockingConstraint {
     }
 }
 
-/// The number at this place.
+/// The number at this index.
 fn at(numbers: &[f64], place: usize) -> f64 {
     match numbers.get(place) {
         Some(number) => *number,

@@ -1,4 +1,4 @@
-//! What drafts of potentials read again and again of a ground task.
+//! Data of a ground task that drafts of potentials read repeatedly.
 ghost use Rattle.std.specs.Prelude.{◌≡◌, IfOk};
 ghost use Rattle.potentials_drafted.specs.Tables.{AreTablesOf};
 
@@ -10,42 +10,41 @@ use packed_state::Packed;
 use potentials::{goal_gives, instance_count, is_in_range};
 use std::alloc::Global;
 
-/// How many states are sampled.
+/// The number of sampled states.
 const SAMPLES: u32 = 32;
 
-/// What the goal says of an atom.
+/// What the goal requires of an atom.
 #[derive(Clone, Copy)]
 pub(crate) struct AtGoal {
     is_true: bool,
     is_false: bool,
 }
 
-/// What drafts of potentials read of a ground task, for values and for dead ends alike: for each atom what the goal says of it
-/// and the instances that touch it, for each instance what it costs and the atoms that it touches, and states on the way from
-/// the initial one.
+/// The data that drafts read, for values and for dead ends alike: for each atom what the goal requires of it and the instances
+/// that touch it, for each instance its cost and the atoms that it touches, and states sampled by random walks.
 #[derive(Drop)]
 pub struct Tables {
     width: u32,
     at_goal: Vec<AtGoal>,
     costs: Vec<i64>,
     incidence: Incidence,
-    /// The true atoms of the initial state, and then of those that were sampled on the way from it.
+    /// The true atoms of the initial state and then of the sampled states.
     states: Vec<Vec<u32>>,
 }
 
 impl AtGoal {
-    /// Nothing.
+    /// No requirement.
     const OPEN: AtGoal = AtGoal {
         is_true: false,
         is_false: false,
     };
 
-    /// By how much the constant has to fall, where the atom's weight becomes another.
+    /// The amount by which the constant must fall when the atom's weight changes.
     pub(crate) fn less(self, before: i64, after: i64) -> i64 {
         self.gives(after).saturating_sub(self.gives(before))
     }
 
-    /// The most that the atom may give at a goal by this weight.
+    /// Upper bound of the atom's contribution in goal states, for this weight.
     fn gives(self, weight: i64) -> i64 {
         if is_in_range(weight) {
             goal_gives(self.is_false, self.is_true, weight)
@@ -56,7 +55,7 @@ impl AtGoal {
 }
 
 impl Tables {
-    /// Those of the ground task, whose initial state this is.
+    /// The data of the ground task with this initial state.
     pub fn new(alloc: Global, ground: &Ground<'_>, initial: &Packed) -> Result<Tables, NoMemory>
         ensures { IfOk result (AreTablesOf ground.now) }
     {
@@ -69,12 +68,12 @@ impl Tables {
         })
     }
 
-    /// How many atoms there are.
+    /// The number of atoms.
     pub fn width(&self) -> u32 {
         self.width
     }
 
-    /// What the goal says of the atom.
+    /// What the goal requires of the atom.
     pub(crate) fn at_goal(&self, atom: u32) -> AtGoal {
         match self.at_goal.get(atom as usize) {
             Some(at_goal) => *at_goal,
@@ -82,17 +81,17 @@ impl Tables {
         }
     }
 
-    /// What each instance costs.
+    /// The cost of each instance.
     pub fn costs(&self) -> &[i64] {
         &self.costs
     }
 
-    /// Lets each instance cost what these say, in the order of instances, in the place of what it costs in the task.
+    /// Replaces the costs of the instances by these, in the order of instances.
     pub fn set_costs(&mut self, costs: Vec<i64>) {
         self.costs = costs;
     }
 
-    /// The most that the instance of this number loses by these weights.
+    /// Upper bound of the loss of the instance with this number, for these weights.
     pub fn loss(&self, number: u32, weights: &[i64]) -> i64 {
         let mut total = 0i64;
         for entry in self.atoms_of(number) {
@@ -103,12 +102,12 @@ impl Tables {
         total
     }
 
-    /// The true atoms of the initial state, and then of those that were sampled on the way from it.
+    /// The true atoms of the initial state and then of the sampled states.
     pub fn states(&self) -> &[Vec<u32>] {
         &self.states
     }
 
-    /// The greatest constant by which these weights give at most 0 at a goal.
+    /// The greatest constant for which these weights have at most the value 0 in goal states.
     pub fn constant(&self, weights: &[i64]) -> i64 {
         let mut constant = 0i64;
         let mut atom = 0u32;
@@ -129,12 +128,12 @@ impl Tables {
         self.atoms_at(number as usize)
     }
 
-    /// The atoms that the instance at this place touches.
+    /// The atoms that the instance at this index touches.
     pub(crate) fn atoms_at(&self, place: usize) -> &[IncidenceEntry] {
         self.incidence.atoms_at(place)
     }
 
-    /// Which instances touch which atoms.
+    /// The incidence of instances and atoms.
     pub fn incidence(&self) -> &Incidence
         ensures { result.now ≡ self.now.incidence }
     {
@@ -142,7 +141,7 @@ impl Tables {
     }
 }
 
-/// What the goal says of each atom.
+/// What the goal requires of each atom.
 fn reported_at_goal(alloc: Global, ground: &Ground<'_>) -> Result<Vec<AtGoal>, NoMemory> {
     let mut reported = vec![in alloc; AtGoal::OPEN; ground.width() as usize]?;
     for literal in ground.goal_literals() {
@@ -155,7 +154,7 @@ fn reported_at_goal(alloc: Global, ground: &Ground<'_>) -> Result<Vec<AtGoal>, N
     Ok(reported)
 }
 
-/// What each instance costs.
+/// The cost of each instance.
 fn costs(alloc: Global, ground: &Ground<'_>) -> Result<Vec<i64>, NoMemory> {
     let mut costs = Vec::new(alloc);
     for number in 0..instance_count(ground) {
@@ -164,7 +163,7 @@ fn costs(alloc: Global, ground: &Ground<'_>) -> Result<Vec<i64>, NoMemory> {
     Ok(costs)
 }
 
-/// The true atoms of the initial state, and of those that are sampled on the way from it.
+/// The true atoms of the initial state and of the sampled states.
 fn states(alloc: Global, ground: &Ground<'_>, initial: &Packed) -> Result<Vec<Vec<u32>>, NoMemory> {
     let mut states = sampled(alloc, ground, initial, SAMPLES)?;
     states.insert(0, true_atoms(alloc, initial)?)?;

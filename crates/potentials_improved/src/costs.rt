@@ -76,7 +76,7 @@ impl FairAt<'_, '_, Costs> {
     }
 }
 
-/// The score of a state is that of the potentials. A successor's score takes a look at the atoms that differ, and at no
+/// The score of a state is that of the potentials. From the score of another state it takes a look at the atoms that differ, and at no
 /// other.
 impl Estimate for FairAt<'_, '_, Costs> {
     ghost use Rattle.std.specs.Prelude.{length};
@@ -94,11 +94,15 @@ impl Estimate for FairAt<'_, '_, Costs> {
 
     ghost is_consistent = { λ estimate. estimate.guides.estimate (λ i. le_refl _) };
 
+    fn width(&self) -> u32 {
+        self.ground().width()
+    }
+
     fn score(&self, state: &Packed) -> i64 {
         self.potentials().score(state)
     }
 
-    fn score_after(&self, score: i64, before: &Packed, _action: u32, after: &Packed) -> i64 {
+    fn score_after(&self, score: i64, before: &Packed, after: &Packed) -> i64 {
         self.potentials().score_after(score, before, after)
     }
 }

@@ -1,4 +1,4 @@
--- The text of an object whose members are made by calls is that of the members that are meant.
+-- The text of an object whose members are built by calls is that of the intended members.
 use Rattle.std.proofs.Common.{◌≡◌, List, String, Global, subst}
 use Rattle.std.specs.Prelude.{Result, IfOk}
 use Rattle.std.specs.String.{string_bytes}

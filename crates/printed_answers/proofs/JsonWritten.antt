@@ -1,4 +1,4 @@
--- What is built of members has their text, and a reader makes them of it.
+-- The value built from members has their text, and a parser reads it back.
 use Rattle.std.proofs.Common.{◌≡◌, ℕ, ◌≤◌, Bool, true, false, List, [], ◌∷◌, ◌++◌, map, Some, refl, sym, ap, ap₂, ◌∙◌, append_assoc, append-nil, subst, arith}
 use Rattle.std.specs.Prelude.{flat_map, ◌||◌, option_and_then}
 use Rattle.std.proofs.lemmas.Bool.Decides.{nat_tests}
@@ -17,7 +17,7 @@ use Rattle.printed_answers.specs.JsonText.{Value, Member, number, text, texts, e
 use Rattle.printed_answers.specs.Members.{strings_read, value_read, members_read}
 use Rattle.printed_answers.specs.MembersBuilt.{value_built, members_built}
 
--- a byte is escaped as the library escapes it
+-- the library escapes a byte as defined
 escaped_same : (byte : ℕ) → escape_byte byte ≡ escaped byte
 unfolding escape_byte
 escaped_same byte = grind (arith, nat_tests)
@@ -54,7 +54,7 @@ members_written later m (next ∷ rest) =
     ∙ ap (λ (t : List ℕ). member_text m ++ t) (members_written true next rest)
     ∙ sym (append_assoc (member_text m) (44 ∷ joined (map member_text (next ∷ rest))) (125 ∷ [])))
 
--- the object that is built is written as the text
+-- the object that is built is printed as the text
 object_written : (members : List Member) → compact_text (object (members_built members)) ≡ object_text members
 object_written [] = refl
 object_written (m ∷ rest) = ap (λ (t : List ℕ). 123 ∷ t) (members_written false m rest)
@@ -68,12 +68,12 @@ value_whole (number n) = refl
 value_whole (text s) = refl
 value_whole (texts list) = strings_whole list
 
--- no number of it is a float
+-- none of its numbers is a float
 object_whole : (members : List Member) → has_float (object (members_built members)) ≡ false
 object_whole [] = refl
 object_whole (m ∷ rest) = ap₂ (λ (first following : Bool). first || following) (value_whole m.value) (object_whole rest)
 
--- the object that is built is the one that a reader makes
+-- the object that is built is the one that a parser makes
 strings_outlined : (list : List (List ℕ)) → items_outline (items_of (map built.string list)) ≡ strings_read list
 strings_outlined [] = refl
 strings_outlined (s ∷ rest) = ap (json.item (json.string s)) (strings_outlined rest)
@@ -103,7 +103,7 @@ members_deep (m ∷ rest) = omega (arith, value_depth m.value, members_deep rest
 object_deep : (members : List Member) → depth (json.object (members_read members)) ≤ max_depth
 object_deep members = omega (arith, members_deep members)
 
--- a text of the object that is built reads as its members
+-- a text of the object that is built reads back as its members
 object_read : (members : List Member) (bytes : List ℕ) → IsInOrder bytes (object (members_built members)) → document bytes ≡ Some (json.object (members_read members))
 object_read members bytes in_order =
     let read = json.object (members_read members) in
@@ -113,7 +113,7 @@ object_read members bytes in_order =
     ap (λ ts. option_and_then (λ p. if_last p.0 p.1) (value max_depth ts)) same
     ∙ ap (option_and_then (λ p. if_last p.0 p.1)) (value-json_tokens read max_depth [] (object_deep members))
 
--- so what is written for it is the text, and reads as its members
+-- so its printed form is the text, and reads back as its members
 pub text_reported : (members : List Member) (d : Data) → d ≡ object (members_built members) → (bytes : List ℕ) → (has_float d ≡ false → bytes ≡ compact_text d) → bytes ≡ object_text members
 text_reported members d is bytes said = said (ap has_float is ∙ object_whole members) ∙ ap compact_text is ∙ object_written members
 

@@ -1,4 +1,4 @@
--- Members whose keys ascend are put into the library's object one after the other.
+-- Members with ascending keys are inserted into the library's object one after another.
 use Rattle.std.proofs.Common.{◌≡◌, ℕ, zero, suc, ◌+◌, ◌<◌, ◌≤◌, true, List, [], ◌∷◌, length, take, get_or, Ordering, Less, Equal, Greater, String, Global, BTreeMap, refl, sym, ap, ◌∙◌, arith}
 use Rattle.std.proofs.lemmas.Bool.{and_parts}
 use Rattle.std.proofs.lemmas.Cmp.{nat_list_cmp_total}
@@ -44,7 +44,7 @@ put_at (first ∷ later) (suc i) d within ascends =
     nat_list_cmp_total.antisymm next.key.now first.key.now ∙ ap ordering_reverse (first_below first later i d (omega (arith, within)) ascends) in
     rw above (ap (built.member first.key.now (value_built (value_of first.value))) (put_at later i d (omega (arith, within)) (rest_ascends first later ascends)))
 
--- the next member is put after those before it
+-- the next member is inserted after those before it
 pub put_next : (members : List Member) (i : ℕ) (next : Member) → i < length members → get_or members i next ≡ next → ascend (keys_of members) ≡ true
     → put next.key.now (value_built (value_of next.value)) (members_built (members_of (take i members))) ≡ members_built (members_of (take (i + 1) members))
 put_next members i next within is ascends =
@@ -53,7 +53,7 @@ put_next members i next within is ascends =
     ∙ put_at members i next within ascends
     ∙ ap (λ n. members_built (members_of (take n members))) more
 
--- once each member is put, the object is that of them all
+-- after all members are inserted, the object consists of them
 pub all_put : (members : List Member) (i : ℕ) (m : BTreeMap (String Global) Value) → length members ≤ i → members_view m.entries ≡ members_built (members_of (take i members))
     → view (Object m) ≡ object (members_built (members_of members))
 all_put members i m end put_so_far = view-Object m ∙ ap object (put_so_far ∙ ap (λ (ms : List Member). members_built (members_of ms)) (take_all i members end))

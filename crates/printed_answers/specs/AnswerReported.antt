@@ -1,4 +1,4 @@
--- What the answer of the planner is reported as, and the status beside it.
+-- The printed answer of the planner, and its exit status.
 use Rattle.std.specs.Prelude.{ℕ, List, ◌++◌, codes}
 use Rattle.std.specs.Fmt.{decimal}
 use Rattle.formulas.specs.State.{plan_of}
@@ -9,19 +9,19 @@ use Rattle.solver.specs.declared.answer.Exceeded.TheVariants.{Instances, Atoms, 
 use Rattle.model.specs.Task.{Task}
 use Rattle.model.specs.PlanWriting.{plan_text}
 
--- the line of a limit that is exceeded; beside that of the states is what each plan costs at least
+-- the line for an exceeded limit; for the state limit it includes the lower bound of plan costs
 abbrev pub limit_line : Exceeded → List ℕ
 limit_line Instances = codes "unknown instances\n"
 limit_line Atoms = codes "unknown atoms\n"
 limit_line (States least cert) = codes "unknown states, at least " ++ (decimal least ++ codes "\n")
 
--- the text that reports an answer
+-- the text of an answer
 abbrev pub text_of : Task → Answer → List ℕ
 text_of task (Plan steps cost cert) = plan_text task (plan_of steps) cost
 text_of task (Unsolvable cert) = codes "unsolvable\n"
 text_of task (Unknown limit) = limit_line limit
 
--- the status beside it: 0 with a plan, 10 where there is none, 11 where a limit is exceeded
+-- the exit status: 0 with a plan, 10 if there is none, 11 if a limit is exceeded
 abbrev pub status_of : Answer → ℕ
 status_of (Plan steps cost cert) = 0
 status_of (Unsolvable cert) = 10

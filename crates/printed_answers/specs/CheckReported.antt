@@ -1,4 +1,4 @@
--- What the answer of the checker is reported as, and the status beside it.
+-- The printed answer of the checker, and its exit status.
 use Rattle.std.specs.Prelude.{◌≡◌, ℕ, List, [], ◌++◌, codes, Option, None, Some, Result, Ok, Err}
 use Rattle.std.specs.Fmt.{decimal}
 use Rattle.task_certificates.specs.declared.refusal.RefusalCode.{RefusalCode}
@@ -20,19 +20,19 @@ accepted_line (Optimal cost) = codes "optimal cost " ++ (decimal cost ++ codes "
 accepted_line (AtLeast cost) = codes "at least " ++ (decimal cost ++ codes "\n")
 accepted_line Unsolvable = codes "unsolvable\n"
 
--- the lines of refusals: `not accepted CODE Name`, and `not accepted CODE Name line L` of a line
+-- the lines of refusals: `not accepted CODE Name`, and `not accepted CODE Name line L` for a line
 abbrev pub plain_refused : RefusalCode → List ℕ
 plain_refused code = codes "not accepted " ++ (decimal (number_of code) ++ (codes " " ++ (name_of code ++ codes "\n")))
 
 abbrev pub line_refused : RefusalCode → (line : ℕ) → List ℕ
 line_refused code line = codes "not accepted " ++ (decimal (number_of code) ++ (codes " " ++ (name_of code ++ (codes " line " ++ (decimal line ++ codes "\n")))))
 
--- the line of a potential function under which this instance may lose more than it is allowed to
+-- the line for a potential function under which this instance may lose more than it is allowed to
 abbrev pub instance_refused : RefusalCode → Task → Instance → List ℕ
 instance_refused code task i =
     codes "not accepted " ++ (decimal (number_of code) ++ (codes " " ++ (name_of code ++ (codes " " ++ (step_text task i ++ codes "\n")))))
 
--- the line of the answer to a task; that memory was refused, or that the device failed, is reported by none
+-- the line for the answer to a task; there is none for a failed allocation or device
 abbrev pub line_of : Task → Result Accepted Refusal → List ℕ
 line_of task (Ok answer) = accepted_line answer
 line_of task (Err (refusal.Line code line)) = line_refused code line
@@ -43,12 +43,12 @@ line_of task (Err refusal.NoMemory) = []
 line_of task (Err refusal.Device) = []
 line_of task (Err refusal.Failed) = []
 
--- the status beside it: 0 where the certificate is accepted, and 12 where it is refused
+-- the exit status: 0 if the certificate is accepted, and 12 if it is refused
 abbrev pub status_of : Result Accepted Refusal → ℕ
 status_of (Ok answer) = 0
 status_of (Err refusal) = 12
 
--- why nothing is reported for the certificate: its device failed, or memory was refused; and None where its answer is reported
+-- why nothing is printed for the certificate: its device failed, or an allocation failed; None if its answer is printed
 abbrev pub failure_of : Result Accepted Refusal → Option IoFault
 failure_of (Ok answer) = None
 failure_of (Err (refusal.Line code line)) = None
@@ -59,6 +59,6 @@ failure_of (Err refusal.NoMemory) = Some device.NoMemory
 failure_of (Err refusal.Device) = Some device.Device
 failure_of (Err refusal.Failed) = Some device.NoMemory
 
--- the answer is reported: it is none of memory or of a device
+-- the answer is printed: it is not a failure of memory or of a device
 abbrev pub IsReportedRefusal : Result Accepted Refusal → Type 0
 IsReportedRefusal answer = failure_of answer ≡ None

@@ -1,4 +1,4 @@
--- What an explanation is reported as where JSON is asked for: an object whose keys are in the order of bytes.
+-- Explanations as JSON objects, whose keys are in bytewise order.
 use Rattle.std.specs.Prelude.{ℕ, List, [], ◌∷◌, codes, map, Option, Some, None}
 use Rattle.std.specs.String.{string_bytes}
 use Rattle.faults.specs.Fault.{number_of, name_in, names}
@@ -33,7 +33,7 @@ code_member code = numbered (codes "code") (number_of code)
 abbrev name_member : Code → Member
 name_member code = member (codes "name") (text (name_in names (number_of code)))
 
--- a fault at this place of the file of this name
+-- a fault at this place in the file with this name
 abbrev pub of_located_fault : Code → (name : List ℕ) → (line column length : ℕ) → (further hints : List (List ℕ)) → (lines : List ℕ) → List Member
 of_located_fault code name line column length further hints lines =
     code_member code ∷ numbered (codes "column") column ∷ explain ∷ member (codes "file") (text name) ∷ member (codes "further") (texts further)
@@ -54,7 +54,7 @@ of_valid cost lines = explain ∷ numbered (codes "cost") cost ∷ result (codes
 abbrev pub of_missed : (lines : List ℕ) → List Member
 of_missed lines = explain ∷ result (codes "goal missed") ∷ told lines ∷ []
 
--- a step that is not applicable, at this place of the file of this name
+-- an inapplicable step, at this place in the file with this name
 abbrev pub of_located_step : (step : ℕ) → (name : List ℕ) → (line column length : ℕ) → (lines : List ℕ) → List Member
 of_located_step step name line column length lines =
     numbered (codes "column") column ∷ explain ∷ member (codes "file") (text name) ∷ numbered (codes "length") length
@@ -72,14 +72,14 @@ of_plan (valid cost) location lines = of_valid cost lines
 of_plan (not_applicable step) location lines = of_step step location lines
 of_plan goal_missed location lines = of_missed lines
 
--- a task: what it holds, how many instances are kept and atoms numbered, and its notes
+-- a task: its summary, the numbers of kept instances and numbered atoms, and its notes
 abbrev pub of_grounded : Summary → (kept width : ℕ) → (notes : List (List ℕ)) → (lines : List ℕ) → List Member
 of_grounded holds kept width notes lines =
     numbered (codes "actions") holds.actions ∷ numbered (codes "atoms") width ∷ explain ∷ numbered (codes "functions") holds.functions
     ∷ numbered (codes "instances") kept ∷ member (codes "notes") (texts notes) ∷ numbered (codes "objects") holds.objects
     ∷ numbered (codes "predicates") holds.predicates ∷ result (codes "task") ∷ told lines ∷ numbered (codes "types") holds.types ∷ []
 
--- or the limit that it exceeds
+-- the same with the limit that it exceeds
 abbrev pub of_beyond : Summary → (limit : List ℕ) → (notes : List (List ℕ)) → (lines : List ℕ) → List Member
 of_beyond holds limit notes lines =
     numbered (codes "actions") holds.actions ∷ explain ∷ numbered (codes "functions") holds.functions
@@ -94,7 +94,7 @@ abbrev pub of_task : Summary → Grounded → (notes : List (List ℕ)) → (lin
 of_task holds (Within instances atoms) notes lines = of_grounded holds instances atoms notes lines
 of_task holds (Beyond limit) notes lines = of_beyond holds (limit_name limit) notes lines
 
--- the lines of a fault beside the first
+-- the lines of a further fault
 abbrev pub lines_of : FurtherFault → List ℕ
 lines_of fault = string_bytes fault.text
 

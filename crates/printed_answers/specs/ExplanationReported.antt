@@ -1,4 +1,4 @@
--- What an explanation is reported as, and the status beside it.
+-- The printed explanation, and its exit status.
 use Rattle.std.specs.Prelude.{ℕ}
 use Rattle.validator.specs.Verdict.{verdict_of}
 use Rattle.file_answers.specs.declared.explanation.Subject.{Subject}
@@ -7,12 +7,12 @@ use Rattle.file_answers.specs.declared.explanation.Grounded.{Grounded}
 use Rattle.file_answers.specs.declared.explanation.Grounded.TheVariants.{Within, Beyond}
 use Rattle.printed_answers.specs.VerdictReported as verdicts
 
--- of a task: 0 where it is within the limits, and 11 where it is not
+-- for a task: 0 if it is within the limits, and 11 if it is not
 abbrev pub status_of_task : Grounded → ℕ
 status_of_task (Within instances atoms) = 0
 status_of_task (Beyond limit) = 11
 
--- the status beside an explanation: 20 of a fault, that of the verdict on a plan, and that of a task
+-- the exit status of an explanation: 20 for a fault, that of the verdict for a plan, and that of a task
 abbrev pub status_of : Subject → ℕ
 status_of (Fault file code span) = 20
 status_of (Plan verdict) = verdicts.status_of (verdict_of verdict)

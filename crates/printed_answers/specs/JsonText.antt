@@ -1,12 +1,12 @@
--- The compact text of a JSON object whose members are numbers, strings and lists of strings (RFC 8259): no blank is in it, and a
--- string is escaped only where it must be.
+-- The compact text of a JSON object whose members are numbers, strings and lists of strings (RFC 8259): it has no blanks, and
+-- strings have only required escapes.
 use Rattle.std.specs.Prelude.{ℕ, ◌/◌, ◌%◌, ◌==◌, ◌||◌, ◌&&◌, nat_lt, Bool, true, false, if◌then◌else◌, List, [], ◌∷◌, ◌++◌, flat_map, map, codes}
 use Rattle.std.specs.Fmt.{decimal}
 use Rattle.std.specs.Char.{digit_char}
 use Rattle.std.specs.Cmp.Lexicographic.{slice_cmp}
 use Rattle.std.specs.Ordering.{nat_cmp, match_ordering}
 
--- what a member has: a number, a string or an array of strings
+-- the value of a member: a number, a string or an array of strings
 pub data Value : Type 0 where
   number : ℕ → Value
   text : List ℕ → Value
@@ -16,8 +16,9 @@ pub record Member : Type 0 where
   pub key : List ℕ
   pub value : Value
 
--- What is in a string for a byte (section 7): a quotation mark and a backslash have a backslash before them, as do the letters that
--- stand for backspace, form feed, line feed, carriage return and tab; another control character is `\u00` and two digits.
+-- The bytes of a string for a character (section 7): a quotation mark and a backslash are preceded by a backslash, as are the
+-- letters that stand for backspace, form feed, line feed, carriage return and tab; another control character is `\u00` and two
+-- digits.
 abbrev pub escaped : ℕ → List ℕ
 escaped byte =
     if (byte == 34) || (byte == 92) then 92 ∷ byte ∷ []
@@ -33,7 +34,7 @@ escaped byte =
 abbrev pub string_text : List ℕ → List ℕ
 string_text s = codes "\"" ++ (flat_map escaped s ++ codes "\"")
 
--- texts with a comma between them
+-- texts separated by commas
 abbrev pub joined : List (List ℕ) → List ℕ
 joined [] = []
 joined (first ∷ []) = first
@@ -49,15 +50,15 @@ value_text (texts list) = codes "[" ++ (joined (map string_text list) ++ codes "
 abbrev pub member_text : Member → List ℕ
 member_text member = string_text member.key ++ (codes ":" ++ value_text member.value)
 
--- the members between braces, with a comma between them
+-- the members between braces, separated by commas
 abbrev pub object_text : List Member → List ℕ
 object_text members = codes "{" ++ (joined (map member_text members) ++ codes "}")
 
--- the first key comes before the second in the order of bytes
+-- the first key comes before the second in bytewise order
 abbrev pub comes_before : List ℕ → List ℕ → Bool
 comes_before first second = match_ordering (slice_cmp nat_cmp first second) true false false
 
--- the keys ascend in the order of bytes, so that none is twice
+-- the keys ascend bytewise, so that none is repeated
 abbrev pub ascend : List (List ℕ) → Bool
 ascend [] = true
 ascend (first ∷ []) = true

@@ -1,4 +1,4 @@
--- The members of the code as those of the definition of the text, and what a reader of JSON makes of them.
+-- The code's members in the definition's terms, and how a JSON parser reads them.
 use Rattle.std.specs.Prelude.{ℕ, List, [], ◌∷◌, map}
 use Rattle.std.specs.Fmt.{decimal}
 use Rattle.std.specs.String.{string_bytes}
@@ -23,7 +23,7 @@ members_of = map member_of
 abbrev pub keys_of : List Member → List (List ℕ)
 keys_of = map (λ member. member.key.now)
 
--- what a reader of JSON makes of strings, of a value and of members
+-- how a JSON parser reads strings, a value and members
 abbrev pub strings_read : List (List ℕ) → json.Items
 strings_read [] = json.no_items
 strings_read (s ∷ rest) = json.item (json.string s) (strings_read rest)

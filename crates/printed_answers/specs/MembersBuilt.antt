@@ -1,4 +1,4 @@
--- The members as the values of JSON that are built of them.
+-- The JSON values that are built from the members.
 use Rattle.std.specs.Prelude.{List, [], ◌∷◌, map}
 use Rattle.serde_json.specs.Data.{Data, unsigned, array, Members, no_members}
 use Rattle.serde_json.specs.Data as built

@@ -1,5 +1,4 @@
--- What an answer is reported as where JSON is asked for: an object of a command, a result and what belongs to it, with its keys in the order of
--- bytes.
+-- Answers as JSON objects: a command, a result and what belongs to it, with the keys in bytewise order.
 use Rattle.std.specs.Prelude.{ℕ, List, [], ◌∷◌, ◌++◌, codes, map, Result, Ok, Err}
 use Rattle.printed_answers.specs.JsonText.{Value, Member, number, text, texts, object_text}
 use Rattle.formulas.specs.State.{plan_of}
@@ -21,7 +20,7 @@ use Rattle.model.specs.PlanWriting.{step_text}
 abbrev pub member : List ℕ → Value → Member
 member key value = record { key = key; value = value }
 
--- the command that an answer is of, and its result
+-- the command of an answer, and its result
 abbrev pub command : List ℕ → Member
 command name = member (codes "command") (text name)
 
@@ -33,7 +32,7 @@ of_verdict (valid cost) = command (codes "validate") ∷ member (codes "cost") (
 of_verdict (not_applicable step) = command (codes "validate") ∷ result (codes "not applicable") ∷ member (codes "step") (number step) ∷ []
 of_verdict goal_missed = command (codes "validate") ∷ result (codes "goal missed") ∷ []
 
--- that the limit of this name is exceeded; beside that of the states is what each plan costs at least
+-- the limit with this name is exceeded; for the state limit it includes the lower bound of plan costs
 abbrev of_limit : List ℕ → List Member
 of_limit name = command (codes "solve") ∷ member (codes "reason") (text name) ∷ result (codes "unknown") ∷ []
 
@@ -42,7 +41,7 @@ of_exceeded exceeded.Instances = of_limit (codes "instances")
 of_exceeded exceeded.Atoms = of_limit (codes "atoms")
 of_exceeded (exceeded.States least cert) = member (codes "bound") (number least) ∷ of_limit (codes "states")
 
--- a plan and its cost, each step as the writer of plans spells it
+-- a plan and its cost, with steps in plan syntax
 abbrev pub of_plan : Task → List Instance → (cost : ℕ) → List Member
 of_plan task plan cost =
     command (codes "solve") ∷ member (codes "cost") (number cost) ∷ result (codes "plan")
@@ -73,6 +72,6 @@ of_checked (Err refusal.NoMemory) = []
 of_checked (Err refusal.Device) = []
 of_checked (Err refusal.Failed) = []
 
--- the line of an object
+-- the object as a line
 abbrev pub line_of_members : List Member → List ℕ
 line_of_members members = object_text members ++ codes "\n"

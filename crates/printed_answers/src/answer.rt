@@ -1,4 +1,4 @@
-//! What an answer is reported as: the text of the plan, or a line.
+//! The text of the planner's answer: the plan, or a line.
 ghost use Rattle.std.specs.Prelude.{◌≡◌, IfOk};
 ghost use Rattle.task.specs.Task.{task_of};
 ghost use Rattle.formulas.specs.State.{plan_of};
@@ -13,8 +13,8 @@ use solver::{Answer, Exceeded};
 use std::alloc::{AllocError, Global};
 use task::Task;
 
-/// The text that an answer is reported as: the plan and its cost, `unsolvable`, or that a limit is exceeded, with what each plan costs
-/// at least where it is that of the states. The error is that memory was refused, as in the calls below.
+/// The text of an answer: the plan and its cost, `unsolvable`, or the exceeded limit, with a lower bound of plan costs if it is
+/// the state limit. The only error, here and in the functions below, is that an allocation failed.
 pub(crate) fn answer_text(
     alloc: Global,
     task: &Task,
@@ -29,7 +29,7 @@ pub(crate) fn answer_text(
     }
 }
 
-/// The line of a limit that is exceeded.
+/// The line for an exceeded limit.
 fn limit_line(alloc: Global, limit: &Exceeded) -> Result<String, AllocError>
     ensures { IfOk result (λ line. string_bytes line ≡ limit_line limit.now) }
 {
@@ -42,14 +42,14 @@ fn limit_line(alloc: Global, limit: &Exceeded) -> Result<String, AllocError>
     }
 }
 
-/// The plan, each step on a line of its own, and then its cost.
+/// The plan, one step per line, followed by its cost.
 fn plan_text(alloc: Global, task: &Task, steps: &Plan, cost: u64) -> Result<Vec<u8>, AllocError>
     ensures { IfOk result (λ text. text.items ≡ plan_text (task_of task.now) (plan_of steps.now) cost) }
 {
     let mut text = Memory::empty(alloc);
     match write_plan(alloc, task, steps, cost, &mut text) {
         Ok(()) => Ok(text.into_vec()),
-        // Memory is the one thing that a device in memory can want.
+        // A device in memory can only fail for want of memory.
         Err(_) => Err(AllocError),
     }
 }

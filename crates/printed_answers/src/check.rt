@@ -1,4 +1,4 @@
-//! What the checker's answer is reported as: a line.
+//! The text of the checker's answer: a line.
 ghost use Rattle.std.specs.Prelude.{◌≡◌, IfOk, IsTrue};
 ghost use Rattle.std.specs.String.{string_bytes};
 ghost use Rattle.task.specs.Task.{task_of};
@@ -15,7 +15,8 @@ use std::alloc::{AllocError, Global};
 use task::Task;
 use task_certificates::{Refusal, RefusalCode};
 
-/// Why nothing is reported for a certificate: its device failed, or memory was refused. `None` where the answer is reported.
+/// Why there is nothing to report for a certificate: its device failed, or an allocation failed. `None` if there is an answer to
+/// report.
 pub fn failure_of(answer: &Result<Accepted, Refusal>) -> Option<IoFault>
     ensures { result ≡ failure_of answer.now }
 {
@@ -24,12 +25,12 @@ pub fn failure_of(answer: &Result<Accepted, Refusal>) -> Option<IoFault>
         Err(Refusal::Line { .. } | Refusal::Unfair(_) | Refusal::DeadUnfair(_)) => None,
         Err(Refusal::Plain(_)) => None,
         Err(Refusal::Device) => Some(IoFault::Device),
-        // The reader is a new one, which has reported no fault.
+        // The reader is new, so it has reported no fault yet.
         Err(Refusal::NoMemory | Refusal::Failed) => Some(IoFault::NoMemory),
     }
 }
 
-/// The line that the checker's answer to a task is reported as. The error is that memory was refused, as in the calls below.
+/// The line for the checker's answer. The only error, here and in the functions below, is that an allocation failed.
 pub(crate) fn checked_line(
     alloc: Global,
     task: &Task,
@@ -51,7 +52,7 @@ pub(crate) fn checked_line(
     }
 }
 
-/// The line of what a certificate shows.
+/// The line for what a certificate shows.
 fn accepted_line(alloc: Global, accepted: Accepted) -> Result<String, AllocError>
     ensures { IfOk result (λ line. string_bytes line ≡ accepted_line accepted) }
 {
@@ -62,7 +63,7 @@ fn accepted_line(alloc: Global, accepted: Accepted) -> Result<String, AllocError
     }
 }
 
-/// The line of a refusal of a line.
+/// The line for a refusal at a line.
 fn line_refused(alloc: Global, code: RefusalCode, line: u64) -> Result<String, AllocError>
     ensures { IfOk result (λ said. string_bytes said ≡ line_refused code line) }
 {
@@ -71,7 +72,7 @@ fn line_refused(alloc: Global, code: RefusalCode, line: u64) -> Result<String, A
     format!(in alloc; "not accepted {number} {name} line {line}\n")
 }
 
-/// The line of a step that may lose more than it is allowed to.
+/// The line for an instance that may lose more than allowed.
 fn instance_refused(
     alloc: Global,
     code: RefusalCode,
@@ -89,7 +90,7 @@ fn instance_refused(
     }
 }
 
-/// The line of a refusal that is not one of a line.
+/// The line for a refusal that is not at a line.
 fn plain_refused(alloc: Global, code: RefusalCode) -> Result<String, AllocError>
     ensures { IfOk result (λ said. string_bytes said ≡ plain_refused code) }
 {

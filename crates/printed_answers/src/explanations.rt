@@ -1,4 +1,4 @@
-//! Explanations as objects, for editors and services.
+//! Explanations as JSON objects, for editors and services.
 ghost use Rattle.std.specs.Prelude.{◌≡◌, IfOk, map};
 ghost use Rattle.std.specs.String.{string_bytes};
 ghost use Rattle.validator.specs.Verdict.{verdict_of};
@@ -12,7 +12,7 @@ use grounding_kept::GroundLimit;
 use std::alloc::{AllocError, Global};
 use validator::Verdict;
 
-/// The object of an explanation, in compact text. The error is that memory was refused, as in the calls below.
+/// The object of an explanation, as compact text. The only error, here and in the functions below, is that an allocation failed.
 pub(crate) fn explanation_object(
     alloc: Global,
     explanation: &Explanation,
@@ -40,7 +40,7 @@ pub(crate) fn explanation_object(
     }
 }
 
-/// The lines of each of some faults.
+/// The lines of each of these faults.
 fn further_texts(alloc: Global, further: &[FurtherFault]) -> Result<Vec<String>, AllocError>
     ensures { IfOk result (λ texts. map string_bytes texts.items ≡ map defined.lines_of further.now) }
 {
@@ -71,7 +71,7 @@ fn fault_object(
     }
 }
 
-/// The object of a fault at this place of the file of this name.
+/// The object of a fault at this place in the file with this name.
 fn located_fault_object(
     alloc: Global,
     code: Code,
@@ -100,7 +100,7 @@ fn located_fault_object(
     object_text(alloc, &members)
 }
 
-/// The object of a fault whose place is not known.
+/// The object of a fault without a known place.
 fn plain_fault_object(
     alloc: Global,
     code: Code,
@@ -160,7 +160,7 @@ fn missed_object(alloc: Global, lines: &str) -> Result<String, AllocError>
     object_text(alloc, &[command, result, text])
 }
 
-/// The object of a plan whose step of this number is not applicable.
+/// The object of a plan whose step with this number is not applicable.
 fn step_object(
     alloc: Global,
     step: usize,
@@ -175,7 +175,7 @@ fn step_object(
     }
 }
 
-/// The object of a step at this place of the file of this name.
+/// The object of a step at this place in the file with this name.
 fn located_step_object(
     alloc: Global,
     step: usize,
@@ -197,7 +197,7 @@ fn located_step_object(
     object_text(alloc, &members)
 }
 
-/// The object of a step whose place is not known.
+/// The object of a step without a known place.
 fn plain_step_object(alloc: Global, step: usize, lines: &str) -> Result<String, AllocError>
     ensures { IfOk result (λ text. string_bytes text ≡ object_text (defined.of_plain_step step lines.now)) }
 {
@@ -208,7 +208,7 @@ fn plain_step_object(alloc: Global, step: usize, lines: &str) -> Result<String, 
     object_text(alloc, &[command, result, numbered, text])
 }
 
-/// The object of a task: what it holds, what grounding makes of it, and what is quietly wrong with it.
+/// The object of a task: its summary, the outcome of grounding, and the notes.
 fn task_object(
     alloc: Global,
     holds: Summary,
@@ -226,7 +226,7 @@ fn task_object(
     }
 }
 
-/// The object of a task of which so many instances are kept and so many atoms numbered.
+/// The object of a task with this many kept instances and numbered atoms.
 fn grounded_object(
     alloc: Global,
     holds: Summary,
@@ -255,7 +255,7 @@ fn grounded_object(
     object_text(alloc, &members)
 }
 
-/// The object of a task that exceeds the limit of this name.
+/// The object of a task that exceeds the limit with this name.
 fn beyond_object(
     alloc: Global,
     holds: Summary,
@@ -281,7 +281,7 @@ fn beyond_object(
     object_text(alloc, &members)
 }
 
-/// What the limit is called.
+/// The name of the limit.
 fn limit_name(limit: GroundLimit) -> &'static str
     ensures { result.now ≡ defined.limit_name limit }
 {

@@ -1,4 +1,4 @@
-//! Prints answers: text or a line of JSON, and the exit status.
+//! Prints answers as text or as a line of JSON, and determines the exit status.
 #![tactic(auto)]
 
 mod answer;

@@ -1,4 +1,4 @@
-//! The compact text of a JSON object: its members in the order of their keys, no blank, and strings escaped only where they must be.
+//! The compact text of a JSON object: members sorted by key, no blanks, and only required escapes in strings.
 ghost use Rattle.std.specs.Prelude.{◌≡◌, IfOk, IsTrue, Some};
 ghost use Rattle.std.specs.String.{string_bytes};
 ghost use Rattle.json.specs.Json.{document, object};
@@ -11,7 +11,7 @@ ghost use Rattle.printed_answers.specs.Members.{keys_of, members_of, members_rea
 use serde_json::Map;
 use std::alloc::{AllocError, Global};
 
-/// What a member of an object has.
+/// The value of a member.
 #[derive(Clone, Copy)]
 pub(crate) enum Value<'a> {
     /// A number.
@@ -32,7 +32,7 @@ pub(crate) struct Member<'a> {
 }
 
 impl<'a> Member<'a> {
-    /// A member that has a number.
+    /// A member with a number.
     pub(crate) fn number(key: &'a str, number: u64) -> Member<'a>
         ensures { result ≡ record { key = key.entry; value = Value.Number number } }
     {
@@ -42,7 +42,7 @@ impl<'a> Member<'a> {
         }
     }
 
-    /// A member that has a string.
+    /// A member with a string.
     pub(crate) fn text(key: &'a str, text: &'a str) -> Member<'a>
         ensures { result ≡ record { key = key.entry; value = Value.Text text.entry } }
     {
@@ -52,7 +52,7 @@ impl<'a> Member<'a> {
         }
     }
 
-    /// A member that has an array of strings.
+    /// A member with an array of strings.
     pub(crate) fn texts(key: &'a str, texts: &'a [String]) -> Member<'a>
         ensures { result ≡ record { key = key.entry; value = Value.InputTexts texts.entry } }
     {
@@ -63,7 +63,7 @@ impl<'a> Member<'a> {
     }
 }
 
-/// The compact text of the object with these members, whose keys ascend in the order of bytes.
+/// The compact text of the object with these members, whose keys ascend bytewise.
 ///
 /// ```
 /// let members = [Member::number("cost", 6), Member::text("result", "optimal")];
@@ -73,7 +73,7 @@ pub(crate) fn object_text(alloc: Global, members: &[Member<'_>]) -> Result<Strin
     requires { IsTrue (ascend (keys_of members.now)) }
     ensures text { IfOk result (λ text. string_bytes text ≡ object_text (members_of members.now)) }
 
-    // A reader of JSON makes these members of it.
+    // A JSON parser reads back these members.
     ensures read { IfOk result (λ text. document (string_bytes text) ≡ Some (object (members_read (members_of members.now)))) }
 {
     let mut object = Map::new(alloc);
@@ -85,12 +85,12 @@ pub(crate) fn object_text(alloc: Global, members: &[Member<'_>]) -> Result<Strin
     serde_json::Value::Object(object).to_string(alloc)
 }
 
-/// The worked examples of texts. They are proved; the call does nothing.
+/// The worked examples of texts, proved. The function does nothing.
 pub fn json_examples_are_written()
     ensures { AreWritten }
 {}
 
-/// A member's value as a value of JSON.
+/// A member's value as a JSON value.
 fn built_value(alloc: Global, value: Value<'_>) -> Result<serde_json::Value, AllocError>
     ensures { IfOk result (λ built. view built ≡ value_built (value_of value.entry)) }
 {
@@ -101,7 +101,7 @@ fn built_value(alloc: Global, value: Value<'_>) -> Result<serde_json::Value, All
     }
 }
 
-/// An array of strings as a value of JSON.
+/// An array of strings as a JSON value.
 fn built_texts(alloc: Global, texts: &[String]) -> Result<serde_json::Value, AllocError>
     ensures { IfOk result (λ built. view built ≡ value_built (value_of (Value.InputTexts texts.entry))) }
 {

@@ -1,4 +1,4 @@
-//! What is reported where JSON is asked for: an object.
+//! Answers as JSON objects.
 ghost use Rattle.std.specs.Prelude.{◌≡◌, IfOk, IsTrue, map};
 ghost use Rattle.std.specs.String.{string_bytes};
 ghost use Rattle.printed_answers.specs.JsonText.{object_text};
@@ -20,7 +20,7 @@ use task::Task;
 use task_certificates::{Refusal, RefusalCode};
 use validator::Verdict;
 
-/// The object of a verdict, in compact text. The error is that memory was refused, as in the calls below.
+/// The object of a verdict, as compact text. The only error, here and in the functions below, is that an allocation failed.
 pub(crate) fn verdict_object(alloc: Global, verdict: Verdict) -> Result<String, AllocError>
     ensures { IfOk result (λ text. string_bytes text ≡ object_text (of_verdict (verdict_of verdict))) }
 {
@@ -43,7 +43,7 @@ pub(crate) fn verdict_object(alloc: Global, verdict: Verdict) -> Result<String, 
     }
 }
 
-/// The object of what was found out of a task, whose names are names.
+/// The object of the planner's answer.
 pub(crate) fn answer_object(
     alloc: Global,
     task: &Task,
@@ -80,7 +80,7 @@ fn plan_object(alloc: Global, task: &Task, plan: &Plan, cost: u64) -> Result<Str
     object_text(alloc, &members)
 }
 
-/// The steps of a plan, each as the writer of plans spells it.
+/// The steps of a plan, formatted as in a plan file.
 fn step_texts(alloc: Global, task: &Task, plan: &Plan) -> Result<Vec<String>, AllocError>
     requires { IsTrue (has_names (task_of task.now)) }
     ensures { IfOk result (λ texts. map string_bytes texts.items ≡ map (step_text (task_of task.now)) (plan_of plan.now)) }
@@ -95,7 +95,7 @@ fn step_texts(alloc: Global, task: &Task, plan: &Plan) -> Result<Vec<String>, Al
     Ok(texts)
 }
 
-/// The object of a limit that is exceeded.
+/// The object of an exceeded limit.
 fn limit_object(alloc: Global, limit: &Exceeded) -> Result<String, AllocError>
     ensures { IfOk result (λ text. string_bytes text ≡ object_text (of_exceeded limit.now)) }
 {
@@ -118,7 +118,7 @@ fn limit_object(alloc: Global, limit: &Exceeded) -> Result<String, AllocError>
     }
 }
 
-/// The object of what is reported for a certificate. A refusal is neither running out of memory nor a device's.
+/// The object of the checker's answer. A refusal for want of memory or by a device does not occur here.
 pub(crate) fn checked_object(
     alloc: Global,
     answer: &Result<Accepted, Refusal>,
@@ -136,7 +136,7 @@ pub(crate) fn checked_object(
     }
 }
 
-/// The object of a certificate that is accepted.
+/// The object of an accepted certificate.
 fn accepted_object(alloc: Global, accepted: Accepted) -> Result<String, AllocError>
     ensures { IfOk result (λ text. string_bytes text ≡ object_text (of_accepted accepted)) }
 {
@@ -156,7 +156,7 @@ fn accepted_object(alloc: Global, accepted: Accepted) -> Result<String, AllocErr
     }
 }
 
-/// The object of a certificate that is refused.
+/// The object of a refused certificate.
 fn refused_object(alloc: Global, code: RefusalCode) -> Result<String, AllocError>
     ensures { IfOk result (λ text. string_bytes text ≡ object_text (of_refused code)) }
 {

@@ -1,4 +1,4 @@
-//! What is found out, and what it is reported as: a text, or an object of JSON on a line.
+//! Results of the program, and how they are printed: as text, or as a JSON object on a line.
 ghost use Rattle.std.specs.Prelude.{◌≡◌, ◌++◌, IfOk, None, Option, Some, codes, if◌then◌else◌, unwrap_or};
 ghost use Rattle.std.specs.Option.{option_map};
 ghost use Rattle.std.specs.String.{string_bytes};
@@ -16,20 +16,20 @@ use file_answers::{Checked, Explanation, Solved};
 use std::alloc::{AllocError, Global};
 use validator::Verdict;
 
-/// What the program found out.
+/// A result of the program.
 #[derive(Drop)]
 pub enum Report {
-    /// Of a task: a cheapest plan, or that there is none, or the limit that is exceeded.
+    /// For a task: an optimal plan, that there is none, or the exceeded limit.
     Solve(Solved),
-    /// Of a plan.
+    /// For a plan: the verdict.
     Validate(Verdict),
-    /// Of a certificate.
+    /// For a certificate: what it shows, or its refusal.
     Check(Checked),
-    /// Of files, for people.
+    /// For files: an explanation.
     Explain(Explanation),
 }
 
-/// What the standard output takes.
+/// The format of the standard output.
 #[derive(Clone, Copy)]
 pub enum Format {
     /// A text: a plan, or lines.
@@ -38,8 +38,8 @@ pub enum Format {
     Json,
 }
 
-/// What was found out as an object of JSON, in compact text with its keys in the order of bytes. The refusal of a certificate
-/// is neither running out of memory nor a device's. It is what the program reports with `--json`, where a line feed comes after it.
+/// The result as a JSON object, in compact text with its keys in bytewise order. A refusal for want of memory or by a device does
+/// not occur here. The program prints it with `--json`, followed by LF.
 ///
 /// | what was found out | text |
 /// |---|---|
@@ -56,7 +56,7 @@ pub enum Format {
 /// | `explain`: a task | `{"actions":1,"atoms":2,"command":"explain","functions":0,"instances":1,"notes":[],"objects":0,"predicates":2,"result":"task","text":"..","types":1}`, or `"unknown"` with the `reason` `"instances"` or `"atoms"` in place of both |
 ///
 /// # Errors
-/// Memory was refused.
+/// An allocation failed.
 pub fn json_line(alloc: Global, report: &Report) -> Result<String, NoMemory>
     requires { IsReported report.now }
     ensures { IfOk result (λ line. string_bytes line ≡ object_text (of_report report.now)) }
@@ -70,11 +70,11 @@ pub fn json_line(alloc: Global, report: &Report) -> Result<String, NoMemory>
     Ok(text?)
 }
 
-/// The text of what was found out: a plan, a line, or the lines of an explanation. The refusal of a certificate is neither running out
-/// of memory nor a device's.
+/// The result as text: a plan, a line, or the lines of an explanation. A refusal for want of memory or by a device does not occur
+/// here.
 ///
 /// # Errors
-/// Memory was refused.
+/// An allocation failed.
 pub fn report_text(alloc: Global, report: &Report) -> Result<Vec<u8>, NoMemory>
     requires { IsReported report.now }
     ensures { IfOk result (λ text. text.items ≡ text_of report.now) }
@@ -89,11 +89,11 @@ pub fn report_text(alloc: Global, report: &Report) -> Result<Vec<u8>, NoMemory>
     }
 }
 
-/// The object of JSON that `json_line` makes, with a line feed after it, where that is the format. The refusal of a certificate is neither
-/// running out of memory nor a device's.
+/// The JSON object made by `json_line`, followed by LF, if that is the format. A refusal for want of memory or by a device does
+/// not occur here.
 ///
 /// # Errors
-/// Memory was refused.
+/// An allocation failed.
 pub fn json_text(alloc: Global, report: &Report, format: Format) -> Result<Option<String>, NoMemory>
     requires { IsReported report.now }
     ensures { IfOk result (λ line. option_map string_bytes line ≡ (if is_json format then Some (line_of_members (of_report report.now)) else None)) }
@@ -104,7 +104,7 @@ pub fn json_text(alloc: Global, report: &Report, format: Format) -> Result<Optio
     }
 }
 
-/// The line of an object.
+/// The object as a line.
 fn on_a_line(object: String) -> Result<String, AllocError>
     ensures { IfOk result (λ line. string_bytes line ≡ string_bytes object ++ codes "\n") }
 {
@@ -113,7 +113,7 @@ fn on_a_line(object: String) -> Result<String, AllocError>
     Ok(line)
 }
 
-/// What the standard output takes: the line of JSON, where there is one, and else the text.
+/// The content of the standard output: the JSON line if there is one, otherwise the text.
 pub fn said<'a>(json: &'a Option<String>, text: &'a [u8]) -> &'a [u8]
     ensures { result.now ≡ unwrap_or (option_map string_bytes json.now) text.now }
 {

@@ -1,4 +1,4 @@
-//! The statuses beside what is reported.
+//! Exit statuses for reported results.
 ghost use Rattle.std.specs.Prelude.{◌≡◌};
 ghost use Rattle.printed_answers.specs.Reported.{status_of};
 ghost use Rattle.validator.specs.Verdict.{verdict_of};
@@ -11,7 +11,7 @@ use file_answers::{Grounded, Subject};
 use solver::Answer;
 use validator::Verdict;
 
-/// A plan is reported, the plan solves the task, the certificate is accepted, or nothing is wrong with the files.
+/// A plan is printed, the plan solves the task, the certificate is accepted, or nothing is wrong with the files.
 const YES: u8 = 0;
 
 /// There is no plan.
@@ -26,9 +26,9 @@ const NO: u8 = 12;
 /// A file's text is refused.
 pub const REFUSED: u8 = 20;
 
-/// The status beside what is reported: 0 beside a plan, a plan that solves its task, a certificate that is accepted, and files of which
-/// nothing is wrong; 10 where there is no plan; 11 where a limit is exceeded; 12 beside a plan that does not solve its task and a
-/// certificate that is not accepted; 20 beside a fault that is explained.
+/// The exit status of a result: 0 for a plan, a plan that solves its task, an accepted certificate, and files without faults; 10
+/// if there is no plan; 11 if a limit is exceeded; 12 for a plan that does not solve its task and for a refused certificate; 20
+/// for an explained fault.
 pub fn status_of(report: &Report) -> u8
     ensures { result ≡ status_of report.now }
 {

@@ -1,4 +1,4 @@
-//! What a verdict is reported as: a line.
+//! The text of a verdict: a line.
 ghost use Rattle.std.specs.Prelude.{◌≡◌, IfOk};
 ghost use Rattle.std.specs.String.{string_bytes};
 ghost use Rattle.validator.specs.Verdict.{verdict_of};
@@ -7,7 +7,7 @@ ghost use Rattle.printed_answers.specs.VerdictReported.{line_of};
 use std::alloc::{AllocError, Global};
 use validator::Verdict;
 
-/// The line of a verdict. The error is that memory was refused.
+/// The line for a verdict. The only error is that an allocation failed.
 pub(crate) fn verdict_line(alloc: Global, verdict: Verdict) -> Result<String, AllocError>
     ensures { IfOk result (λ line. string_bytes line ≡ line_of (verdict_of verdict)) }
 {

@@ -1,4 +1,4 @@
-//! The file of a certificate comes before that of the plan, and both before the standard output.
+//! Tests of the output order: the certificate file comes before the plan file, and both before standard output.
 use crate::failing_files::{Failing, FailingFiles, WRITE_PIECE};
 use crate::failing_runs::{OLDER, TWO_HOPS, table};
 use devices::Memory;
@@ -7,13 +7,13 @@ use std::alloc::Global;
 use std::process::Abort;
 use std::test::Fail;
 
-/// A plan and a certificate are asked for, each in a file.
+/// An order for a plan and a certificate, each in a file.
 const SOLVE: [&str; 7] = [
     "solve", "domain", "problem", "--plan", "out", "--cert", "cert",
 ];
 
-/// Whether a run in which this fails of files that are written ends with this status and leaves these: of the
-/// certificate's file, of the plan's, and of the standard output.
+/// Whether a run with this failure of written files ends with this status and leaves these contents of the certificate file, the
+/// plan file and standard output.
 fn leaves(
     alloc: Global,
     failing: Failing,
@@ -32,7 +32,7 @@ fn leaves(
     )
 }
 
-/// What a run in which nothing fails writes to the certificate's file.
+/// What a run without failures writes to the certificate file.
 fn certificate(alloc: Global) -> Result<Vec<u8>, Fail> {
     let mut files = FailingFiles::new(table(alloc)?, Failing::Never);
     let (mut out, mut err) = (Memory::empty(alloc), Memory::empty(alloc));
@@ -41,7 +41,7 @@ fn certificate(alloc: Global) -> Result<Vec<u8>, Fail> {
     Ok(Vec::from_slice(alloc, written)?)
 }
 
-/// A certificate's file that fails at a write has what was written before.
+/// A certificate file that fails at a write has what was written before.
 fn fails_at_each_write(rt: &impl Abort, alloc: Global, certificate: &[u8]) -> Result<(), Fail> {
     for count in 0..certificate.len().div_ceil(WRITE_PIECE) {
         let beginning = certificate.get(..count * WRITE_PIECE);
@@ -51,7 +51,7 @@ fn fails_at_each_write(rt: &impl Abort, alloc: Global, certificate: &[u8]) -> Re
     Ok(())
 }
 
-/// The certificate's file fails after its last write, where it is made, and where it is closed.
+/// The certificate file fails after its last write, on creation, and on closing.
 fn fails_before_and_after(rt: &impl Abort, alloc: Global, certificate: &[u8]) -> Result<(), Fail> {
     let writes = certificate.len().div_ceil(WRITE_PIECE) as u64;
     let rows = [

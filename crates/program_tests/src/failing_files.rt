@@ -1,4 +1,4 @@
-//! Files of the tests' own: a table's whose writing fails, and some that never end.
+//! File systems for tests: a table whose writing fails, and files that never end.
 ghost use Rattle.std.specs.Prelude.{◌≡◌};
 ghost use Rattle.devices.specs.Devices.{one_more};
 
@@ -6,24 +6,24 @@ use devices::{Files, IoFault, Memory};
 use std::alloc::{AllocError, Global};
 use test_devices::{Endless, FailsAt, InPieces, Table};
 
-/// How many bytes of a file are taken at a write.
+/// The maximum number of bytes per write.
 pub(crate) const WRITE_PIECE: usize = 7;
 
-/// What fails of a file that is written.
+/// The operation on a written file that fails.
 #[derive(Clone, Copy)]
 pub(crate) enum Failing {
     /// Nothing.
     Never,
-    /// That it is made.
+    /// Creating it.
     Creating,
-    /// The write after so many.
+    /// The write after this many.
     Write(u64),
-    /// That it is closed.
+    /// Closing it.
     Closing,
 }
 
 impl Failing {
-    /// How many writes succeed before the one that fails, and `None` where none fails.
+    /// How many writes succeed before the one that fails; `None` if none fails.
     fn writes_before(self) -> Option<u64> {
         match self {
             Failing::Write(writes) => Some(writes),
@@ -32,7 +32,7 @@ impl Failing {
     }
 }
 
-/// The files of a table, whose writing fails. A file that is closed holds what it took, failed or not.
+/// The files of a table with failing writes. A closed file holds what it took, whether or not a write failed.
 #[derive(Drop)]
 pub(crate) struct FailingFiles {
     pub(crate) table: Table,
@@ -106,7 +106,7 @@ impl Files for FailingFiles {
                 InPieces::new(draft, WRITE_PIECE),
                 self.failing.writes_before(),
             )),
-            // Memory is the one thing that a table can want here.
+            // A table can only fail for want of memory here.
             Err(_) => Err(IoFault::NoMemory),
         }
     }
@@ -123,19 +123,19 @@ impl Files for FailingFiles {
         }
         match closed {
             Ok(()) => Ok(()),
-            // Memory is the one thing that a table can want here.
+            // A table can only fail for want of memory here.
             Err(_) => Err(IoFault::NoMemory),
         }
     }
 }
 
-/// Files of which each is blanks without an end. What is written is forgotten.
+/// Files that consist of blanks without end. What is written is discarded.
 #[derive(Drop)]
 pub(crate) struct EndlessFiles {
     alloc: Global,
 }
 
-/// How many blanks come at a read.
+/// The number of blanks per read.
 const BLANKS: usize = 65_536;
 
 impl EndlessFiles {

@@ -1,4 +1,4 @@
-//! Runs over files whose writing fails, and over files that never end.
+//! Tests of runs over files whose writing fails, and over endless files.
 use crate::failing_files::{EndlessFiles, Failing, FailingFiles};
 use devices::Memory;
 use faults::NoMemory;
@@ -9,22 +9,22 @@ use std::test::Fail;
 use test_devices::Table;
 use test_texts::HOP;
 
-/// Two hops, as they are written.
+/// The text of two hops.
 pub(crate) const TWO_HOPS: &[u8] = b"(hop a b)\n(hop b c)\n; cost = 6\n";
 
-/// What the plan's file had before.
+/// The earlier contents of the plan file.
 pub(crate) const OLDER: &[u8] = b"(leap a c)\n; cost = 10\n; it is dearer\n";
 
-/// What is taken of the two hops in pieces of seven bytes, where the first write fails, or the second, and so on.
+/// The bytes taken of the two hops in pieces of seven if the first write fails, or the second, and so on.
 #[rattlefmt::skip]
 static BEGINNINGS: [&[u8]; 5] = [
     b"", b"(hop a ", b"(hop a b)\n(hop", b"(hop a b)\n(hop b c)\n;", b"(hop a b)\n(hop b c)\n; cost =",
 ];
 
-/// A plan is asked for, and its text in a file.
+/// An order for a plan, with its text in a file.
 const SOLVE: [&str; 5] = ["solve", "domain", "problem", "--plan", "out"];
 
-/// The files of the hops, and an older one in place of the plan's.
+/// The files of the hops, and an older plan file.
 pub(crate) fn table(alloc: Global) -> Result<Table, NoMemory> {
     let mut table = Table::new(alloc);
     table.put("domain", HOP[0].as_bytes())?;
@@ -33,7 +33,7 @@ pub(crate) fn table(alloc: Global) -> Result<Table, NoMemory> {
     Ok(table)
 }
 
-/// What a run leaves: its status, what the plan's file holds, and what the standard output took.
+/// What a run leaves: its exit status, the contents of the plan file, and the standard output.
 #[derive(Clone, Copy)]
 struct Left<'a> {
     status: u8,
@@ -48,14 +48,14 @@ const WHOLE: Left<'static> = Left {
     out: TWO_HOPS,
 };
 
-/// A device fails before the plan's file is made.
+/// A device fails before the plan file is created.
 const NOTHING: Left<'static> = Left {
     status: 21,
     file: OLDER,
     out: b"",
 };
 
-/// Whether a run leaves this. The standard error reports a device that failed, and else nothing.
+/// Whether a run leaves this. Standard error reports a failed device, and nothing otherwise.
 fn leaves(alloc: Global, files: &mut FailingFiles, wanted: Left<'_>) -> bool {
     let (mut out, mut err) = (Memory::empty(alloc), Memory::empty(alloc));
     let status = run(alloc, &SOLVE, files, &mut out, &mut err);
@@ -70,13 +70,13 @@ fn leaves(alloc: Global, files: &mut FailingFiles, wanted: Left<'_>) -> bool {
         && err.as_slice() == reported
 }
 
-/// Whether a run leaves this where this fails of the plan's file.
+/// Whether a run leaves this if this operation on the plan file fails.
 fn leaves_where(alloc: Global, failing: Failing, wanted: Left<'_>) -> Result<bool, NoMemory> {
     let mut files = FailingFiles::new(table(alloc)?, failing);
     Ok(leaves(alloc, &mut files, wanted))
 }
 
-/// The file of a plan that fails at a write has a beginning of the plan.
+/// A plan file that fails at a write has a prefix of the plan.
 fn fails_at_each_write(rt: &impl Abort, alloc: Global) -> Result<(), Fail> {
     for (writes, file) in BEGINNINGS.iter().enumerate() {
         let wanted = Left {
@@ -88,7 +88,7 @@ fn fails_at_each_write(rt: &impl Abort, alloc: Global) -> Result<(), Fail> {
     Ok(())
 }
 
-/// Whether a run leaves the whole plan where a write after the last would fail, and where nothing fails.
+/// Whether a run leaves the whole plan if only a write after the last would fail, and if nothing fails.
 fn leaves_the_whole(alloc: Global) -> Result<[bool; 2], NoMemory> {
     let following = Failing::Write(BEGINNINGS.len() as u64);
     Ok([
@@ -104,7 +104,7 @@ fn a_file_that_fails_has_a_beginning_of_the_plan(rt: HostRuntime) -> Result<(), 
     Ok(())
 }
 
-/// Whether a run leaves what it should where the plan's file cannot be made, and where it cannot be closed.
+/// Whether a run leaves what it should if the plan file cannot be created, and if it cannot be closed.
 fn leaves_made_or_closed(alloc: Global) -> Result<[bool; 2], NoMemory> {
     let closed = Left {
         file: TWO_HOPS,
@@ -122,10 +122,10 @@ fn a_file_may_fail_where_it_is_made_or_closed(rt: HostRuntime) -> Result<(), Fai
     Ok(())
 }
 
-/// The same is asked for, and to be told on the way how far the search is.
+/// The same order, with progress reports.
 const SOLVE_AND_SAY: [&str; 6] = ["solve", "domain", "problem", "--plan", "out", "--progress"];
 
-/// Whether the standard error ends by the file that fails, where this fails of it.
+/// Whether standard error ends with the name of the failing file, if this operation on it fails.
 fn says_which(alloc: Global, failing: Failing) -> Result<bool, NoMemory> {
     let mut files = FailingFiles::new(table(alloc)?, failing);
     let (mut out, mut err) = (Memory::empty(alloc), Memory::empty(alloc));
@@ -134,7 +134,7 @@ fn says_which(alloc: Global, failing: Failing) -> Result<bool, NoMemory> {
     Ok(status == 21 && err.as_slice().ends_with(last))
 }
 
-/// Whether it says so where the file cannot be made, cannot be closed, and where its first write fails.
+/// The same if the file cannot be created, if it cannot be closed, and if its first write fails.
 fn says_which_of_each(alloc: Global) -> Result<[bool; 3], NoMemory> {
     Ok([
         says_which(alloc, Failing::Creating)?,
@@ -149,7 +149,7 @@ fn the_file_that_fails_is_named(rt: HostRuntime) -> Result<(), Fail> {
     Ok(())
 }
 
-/// The status of a run over files without an end, and whether it says that the domain is too long, and nothing else.
+/// The exit status of a run over endless files, and whether it reports that the domain is too long, and nothing else.
 fn run_without_an_end(alloc: Global) -> (u8, bool) {
     let mut files = EndlessFiles::new(alloc);
     let (mut out, mut err) = (Memory::empty(alloc), Memory::empty(alloc));

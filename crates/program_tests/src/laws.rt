@@ -1,4 +1,4 @@
-//! The laws of the texts of files and of JSON that are stated of all values, and proved, each called once.
+//! The laws of the texts of files and of JSON that are proved for all values, each called once.
 use planner_main::{json_examples_are_written, one_task, solved_certificates_are_accepted};
 
 #[test]

@@ -1,4 +1,4 @@
-//! Tests of the whole program over files that fail, and over the machine's files.
+//! Tests of the whole program over failing files and over the machine's files.
 #![tactic(auto)]
 
 #[cfg(test)]

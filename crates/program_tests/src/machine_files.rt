@@ -1,10 +1,10 @@
-//! The machine's files.
+//! Tests with the machine's files.
 use devices::{DeviceFault, Files, IoFault, Source, SystemFiles, write_all};
 use std::alloc::Global;
 use std::test::Fail;
 use std::{env, fs, process};
 
-/// Writes a file of these bytes.
+/// Writes a file with these bytes.
 fn writes<F: Files>(files: &mut F, name: &str, bytes: &[u8]) -> Result<(), IoFault> {
     let mut output = files.create(name)?;
     write_all(&mut output, bytes)?;
@@ -21,7 +21,7 @@ fn keeps_a_file<F: Files>(files: &mut F, name: &str) -> Result<bool, IoFault> {
     Ok(&room[..count] == b"one".as_slice() && input.read(&mut room) == Ok(0))
 }
 
-/// A name in the temporary folder that is no other process's.
+/// A name in the temporary folder that no other process uses.
 fn temporary_name(rt: &HostRuntime, alloc: Global, name: &str) -> Result<String, Fail> {
     let folder = env::temp_dir(rt)?;
     let id = process::id(rt.process());
@@ -38,7 +38,7 @@ fn the_machine_keeps_files(rt: HostRuntime) -> Result<(), Fail> {
     Ok(())
 }
 
-/// Whether the machine fails where a file of this name is written.
+/// Whether writing a file with this name fails.
 fn fails_to_write(rt: &HostRuntime, name: &str) -> bool {
     writes(&mut SystemFiles::new(rt), name, b"line\n") == Err(IoFault::Device)
 }
@@ -51,7 +51,7 @@ fn the_machine_makes_no_folder(rt: HostRuntime) -> Result<(), Fail> {
     Ok(())
 }
 
-/// A device that is always full, where the machine has it.
+/// A device that is always full, on machines that have it.
 const FULL: &str = "/dev/full";
 
 #[test]
@@ -60,7 +60,7 @@ fn the_machine_reports_a_full_device(rt: HostRuntime) -> Result<(), Fail> {
     Ok(())
 }
 
-/// Whether the machine fails where a file of this name is opened or read.
+/// Whether opening or reading a file with this name fails.
 fn fails_to_read(rt: &HostRuntime, name: &str) -> bool {
     let mut room = [0u8; 64];
     match SystemFiles::new(rt).open(name) {

@@ -1,11 +1,11 @@
-//! What is reported for faults in words, and which numbers are limits.
+//! Tests of the words for faults, and of which numbers are valid limits.
 use devices::{DeviceFault, IoFault};
 use faults::{Code, NoMemory, Span};
 use planner_main::{File, FileFault, Limits};
 use std::alloc::{AllocError, Global};
 use std::test::Fail;
 
-/// Each file with a fault in it, as they are reported.
+/// The faults of each file, as reported.
 fn reported_files(alloc: Global) -> Result<String, Fail> {
     let mut reported = String::new(alloc);
     let (code, span) = (Code::BadForm, Span { start: 4, end: 17 });
@@ -15,7 +15,7 @@ fn reported_files(alloc: Global) -> Result<String, Fail> {
     Ok(reported)
 }
 
-/// What is reported where memory or a device fails.
+/// The reports of memory and device failures.
 fn reported_failures(alloc: Global) -> Result<String, AllocError> {
     let (of_memory, of_device) = (IoFault::NoMemory, IoFault::Device);
     let of_file = FileFault::NoMemory;
@@ -35,17 +35,17 @@ plan: BadForm in plan at 4..17; ";
     Ok(())
 }
 
-/// The largest limit.
+/// The greatest limit.
 const MOST: u32 = 16_777_216;
 
-/// Numbers of states and of instances, and whether they may be limits.
+/// Numbers of states and instances, and whether they are valid limits.
 #[rattlefmt::skip]
 static LIMITS: [(u32, u32, bool); 8] = [
     (1, 1, true), (1, MOST, true), (MOST, 1, true), (MOST, MOST, true),
     (0, 1, false), (1, 0, false), (MOST + 1, 1, false), (1, MOST + 1, false),
 ];
 
-/// The limits of these numbers, as they are reported.
+/// The limits with these numbers, as reported.
 fn limits(states: u32, instances: u32) -> Option<(u32, u32)> {
     let limits = Limits::new(states, instances)?;
     Some((limits.states(), limits.instances()))

@@ -1,16 +1,16 @@
-//! What the words of a command line ask for, and what is reported as JSON.
+//! Tests of orders on the command line, and of JSON results.
 use faults::NoMemory;
 use planner_main::{Limits, Order, Report, Solved, WordsFault, json_line, read_words, solve_files};
 use std::alloc::Global;
 use std::test::Fail;
 use test_texts::{HOP, Texts};
 
-/// What is reported for an answer.
+/// The JSON line for an answer.
 fn answer_line(alloc: Global, solved: Solved) -> Result<String, NoMemory> {
     json_line(alloc, &Report::Solve(solved))
 }
 
-/// What is reported for what is found out of a task.
+/// The JSON line for the answer to a task.
 fn solved(alloc: Global, texts: &Texts) -> Result<String, Fail> {
     let limits = Limits::new(100, 100).ok_or("no limits")?;
     let (domain, problem) = (texts[0].as_bytes(), texts[1].as_bytes());
@@ -27,7 +27,7 @@ fn an_answer_is_reported_as_json(rt: HostRuntime) -> Result<(), Fail> {
     Ok(())
 }
 
-/// Whether a plan of `d` and `p` is asked for, as JSON, within five states.
+/// Whether this is an order for a plan of `d` and `p`, as JSON, within five states.
 fn is_for_a_plan(order: &Order<'_>) -> bool {
     match order {
         Order::Solve {
@@ -41,7 +41,7 @@ fn is_for_a_plan(order: &Order<'_>) -> bool {
     }
 }
 
-/// Whether these words ask for that; `None` where they ask for nothing.
+/// Whether these words are that order; `None` if they are not an order.
 fn ask_for_a_plan(alloc: Global, words: &[&str]) -> Result<Option<bool>, NoMemory> {
     match read_words(alloc, words) {
         Ok(order) => Ok(Some(is_for_a_plan(&order))),

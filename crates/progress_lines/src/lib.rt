@@ -1,4 +1,4 @@
-//! Writes lines of progress to a sink. A sink that fails changes nothing else.
+//! Writes lines of progress to a sink. A failing sink changes nothing else.
 #![tactic(auto)]
 
 ghost use Rattle.devices.specs.Devices.{IsWritten};
@@ -12,7 +12,7 @@ pub fn say_line<E: Sink>(err: &mut E, line: &[u8])
     let _ = write_all(err, line);
 }
 
-/// A sink that hears nothing: whatever is said is dropped.
+/// A sink that discards everything.
 #[derive(Drop)]
 pub struct Unheard;
 

@@ -1,4 +1,4 @@
-//! Classes of instances that do the same in a table.
+//! Classes of instances with the same behaviour in a table.
 use crate::by_counting::places_in_order;
 use crate::reached::MAX_TABLE_VARIABLES;
 use crate::steps::{Shutters, StepUse, Steps};
@@ -6,28 +6,28 @@ use atom_groups::{number_of, place_of};
 use faults::NoMemory;
 use std::alloc::Global;
 
-/// What an instance does to each variable of a table: the step that it takes, none where it says and does nothing of it.
+/// The step of an instance for each variable of a table; none if it does not mention the variable.
 #[derive(Clone, Copy, Debug, PartialEq, Eq)]
 pub(crate) struct TableSteps {
     pub(crate) steps: [Option<u32>; MAX_TABLE_VARIABLES],
 }
 
-/// The instances of classes, one class after another.
+/// The instances of all classes, class by class.
 #[derive(Drop)]
 pub(crate) struct Classes {
     pub(crate) steps: Vec<TableSteps>,
-    /// Where the instances of each class end.
+    /// The end of each class among the instances.
     pub(crate) ends: Vec<u32>,
     pub(crate) instances: Vec<u32>,
 }
 
 impl TableSteps {
-    /// That of an instance that does nothing.
+    /// The steps of an instance that mentions no variable.
     const NONE: TableSteps = TableSteps {
         steps: [None; MAX_TABLE_VARIABLES],
     };
 
-    /// The same with this step at this place.
+    /// The same steps with this one at this position.
     fn with(mut self, place: usize, step: u32) -> TableSteps {
         if let Some(of_variable) = self.steps.get_mut(place) {
             *of_variable = Some(step);
@@ -35,7 +35,7 @@ impl TableSteps {
         self
     }
 
-    /// The step at this place.
+    /// The step at this position.
     pub(crate) fn at(&self, place: usize) -> Option<u32> {
         match self.steps.get(place) {
             Some(step) => *step,
@@ -45,7 +45,7 @@ impl TableSteps {
 }
 
 impl Classes {
-    /// Those of the instances that say or do something of these variables and are not shut out.
+    /// The classes of the instances that mention one of these variables and are not shut out.
     pub(crate) fn new(
         alloc: Global,
         steps: &Steps,
@@ -64,7 +64,7 @@ impl Classes {
         Ok(classes)
     }
 
-    /// Adds the instance to the last class, if that has these steps, and else to a new one.
+    /// Adds the instance to the last class if that has these steps, otherwise to a new class.
     fn add(&mut self, steps: TableSteps, instance: u32) -> Result<(), NoMemory> {
         self.instances.push(instance)?;
         let end = number_of(self.instances.len());
@@ -79,14 +79,14 @@ impl Classes {
     }
 }
 
-/// An instance, and what it does to each variable of a table.
+/// An instance, with its step for each variable of a table.
 #[derive(Clone, Copy, Debug)]
 struct Entry {
     instance: u32,
     steps: TableSteps,
 }
 
-/// The uses of a variable's steps, rising by instances, of which some were gone through.
+/// The remaining uses of a variable's steps, in ascending order of instances.
 #[derive(Clone, Copy)]
 struct Left<'a> {
     uses: &'a [StepUse],
@@ -101,7 +101,7 @@ impl Left<'_> {
         }
     }
 
-    /// The step that this instance takes, if it is the next one, which is gone through then.
+    /// The step of this instance, if it is the next one, which is then consumed.
     fn take(&mut self, instance: u32) -> Option<u32> {
         let (next, rest) = self.uses.split_first()?;
         if next.instance != instance {
@@ -112,8 +112,8 @@ impl Left<'_> {
     }
 }
 
-/// The instances that say or do something of these variables and are not shut out, each with what it does, by classes: those that
-/// do the same are one after another, rising.
+/// The instances that mention one of these variables and are not shut out, each with its steps, sorted so that equal steps are
+/// adjacent and instances ascend within a class.
 fn entries(
     alloc: Global,
     steps: &Steps,
@@ -138,7 +138,7 @@ fn entries(
     Ok(entries)
 }
 
-/// What each instance does of which there is a use left, at most so many, that is not shut out. They rise.
+/// The entries of all instances with remaining uses that are not shut out, up to a limit, in ascending order.
 fn joined(
     alloc: Global,
     left: &mut [Left<'_>],
@@ -177,7 +177,7 @@ fn least(left: &[Left<'_>]) -> Option<u32> {
     least
 }
 
-/// The entries by the step at this place, of so many that there are; first come those without one. Others stay in their order.
+/// Sorts the entries stably by the step at this position, entries without one first. There are `count` steps.
 fn by_step(
     alloc: Global,
     entries: &[Entry],

@@ -1,10 +1,10 @@
-//! Which values of variables the goal allows.
+//! The values of variables that the goal allows.
 use atom_groups::{Variables, place_of};
 use faults::NoMemory;
 use grounding::NumberedLiteral;
 use std::alloc::Global;
 
-/// For each variable which of its values the goal allows.
+/// For each variable, which of its values the goal allows.
 #[derive(Drop)]
 pub struct GoalValues {
     is_allowed: Vec<Vec<bool>>,
@@ -12,7 +12,7 @@ pub struct GoalValues {
 }
 
 impl GoalValues {
-    /// Those that these literals of the goal allow.
+    /// The values that these goal literals allow.
     pub fn new(
         alloc: Global,
         variables: &Variables,
@@ -35,7 +35,7 @@ impl GoalValues {
         Ok(goals)
     }
 
-    /// The variable has to have this value, or may not have it.
+    /// Requires the variable to have this value, or forbids it.
     fn ask(&mut self, variable: u32, value: u32, has: bool) {
         if let Some(is_asked) = self.is_asked.get_mut(place_of(variable)) {
             *is_asked = true;
@@ -49,7 +49,7 @@ impl GoalValues {
         }
     }
 
-    /// Whether the goal allows that the variable has this value.
+    /// Whether the goal allows this value of the variable.
     pub(crate) fn allow(&self, variable: u32, value: u32) -> bool {
         match self.is_allowed.get(place_of(variable)) {
             Some(allowed) => match allowed.get(place_of(value)) {
@@ -60,7 +60,7 @@ impl GoalValues {
         }
     }
 
-    /// Whether the goal says something of the variable.
+    /// Whether the goal constrains the variable.
     pub fn ask_of(&self, variable: u32) -> bool {
         match self.is_asked.get(place_of(variable)) {
             Some(is_asked) => *is_asked,

@@ -1,7 +1,7 @@
-//! Finds the rows of a table that may be reached, and the instances that lead from one to another.
+//! Finds the reachable rows of a table, and the instances that lead from one to another.
 //!
-//! A table is over some variables, and a row says what value each has. All that instances ask and do beyond these variables is
-//! left out (a projection; Edelkamp 2001, "Planning with Pattern Databases"). Nothing is claimed of what is found.
+//! A table is over some variables, and a row gives the value of each. Conditions and changes of instances on other variables are
+//! ignored (a projection; Edelkamp 2001, "Planning with Pattern Databases"). Nothing is claimed about the result.
 #![tactic(auto)]
 
 mod by_counting;

@@ -1,26 +1,26 @@
-//! What an instance does to a variable, from each value in which it may be applicable.
+//! The effect of an instance on a variable, for each value in which it may be applicable.
 use atom_groups::Variables;
 use faults::NoMemory;
 use grounding::{CountingChange, NumberedLiteral};
 use std::alloc::Global;
 
-/// Where a move leads.
+/// The target of a move.
 #[derive(Clone, Copy, Debug, PartialEq, Eq, PartialOrd, Ord)]
 pub(crate) enum Target {
-    /// To this value.
+    /// This value.
     Value(u32),
-    /// Out of the variable's values: two of its atoms are true.
+    /// No value of the variable: two of its atoms become true.
     NoValue,
 }
 
-/// A move of a variable from a value.
+/// A move of a variable from one value.
 #[derive(Clone, Copy, Debug, PartialEq, Eq, PartialOrd, Ord)]
 pub(crate) struct Move {
     pub(crate) from: u32,
     pub(crate) to: Target,
 }
 
-/// When a change of a variable's atom is made.
+/// When a change of a variable's atom takes effect.
 #[derive(Clone, Copy, Debug, PartialEq, Eq)]
 enum Made {
     /// Whenever the instance is applied.
@@ -29,7 +29,7 @@ enum Made {
     Sometimes,
 }
 
-/// What an instance says and does of one variable.
+/// The part of an instance that concerns one variable.
 #[derive(Clone, Copy)]
 pub(crate) struct InstancePart<'a, 't> {
     pub(crate) variables: &'a Variables,
@@ -39,7 +39,7 @@ pub(crate) struct InstancePart<'a, 't> {
 }
 
 impl InstancePart<'_, '_> {
-    /// The moves from each value that the literals allow, rising by these values.
+    /// The moves from each value that the literals allow, in ascending order of these values.
     pub(crate) fn moves(&self, alloc: Global) -> Result<Vec<Move>, NoMemory> {
         let mut moves = Vec::new(alloc);
         for from in self.first_value()..self.variables.value_count(self.variable) {
@@ -65,12 +65,12 @@ impl InstancePart<'_, '_> {
         0
     }
 
-    /// Whether a literal wants one of the variable's atoms.
+    /// Whether a literal requires one of the variable's atoms.
     fn wants_atom(&self) -> bool {
         self.literals.iter().any(|literal| literal.value && self.value_of(literal.atom).is_some())
     }
 
-    /// The value that the atom stands for, if the variable has it.
+    /// The value that the atom stands for, if it is an atom of the variable.
     fn value_of(&self, atom: u32) -> Option<u32> {
         for value in self.variables.of_atom(atom) {
             if value.variable == self.variable {
@@ -80,7 +80,7 @@ impl InstancePart<'_, '_> {
         None
     }
 
-    /// Whether none of the literals is against the value.
+    /// Whether no literal excludes the value.
     fn allows(&self, literals: &[NumberedLiteral], from: u32) -> bool {
         literals.iter().all(|literal| match self.value_of(literal.atom) {
             Some(value) => (value == from) == literal.value,
@@ -106,7 +106,7 @@ impl InstancePart<'_, '_> {
         self.add_uncertain_adds(from, value, moves)
     }
 
-    /// Where the unconditional changes lead from this value.
+    /// The target of the unconditional changes from this value.
     fn certain_target(&self, from: u32) -> Target {
         let mut value = from;
         if from > 0 && self.makes(Made::Always, false, from, from) {
@@ -125,7 +125,7 @@ impl InstancePart<'_, '_> {
         Target::Value(value)
     }
 
-    /// Adds the moves by which a change under a `when` adds an atom, where the others lead to this value.
+    /// Adds the moves in which a change under a `when` adds an atom, given the target of the others.
     fn add_uncertain_adds(
         &self,
         from: u32,
@@ -152,7 +152,7 @@ impl InstancePart<'_, '_> {
         Ok(())
     }
 
-    /// Whether a change so made makes the atom of this value so, from that value.
+    /// Whether a change of this kind adds (or deletes) the atom of this value, from that value.
     fn makes(&self, made: Made, is_add: bool, value: u32, from: u32) -> bool {
         self.changes.iter().any(|change| {
             change.value == is_add
@@ -162,7 +162,7 @@ impl InstancePart<'_, '_> {
         })
     }
 
-    /// Whether the change may be made from the value.
+    /// Whether the change may take effect from the value.
     fn is_open(&self, change: &CountingChange<'_>, from: u32) -> bool {
         !change.wants_unnumbered() && self.allows(change.condition(), from)
     }
@@ -178,7 +178,7 @@ pub(crate) fn moves_from(moves: &[Move], from: u32) -> &[Move] {
     }
 }
 
-/// How many values the moves are from.
+/// The number of values that have moves.
 pub(crate) fn source_count(moves: &[Move]) -> u32 {
     let mut count = 0u32;
     let mut last = None;

@@ -1,71 +1,71 @@
-//! Rows that may be reached, and how instances lead from one to another.
+//! The reachable rows of a table, and the arcs between them.
 use crate::goals::GoalValues;
 use atom_groups::{Variables, number_of, place_of};
 use faults::NoMemory;
 use std::alloc::Global;
 
-/// Instances that do the same in a table.
+/// Instances with the same behaviour in a table.
 #[derive(Clone, Copy, Debug)]
 pub struct RowClass {
-    /// Where they begin among the instances of all classes.
+    /// Their start among the instances of all classes.
     pub(crate) start: u32,
-    /// And where they end.
+    /// Their end.
     pub(crate) end: u32,
-    /// Whether some row may stay as it is where one of them is applied.
+    /// Whether applying one of them may leave some row unchanged.
     pub stays: bool,
-    /// How many rows allow them.
+    /// The number of rows that allow them.
     pub row_count: u32,
 }
 
-/// That the instances of a class may lead from a row to another.
+/// An arc: the instances of a class may lead from this row to another.
 #[derive(Clone, Copy, Debug)]
 pub struct Arc {
-    /// The row's number.
+    /// The number of the source row.
     pub from: u32,
-    /// The class's number.
+    /// The number of the class.
     pub class: u32,
 }
 
-/// Rows of a table that may be reached, by their numbers, the first one the initial state's, and the arcs between them.
+/// The reachable rows of a table, by number, the initial state's first, with the arcs between them.
 #[derive(Drop)]
 pub struct RowGraph {
     pub(crate) variables: Vec<u32>,
-    /// By how much the index of a row grows with the value of each variable.
+    /// The increase of a row's index for each increment of a variable's value.
     pub(crate) radices: Vec<u32>,
     /// The index of each row.
     pub(crate) rows: Vec<u32>,
-    /// The numbers of the rows by their indices, which rise.
+    /// Pairs of a row's index and its number, sorted by index.
     pub(crate) by_index: Vec<(u32, u32)>,
     pub(crate) is_goal: Vec<bool>,
     pub(crate) classes: Vec<RowClass>,
     pub(crate) instances: Vec<u32>,
-    /// Where the arcs into each row end, among those that lead to other rows.
+    /// The end of the arcs into each row, among the arcs that lead to another row.
     pub(crate) ends: Vec<u32>,
     pub(crate) arcs: Vec<Arc>,
 }
 
 impl RowGraph {
-    /// The table's variables, rising.
+    /// The table's variables, in ascending order.
     pub fn variables(&self) -> &[u32] {
         &self.variables
     }
 
-    /// How many rows there are.
+    /// The number of rows.
     pub fn row_count(&self) -> usize {
         self.rows.len()
     }
 
-    /// How many arcs lead from a row to another one.
+    /// The number of arcs that lead to another row.
     pub fn arc_count(&self) -> usize {
         self.arcs.len()
     }
 
-    /// How many instances are in classes.
+    /// The number of instances in classes.
     pub fn instance_count(&self) -> usize {
         self.instances.len()
     }
 
-    /// How many rows have to be looked at to test what each instance loses: of each those that allow it.
+    /// The number of row tests needed to test the loss of every instance: for each instance, the rows that allow it.
     pub fn test_count(&self) -> u64 {
         let mut count = 0u64;
         for class in &self.classes {
@@ -80,7 +80,7 @@ impl RowGraph {
         &self.classes
     }
 
-    /// The instances of the class, rising.
+    /// The instances of the class, in ascending order.
     pub fn instances_of(&self, class: &RowClass) -> &[u32] {
         match self
             .instances
@@ -91,7 +91,7 @@ impl RowGraph {
         }
     }
 
-    /// Whether the goal allows the row of this number.
+    /// Whether the goal allows the row with this number.
     pub fn is_goal(&self, row: u32) -> bool {
         match self.is_goal.get(place_of(row)) {
             Some(is_goal) => *is_goal,
@@ -99,7 +99,7 @@ impl RowGraph {
         }
     }
 
-    /// The arcs that lead to the row of this number from another one.
+    /// The arcs from other rows to the row with this number.
     pub fn arcs_to(&self, row: u32) -> &[Arc] {
         let start = match place_of(row).checked_sub(1) {
             Some(before) => self.end(before),
@@ -111,7 +111,7 @@ impl RowGraph {
         }
     }
 
-    /// Where the arcs end that lead to the row at this place.
+    /// The end of the arcs into the row with this number.
     fn end(&self, place: usize) -> usize {
         match self.ends.get(place) {
             Some(end) => place_of(*end),
@@ -130,7 +130,7 @@ impl RowGraph {
         Ok(found)
     }
 
-    /// The number of the row of these values, each at the place that is its variable's number, if it was reached.
+    /// The number of the row with these values, indexed by variable, if it was reached.
     pub fn row_of(&self, values: &[u32]) -> Option<u32> {
         let index = self.index_of(values);
         match self
@@ -145,7 +145,7 @@ impl RowGraph {
         }
     }
 
-    /// The index of the row of these values.
+    /// The index of the row with these values.
     fn index_of(&self, values: &[u32]) -> u32 {
         let mut index = 0u32;
         for (variable, radix) in self.variables.iter().zip(&self.radices) {
@@ -156,7 +156,7 @@ impl RowGraph {
         index
     }
 
-    /// The atoms that are true in the row of this number, rising.
+    /// The true atoms in the row with this number, in ascending order.
     pub fn atoms_of(
         &self,
         alloc: Global,
@@ -179,7 +179,7 @@ impl RowGraph {
         Ok(atoms)
     }
 
-    /// The atoms of the table's scope, rising.
+    /// The atoms of the table's scope, in ascending order.
     pub fn scope(&self, alloc: Global, variables: &Variables) -> Result<Vec<u32>, NoMemory> {
         let mut scope = Vec::new(alloc);
         for variable in &self.variables {
@@ -191,7 +191,7 @@ impl RowGraph {
     }
 }
 
-/// The value at the place of this radix in an index, where the variable has so many.
+/// The value at this radix in an index, for a variable with this many values.
 pub(crate) fn value_at(index: u32, radix: u32, count: u32) -> u32 {
     if radix == 0 || count == 0 {
         return 0;
@@ -199,7 +199,7 @@ pub(crate) fn value_at(index: u32, radix: u32, count: u32) -> u32 {
     index / radix % count
 }
 
-/// Whether the goal allows each of the rows of these indices.
+/// Whether the goal allows each of the rows with these indices.
 pub(crate) fn goal_rows(
     alloc: Global,
     goals: &GoalValues,
@@ -219,7 +219,7 @@ pub(crate) fn goal_rows(
     Ok(are_goals)
 }
 
-/// The numbers of the rows by their indices.
+/// The numbers of the rows, sorted by index.
 pub(crate) fn by_index(alloc: Global, rows: &[u32]) -> Result<Vec<(u32, u32)>, NoMemory> {
     let mut by_index = Vec::with_capacity(alloc, rows.len())?;
     for (place, index) in rows.iter().enumerate() {

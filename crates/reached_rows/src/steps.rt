@@ -1,4 +1,4 @@
-//! What all instances do to each variable.
+//! The effects of all instances on each variable.
 use crate::moves::{InstancePart, Move, moves_from, source_count};
 use atom_groups::{Variables, number_of, place_of};
 use faults::NoMemory;
@@ -6,37 +6,37 @@ use grounding::{CountingChange, Ground, NumberedLiteral};
 use potentials::instance_count;
 use std::alloc::Global;
 
-/// How many moves are kept in all, at most.
+/// The maximum number of moves kept in total.
 const MAX_MOVES: usize = 4_000_000;
 
-/// An instance, and which of a variable's steps it takes.
+/// An instance, and the variable's step that it takes.
 #[derive(Clone, Copy, Debug, PartialEq, Eq, PartialOrd, Ord)]
 pub(crate) struct StepUse {
     pub(crate) instance: u32,
     pub(crate) step: u32,
 }
 
-/// What instances do to one variable: its steps, each a list of moves, and which instances say or do something of it.
+/// The effects of instances on one variable: its steps, each a list of moves, and the instances that take them.
 #[derive(Drop)]
 pub(crate) struct VariableSteps {
     steps: Vec<Vec<Move>>,
-    /// Rising by instances.
+    /// In ascending order of instances.
     uses: Vec<StepUse>,
 }
 
-/// What all instances do to each variable.
+/// The effects of all instances on each variable.
 #[derive(Drop)]
 pub struct Steps {
     variables: Vec<VariableSteps>,
 }
 
-/// Which instances are shut out: they are applicable in no state that may be reached.
+/// The instances that are shut out: they are applicable in no reachable state.
 #[derive(Drop)]
 pub struct Shutters {
     is_shut_out: Vec<bool>,
 }
 
-/// For each variable, what instances do to it, still in the order of instances.
+/// For each variable, the effects of instances on it, still in the order of instances.
 #[derive(Drop)]
 struct Drafts {
     moves: Vec<Vec<(Vec<Move>, u32)>>,
@@ -44,7 +44,7 @@ struct Drafts {
 }
 
 impl Steps {
-    /// Those of the ground task's instances; none where they would have too many moves.
+    /// The steps of the ground task's instances; `None` if there would be too many moves.
     pub fn new(
         alloc: Global,
         ground: &Ground<'_>,
@@ -81,14 +81,14 @@ impl Steps {
         Ok(Some(steps))
     }
 
-    /// What instances do to the variable of this number.
+    /// The effects of instances on the variable with this number.
     pub(crate) fn of(&self, variable: u32) -> Option<&VariableSteps> {
         self.variables.get(place_of(variable))
     }
 }
 
 impl Drafts {
-    /// Adds what the instance of these literals and changes does to each variable of their atoms.
+    /// Adds the effect of the instance with these literals and changes on each variable of their atoms.
     fn add<'a, 't>(
         &mut self,
         alloc: Global,
@@ -119,7 +119,7 @@ impl Drafts {
 }
 
 impl VariableSteps {
-    /// The steps of these lists of moves, each list once, and which instances take them.
+    /// The steps for these lists of moves, each distinct list once, and the instances that take them.
     fn new(alloc: Global, mut drafts: Vec<(Vec<Move>, u32)>) -> Result<VariableSteps, NoMemory> {
         drafts.sort_unstable();
         let mut of_variable = VariableSteps {
@@ -133,7 +133,7 @@ impl VariableSteps {
         Ok(of_variable)
     }
 
-    /// The instance takes these moves, which are the last step's or come after them.
+    /// Records that the instance takes these moves, which are those of the last step or come after them.
     fn take(&mut self, moves: Vec<Move>, instance: u32) -> Result<(), NoMemory> {
         if self.steps.last() != Some(&moves) {
             self.steps.push(moves)?;
@@ -143,12 +143,12 @@ impl VariableSteps {
         Ok(())
     }
 
-    /// The instances that say or do something of the variable, rising, each with its step.
+    /// The instances that mention the variable, in ascending order, each with its step.
     pub(crate) fn uses(&self) -> &[StepUse] {
         &self.uses
     }
 
-    /// How many steps there are.
+    /// The number of steps.
     pub(crate) fn step_count(&self) -> usize {
         self.steps.len()
     }
@@ -166,19 +166,19 @@ impl VariableSteps {
         moves_from(self.moves(step), value)
     }
 
-    /// From how many values this step has moves.
+    /// The number of values from which this step has moves.
     pub(crate) fn source_count(&self, step: u32) -> u32 {
         source_count(self.moves(step))
     }
 
-    /// All moves of this step, rising by the values that they are from.
+    /// All moves of this step, in ascending order of source values.
     pub(crate) fn all_moves(&self, step: u32) -> &[Move] {
         self.moves(step)
     }
 }
 
 impl Shutters {
-    /// Those of the ground task's instances that want an atom which has no number.
+    /// The instances of the ground task that require an atom without a number.
     pub fn new(alloc: Global, ground: &Ground<'_>) -> Result<Shutters, NoMemory> {
         let mut is_shut_out = Vec::new(alloc);
         for number in 0..instance_count(ground) {
@@ -195,7 +195,7 @@ impl Shutters {
         }
     }
 
-    /// Shuts these instances out too.
+    /// Shuts out these instances too.
     pub fn shut_out(&mut self, instances: &[u32]) {
         for instance in instances {
             if let Some(is_shut_out) = self.is_shut_out.get_mut(place_of(*instance)) {

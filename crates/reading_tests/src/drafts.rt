@@ -1,4 +1,4 @@
-//! Which exchanges of objects are found for a task.
+//! Tests of the exchanges of objects found for a task.
 use exchanges_drafted::drafted_exchanges;
 use faults::NoMemory;
 use std::alloc::Global;
@@ -7,7 +7,7 @@ use std::test::Fail;
 use task::Task;
 use test_texts::{FOUR_BALLS, Texts, on_task};
 
-/// Two hikers, each with a tent of their own.
+/// Two hikers, each with a tent.
 const HIKERS: Texts = [
     "(define (domain hike) (:types hiker tent) (:predicates (owner ?t - tent ?h - hiker) (up ?t - tent) (asleep ?h - hiker))
  (:action pitch :parameters (?t - tent) :effect (up ?t))
@@ -16,7 +16,7 @@ const HIKERS: Texts = [
  (:init (owner t a) (owner u b)) (:goal (and (asleep a) (asleep b))))",
 ];
 
-/// The objects that change places, two by two, one exchange after another.
+/// The swapped objects, in pairs, of one exchange after another.
 fn numbers_drafted(alloc: Global, task: &Task) -> Result<Vec<u32>, NoMemory> {
     let mut numbers = Vec::new(alloc);
     for exchange in &drafted_exchanges(alloc, task)? {

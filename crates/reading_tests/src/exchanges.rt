@@ -1,5 +1,5 @@
-//! Which exchanges of objects are symmetries of a task, by which states they represent others, and where states that they take into one
-//! another are listed.
+//! Tests of exchanges: which are symmetries of a task, which states represent others under them, and where states of the same
+//! orbit are listed.
 ghost use Rattle.std.specs.Prelude.{◌≡◌, length, IfOk};
 ghost use Rattle.packed_state.specs.Packed.{bits_of};
 ghost use Rattle.grounding.specs.Ground.{atoms_in};
@@ -17,8 +17,8 @@ use task::{ObjectId, Task};
 use task_symmetries::{Exchange, SymmetryTest};
 use test_texts::{FOUR_BALLS, atom, on_task};
 
-/// Objects of the task with four balls, by their numbers: two rooms, the balls, two grippers; and whether their exchange is a
-/// symmetry. None, where they make no exchange.
+/// Objects, by number, of the task with four balls (two rooms, the balls, two grippers), and whether their exchange is a
+/// symmetry; `None` if they do not form an exchange.
 static JUDGED: [(&[u32], Option<bool>); 9] = [
     (&[2, 3], Some(true)),
     (&[6, 7], Some(true)),
@@ -61,10 +61,10 @@ fn exchanges_are_judged(rt: HostRuntime) -> Result<(), Fail> {
     })
 }
 
-/// The four balls, by the numbers of the objects.
+/// The four balls, by number.
 static BALLS: [u32; 4] = [2, 3, 4, 5];
 
-/// The rooms of the four balls in a state, and in its representative, where each may change places with the next one.
+/// The rooms of the four balls in a state and in its representative, when neighbouring balls can be swapped.
 static REPRESENTED: [([u32; 4], [u32; 4]); 5] = [
     ([0, 0, 0, 0], [0, 0, 0, 0]),
     ([1, 0, 0, 0], [0, 0, 0, 1]),
@@ -73,7 +73,7 @@ static REPRESENTED: [([u32; 4], [u32; 4]); 5] = [
     ([1, 1, 1, 1], [1, 1, 1, 1]),
 ];
 
-/// The state in which the balls are in these rooms, and nothing else is true.
+/// The state with the balls in these rooms, and nothing else true.
 fn balls_in(alloc: Global, ground: &Ground<'_>, rooms: &[u32]) -> Result<Packed, NoMemory>
     ensures { IfOk result (λ state. length (bits_of state) ≡ length (atoms_in ground.now)) }
 {
@@ -88,7 +88,7 @@ fn balls_in(alloc: Global, ground: &Ground<'_>, rooms: &[u32]) -> Result<Packed,
     Ok(state)
 }
 
-/// Whether the state of the first rooms is represented by that of the others.
+/// Whether the state with the first rooms is represented by the one with the other rooms.
 fn is_represented(
     alloc: Global,
     representatives: &Representatives<'_, '_, '_>,
@@ -114,11 +114,14 @@ fn are_represented(
     Ok(())
 }
 
-/// The exchanges of each ball with the next one.
-fn of_neighbours(alloc: Global, task: &Task) -> Result<Vec<Exchange>, NoMemory> {
+/// The pairs of neighbouring balls.
+static NEIGHBOURS: [&[u32]; 3] = [&[2, 3], &[3, 4], &[4, 5]];
+
+/// The exchanges of these rows of objects.
+fn exchanges_of(alloc: Global, task: &Task, rows: &[&[u32]]) -> Result<Vec<Exchange>, NoMemory> {
     let mut exchanges = Vec::new(alloc);
-    for pair in BALLS.windows(2) {
-        if let Some(exchange) = exchange_of(alloc, task, pair)? {
+    for numbers in rows {
+        if let Some(exchange) = exchange_of(alloc, task, *numbers)? {
             exchanges.push(exchange)?;
         }
     }
@@ -144,12 +147,12 @@ fn represents(
 fn balls_are_represented(rt: HostRuntime) -> Result<(), Fail> {
     on_task(&rt, rt.alloc(), &FOUR_BALLS, |rt, alloc, task| {
         let ground = Ground::new(alloc, task, &[], 100)?;
-        let exchanges = of_neighbours(alloc, task)?;
+        let exchanges = exchanges_of(alloc, task, &NEIGHBOURS)?;
         represents(rt, alloc, &ground, &exchanges)
     })
 }
 
-/// Where the state is to be listed. If another one of its class is current, it takes that one's place.
+/// The place of the state in the listing. If another member of its class is listed as current, the state replaces it.
 fn put<L: StateListing>(listing: &mut L, state: &Packed) -> Result<Option<Place>, NoMemory> {
     if state.width() != listing.width() || listing.len() > 100 {
         return Ok(None);
@@ -161,7 +164,7 @@ fn put<L: StateListing>(listing: &mut L, state: &Packed) -> Result<Option<Place>
     Ok(place)
 }
 
-/// Where the state is to be listed. If another one of its class is current, it is listed beside that one.
+/// The place of the state in the listing. If another member of its class is listed as current, the state is listed in addition.
 fn add<L: StateListing>(listing: &mut L, state: &Packed) -> Result<Option<Place>, NoMemory> {
     if state.width() != listing.width() || listing.len() > 100 {
         return Ok(None);
@@ -173,8 +176,8 @@ fn add<L: StateListing>(listing: &mut L, state: &Packed) -> Result<Option<Place>
     Ok(place)
 }
 
-/// Where one state and another of its class are listed: the other one takes its place, then it is listed beside that one, and then both
-/// are there.
+/// The places of two states of the same class: first the other state replaces the first, then the first is added to it, and
+/// finally both are listed.
 fn places_of(
     listing: &mut OrbitStore<'_, '_>,
     one: &Packed,
@@ -208,14 +211,16 @@ fn are_listed(
     Ok(())
 }
 
-/// Whether all images by the exchange of these objects have numbers.
+/// Whether all images under these exchanges have numbers.
+fn are_made(alloc: Global, ground: &Ground<'_>, exchanges: &[Exchange]) -> Result<bool, NoMemory> {
+    Ok(Representatives::new(alloc, ground, exchanges)?.is_some())
+}
+
+/// The same for the exchange of these objects.
 fn has_numbers(alloc: Global, task: &Task, numbers: &[u32]) -> Result<bool, Fail> {
+    let exchanges = exchanges_of(alloc, task, &[numbers])?;
     let ground = Ground::new(alloc, task, &[], 100)?;
-    let mut exchanges = Vec::new(alloc);
-    if let Some(exchange) = exchange_of(alloc, task, numbers)? {
-        exchanges.push(exchange)?;
-    }
-    Ok(Representatives::new(alloc, &ground, &exchanges)?.is_some())
+    Ok(are_made(alloc, &ground, &exchanges)?)
 }
 
 #[test]

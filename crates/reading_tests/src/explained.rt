@@ -1,10 +1,6 @@
-//! What is said of a plan in memory, of where its steps are, of a task, and of a fault.
-use explained_faults::{File, FileRefusal, NamedText, NamedTexts, explain_fault};
-use explained_plans::{
-    Summary, VariableNames, explain_plan, false_parts_report, report_details, report_verdict,
-    step_place,
-};
-use faults::{Code, NoMemory, Span};
+//! Tests of explanations: of a plan whose task's quantified variables have no names, and of the places of steps.
+use explained_plans::{VariableNames, explain_plan, report_details, step_place};
+use faults::Span;
 use plan_file::read_plan;
 use std::alloc::Global;
 use std::process::Abort;
@@ -12,79 +8,36 @@ use std::test::Fail;
 use task::Task;
 use test_texts::{Texts, on_task};
 
-/// Three places, of which the last is closed, and ways between the first two.
-const ROAD: Texts = [
-    "(define (domain road) (:predicates (at ?x) (closed ?x) (seen ?x))
- (:functions (total-cost) (distance ?x ?y))
- (:action hop :parameters (?x ?y) :precondition (and (at ?x) (not (closed ?y)))
-  :effect (and (not (at ?x)) (at ?y) (seen ?y) (increase (total-cost) (distance ?x ?y))))
+/// A task in which nothing has been seen.
+const UNSEEN: Texts = [
+    "(define (domain road) (:predicates (closed ?x) (seen ?x))
  (:action close :parameters (?x) :precondition (exists (?y) (seen ?y)) :effect (closed ?x)))",
-    "(define (problem r) (:domain road) (:objects a b c)
- (:init (at a) (closed c) (= (total-cost) 0) (= (distance a b) 4) (= (distance b a) 2))
- (:goal (and (at b) (forall (?x) (or (seen ?x) (= ?x a) (closed ?x)))))
- (:metric minimize (total-cost)))",
+    "(define (problem r) (:domain road) (:objects a) (:init) (:goal (closed a)))",
 ];
 
-/// Plans, and what is said of them.
-#[rattlefmt::skip]
-static REPORTED: [(&str, &str); 3] = [
-    ("(hop a b)(hop b a)(hop a b)",
-        "valid, cost 10\n1  (hop a b)  cost 4, 4 so far\n2  (hop b a)  cost 2, 6 so far\n3  (hop a b)  cost 4, 10 so far\n"),
-    ("(hop b c)", "step 1, (hop b c), is not applicable\n(at b) is false: it was never true.\n\
-(not (closed c)) is false: (closed c) was true from the start.\n(distance b c) has no value.\n"),
-    ("(close a)", "step 1, (close a), is not applicable\n(exists (?1 - object) (seen ?1)) is false.\n"),
-];
-
-/// A task whose quantified variables have no names.
-#[derive(Drop)]
-struct Nameless<'a> {
-    task: &'a Task,
-    names: VariableNames<'a>,
+/// The reasons why the step is not applicable, with these names of variables.
+fn details(alloc: Global, task: &Task, names: &VariableNames<'_>) -> Result<String, Fail> {
+    let plan = read_plan(alloc, task, b"(close a)")?;
+    let explanation = explain_plan(alloc, task, names, &plan)?;
+    Ok(report_details(alloc, task, &plan, &explanation)?)
 }
 
-/// What is said of the plan of this text: what is true of it, and then why.
-fn reported(alloc: Global, nameless: &Nameless<'_>, text: &str) -> Result<String, Fail> {
-    let task = nameless.task;
-    let plan = read_plan(alloc, task, text.as_bytes())?;
-    let explanation = explain_plan(alloc, task, &nameless.names, &plan)?;
-    let mut reported = report_verdict(alloc, task, &plan, &explanation)?;
-    let details = report_details(alloc, task, &plan, &explanation)?;
-    reported.push_str(details.as_str())?;
-    Ok(reported)
-}
-
-fn are_reported(rt: &impl Abort, alloc: Global, task: &Task) -> Result<(), Fail> {
-    let nameless = Nameless {
-        task,
-        names: VariableNames {
-            actions: Vec::new(alloc),
-            goal: Vec::new(alloc),
-        },
+fn has_a_number(rt: &impl Abort, alloc: Global, task: &Task) -> Result<(), Fail> {
+    let names = VariableNames {
+        actions: Vec::new(alloc),
+        goal: Vec::new(alloc),
     };
-    for (plan, wanted) in &REPORTED {
-        let text = reported(alloc, &nameless, *plan)?;
-        assert_eq!(rt; text.as_str(), *wanted);
-    }
+    let text = details(alloc, task, &names)?;
+    assert_eq!(rt;
+        text.as_str(),
+        "(exists (?1 - object) (seen ?1)) is false.\n"
+    );
     Ok(())
 }
 
 #[test]
-fn plans_are_explained(rt: HostRuntime) -> Result<(), Fail> {
-    false_parts_report();
-    on_task(&rt, rt.alloc(), &ROAD, are_reported)
-}
-
-/// What the task of the places holds.
-const HOLDS: &str = "types 1, objects 3, predicates 3, functions 2, actions 2\n\
-costs yes, conditional effects no, quantifiers yes, negations yes, disjunctions yes\n";
-
-#[test]
-fn what_a_task_holds_is_reported(rt: HostRuntime) -> Result<(), Fail> {
-    on_task(&rt, rt.alloc(), &ROAD, |rt, alloc, task| {
-        let text = Summary::of(task).text(alloc)?;
-        assert_eq!(rt; text.as_str(), HOLDS);
-        Ok(())
-    })
+fn a_variable_without_a_name_has_a_number(rt: HostRuntime) -> Result<(), Fail> {
+    on_task(&rt, rt.alloc(), &UNSEEN, has_a_number)
 }
 
 #[test]
@@ -98,49 +51,4 @@ fn steps_are_placed(rt: HostRuntime) {
     let first = Span { start: 0, end: 9 };
     let second = Span { start: 14, end: 23 };
     assert_eq!(rt; places, [Some(first), Some(second), None]);
-}
-
-/// A predicate is in the goal that the domain has not.
-#[rattlefmt::skip]
-const FASTER: [&[u8]; 2] = [
-    b"(define (domain d) (:predicates (fast ?c) (at ?c)))",
-    b"(define (problem x) (:domain d) (:objects herbie)
- (:init) (:goal (fats herbie)))",
-];
-
-/// What is said of the fault.
-fn fault_reported(alloc: Global) -> Result<String, NoMemory> {
-    let texts = NamedTexts {
-        domain: NamedText {
-            name: "domain.pddl",
-            text: FASTER[0],
-        },
-        problem: NamedText {
-            name: "problem.pddl",
-            text: FASTER[1],
-        },
-        plan: NamedText {
-            name: "plan.txt",
-            text: b"",
-        },
-    };
-    let fault = FileRefusal {
-        file: File::Problem,
-        code: Code::UnknownName,
-        span: Span { start: 67, end: 71 },
-    };
-    explain_fault(alloc, &texts, fault)?.text(alloc, &texts)
-}
-
-#[test]
-fn a_fault_is_explained(rt: HostRuntime) -> Result<(), Fail> {
-    assert_eq!(rt;
-        fault_reported(rt.alloc())?.as_str(),
-        "problem.pddl:2:18: fault 17 UnknownName (columns count bytes)
-   2 |  (:init) (:goal (fats herbie)))
-     |                  ^^^^
-no predicate is called `fats`; did you mean `fast` or `at`?
-"
-    );
-    Ok(())
 }

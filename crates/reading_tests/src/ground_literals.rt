@@ -1,4 +1,4 @@
-//! What ground tasks say of instances beside the states that they lead to: sure literals, and the changes that count.
+//! Tests of ground tasks: the sure literals and the counting changes of instances.
 use crate::ground_tasks::LAMP;
 use grounding::{CountingChange, Ground, NumberedLiteral};
 use std::alloc::{AllocError, Global};
@@ -7,7 +7,7 @@ use std::test::Fail;
 use task::Task;
 use test_texts::{HOP, PAIRS, Texts, UNTIED, on_task};
 
-/// A door is shut. One of the changes is under a condition that is statically false, one under `(and)`.
+/// A shut door. One change has a statically false condition, another the condition `(and)`.
 const LATCH: Texts = [
     "(define (domain latch) (:predicates (open) (locked) (heard) (stuck) (broken))
  (:action shut :parameters () :precondition (and (open) (not (locked)))
@@ -15,8 +15,8 @@ const LATCH: Texts = [
     "(define (problem l) (:domain latch) (:init (open)) (:goal (not (open))))",
 ];
 
-/// Tasks, what is sure of each instance's precondition and which of its changes count, in the instances' order, and what is
-/// sure of the goal: atoms by their numbers, each with whether it is true, and a `?` at what is under a condition.
+/// Tasks, with the sure literals of each instance's precondition and its counting changes, in the order of instances, and the
+/// sure literals of the goal: atoms by number, each with its truth value, and `?` for a change with a condition.
 #[rattlefmt::skip]
 static REPORTED: [(Texts, &[&str], &str); 5] = [
     (LAMP, &["-> +1 ", "+0 -> +2 -0 +3? "], "+2 +3 "),
@@ -48,7 +48,7 @@ fn write_changes(reported: &mut String, changes: &[CountingChange<'_>]) -> Resul
     Ok(())
 }
 
-/// What is reported for the instance of this number.
+/// The report for the instance with this number.
 fn reported(alloc: Global, ground: &Ground<'_>, number: u32) -> Result<String, AllocError> {
     let mut reported = String::new(alloc);
     if (number as usize) < ground.instances().len() {
@@ -65,7 +65,7 @@ fn reported_of_goal(alloc: Global, ground: &Ground<'_>) -> Result<String, AllocE
     Ok(reported)
 }
 
-/// These are reported for the first instances, in their order.
+/// The reports of the first instances are these, in order.
 fn reports_of_instances(
     rt: &impl Abort,
     alloc: Global,
@@ -78,7 +78,7 @@ fn reports_of_instances(
     Ok(())
 }
 
-/// That many instances are kept, and this is reported for the goal.
+/// The number of kept instances is this, and the report for the goal is this.
 fn reports_of_all(
     rt: &impl Abort,
     alloc: Global,

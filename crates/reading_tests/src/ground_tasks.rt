@@ -1,4 +1,4 @@
-//! Ground tasks: which instances are kept, which atoms have numbers, and what these numbers lead to.
+//! Tests of ground tasks: which instances are kept, which atoms are numbered, and the successor states.
 ghost use Rattle.std.specs.Prelude.{◌≡◌, length, IfOk};
 ghost use Rattle.packed_state.specs.Packed.{bits_of};
 ghost use Rattle.grounding.specs.Ground.{atoms_in};
@@ -13,7 +13,7 @@ use std::test::Fail;
 use task::Task;
 use test_texts::{Application, GO, HOP, PAIRS, PATH, TIE, Texts, UNTIED, atom, is_of, on_task};
 
-/// A lamp, and a way from the first place to the second, which is seen where the lamp is lit.
+/// A lamp, and a way from the first place to the second that is visible when the lamp is lit.
 pub(crate) const LAMP: Texts = [
     "(define (domain lamp) (:requirements :conditional-effects) (:predicates (link ?x ?y) (at ?x) (lit) (seen ?x))
  (:action light :parameters () :effect (lit))
@@ -22,7 +22,7 @@ pub(crate) const LAMP: Texts = [
     "(define (problem p) (:domain lamp) (:objects a b) (:init (link a b) (at a)) (:goal (and (at b) (seen b))))",
 ];
 
-/// Two actions, the one that is declared first with the later name, and the same for the objects.
+/// Two actions, the first declared with the later name, and the same for the objects.
 const JOINS: Texts = [
     "(define (domain joins) (:predicates (link ?x ?y) (done))
  (:action touch :parameters (?x) :effect (done))
@@ -31,8 +31,8 @@ const JOINS: Texts = [
  (:init (link a b) (link b a) (link b b)) (:goal (done)))",
 ];
 
-/// Tasks, the instances that each keeps, and the atoms that have numbers, both by their numbers: instances by the actions'
-/// numbers, and then by those of the objects from the left; atoms of the start first.
+/// Tasks with their kept instances and numbered atoms, all by number: instances ordered by action and then lexicographically by
+/// objects; atoms of the initial state first.
 #[rattlefmt::skip]
 static NUMBERED: [(Texts, &[Application], &[Application]); 7] = [
     (LAMP, &[(0, &[]), (1, &[0, 1])], &[(1, &[0]), (2, &[]), (1, &[1]), (3, &[1])]),
@@ -54,7 +54,7 @@ fn keeps(ground: &Ground<'_>, wanted: &[Application]) -> bool {
     ground.instances().len() == wanted.len()
 }
 
-/// Whether these atoms have numbers, in this order.
+/// Whether these atoms are numbered, in this order.
 fn numbers(ground: &Ground<'_>, wanted: &[Application]) -> bool {
     for (term, number) in wanted.iter().zip(0..u32::MAX) {
         let atom = atom(term.0, term.1);
@@ -66,7 +66,7 @@ fn numbers(ground: &Ground<'_>, wanted: &[Application]) -> bool {
     ground.width() as usize == wanted.len()
 }
 
-/// Whether the instances and the atoms have these numbers, and the task is the one that was made ground.
+/// Whether the instances and atoms have these numbers, and the task is the one that was grounded.
 fn are_numbered(
     alloc: Global,
     task: &Task,
@@ -90,11 +90,11 @@ fn instances_and_atoms_are_numbered(rt: HostRuntime) -> Result<(), Fail> {
     Ok(())
 }
 
-/// The atoms of `LAMP` where the last one is to have the first number.
+/// The numbered atoms of `LAMP`, if the last one is requested to come first.
 #[rattlefmt::skip]
 static SEEN_FIRST: [Application; 4] = [(3, &[1]), (1, &[0]), (2, &[]), (1, &[1])];
 
-/// Atoms of `LAMP` that have none: one that is static, and one of a fluent predicate that is never true.
+/// Atoms of `LAMP` without numbers: a static one, and one of a fluent predicate that is never true.
 #[rattlefmt::skip]
 static UNNUMBERED: [Application; 2] = [(0, &[0, 1]), (3, &[0])];
 
@@ -127,15 +127,15 @@ fn some_atoms_come_first(rt: HostRuntime) -> Result<(), Fail> {
 const WIDE_DOMAIN: &str = "(define (domain wide) (:predicates (p))
  (:action go :parameters (?a ?b ?c ?d ?e ?f ?g ?h ?i ?j ?k ?l ?m ?n ?o ?p) :effect (p)))";
 
-/// Three objects for each of sixteen parameters: 43,046,721 instances, and none is statically inapplicable.
+/// Three objects for each of sixteen parameters: 43,046,721 instances, none statically inapplicable.
 #[rattlefmt::skip]
 const WIDE_3: Texts = [WIDE_DOMAIN, "(define (problem w) (:domain wide) (:objects a b c) (:init) (:goal (p)))"];
 
-/// No object for the parameters: no instance.
+/// No objects for the parameters, so no instances.
 #[rattlefmt::skip]
 const WIDE_0: Texts = [WIDE_DOMAIN, "(define (problem w) (:domain wide) (:init) (:goal (p)))"];
 
-/// A task, a number, and whether the task keeps more instances.
+/// A task, a limit, and whether the task keeps more instances.
 #[rattlefmt::skip]
 static COUNTS: [(Texts, u32, bool); 14] = [
     (GO, 0, true), (GO, 1, false),
@@ -166,12 +166,11 @@ fn the_limit_is_reported_exactly(rt: HostRuntime) -> Result<(), Fail> {
     Ok(())
 }
 
-/// A state by the numbers of its atoms, whether the goal holds in it, and each applicable instance, by its number, with
-/// the state that it leads to.
+/// A state by the numbers of its atoms, whether the goal holds in it, and each applicable instance, by number, with its successor
+/// state.
 type Line = (&'static [u32], bool, &'static [(u32, &'static [u32])]);
 
-/// A task, what each instance costs, with 0 for the first number that is none's, and states, of which the first is the
-/// initial one.
+/// A task, the cost of each instance (with 0 for the first unused number), and states, the first of which is the initial state.
 struct Row {
     texts: Texts,
     costs: &'static [u32],
@@ -192,7 +191,7 @@ static STATES: [Row; 5] = [
         (&[], false, &[(0, &[0]), (1, &[0]), (2, &[0]), (3, &[0]), (4, &[0])]),
         (&[0], true, &[(0, &[0]), (1, &[0]), (2, &[0]), (3, &[0]), (4, &[0])]),
     ] },
-    // an add wins over a delete
+    // An add wins over a delete.
     Row { texts: GO, costs: &[1, 0], lines: &[(&[0], false, &[(0, &[0, 1])]), (&[], false, &[(0, &[0, 1])]), (&[0, 1], true, &[(0, &[0, 1])])] },
     Row { texts: HOP, costs: &[3, 3, 10, 0], lines: &[
         (&[0], false, &[(0, &[1]), (2, &[2])]),
@@ -206,7 +205,7 @@ static STATES: [Row; 5] = [
     ] },
 ];
 
-/// The state of the atoms of these numbers.
+/// The state with these atoms, by number.
 fn state(alloc: Global, ground: &Ground<'_>, numbers: &[u32]) -> Result<Packed, NoMemory>
     ensures { IfOk result (λ set. length (bits_of set) ≡ length (atoms_in ground.now)) }
 {
@@ -219,7 +218,7 @@ fn state(alloc: Global, ground: &Ground<'_>, numbers: &[u32]) -> Result<Packed, 
     Ok(state)
 }
 
-/// The numbers of the instances that are applicable in the state of these atoms.
+/// The applicable instances in the state with these atoms, by number.
 fn applicable(alloc: Global, ground: &Ground<'_>, numbers: &[u32]) -> Result<Vec<u32>, NoMemory> {
     let state = state(alloc, ground, numbers)?;
     let mut found = vec![in alloc; 7]?;
@@ -227,7 +226,7 @@ fn applicable(alloc: Global, ground: &Ground<'_>, numbers: &[u32]) -> Result<Vec
     Ok(found)
 }
 
-/// The numbers of the atoms that are true where the instance of this number was applied, if it is applicable.
+/// The true atoms, by number, after applying the instance with this number, if it is applicable.
 fn next(
     alloc: Global,
     ground: &Ground<'_>,
@@ -243,7 +242,7 @@ fn next(
     Ok(Some(next.numbers(alloc)?))
 }
 
-/// Whether the instances that are applicable are these, and lead to these states.
+/// Whether exactly these instances are applicable and lead to these states.
 fn leads(alloc: Global, ground: &Ground<'_>, line: &Line) -> Result<bool, NoMemory> {
     let found = applicable(alloc, ground, line.0)?;
     for ((instance, after), number) in line.2.iter().zip(&found) {
@@ -255,13 +254,13 @@ fn leads(alloc: Global, ground: &Ground<'_>, line: &Line) -> Result<bool, NoMemo
     Ok(found.len() == line.2.len())
 }
 
-/// Whether the goal holds in the state exactly where the line says so.
+/// Whether the goal holds in the state exactly if the line says so.
 fn is_goal_reported(alloc: Global, ground: &Ground<'_>, line: &Line) -> Result<bool, NoMemory> {
     let state = state(alloc, ground, line.0)?;
     Ok(ground.meets_goal(&state) == line.1)
 }
 
-/// Whether this is what numbers cost, from 0 on, and the largest one nothing.
+/// Whether these are the costs of the numbers from 0 on, and the largest number costs nothing.
 fn are_costs(ground: &Ground<'_>, costs: &[u32]) -> bool {
     for (cost, number) in costs.iter().zip(0..u32::MAX) {
         if ground.cost(number) != *cost {
@@ -271,13 +270,13 @@ fn are_costs(ground: &Ground<'_>, costs: &[u32]) -> bool {
     ground.cost(u32::MAX) == 0
 }
 
-/// Whether the atoms that are true at the start are those of the first line.
+/// Whether the initially true atoms are those of the first line.
 fn starts(alloc: Global, ground: &Ground<'_>, lines: &[Line]) -> Result<bool, NoMemory> {
     let start = ground.initial(alloc)?.numbers(alloc)?;
     Ok(lines.first().is_some_and(|line| line.0 == start.as_slice()))
 }
 
-/// Whether the instances lead to the line's states, and the goal is reported as the line says.
+/// Whether the instances lead to the line's states, and the goal holds as the line says.
 fn is_line(alloc: Global, ground: &Ground<'_>, line: &Line) -> Result<[bool; 2], NoMemory> {
     Ok([
         leads(alloc, ground, line)?,

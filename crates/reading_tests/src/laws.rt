@@ -1,5 +1,6 @@
-//! The laws of reading, of meaning and of ground tasks that are stated of all values, and proved, each called once; and the
-//! numbers that the contracts name.
+//! The laws of reading, meaning and ground tasks that are proved for all values, each called once; and the numbers that the
+//! contracts mention.
+use explained_plans::false_parts_report;
 use formulas::{MAX_STEPS, formula_examples_are_judged, one_state, sure_literals_hold};
 use grounding::{
     atoms_are_numbered, ground_task_is_bisimilar, ground_task_solves_alike,
@@ -34,6 +35,7 @@ fn laws_of_meaning_are_called() {
     formula_examples_are_judged();
     exactly_one_verdict_is_true();
     worked_examples_are_true();
+    false_parts_report();
 }
 
 #[test]

@@ -1,4 +1,4 @@
-//! Tests of words, trees, tasks, plan texts and explanations that no run of the program can show.
+//! Tests of trees, tasks, states, plan texts, ground tasks and exchanges, as far as runs of the program cannot show them.
 #![tactic(auto)]
 
 #[cfg(test)]
@@ -21,5 +21,3 @@ mod states;
 mod tasks;
 #[cfg(test)]
 mod trees;
-#[cfg(test)]
-mod words;

@@ -1,9 +1,9 @@
-//! Plans that are written to devices, and read back.
+//! Tests of plans written to devices and read back.
 ghost use Rattle.std.specs.Prelude.{◌<◌};
 
 use devices::{IoFault, Memory};
 use formulas::Plan;
-use plan_file::{read_plan, step_text, write_plan};
+use plan_file::{read_plan, write_plan};
 use std::alloc::Global;
 use std::process::Abort;
 use std::test::Fail;
@@ -11,13 +11,13 @@ use task::Task;
 use test_devices::{FailsAt, InPieces};
 use test_texts::{Application, HOP, instance, is_of, on_task};
 
-/// Two hops, as they are written.
+/// The text of two hops.
 const TWO_HOPS: &[u8] = b"(hop a b)\n(hop b c)\n; cost = 6\n";
 
-/// The empty plan, as it is written.
+/// The text of the empty plan.
 const NO_HOP: &[u8] = b"; cost = 0\n";
 
-/// The steps of plans, a cost, and what is written. That the steps can be done, and at this cost, is not asked for.
+/// The steps of plans, a cost, and their texts. The steps need not be applicable, nor have this cost.
 #[rattlefmt::skip]
 static PLANS: [(&[Application], u64, &[u8]); 4] = [
     (&[(0, &[0, 1]), (0, &[1, 2])], 6, TWO_HOPS),
@@ -61,7 +61,7 @@ fn reads_as(alloc: Global, task: &Task, text: &[u8], steps: &[Application]) -> R
     Ok(has_steps(&plan, steps))
 }
 
-/// The text of the plan of these steps, where it reads as the same steps.
+/// The text of the plan with these steps, if it reads back as the same steps.
 fn text_read_back(
     alloc: Global,
     task: &Task,
@@ -73,7 +73,7 @@ fn text_read_back(
     Ok(is_same.then_some(text))
 }
 
-/// Each plan has its text, which reads as the same steps.
+/// Each plan has its text, which reads back as the same steps.
 fn has_texts(rt: &impl Abort, alloc: Global, task: &Task) -> Result<(), Fail> {
     for (steps, cost, wanted) in &PLANS {
         let text = text_read_back(alloc, task, *steps, *cost)?;
@@ -87,37 +87,10 @@ fn written_plans_are_read_back(rt: HostRuntime) -> Result<(), Fail> {
     on_task(&rt, rt.alloc(), &HOP, has_texts)
 }
 
-/// Names in letters of either case, and an action without a parameter.
-const NAMES: [&str; 2] = [
-    "(define (domain n) (:constants Here_1) (:predicates (p))
- (:action Stay :parameters () :effect (p)) (:action GO-to :parameters (?x ?y) :effect (p)))",
-    "(define (problem n) (:domain N) (:objects THERE-2) (:init) (:goal (p)))",
-];
-
-/// Steps, and how they are written.
-static STEPS: [(Application, &str); 3] = [
-    ((0, &[]), "(stay)"),
-    ((1, &[0, 1]), "(go-to here_1 there-2)"),
-    ((1, &[1, 1]), "(go-to there-2 there-2)"),
-];
-
-fn has_step_texts(rt: &impl Abort, alloc: Global, task: &Task) -> Result<(), Fail> {
-    for ((schema, objects), wanted) in &STEPS {
-        let text = step_text(alloc, task, &instance(*schema, *objects))?;
-        assert_eq!(rt; text.as_str(), *wanted);
-    }
-    Ok(())
-}
-
-#[test]
-fn steps_are_written_in_lower_case(rt: HostRuntime) -> Result<(), Fail> {
-    on_task(&rt, rt.alloc(), &NAMES, has_step_texts)
-}
-
-/// Whether the two hops are written, and what is taken of them, where the write after so many fails.
+/// The result of writing the two hops, and the bytes taken, if the write after this many fails.
 type Taken = (Result<(), IoFault>, Vec<u8>);
 
-/// The same where the sink takes so many bytes at a write.
+/// The same, for a sink that takes `length` bytes per write.
 fn taken(alloc: Global, task: &Task, hops: &Plan, length: usize, writes: u64) -> Taken
     requires { 0 < length }
 {
@@ -127,7 +100,7 @@ fn taken(alloc: Global, task: &Task, hops: &Plan, length: usize, writes: u64) ->
     (written, sink.inner.inner.into_vec())
 }
 
-/// What is reported where these bytes of the two hops are taken, and no more: that a write failed, unless they are all.
+/// The expected result if these bytes of the two hops are taken and no more: a failed write, unless they are all.
 fn reported_of(taken: &[u8]) -> Result<(), IoFault> {
     if taken == TWO_HOPS {
         Ok(())
@@ -136,7 +109,7 @@ fn reported_of(taken: &[u8]) -> Result<(), IoFault> {
     }
 }
 
-/// A sink that takes byte by byte fails at each of the text's bytes.
+/// A sink that takes single bytes fails at each byte of the text.
 fn fails_at_each_byte(rt: &impl Abort, alloc: Global, task: &Task, hops: &Plan) {
     for count in 0..=TWO_HOPS.len() {
         let wanted = &TWO_HOPS[..count];
@@ -145,8 +118,8 @@ fn fails_at_each_byte(rt: &impl Abort, alloc: Global, task: &Task, hops: &Plan) 
     }
 }
 
-/// What is taken of the text in pieces of seven bytes, where the first write fails, or the second, and so on: each
-/// line is written by itself. The last write of all does not fail.
+/// The bytes taken in pieces of seven if the first write fails, or the second, and so on: each line is written separately. The
+/// last write never fails.
 #[rattlefmt::skip]
 static BEGINNINGS: [&[u8]; 7] = [
     b"", b"(hop a ",
@@ -155,7 +128,7 @@ static BEGINNINGS: [&[u8]; 7] = [
     TWO_HOPS,
 ];
 
-/// A sink that takes seven bytes at a write fails at each write.
+/// A sink that takes seven bytes per write fails at each write.
 fn fails_at_each_piece(rt: &impl Abort, alloc: Global, task: &Task, hops: &Plan) {
     for (writes, wanted) in BEGINNINGS.iter().enumerate() {
         let (written, text) = taken(alloc, task, hops, 7, writes as u64);

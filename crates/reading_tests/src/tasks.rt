@@ -1,21 +1,16 @@
-//! Tasks in memory: what names and numbers lead to.
-use faults::NoMemory;
-use std::alloc::{AllocError, Global};
+//! Tests of tasks in memory: their names and numbers.
 use std::process::Abort;
 use std::test::Fail;
-use task::{ObjectId, PredicateId, SchemaId, Task, TypeId, TypeUnion};
+use task::{ObjectId, PredicateId, SchemaId, Task, TypeId};
 use test_texts::{Application, Texts, atom, on_task};
 
-/// Names with letters of either case.
+/// Names in mixed case.
 const MIXED: Texts = [
-    "(define (domain Go) (:predicates (p ?x) (Q))
- (:action GO :parameters (?a ?b)
-  :precondition (exists (?c ?D) (imply (= ?a ?d) (or (P ?B) (forall () (not (Q)))))) :effect (not (q))))",
-    "(define (problem g) (:domain gO) (:objects one Two)
- (:init (p TWO) (P two)) (:goal (p two)))",
+    "(define (domain Go) (:predicates (p)) (:action GO :parameters () :effect (P)))",
+    "(define (problem g) (:domain gO) (:objects one Two) (:init) (:goal (p)))",
 ];
 
-/// How many there are of each kind, and what names lead to, all in lower case.
+/// The number of entities of each kind, and the numbers of names, all in lower case.
 fn names_lead_to_numbers(rt: &impl Abort, task: &Task) {
     let objects = (task.object_named(b"two"), task.object_named(b"three"));
     let schemas = (task.schema_named(b"go"), task.schema_named(b"p"));
@@ -24,7 +19,7 @@ fn names_lead_to_numbers(rt: &impl Abort, task: &Task) {
     assert_eq!(rt; found, wanted);
 }
 
-/// What numbers lead to.
+/// The names of numbers.
 fn numbers_lead_to_names(rt: &impl Abort, task: &Task) {
     let objects = (task.object_name(ObjectId(1)), task.object_name(ObjectId(2)));
     let schemas = (task.schema_name(SchemaId(0)), task.schema_name(SchemaId(1)));
@@ -32,7 +27,7 @@ fn numbers_lead_to_names(rt: &impl Abort, task: &Task) {
     assert_eq!(rt; (objects, schemas), ((two, None), (go, None)));
 }
 
-/// Without types of its own a task has the one type `object`.
+/// A task without declared types has the single type `object`.
 fn has_one_type(rt: &impl Abort, task: &Task) {
     let names = (task.type_name(TypeId(0)), task.type_name(TypeId(1)));
     let found = (task.type_count(), task.type_named(b"object"), names);
@@ -40,73 +35,24 @@ fn has_one_type(rt: &impl Abort, task: &Task) {
     assert_eq!(rt; found, wanted);
 }
 
-/// Whether the type `object` is above itself alone, and both objects are of it, and no other.
-fn are_all_objects(alloc: Global, task: &Task) -> Result<[bool; 4], NoMemory> {
-    let objects = TypeUnion(vec![in alloc; TypeId(0)]?);
-    let listed = task.objects_of(alloc, &objects)?;
-    Ok([
-        (task.supertypes(TypeId(0)), task.supertypes(TypeId(1))) == (&[TypeId(0)], &[]),
-        task.is_of(ObjectId(1), &objects),
-        !task.is_of(ObjectId(2), &objects),
-        listed.as_slice() == [ObjectId(0), ObjectId(1)].as_slice(),
-    ])
-}
-
-/// The declarations of a task in words, and its start and its goal.
-fn declarations(alloc: Global, task: &Task) -> Result<String, AllocError> {
-    let (p, q) = (
-        task.predicate(PredicateId(0)),
-        task.predicate(PredicateId(1)),
-    );
-    let (go, init, goal) = (task.schema(SchemaId(0)), task.init(), task.goal());
-    format!(in alloc; "{p:?} {q:?}\n{go:?}\n{init:?}\n{goal:?}")
-}
-
-/// The declarations of `MIXED`, with one quantifier for each variable, and an `and` for the one over none; the start is reported as
-/// it is in the file.
-const DECLARATIONS: &str = "\
-Some(Predicate { arguments: [TypeUnion([TypeId(0)])] }) Some(Predicate { arguments: [] })
-Some(Schema { parameters: [TypeUnion([TypeId(0)]), TypeUnion([TypeId(0)])], \
-precondition: Exists(TypeUnion([TypeId(0)]), Exists(TypeUnion([TypeId(0)]), \
-Imply(Equal(Variable(VariableId(0)), Variable(VariableId(3))), \
-Or([Atom(LiftedAtom { predicate: PredicateId(0), terms: [Variable(VariableId(1))] }), \
-And([Not(Atom(LiftedAtom { predicate: PredicateId(1), terms: [] }))])])))), \
-effect: Literal(Delete(LiftedAtom { predicate: PredicateId(1), terms: [] })), increase: Number(0) })
-[Atom { predicate: PredicateId(0), objects: [ObjectId(1)] }, Atom { predicate: PredicateId(0), objects: [ObjectId(1)] }]
-Atom(LiftedAtom { predicate: PredicateId(0), terms: [Object(ObjectId(1))] })";
-
-/// The declarations are reported, and no number leads beyond them.
-fn has_its_declarations(rt: &impl Abort, alloc: Global, task: &Task) -> Result<(), Fail> {
-    let reported = declarations(alloc, task)?;
-    let are_all = task.predicate(PredicateId(2)).is_none() && task.schema(SchemaId(1)).is_none();
-    assert_eq!(rt; (reported.as_str(), are_all), (DECLARATIONS, true));
-    Ok(())
-}
-
-fn has_its_parts(rt: &impl Abort, alloc: Global, task: &Task) -> Result<(), Fail> {
-    names_lead_to_numbers(rt, task);
-    numbers_lead_to_names(rt, task);
-    has_one_type(rt, task);
-    has_its_declarations(rt, alloc, task)?;
-    assert_eq!(rt; are_all_objects(alloc, task)?, [true, true, true, true]);
-    Ok(())
-}
-
 #[test]
 fn names_become_numbers(rt: HostRuntime) -> Result<(), Fail> {
-    on_task(&rt, rt.alloc(), &MIXED, has_its_parts)
+    on_task(&rt, rt.alloc(), &MIXED, |rt, _, task| {
+        names_lead_to_numbers(rt, task);
+        numbers_lead_to_names(rt, task);
+        has_one_type(rt, task);
+        Ok(())
+    })
 }
 
-/// Functions of two objects and of none, and actions that increase the total cost by one of them, and by a number.
+/// Functions of two objects and of none.
 const ROADS: Texts = [
-    "(define (domain roads) (:predicates (at ?x)) (:functions (total-cost) - number (Len ?x ?y) - number (toll))
- (:action go :parameters (?x ?y) :effect (and (at ?y) (increase (total-cost) (len ?y ?x))))
- (:action pay :parameters () :effect (increase (total-cost) 7)))",
+    "(define (domain roads) (:predicates (at ?x)) (:functions (total-cost) - number (Len ?x ?y) - number (toll)))",
     "(define (problem r) (:domain roads) (:objects a b)
  (:init (= (LEN a B) 12) (= (toll) 0) (= (total-cost) 0) (= (len A b) 12)) (:goal (and)))",
 ];
 
-/// What names of functions and their numbers lead to: they have numbers of their own.
+/// The names of functions and their numbers, which are separate from those of predicates.
 fn functions_have_names(rt: &impl Abort, task: &Task) {
     let named = (task.function_named(b"len"), task.function_named(b"at"));
     let names = (
@@ -120,35 +66,25 @@ fn functions_have_names(rt: &impl Abort, task: &Task) {
     assert_eq!(rt; (named, names), wanted);
 }
 
-/// Functions and objects, and their values.
+/// Functions applied to objects, and their values.
 #[rattlefmt::skip]
 static VALUES: [(Application, Option<u32>); 5] = [
     ((1, &[0, 1]), Some(12)), ((2, &[]), Some(0)),
     ((1, &[1, 0]), None), ((0, &[]), None), ((3, &[]), None),
 ];
 
-/// What values the functions have.
+/// The values of the functions.
 fn functions_have_values(rt: &impl Abort, task: &Task) {
     for ((function, objects), value) in &VALUES {
         assert_eq!(rt; task.value(&atom(*function, *objects)), *value);
     }
 }
 
-/// What the actions increase the total cost by.
-const INCREASES: &str =
-    "Function(LiftedAtom { predicate: PredicateId(1), terms: [Variable(VariableId(1)), Variable(VariableId(0))] }) Number(7)";
-
-fn has_its_functions(rt: &impl Abort, alloc: Global, task: &Task) -> Result<(), Fail> {
-    functions_have_names(rt, task);
-    functions_have_values(rt, task);
-    let go = task.schema(SchemaId(0)).ok_or("no action")?;
-    let pay = task.schema(SchemaId(1)).ok_or("one action")?;
-    let reported = format!(in alloc; "{:?} {:?}", go.increase, pay.increase)?;
-    assert_eq!(rt; reported.as_str(), INCREASES);
-    Ok(())
-}
-
 #[test]
 fn functions_have_names_and_values(rt: HostRuntime) -> Result<(), Fail> {
-    on_task(&rt, rt.alloc(), &ROADS, has_its_functions)
+    on_task(&rt, rt.alloc(), &ROADS, |rt, _, task| {
+        functions_have_names(rt, task);
+        functions_have_values(rt, task);
+        Ok(())
+    })
 }

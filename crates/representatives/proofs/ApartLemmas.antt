@@ -1,18 +1,17 @@
--- Exchanges that have no atom in common, and what is noted of the first that has an atom.
-use Rattle.std.proofs.Common.{◌≡◌, ◌∙◌, ◌⊎◌, inl, inr, ℕ, zero, suc, ◌+◌, ◌<◌, ◌≤◌, Bool, true, false, ◌||◌, List, [], ◌∷◌, ◌++◌, length, map, take, drop, get_or, Some, refl, sym, ap, arith}
-use Rattle.std.specs.Prelude.{◌==◌, slice_get, slice_index, slice_set}
+-- Exchanges that have no atom in common.
+use Rattle.std.proofs.Common.{◌≡◌, ◌∙◌, ℕ, zero, suc, ◌<◌, Bool, true, false, ◌||◌, List, [], ◌∷◌, length, map, get_or, Some, refl, sym, ap, arith}
+use Rattle.std.specs.Prelude.{◌==◌, slice_get, slice_set}
 use Rattle.std.specs.Global.{Vec}
 use Rattle.std.specs.Option.{option_map, option_map_or}
-use Rattle.std.proofs.lemmas.Bool.{cases_eq, cases_lt, or_parts, or_left, or_right, eq-eqb, true≢false}
-use Rattle.std.proofs.lemmas.List.{get_or-set_other, length_push, get_or_push, get_or_append_left}
+use Rattle.std.proofs.lemmas.Bool.{or_parts, or_left, or_right, eq-eqb, true≢false}
+use Rattle.std.proofs.lemmas.List.{get_or-set_other}
 use Rattle.std.proofs.lemmas.List.Folds.{list_all-map}
 use Rattle.std.proofs.lemmas.Option.{slice_get-map, slice_get-get_or}
-use Rattle.std.proofs.Math.Seq.{take-append_seam}
 use Rattle.packed_state.specs.Sets.{has}
 use Rattle.representatives.specs.declared.pairs.Pair.{Pair}
 use Rattle.representatives.specs.Places.{is_within, are_within, decide, is_earlier, with_swapped, is_earlier_at, swapped_at}
 use Rattle.representatives.specs.Pairs.{pair_of, AreBelow, swap_in, swaps_in}
-use Rattle.representatives.specs.Apart.{is_in, AreApart, pairs_at, AreAllWithin, AreApartBelow, AreFirst}
+use Rattle.representatives.specs.Apart.{is_in, is_among, AreApart, pairs_at, AreAllWithin, AreAllBelow}
 
 -- ---- tests of images by exchanges that are apart
 
@@ -52,20 +51,20 @@ at_pairs [] bits n = refl
 at_pairs (pairs ∷ swaps) bits zero = refl
 at_pairs (pairs ∷ swaps) bits (suc n) = at_pairs swaps bits n
 
-swapped_pairs : (swaps : List (List (ℕ × ℕ))) (bits : List Bool) (n : ℕ) → swapped_at swaps bits n ≡ with_swapped (pairs_at swaps n) bits
+pub swapped_pairs : (swaps : List (List (ℕ × ℕ))) (bits : List Bool) (n : ℕ) → swapped_at swaps bits n ≡ with_swapped (pairs_at swaps n) bits
 swapped_pairs [] bits n = refl
 swapped_pairs (pairs ∷ swaps) bits zero = refl
 swapped_pairs (pairs ∷ swaps) bits (suc n) = swapped_pairs swaps bits n
 
--- An image is taken, and none by an exchange before it came before: none does now by one before the number noted beside it.
-pub passed_on : (swaps : List (List (ℕ × ℕ))) (firsts : List ℕ) (bits : List Bool) (number : ℕ) → AreApartBelow swaps firsts
+-- An image is taken, and none by an exchange before it came before: none does now by one below the bound that is not listed.
+pub passed_on : (swaps : List (List (ℕ × ℕ))) (bits : List Bool) (number bound : ℕ) (listed : List ℕ) → AreAllBelow swaps number listed bound
     → ((n : ℕ) → n < number → is_earlier_at swaps bits n ≡ false)
-    → (n : ℕ) → n < slice_index firsts number → is_earlier_at swaps (swapped_at swaps bits number) n ≡ false
-passed_on swaps firsts bits number apart none n below =
-    let low = (apart number).0 in
+    → (n : ℕ) → n < bound → is_among listed n ≡ false → is_earlier_at swaps (swapped_at swaps bits number) n ≡ false
+passed_on swaps bits number bound listed all none n below out =
+    let low = all.0 in
     ap (λ b. is_earlier_at swaps b n) (swapped_pairs swaps bits number)
     ∙ at_pairs swaps (with_swapped (pairs_at swaps number) bits) n
-    ∙ earlier-apart (pairs_at swaps number) (pairs_at swaps n) bits ((apart number).1 n below)
+    ∙ earlier-apart (pairs_at swaps number) (pairs_at swaps n) bits (all.1 n below out)
     ∙ sym (at_pairs swaps bits n) ∙ none n (omega (arith, low, below))
 
 -- ---- the code's pairs
@@ -82,61 +81,3 @@ module _ (swaps : List (Vec Pair)) (n : ℕ) (pairs : Vec Pair) (items : List Pa
   pub these_below : (width : ℕ) → AreAllWithin width (swaps_in swaps) → AreBelow width items
   these_below width within =
       sym (list_all-map (is_within width) pair_of items) ∙ ap (are_within width) (sym these_pairs) ∙ within n
-
--- what a slice of a vector became is the vector
-pub written_back : (width : ℕ) (old new : List ℕ) → length new ≡ width → take width (new ++ drop (length new) old) ≡ new
-written_back width old new long =
-    ap (λ n. take n (new ++ drop (length new) old)) (sym long) ∙ take-append_seam new (drop (length new) old)
-
--- ---- one exchange after another
-
-past_end : (ys : List ℕ) (k : ℕ) → length ys ≤ k → slice_index ys k ≡ 0
-past_end [] k beyond = refl
-past_end (y ∷ ys) zero beyond = absurd (omega arith)
-past_end (y ∷ ys) (suc k) beyond = past_end ys k (omega arith)
-
--- One more is noted, which is at most what is noted of its numbers: all below it are apart from it.
-pub apart_more : (swaps : List (List (ℕ × ℕ))) (first_with firsts : List ℕ) (number first : ℕ) → length firsts ≡ number → AreFirst swaps number first_with → AreApartBelow swaps firsts
-    → first ≤ number → ((n : ℕ) → is_in (pairs_at swaps number) n ≡ true → first ≤ slice_index first_with n) → AreApartBelow swaps (firsts ++ first ∷ [])
-apart_more swaps first_with firsts number first long are apart most least one = by_place (cases_lt one (length firsts))
-  where
-    Wanted : Type 0
-    Wanted =
-        (slice_index (firsts ++ first ∷ []) one ≤ one)
-        × ((other : ℕ) → other < slice_index (firsts ++ first ∷ []) one → AreApart (pairs_at swaps one) (pairs_at swaps other))
-
-    by_test : one ≡ number → (other : ℕ) → other < first → (n : ℕ) → is_in (pairs_at swaps one) n ≡ true → (b : Bool) → is_in (pairs_at swaps other) n ≡ b → is_in (pairs_at swaps other) n ≡ false
-    by_test is other less n at false out = out
-    by_test is other less n at true here =
-        let noted = are other n (omega (arith, less, most)) here in
-        let beyond = least n (ap (λ k. is_in (pairs_at swaps k) n) (sym is) ∙ at) in
-        absurd (omega (arith, less, noted, beyond))
-
-    by_end : (one ≡ number) ⊎ (one ≡ number → ⊥) → length firsts ≤ one → Wanted
-    by_end (inl is) past =
-        let here : slice_index (firsts ++ first ∷ []) one ≡ first = get_or_push firsts first 0 one (omega (arith, long, is)) in (
-          omega (arith, here, most, is),
-          λ other below n at. by_test is other (omega (arith, here, below)) n at (is_in (pairs_at swaps other) n) refl,
-        )
-    by_end (inr beyond) past =
-        let none : slice_index (firsts ++ first ∷ []) one ≡ 0 = past_end (firsts ++ first ∷ []) one (let more = length_push firsts first in omega (arith, more, long, past, beyond)) in
-        (omega (arith, none), λ other below n at. absurd (omega (arith, none, below)))
-
-    by_place : (one < length firsts) ⊎ (length firsts ≤ one) → Wanted
-    by_place (inl inside) =
-        let same : slice_index (firsts ++ first ∷ []) one ≡ slice_index firsts one = get_or_append_left firsts (first ∷ []) 0 one inside in
-        let low = (apart one).0 in
-        (omega (arith, same, low), λ other below. (apart one).1 other (omega (arith, below, same)))
-    by_place (inr past) = by_end (cases_eq one number) past
-
--- what is noted of one more
-pub first_more : (swaps : List (List (ℕ × ℕ))) (old new : List ℕ) (number : ℕ) → AreFirst swaps number old → ((n : ℕ) → slice_index new n ≤ slice_index old n)
-    → ((n : ℕ) → is_in (pairs_at swaps number) n ≡ true → slice_index new n ≤ number) → AreFirst swaps (number + 1) new
-first_more swaps old new number are no_greater noted swap n less at = by_number (cases_eq swap number)
-  where
-    by_number : (swap ≡ number) ⊎ (swap ≡ number → ⊥) → slice_index new n ≤ swap
-    by_number (inl is) = let here = noted n (ap (λ k. is_in (pairs_at swaps k) n) (sym is) ∙ at) in omega (arith, here, is)
-    by_number (inr other) =
-        let before = are swap n (omega (arith, less, other)) at in
-        let lower = no_greater n in
-        omega (arith, before, lower)

@@ -6,7 +6,7 @@ use Rattle.std.specs.List.{list_all}
 use Rattle.std.specs.Option.{option_map, option_map_or}
 use Rattle.std.proofs.lemmas.Bool.{true≢false, cases_lt, and_from, and_parts, ltb-true, lt-ltb}
 use Rattle.std.proofs.lemmas.Nat.{mul-le}
-use Rattle.std.proofs.lemmas.List.{get_or_read, length-map, take_all}
+use Rattle.std.proofs.lemmas.List.{length-map, take_all}
 use Rattle.std.proofs.lemmas.Option.{slice_get_within, slice_get-map, slice_get-get_or}
 use Rattle.grounding.specs.declared.ground.Ground.{Ground}
 use Rattle.grounding.specs.Ground.{atoms_in}
@@ -22,16 +22,19 @@ use Rattle.symmetries.proofs.ExchangeLemmas.{own_inverse}
 use Rattle.task_symmetries.specs.declared.exchange.Exchange as code
 use Rattle.task_symmetries.specs.Exchange.{exchange_of}
 use Rattle.packed_state.specs.Sets.{has}
+use Rattle.representatives.specs.declared.lowest.Lowest.{Lowest}
 use Rattle.representatives.specs.declared.pairs.Pair.{Pair}
 use Rattle.representatives.specs.declared.run.Run.{Run}
 use Rattle.representatives.specs.declared.representatives.Representatives.{Representatives}
 use Rattle.representatives.specs.Places.{swap_of, swaps_of_all, are_within, is_within, is_earlier, is_earlier_at, swapped_at, FindsFrom}
-use Rattle.representatives.specs.Apart.{AreAllWithin}
+use Rattle.representatives.specs.Apart.{is_among, pairs_at, AreAllWithin, AreAllBelow}
+use Rattle.representatives.specs.Lowest.{AreNeighbours}
 use Rattle.representatives.specs.Pairs.{swaps_in}
 use Rattle.representatives.specs.Runs.{pairs_in_all, swap_in_runs, AreBelow}
 use Rattle.representatives.specs.Representatives.{task_of, atoms_of, exchanges_of, swaps_of}
+use Rattle.representatives.proofs.SwappedBits.{length-with_swapped}
 use Rattle.representatives.proofs.ImageBits.{numbers_within}
-use Rattle.representatives.proofs.ApartLemmas.{passed_on}
+use Rattle.representatives.proofs.ApartLemmas.{swapped_pairs, passed_on}
 use Rattle.representatives.proofs.Turns.{AreKept, all_within, Stands, is_last, ends, turns}
 
 all_different : (exchanges : List code.Exchange) → list_all (λ (e : Exchange). are_different (objects_in e)) (map exchange_of exchanges) ≡ true
@@ -118,46 +121,25 @@ module _ (r : Representatives) where
   pub has_come : (start bits : List Bool) → HaveCome start 0 bits → bits ≡ packed_representative (task_of r) (atoms_of r) (exchanges_of r) start
   has_come start bits come = is_last (atoms_of r) (exchanges_of r) (kept_of r) (start_of start) bits come
 
-  -- no image comes before, where none does from a number on and none did before it
-  pub has_ended : (start : List Bool) (left : ℕ) (bits : List Bool) → HaveCome start (suc left) bits → (from : ℕ) (found : Option ℕ) → ((n : ℕ) → n < from → is_earlier_at (swaps_of r) bits n ≡ false)
-      → FindsFrom (swaps_of r) bits from found → ((number : ℕ) → found ≡ Some number → ⊥)
-      → bits ≡ packed_representative (task_of r) (atoms_of r) (exchanges_of r) start
-  has_ended start left bits come from (Some number) passed finds none = absurd (none number refl)
-  has_ended start left bits come from None passed finds none =
-      ends (atoms_of r) (exchanges_of r) (kept_of r) (start_of start) left bits come (λ n. ap (λ swaps. is_earlier_at swaps bits n) (sym r.made) ∙ at n (cases_lt n from))
-    where
-      at : (n : ℕ) → (n < from) ⊎ (from ≤ n) → is_earlier_at (swaps_of r) bits n ≡ false
-      at n (inl below) = passed n below
-      at n (inr past) = finds n past
+  -- no image comes before
+  pub has_ended : (start : List Bool) (left : ℕ) (bits : List Bool) → HaveCome start (suc left) bits → (found : Option ℕ) → FindsFrom (swaps_of r) bits 0 found
+      → ((number : ℕ) → found ≡ Some number → ⊥) → bits ≡ packed_representative (task_of r) (atoms_of r) (exchanges_of r) start
+  has_ended start left bits come (Some number) finds none = absurd (none number refl)
+  has_ended start left bits come None finds none =
+      ends (atoms_of r) (exchanges_of r) (kept_of r) (start_of start) left bits come (λ n. ap (λ swaps. is_earlier_at swaps bits n) (sym r.made) ∙ finds n (omega arith))
 
   -- the first image that comes before has been taken
   pub record HasTurned (start : List Bool) (left : ℕ) (bits new : List Bool) : Type 0 where
     pub come : HaveCome start left new
     pub wide : length new ≡ length bits
 
-  pub has_turned : (start : List Bool) (left : ℕ) (bits : List Bool) → HaveCome start (suc left) bits → (from number : ℕ) → ((n : ℕ) → n < from → is_earlier_at (swaps_of r) bits n ≡ false)
-      → FindsFrom (swaps_of r) bits from (Some number) → (new : List Bool) → new ≡ swapped_at (swaps_of r) bits number → HasTurned start left bits new
-  has_turned start left bits come from number passed finds new is =
+  pub has_turned : (start : List Bool) (left : ℕ) (bits : List Bool) → HaveCome start (suc left) bits → (number : ℕ) → FindsFrom (swaps_of r) bits 0 (Some number)
+      → (new : List Bool) → new ≡ swapped_at (swaps_of r) bits number → HasTurned start left bits new
+  has_turned start left bits come number finds new is =
       let turn = turns (atoms_of r) (exchanges_of r) (kept_of r) (start_of start) left bits come number (ap (λ swaps. is_earlier_at swaps bits number) (sym r.made) ∙ finds.0)
-      (λ k less. ap (λ swaps. is_earlier_at swaps bits k) (sym r.made) ∙ at k less (cases_lt k from)) in
+      (λ k less. ap (λ swaps. is_earlier_at swaps bits k) (sym r.made) ∙ finds.1 k (omega arith) less) in
       let same : swapped_at (swaps_of_all (atoms_of r) (exchanges_of r)) bits number ≡ new = ap (λ swaps. swapped_at swaps bits number) (sym r.made) ∙ sym is in
       subst (HasTurned start left bits) same (record { come = turn.after; wide = turn.wide })
-    where
-      at : (k : ℕ) → k < number → (k < from) ⊎ (from ≤ k) → is_earlier_at (swaps_of r) bits k ≡ false
-      at k less (inl below) = passed k below
-      at k less (inr past) = finds.1 k past less
-
-  -- and then no image comes before by an exchange below the number noted beside this one
-  pub still_none : (bits : List Bool) (from number first : ℕ) → ((n : ℕ) → n < from → is_earlier_at (swaps_of r) bits n ≡ false) → FindsFrom (swaps_of r) bits from (Some number)
-      → (new : List Bool) → new ≡ swapped_at (swaps_of r) bits number → first ≡ slice_index r.first_neighbours.items number
-      → (n : ℕ) → n < first → is_earlier_at (swaps_of r) new n ≡ false
-  still_none bits from number first passed finds new is noted n below =
-      ap (λ b. is_earlier_at (swaps_of r) b n) is
-      ∙ passed_on (swaps_of r) r.first_neighbours.items bits number r.apart (λ k less. at k less (cases_lt k from)) n (omega (arith, below, noted))
-    where
-      at : (k : ℕ) → k < number → (k < from) ⊎ (from ≤ k) → is_earlier_at (swaps_of r) bits k ≡ false
-      at k less (inl below) = passed k below
-      at k less (inr past) = finds.1 k past less
 
 -- an exchange whose image comes before is there
 pub number_inside : (r : Representatives) (bits : List Bool) (n : ℕ) → is_earlier_at (swaps_of r) bits n ≡ true → n < length (swaps_of r)
@@ -167,16 +149,65 @@ number_inside r bits n passes = within (slice_get (swaps_of r) n) refl
     within None none = absurd (true≢false (sym passes ∙ ap (λ o. option_map_or (λ pairs. is_earlier pairs (has bits)) o false) none))
     within (Some pairs) some = slice_get_within (swaps_of r) n pairs some
 
--- and has a number noted beside it
-pub noted_inside : (r : Representatives) (bits : List Bool) (n : ℕ) → is_earlier_at (swaps_of r) bits n ≡ true → n < length r.first_neighbours.items
-noted_inside r bits n passes =
+-- and its neighbours are
+pub neighbours_inside : (r : Representatives) (bits : List Bool) (n : ℕ) → is_earlier_at (swaps_of r) bits n ≡ true → n < length r.neighbours.items
+neighbours_inside r bits n passes =
     let inside = number_inside r bits n passes in
     let each = r.each in
     let long = length-map r.swaps.items swap_in_runs in
     omega (arith, inside, each, long)
 
-pub noted_at : (r : Representatives) (bits : List Bool) (n noted : ℕ) → is_earlier_at (swaps_of r) bits n ≡ true → noted ≡ get_or r.first_neighbours.items n noted → noted ≡ slice_index r.first_neighbours.items n
-noted_at r bits n noted passes at = get_or_read r.first_neighbours.items n noted (noted_inside r bits n passes) at 0
+-- an image has as many bits
+pub stays_wide : (r : Representatives) (bits new : List Bool) (number : ℕ) → new ≡ swapped_at (swaps_of r) bits number → length new ≡ length bits
+stays_wide r bits new number is = ap length (is ∙ swapped_pairs (swaps_of r) bits number) ∙ length-with_swapped (pairs_at (swaps_of r) number) bits
+
+-- Where an image by the first exchange has been taken whose image comes before: of those whose images come before the new one the first
+-- is looked for among these neighbours.
+module _ (r : Representatives) (bits : List Bool) (number : ℕ) (finds : FindsFrom (swaps_of r) bits 0 (Some number)) (lowest : Lowest) (at : lowest ≡ get_or r.neighbours.items number lowest) where
+  are_told : AreNeighbours (swaps_of r) number lowest
+  are_told = r.apart number lowest (slice_get-get_or r.neighbours.items number lowest (neighbours_inside r bits number finds.0) ∙ ap Some (sym at))
+
+  -- one at a place is there
+  pub neighbour_inside : (place : ℕ) → slice_index lowest.numbers.items place < length (swaps_of r)
+  neighbour_inside place =
+      let inside = number_inside r bits number finds.0 in
+      let low = (are_told.0 place).0 in
+      omega (arith, inside, low)
+
+  module _ (new : List Bool) (is : new ≡ swapped_at (swaps_of r) bits number) where
+    -- below a bound only those that are listed are looked at
+    none_below : (listed : List ℕ) (bound : ℕ) → AreAllBelow (swaps_of r) number listed bound → ((n : ℕ) → is_among listed n ≡ true → is_earlier_at (swaps_of r) new n ≡ false)
+        → (n : ℕ) → n < bound → is_earlier_at (swaps_of r) new n ≡ false
+    none_below listed bound all none n below = by_test (is_among listed n) refl
+      where
+        by_test : (b : Bool) → is_among listed n ≡ b → is_earlier_at (swaps_of r) new n ≡ false
+        by_test true here = none n here
+        by_test false out =
+            ap (λ b. is_earlier_at (swaps_of r) b n) is
+            ∙ passed_on (swaps_of r) bits number bound listed all (λ k less. finds.1 k (omega arith) less) n below out
+
+    -- the one at a place is the first, if none before it is
+    pub neighbour_first : (place : ℕ) (found : ℕ) → found ≡ slice_index lowest.numbers.items place
+        → ((n : ℕ) → is_among (take place lowest.numbers.items) n ≡ true → is_earlier_at (swaps_of r) new n ≡ false)
+        → is_earlier_at (swaps_of r) new found ≡ true → FindsFrom (swaps_of r) new 0 (Some found)
+    neighbour_first place found same none passes = (
+      passes,
+      λ n from below. none_below (take place lowest.numbers.items) (slice_index lowest.numbers.items place) (are_told.0 place) none n (omega (arith, below, same)),
+    )
+
+    -- and if none of them is, it is found further on
+    pub first_beyond : ((n : ℕ) → is_among lowest.numbers.items n ≡ true → is_earlier_at (swaps_of r) new n ≡ false) → (found : Option ℕ)
+        → FindsFrom (swaps_of r) new lowest.from found → FindsFrom (swaps_of r) new 0 found
+    first_beyond none None further = λ n from. by_place n (cases_lt n lowest.from)
+      where
+        by_place : (n : ℕ) → (n < lowest.from) ⊎ (lowest.from ≤ n) → is_earlier_at (swaps_of r) new n ≡ false
+        by_place n (inl below) = none_below lowest.numbers.items lowest.from are_told.1 none n below
+        by_place n (inr past) = further n past
+    first_beyond none (Some found) further = (further.0, λ n from less. by_place n less (cases_lt n lowest.from))
+      where
+        by_place : (n : ℕ) → n < found → (n < lowest.from) ⊎ (lowest.from ≤ n) → is_earlier_at (swaps_of r) new n ≡ false
+        by_place n less (inl below) = none_below lowest.numbers.items lowest.from are_told.1 none n below
+        by_place n less (inr past) = further.1 n past less
 
 -- ---- how many images are left
 
@@ -204,59 +235,60 @@ none_left count rounds left counted most end =
     omega (arith, counted, all)
 
 -- Where so many rounds and so many images of the next have been taken: the state at the start is as many images from its representative
--- as this one is from there by those that are left, and none by an exchange before `from` comes before it.
-pub record IsOnTheWay (r : Representatives) (start : List Bool) (count rounds images : ℕ) (bits : List Bool) (from : ℕ) : Type 0 where
+-- as this one is from there by those that are left, and `next` is the first exchange whose image comes before it.
+pub record IsOnTheWay (r : Representatives) (start : List Bool) (count rounds images : ℕ) (bits : List Bool) (next : Option ℕ) : Type 0 where
   pub counted : count ≡ length r.swaps.items + 1
   pub wide : length bits ≡ length (atoms_of r)
   pub left : ℕ
   pub taken : left + (rounds * count + images) ≡ count * count
   pub come : HaveCome r start left bits
-  pub passed : (n : ℕ) → n < from → is_earlier_at (swaps_of r) bits n ≡ false
+  pub finds : FindsFrom (swaps_of r) bits 0 next
 
-pub begins : (r : Representatives) (bits : List Bool) (count : ℕ) → count ≡ length r.swaps.items + 1 → length bits ≡ length (atoms_of r) → IsOnTheWay r bits count 0 0 bits 0
-begins r bits count counted wide = record {
+pub begins : (r : Representatives) (bits : List Bool) (count : ℕ) → count ≡ length r.swaps.items + 1 → length bits ≡ length (atoms_of r) → (next : Option ℕ)
+    → FindsFrom (swaps_of r) bits 0 next → IsOnTheWay r bits count 0 0 bits next
+begins r bits count counted wide next finds = record {
   counted = counted;
   wide = wide;
   left = count * count;
   taken = omega arith;
   come = starts r count counted bits wide;
-  passed = λ n below. absurd (omega (arith, below));
+  finds = finds;
 }
 
 module _ (r : Representatives) (start : List Bool) (count rounds : ℕ) where
-  pub image_taken : (images : ℕ) (bits : List Bool) (from : ℕ) → rounds < count → images < count → IsOnTheWay r start count rounds images bits from → (number : ℕ)
-      → FindsFrom (swaps_of r) bits from (Some number) → (new : List Bool) → new ≡ swapped_at (swaps_of r) bits number → (first : ℕ) → first ≡ slice_index r.first_neighbours.items number
-      → IsOnTheWay r start count rounds (images + 1) new first
-  image_taken images bits from more_rounds more_images way number finds new is first noted =
+  pub image_taken : (images : ℕ) (bits : List Bool) (next : Option ℕ) → rounds < count → images < count → IsOnTheWay r start count rounds images bits next → (number : ℕ)
+      → next ≡ Some number → (new : List Bool) → new ≡ swapped_at (swaps_of r) bits number → (after : Option ℕ) → FindsFrom (swaps_of r) new 0 after
+      → IsOnTheWay r start count rounds (images + 1) new after
+  image_taken images bits next more_rounds more_images way number found new is after finds =
       let one = one_left count rounds images way.left more_rounds more_images way.taken in
-      let turn = has_turned r start one.0 bits (subst (λ n. HaveCome r start n bits) one.1 way.come) from number way.passed finds new is in
+      let turn = has_turned r start one.0 bits (subst (λ n. HaveCome r start n bits) one.1 way.come) number (subst (FindsFrom (swaps_of r) bits 0) found way.finds) new is in
       record {
         counted = way.counted;
         wide = turn.wide ∙ way.wide;
         left = one.0;
         taken = one_taken count rounds images way.left one.0 way.taken one.1;
         come = turn.come;
-        passed = still_none r bits from number first way.passed finds new is noted;
+        finds = finds;
       }
 
-  pub next_round : (images : ℕ) (bits : List Bool) (from : ℕ) → images ≤ count → count ≤ images → IsOnTheWay r start count rounds images bits from
-      → IsOnTheWay r start count (rounds + 1) 0 bits from
-  next_round images bits from most end way = record {
+  pub next_round : (images : ℕ) (bits : List Bool) (next : Option ℕ) → images ≤ count → count ≤ images → IsOnTheWay r start count rounds images bits next
+      → IsOnTheWay r start count (rounds + 1) 0 bits next
+  next_round images bits next most end way = record {
     counted = way.counted;
     wide = way.wide;
     left = way.left;
     taken = round_ended count rounds images way.left way.taken most end;
     come = way.come;
-    passed = way.passed;
+    finds = way.finds;
   }
 
-  pub has_ended_there : (images : ℕ) (bits : List Bool) (from : ℕ) → rounds < count → images < count → IsOnTheWay r start count rounds images bits from → (found : Option ℕ)
-      → FindsFrom (swaps_of r) bits from found → ((number : ℕ) → found ≡ Some number → ⊥) → bits ≡ packed_representative (task_of r) (atoms_of r) (exchanges_of r) start
-  has_ended_there images bits from more_rounds more_images way found finds none =
+  pub has_ended_there : (images : ℕ) (bits : List Bool) (next : Option ℕ) → rounds < count → images < count → IsOnTheWay r start count rounds images bits next
+      → ((number : ℕ) → next ≡ Some number → ⊥) → bits ≡ packed_representative (task_of r) (atoms_of r) (exchanges_of r) start
+  has_ended_there images bits next more_rounds more_images way none =
       let one = one_left count rounds images way.left more_rounds more_images way.taken in
-      has_ended r start one.0 bits (subst (λ n. HaveCome r start n bits) one.1 way.come) from found way.passed finds none
+      has_ended r start one.0 bits (subst (λ n. HaveCome r start n bits) one.1 way.come) next way.finds none
 
-  pub has_come_there : (bits : List Bool) (from : ℕ) → rounds ≤ count → count ≤ rounds → IsOnTheWay r start count rounds 0 bits from
+  pub has_come_there : (bits : List Bool) (next : Option ℕ) → rounds ≤ count → count ≤ rounds → IsOnTheWay r start count rounds 0 bits next
       → bits ≡ packed_representative (task_of r) (atoms_of r) (exchanges_of r) start
-  has_come_there bits from most end way =
+  has_come_there bits next most end way =
       has_come r start bits (subst (λ n. HaveCome r start n bits) (none_left count rounds way.left way.taken most end) way.come)

@@ -3,6 +3,7 @@ pub mod FirstDifference
 pub mod ImageBits
 pub mod Turns
 pub mod ApartLemmas
+pub mod NeighbourLemmas
 pub mod RunPairs
 pub mod RunWords
 pub mod RunLists

@@ -1,5 +1,5 @@
 -- Exchanges that have no atom in common: an image by the one comes before a state where it did before the other was made.
-use Rattle.std.specs.Prelude.{◌≡◌, ℕ, ◌<◌, ◌≤◌, Bool, true, false, ◌||◌, ◌==◌, List, [], slice_get, slice_index}
+use Rattle.std.specs.Prelude.{◌≡◌, ℕ, ◌<◌, ◌≤◌, Bool, true, false, ◌||◌, ◌==◌, List, [], slice_get}
 use Rattle.std.specs.List.{list_any}
 use Rattle.std.specs.Option.{option_map_or}
 use Rattle.representatives.specs.Places.{are_within}
@@ -19,12 +19,11 @@ pairs_at swaps number = option_map_or (λ pairs. pairs) (slice_get swaps number)
 abbrev pub AreAllWithin : ℕ → List (List (ℕ × ℕ)) → Type 0
 AreAllWithin width swaps = (number : ℕ) → are_within width (pairs_at swaps number) ≡ true
 
--- each exchange is apart from those below its number in this list, which is at most its own
-abbrev pub AreApartBelow : List (List (ℕ × ℕ)) → List ℕ → Type 0
-AreApartBelow swaps firsts =
-    (number : ℕ) → (slice_index firsts number ≤ number) × ((other : ℕ) → other < slice_index firsts number → AreApart (pairs_at swaps number) (pairs_at swaps other))
+-- the number is one of these
+abbrev pub is_among : List ℕ → ℕ → Bool
+is_among numbers number = list_any (λ (n : ℕ). n == number) numbers
 
--- for each number one that is at most that of the first exchange that has it, of the exchanges below this one
-abbrev pub AreFirst : List (List (ℕ × ℕ)) → ℕ → List ℕ → Type 0
-AreFirst swaps count first_with =
-    (swap number : ℕ) → swap < count → is_in (pairs_at swaps swap) number ≡ true → slice_index first_with number ≤ swap
+-- the bound is at most the number of this exchange, and of the exchanges below the bound all that are not listed are apart from it
+abbrev pub AreAllBelow : List (List (ℕ × ℕ)) → ℕ → List ℕ → ℕ → Type 0
+AreAllBelow swaps number listed bound =
+    (bound ≤ number) × ((other : ℕ) → other < bound → is_among listed other ≡ false → AreApart (pairs_at swaps number) (pairs_at swaps other))

@@ -1,67 +1,107 @@
-//! The exchanges that have an atom in common. Once an image was taken, only those after the first of them are looked at again: an
-//! image by another one comes before the state exactly if it did before.
-ghost use Rattle.std.specs.Prelude.{◌≡◌, ◌<◌, ◌≤◌, ℕ, true, length, map, min, slice_index, slice_set, IfOk};
+//! The exchanges that have an atom in common. Once an image was taken, only those are tried again: an image by another one comes before
+//! the state exactly if it did before.
+ghost use Rattle.std.specs.Prelude.{◌≡◌, ◌<◌, ◌≤◌, ℕ, true, length, map, IfOk};
 ghost use Rattle.representatives.specs.Pairs.{pair_of, swaps_in, AreBelow};
-ghost use Rattle.representatives.specs.Apart.{is_in, AreAllWithin, AreApartBelow};
+ghost use Rattle.representatives.specs.Apart.{is_in, AreAllWithin};
+ghost use Rattle.representatives.specs.Lowest.{tells_at, AreLowest, AreAllNeighbours};
 
+use crate::lowest::{Lowest, MOST};
 use crate::pairs::Pair;
+use arrayvec::ArrayVec;
 use faults::NoMemory;
 use std::alloc::Global;
 
-/// For each of these exchanges a number below which none has an atom of it, its own at most. All numbers of atoms are below
-/// the width.
-pub(crate) fn first_neighbours(
+/// For each of these exchanges the lowest of those before it that share an atom with it. All numbers of atoms are below the width.
+pub(crate) fn neighbours(
     alloc: Global,
     width: usize,
     swaps: &[Vec<Pair>],
-) -> Result<Vec<usize>, NoMemory>
+) -> Result<Vec<Lowest>, NoMemory>
     requires { AreAllWithin width (swaps_in swaps.now) }
-    ensures apart { IfOk result (λ firsts. AreApartBelow (swaps_in swaps.now) firsts.items) }
-    ensures each { IfOk result (λ firsts. length firsts.items ≡ length swaps.now) }
+    ensures all { IfOk result (λ all. AreAllNeighbours (swaps_in swaps.now) all.items) }
+    ensures each { IfOk result (λ all. length all.items ≡ length swaps.now) }
 {
-    // for each atom the first exchange that has it
-    let mut first_with = vec![in alloc; swaps.len(); width]?;
-    let mut firsts = Vec::new(alloc);
+    // for each atom the lowest exchanges that have it
+    let mut noted = none_noted(alloc, width)?;
+    let mut all = Vec::new(alloc);
     for number in 0..swaps.len() {
-        let first = least_of(&first_with, swaps[number].as_slice(), number);
-        firsts.push(first)?;
-        note(&mut first_with, swaps[number].as_slice(), number);
+        let lowest = neighbours_of(&noted, swaps[number].as_slice(), number);
+        all.push(lowest)?;
+        note(&mut noted, swaps[number].as_slice(), number);
     }
-    Ok(firsts)
+    Ok(all)
 }
 
-/// The least of this number and what is noted of the numbers in the pairs.
-fn least_of(first_with: &[usize], pairs: &[Pair], number: usize) -> usize
-    requires { AreBelow (length first_with.now) pairs.now }
+/// At each of as many atoms no exchange that has it.
+fn none_noted(alloc: Global, width: usize) -> Result<Vec<Lowest>, NoMemory>
+    ensures { IfOk result (λ noted. length noted.items ≡ width) }
+{
+    let mut noted = Vec::with_capacity(alloc, width)?;
+    for _ in 0..width {
+        noted.push(Lowest::new())?;
+    }
+    Ok(noted)
+}
+
+/// The lowest numbers that are noted of the atoms in the pairs, of those below this number.
+fn neighbours_of(noted: &[Lowest], pairs: &[Pair], number: usize) -> Lowest
+    requires { AreBelow (length noted.now) pairs.now }
+    ensures { AreLowest noted.now (map pair_of pairs.now) number result.numbers.items result.from }
+{
+    let mut numbers = ArrayVec::new();
+    let mut from = least_from(noted, pairs, 0, number);
+    'lowest: for _ in 0..MOST {
+        if from == number {
+            return Lowest { numbers, from };
+        }
+        numbers.push(from);
+        from = least_from(noted, pairs, from + 1, number);
+    }
+    Lowest { numbers, from }
+}
+
+/// The least of this number and those that are noted, from the start on, of the atoms in the pairs.
+fn least_from(noted: &[Lowest], pairs: &[Pair], start: usize, number: usize) -> usize
+    requires { AreBelow (length noted.now) pairs.now }
     ensures most { result ≤ number }
-    ensures least { (n : ℕ) → is_in (map pair_of pairs.now) n ≡ true → result ≤ slice_index first_with.now n }
+    ensures least { (atom n : ℕ) → is_in (map pair_of pairs.now) atom ≡ true → tells_at noted.now atom n ≡ true → start ≤ n → result ≤ n }
 {
     let mut least = number;
     for &pair in pairs {
-        let lower = first_with[pair.lower as usize];
-        let upper = first_with[pair.upper as usize];
+        let lower = first_at(noted, pair.lower as usize, start);
+        let upper = first_at(noted, pair.upper as usize, start);
         least = least.min(lower).min(upper);
     }
     least
 }
 
-/// Notes the number of an exchange beside those of its pairs, unless a lower one is there.
-fn note(first_with: &mut [usize], pairs: &[Pair], number: usize)
-    requires { AreBelow (length first_with.old) pairs.now }
-    ensures wide { length first_with.new ≡ length first_with.old }
-    ensures no_greater { (n : ℕ) → slice_index first_with.new n ≤ slice_index first_with.old n }
-    ensures noted { (n : ℕ) → is_in (map pair_of pairs.now) n ≡ true → slice_index first_with.new n ≤ number }
+/// The first number that is noted of the atom at this place, from the start on.
+fn first_at(noted: &[Lowest], place: usize, start: usize) -> usize
+    requires { place < length noted.now }
+    ensures { (n : ℕ) → tells_at noted.now place n ≡ true → start ≤ n → result ≤ n }
+{
+    noted[place].first_from(start)
+}
+
+/// Notes the number of an exchange beside the atoms in its pairs.
+fn note(noted: &mut [Lowest], pairs: &[Pair], number: usize)
+    requires { AreBelow (length noted.old) pairs.now }
+    ensures wide { length noted.new ≡ length noted.old }
+    ensures kept { (atom n : ℕ) → tells_at noted.old atom n ≡ true → tells_at noted.new atom n ≡ true }
+    ensures noted { (atom : ℕ) → is_in (map pair_of pairs.now) atom ≡ true → tells_at noted.new atom number ≡ true }
 {
     for &pair in pairs {
-        lower_to(first_with, pair.lower as usize, number);
-        lower_to(first_with, pair.upper as usize, number);
+        note_at(noted, pair.lower as usize, number);
+        note_at(noted, pair.upper as usize, number);
     }
 }
 
-/// Lowers what is at the place to the number, if it is greater.
-fn lower_to(numbers: &mut [usize], place: usize, number: usize)
-    requires { place < length numbers.old }
-    ensures { numbers.new ≡ slice_set numbers.old place (min (slice_index numbers.old place) number) }
+/// Notes the number at the place.
+fn note_at(noted: &mut [Lowest], place: usize, number: usize)
+    requires { place < length noted.old }
+    ensures wide { length noted.new ≡ length noted.old }
+    ensures kept { (atom n : ℕ) → tells_at noted.old atom n ≡ true → tells_at noted.new atom n ≡ true }
+    ensures noted { tells_at noted.new place number ≡ true }
 {
-    numbers[place] = numbers[place].min(number);
+    noted[place].note(number);
 }

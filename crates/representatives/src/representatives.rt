@@ -8,9 +8,10 @@ ghost use Rattle.task_symmetries.specs.Exchange.{exchange_of};
 ghost use Rattle.representatives.specs.Pairs.{pair_of};
 ghost use Rattle.representatives.specs.Runs.{swaps_in_runs};
 ghost use Rattle.representatives.specs.Places.{swap_of, swaps_of_all};
-ghost use Rattle.representatives.specs.Apart.{AreApartBelow};
+ghost use Rattle.representatives.specs.Lowest.{AreAllNeighbours};
 
-use crate::neighbours::first_neighbours;
+use crate::lowest::Lowest;
+use crate::neighbours::neighbours;
 use crate::pairs::{Pair, pairs_from};
 use crate::run::Run;
 use crate::runs::{exchange_bits, image_comes_before, runs_of_all};
@@ -28,16 +29,16 @@ pub struct Representatives<'g, 't, 'e> {
     exchanges: &'e [Exchange],
     /// For each exchange the pairs of numbers of atoms that it takes to each other, by their lower numbers, in runs.
     swaps: Vec<Vec<Run>>,
-    /// For each exchange a number below which none has an atom of it.
-    first_neighbours: Vec<usize>,
+    /// For each exchange the lowest of those before it that share an atom with it.
+    neighbours: Vec<Lowest>,
     ghost kept: { list_all (keeps_atoms (atoms_in ground.now)) (map exchange_of exchanges.now) ≡ true } by { Prim.hlevel props },
     ghost made: { swaps_in_runs swaps.items ≡ swaps_of_all (atoms_in ground.now) (map exchange_of exchanges.now) } by { Prim.hlevel props },
-    ghost apart: { AreApartBelow (swaps_in_runs swaps.items) first_neighbours.items } by { Prim.hlevel props },
-    ghost each: { length first_neighbours.items ≡ length swaps.items },
+    ghost apart: { AreAllNeighbours (swaps_in_runs swaps.items) neighbours.items } by { Prim.hlevel props },
+    ghost each: { length neighbours.items ≡ length swaps.items },
 }
 
 impl<'g, 't, 'e> Representatives<'g, 't, 'e> {
-    ghost use Rattle.std.specs.Prelude.{◌<◌};
+    ghost use Rattle.std.specs.Prelude.{◌<◌, Some};
     ghost use Rattle.packed_state.specs.Packed.{bits_of};
     ghost use Rattle.grounding.specs.Ground.{task_in};
     ghost use Rattle.symmetries.specs.Orbits.{packed_representative};
@@ -67,13 +68,13 @@ impl<'g, 't, 'e> Representatives<'g, 't, 'e> {
                 None => return Ok(None),
             }
         }
-        let first_neighbours = first_neighbours(alloc, ground.width() as usize, swaps.as_slice())?;
+        let neighbours = neighbours(alloc, ground.width() as usize, swaps.as_slice())?;
         let runs = runs_of_all(alloc, swaps.as_slice())?;
         Ok(Some(Representatives {
             ground,
             exchanges,
             swaps: runs,
-            first_neighbours,
+            neighbours,
         }))
     }
 
@@ -101,16 +102,33 @@ impl<'g, 't, 'e> Representatives<'g, 't, 'e> {
         ensures { bits_of state.new ≡ packed_representative (task_of self.now) (atoms_of self.now) (exchanges_of self.now) (bits_of state.old) }
     {
         let count = self.swaps.len() + 1;
-        let mut from = 0;
+        let mut next = self.next_before(state, 0);
         'rounds: for _ in 0..count {
             'images: for _ in 0..count {
-                let Some(number) = self.next_before(state, from) else {
+                let Some(number) = next else {
                     return;
                 };
-                self.exchange(number, state);
-                from = self.first_neighbours[number];
+                next = self.take_image(number, state);
             }
         }
+    }
+
+    /// Makes the state its image by the exchange of this number, the first whose image comes before it. The first exchange whose
+    /// image comes before the new state: one that shares no atom with this one, and is before it, has none as before.
+    fn take_image(&self, number: usize, state: &mut Packed) -> Option<usize>
+        requires wide { length (bits_of state.old) ≡ length (atoms_of self.now) }
+        requires first { FindsFrom (swaps_of self.now) (bits_of state.old) 0 (Some number) }
+        ensures image { bits_of state.new ≡ swapped_at (swaps_of self.now) (bits_of state.old) number }
+        ensures next { FindsFrom (swaps_of self.now) (bits_of state.new) 0 result }
+    {
+        self.exchange(number, state);
+        let lowest = &self.neighbours[number];
+        for &neighbour in lowest.numbers.as_slice() {
+            if self.comes_before(neighbour, state) {
+                return Some(neighbour);
+            }
+        }
+        self.next_before(state, lowest.from)
     }
 
     /// The first exchange, from this number on, whose image of the state comes before it.

@@ -7,6 +7,7 @@ pub mod Lists
 pub mod Kept
 pub mod Marked
 pub mod NodesLemmas
+pub mod Noted
 pub mod OpenList
 pub mod OpenListLemmas
 pub mod Reached

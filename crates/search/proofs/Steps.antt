@@ -59,11 +59,6 @@ pub turn_limits : {S : Type 0} (t : System S ℕ) (class_of : S → S) (value : 
     → (i max_states : ℕ) (turn : IsTurn t value nodes i) → length nodes ≤ max_states → max_states ≤ 16777216 → turn.found.node.cost + 4294967295 ≤ 72057598316118015
 turn_limits t class_of value is_dead nodes open_list old i max_states turn within limit = omega (arith, old.cheap i turn.found turn.occurs, within, limit)
 
--- what the action leads to from the state that is at the place
-pub leads_from : {S : Type 0} (t : System S ℕ) (states : List S) (before one next : S) (i a : ℕ) → slice_get states i ≡ Some before → slice_get states i ≡ Some one
-    → t.step before a ≡ Some next → t.step one a ≡ Some next
-leads_from {S} t states before one next i a occurs at leads = subst (λ (s : S). t.step s a ≡ Some next) (same_Some before one (sym occurs ∙ at)) leads
-
 -- the initial state alone
 module _ {S : Type 0} (t : System S ℕ) (class_of : S → S) (value : S → ℕ) (is_dead : S → Bool) (states : List S) (all : List Node) (open_list open_list' : List Waiting) (s : S) (place : ℕ)
     (status : NodeStatus) (parent : ShortId) (action : ℕ) (waits : is_expanded_status status ≡ false) (reported : is_dead_status status ≡ is_dead s) where

@@ -1,7 +1,8 @@
 -- What the found states prove where a search stops at the limit, once the state whose turn it is waits again.
-use Rattle.std.proofs.Common.{◌≡◌, ℕ, ◌≤◌, ◌∷◌, inl, inr, List, length, Bool, Some, sym, ap, ◌∙◌, arith}
+use Rattle.std.proofs.Common.{◌≡◌, ℕ, ◌<◌, ◌≤◌, ◌∷◌, inl, inr, List, length, Bool, Some, sym, ap, ◌∙◌, arith}
 use Rattle.std.specs.Prelude.{slice_get, All}
 use Rattle.std.proofs.lemmas.List.Elements.{All-tail}
+use Rattle.std.proofs.lemmas.Option.{slice_get_within}
 use Rattle.model.proofs.ListLemmas.{Contains-cases, Contains-there}
 use Rattle.model.specs.Runs.{System}
 use Rattle.model.specs.Claims.{bound}
@@ -10,13 +11,14 @@ use Rattle.search.specs.declared.progress.Progress.{Progress}
 use Rattle.search.specs.declared.turns.Turn.{Turn}
 use Rattle.search.specs.Estimates.{IsAdmissible}
 use Rattle.search.specs.DeadEnds.{ReportsDeadEnds}
-use Rattle.search.specs.Outcome.{AreClassesOf, IsAtLimit}
+use Rattle.search.specs.Outcome.{AreClassesOf, AreEstimates, IsAtLimit}
 use Rattle.search.specs.OpenList.{waiting_in}
-use Rattle.search.specs.Progress.{IsStopped, IsLeastWith}
-use Rattle.search.specs.Nodes.{Waiting, sum_of, place_of, entry, IsEntry, Found, found_of, IsWaiting, total_of, AreNodes, AreOpen}
+use Rattle.search.specs.Progress.{AreNotedWith, IsStopped, IsLeastWith}
+use Rattle.search.specs.Nodes.{Waiting, sum_of, place_of, entry, IsEntry, IsEntryOf, Found, found_of, IsWaiting, total_of, AreNodes, AreOpen}
 use Rattle.search.proofs.Linked.{found_of-get}
 use Rattle.search.proofs.Closed.{are_listed, node_at, closed, found_states, claimed}
 use Rattle.search.proofs.Consistent.{falls_along}
+use Rattle.search.proofs.Noted.{are_estimates}
 use Rattle.search.proofs.Steps.{entries_of, current_entry, entry_waits}
 
 module _ {S : Type 0} (t : System S ℕ) (class_of : S → S) (value : S → ℕ) (is_dead : S → Bool) (states : List S) (all : List Node) (open_list : List Waiting)
@@ -54,6 +56,20 @@ module _ {S Store : Type 0} (t : System S ℕ) (class_of : S → S) (value : S �
   entries_stopped =
       All-tail (IsEntry (length p.nodes.items)) first (waiting_in p.open_list)
       (entries_of t class_of value is_dead (states_of p.store) p.nodes.items (first ∷ waiting_in p.open_list) stopped.one_each stopped.nodes)
+
+  pub turn_within : turn.id.0 < length p.nodes.items
+  turn_within = slice_get_within p.nodes.items turn.id.0 stopped.found.node (found_of-get (states_of p.store) p.nodes.items turn.id.0 stopped.found stopped.occurs).1
+
+  -- and the estimates are those of the states that wait
+  pub estimates_stopped : (estimates : List ℕ) → AreNotedWith p.nodes.items turn (waiting_in p.open_list) estimates → AreEstimates value is_dead (states_of p.store) p.nodes.items estimates
+  estimates_stopped estimates noted =
+      are_estimates value is_dead (states_of p.store) p.nodes.items turn stopped.found stopped.occurs stopped.estimate (waiting_in p.open_list)
+      (λ k n at waits other.
+      elim (Contains-cases first (waiting_in p.open_list) (entry n.node.cost (value n.state) k) (stopped.nodes.queued k n at waits)) [
+        | inl same ↦ absurd (other (sym (ap place_of same)))
+        | inr among ↦ among
+      ])
+      (All-tail (IsEntryOf value is_dead (found_of (states_of p.store) p.nodes.items)) first (waiting_in p.open_list) stopped.nodes.entries) estimates noted
 
   pub at_limit : AreClassesOf t class_of → IsAdmissible t value → ReportsDeadEnds t is_dead → (least : ℕ) → IsLeastWith turn.sum (waiting_in p.open_list) p.nodes.items least
       → IsAtLimit t class_of value is_dead max_states least (states_of p.store) p.nodes.items

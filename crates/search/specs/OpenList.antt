@@ -1,11 +1,12 @@
 -- The open list of a search: what its two heaps hold, and what they keep.
-use Rattle.std.specs.Prelude.{◌≡◌, ℕ, ◌/◌, ◌%◌, ◌≤◌, ◌<◌, List, [], ◌∷◌, ◌++◌, map, Option, None, Some, Contains, All, IsPermutation}
+use Rattle.std.specs.Prelude.{◌≡◌, ℕ, ◌/◌, ◌%◌, ◌≤◌, ◌<◌, ◌⊎◌, List, [], ◌∷◌, ◌++◌, map, set, Option, None, Some, Contains, All, IsPermutation}
 use Rattle.std.specs.declared.cmp.Ordering.{Ordering}
 use Rattle.std.specs.declared.cmp.Reverse.{Reverse}
 use Rattle.std.specs.Ordering.{nat_cmp, ordering_then}
 use Rattle.std.specs.BinaryHeap.{IsHeap, heap_items}
+use Rattle.search.specs.declared.nodes.Node.{Node}
 use Rattle.search.specs.declared.open_list.OpenList.{OpenList}
-use Rattle.search.specs.Nodes.{Waiting, sum_of, entry_at, entry}
+use Rattle.search.specs.Nodes.{Waiting, sum_of, estimate_of, place_of, entry_at, entry, IsCurrent}
 
 -- the open list's order: the least sum is on top, then the least estimate, and then the least place
 abbrev pub by_sum : Waiting → Waiting → Ordering
@@ -45,3 +46,12 @@ abbrev pub IsLeastSum : OpenList → Option ℕ → Type 0
 IsLeastSum open_list None = waiting_in open_list ≡ []
 IsLeastSum open_list (Some sum) =
     ((w : Waiting) × Contains (waiting_in open_list) w × (sum_of w ≡ sum)) × (IsOpenList open_list → All (λ w. sum ≤ sum_of w) (waiting_in open_list))
+
+-- the estimate of a current entry is put at its state's place; a stale one changes nothing
+abbrev pub IsNoted : List Node → Waiting → (old new : List ℕ) → Type 0
+IsNoted nodes w old new = (IsCurrent nodes w × (new ≡ set old (place_of w) (estimate_of w))) ⊎ ((¬ IsCurrent nodes w) × (new ≡ old))
+
+-- the same of these entries, one after another
+abbrev pub AreNoted : List Node → List Waiting → (old new : List ℕ) → Type 0
+AreNoted nodes [] old new = new ≡ old
+AreNoted nodes (w ∷ ws) old new = (between : List ℕ) × IsNoted nodes w old between × AreNoted nodes ws between new

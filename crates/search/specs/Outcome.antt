@@ -140,3 +140,15 @@ IsTrueOutcome t class_of value is_dead states_of max_states (Exhausted found) =
     IsUnsolvable t × AreFound t class_of value is_dead none max_states (states_of found.store) found.nodes.items
 IsTrueOutcome t class_of value is_dead states_of max_states (States least found) =
     AreMoreReachable t value is_dead max_states × IsAtLimit t class_of value is_dead max_states least (states_of found.store) found.nodes.items
+
+-- there is an estimate for each found state, which is that of the state where it is a cut
+abbrev pub AreEstimates : {S : Type 0} → (S → ℕ) → (S → Bool) → List S → List Node → List ℕ → Type 0
+AreEstimates {S} value is_dead states nodes estimates =
+    (length estimates ≡ length nodes)
+    × ((k : ℕ) (s : S) (node : Node) → slice_get states k ≡ Some s → slice_get nodes k ≡ Some node → IsCut is_dead s node → slice_get estimates k ≡ Some (value s))
+
+-- such estimates are told of the found states
+abbrev pub HasEstimates : {S Store : Type 0} → (S → ℕ) → (S → Bool) → (Store → List S) → Outcome Store → Type 0
+HasEstimates value is_dead states_of (Found steps cost found) = AreEstimates value is_dead (states_of found.store) found.nodes.items found.estimates.items
+HasEstimates value is_dead states_of (Exhausted found) = AreEstimates value is_dead (states_of found.store) found.nodes.items found.estimates.items
+HasEstimates value is_dead states_of (States least found) = AreEstimates value is_dead (states_of found.store) found.nodes.items found.estimates.items

@@ -1,5 +1,5 @@
 -- What a search keeps true from one step to the next.
-use Rattle.std.specs.Prelude.{◌≡◌, ◌≢◌, ℕ, ◌+◌, ◌≤◌, ◌<◌, ◌⊎◌, ⊤, Bool, true, false, List, [], ◌∷◌, ◌++◌, length, slice_get, slice_set, Option, Some, Contains, All}
+use Rattle.std.specs.Prelude.{◌≡◌, ◌≢◌, ℕ, ◌+◌, ◌≤◌, ◌<◌, ◌⊎◌, ⊤, Bool, true, false, List, [], ◌∷◌, ◌++◌, length, replicate, set, slice_get, slice_set, Option, Some, Contains, All}
 use Rattle.model.specs.Runs.{System}
 use Rattle.search.specs.declared.nodes.Node.{Node}
 use Rattle.packed_state.specs.Packed.{bits_of}
@@ -9,7 +9,7 @@ use Rattle.search.specs.declared.turns.Turn.{Turn}
 use Rattle.search.specs.declared.listing.Place.{Place}
 use Rattle.search.specs.declared.listing.Place.TheVariants.{New, Listed, Alike}
 use Rattle.search.specs.Listing.{IsAlikeAt}
-use Rattle.search.specs.OpenList.{waiting_in, IsOpenList, JoinsBy}
+use Rattle.search.specs.OpenList.{waiting_in, AreNoted, IsOpenList, JoinsBy}
 use Rattle.search.specs.Outcome.{AreMoreReachable}
 use Rattle.search.specs.Nodes.{Waiting, sum_of, estimate_of, place_of, entry, IsCurrent, IsWaiting, total_of, IsEntryOf, has_been_expanded, status_again, Found, found_of, work_left, AreNodes, IsFoundWithin, AreOpen, AreOpenBut, IsTurn}
 
@@ -33,6 +33,10 @@ pub record IsLeastWith (sum : ℕ) (open_list : List Waiting) (all : List Node) 
   pub at_most_each : (w : Waiting) → Contains open_list w → IsCurrent all w → least ≤ sum_of w
   pub of_one : (sum ≡ least) ⊎ ((w : Waiting) × Contains open_list w × IsCurrent all w × (sum_of w ≡ least))
 
+-- the estimates of the state whose turn it is and of the current entries are put at their places
+abbrev pub AreNotedWith : List Node → Turn → List Waiting → List ℕ → Type 0
+AreNotedWith all turn open_list estimates = AreNoted all open_list (set (replicate (length all) 0) turn.id.0 turn.estimate) estimates
+
 -- the found states of a search
 abbrev pub nodes_in : {S Store : Type 0} → (Store → List S) → Progress Store → List (Found S)
 nodes_in states_of p = found_of (states_of p.store) p.nodes.items
@@ -54,6 +58,7 @@ module _ {S Store : Type 0} (t : System S ℕ) (class_of : S → S) (value : S �
     pub occurs : slice_get (nodes_in states_of p) turn.id.0 ≡ Some found
     pub waits : IsWaiting is_dead found
     pub sum : turn.sum ≡ total_of value found
+    pub estimate : turn.estimate ≡ value found.state
     pub least : (k : ℕ) (n : Found S) → slice_get (nodes_in states_of p) k ≡ Some n → IsWaiting is_dead n → total_of value found ≤ total_of value n
     pub rest : (k : ℕ) (n : Found S) → slice_get (nodes_in states_of p) k ≡ Some n → IsWaiting is_dead n → k ≢ turn.id.0 → Contains (waiting_in p.open_list) (entry n.node.cost (value n.state) k)
     pub entries : All (IsEntryOf value is_dead (nodes_in states_of p)) (waiting_in p.open_list)
@@ -67,6 +72,7 @@ module _ {S Store : Type 0} (t : System S ℕ) (class_of : S → S) (value : S �
     pub occurs : slice_get (nodes_in states_of p) turn.id.0 ≡ Some found
     pub waits : IsWaiting is_dead found
     pub sum : turn.sum ≡ total_of value found
+    pub estimate : turn.estimate ≡ value found.state
     pub nodes : AreNodes t class_of value is_dead (nodes_in states_of p) (entry found.node.cost (value found.state) turn.id.0 ∷ waiting_in p.open_list)
     pub are_open : AreOpen t class_of (nodes_in states_of p)
     pub heap : IsOpenList p.open_list

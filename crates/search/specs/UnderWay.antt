@@ -6,7 +6,7 @@ use Rattle.search.specs.declared.under_way.Halt.{Halt}
 use Rattle.search.specs.declared.under_way.Halt.TheVariants.{Ended, Paused}
 use Rattle.search.specs.declared.under_way.Search.{Search}
 use Rattle.search.specs.Nodes.{AreOpen}
-use Rattle.search.specs.Outcome.{IsTrueOutcome}
+use Rattle.search.specs.Outcome.{HasEstimates, IsTrueOutcome}
 use Rattle.search.specs.Progress.{AreWide, IsSearch, nodes_in}
 
 -- the states that it found
@@ -27,9 +27,9 @@ module _ {S Store R : Type 0} (t : System S ℕ) (class_of : S → S) (value : S
     pub store_classes : classes_of (store_in s) ≡ class_of
     pub store_width : width_of (store_in s) ≡ width
     pub buffers : AreWide width s.buffers
-    pub room : fits s.buffers.room
+    pub scratch : fits s.buffers.scratch
 
-  -- The search ended with a true outcome, or goes on once as many states are listed as it is to pause at.
+  -- The search ended with a true outcome, which tells the estimates of the states that wait, or goes on once as many states are listed as it is to pause at.
   abbrev pub IsTrueHalt : ℕ → ℕ → Halt Store R → Type 0
-  IsTrueHalt pause max_states (Ended outcome) = IsTrueOutcome t class_of value is_dead states_of max_states outcome
+  IsTrueHalt pause max_states (Ended outcome) = IsTrueOutcome t class_of value is_dead states_of max_states outcome × HasEstimates value is_dead states_of outcome
   IsTrueHalt pause max_states (Paused search) = IsUnderWay max_states search × (pause ≤ length (states_of (store_in search)))

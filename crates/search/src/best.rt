@@ -1,7 +1,7 @@
 //! Search for a cheapest plan of a transition system, by expanding states in the order of their cost and estimate.
 ghost use Rattle.std.specs.Prelude.{◌≡◌, ◌≤◌, [], IfOk};
 ghost use Rattle.model.specs.Limits.{max_states_listed};
-ghost use Rattle.search.specs.Outcome.{IsTrueOutcome};
+ghost use Rattle.search.specs.Outcome.{HasEstimates, IsTrueOutcome};
 
 use crate::guide::Guide;
 use crate::listing::OwnClasses;
@@ -67,14 +67,15 @@ pub enum Outcome<L> {
 /// bound. The state whose turn it is is one of them: it is not expanded, though some of its successors may be listed. Each turn
 /// writes into the same buffers, so that a state takes no memory but its place in the store, among the nodes and in the open list.
 ///
-/// The clause promises what costs decide. A plan that is found is a cheapest one. `States` is reported only where more states
+/// The clauses promise what costs decide. A plan that is found is a cheapest one. `States` is reported only where more states
 /// than the limit are next to one that is not reported dead and, with its estimate, no dearer than any plan (`PrecedesPlans`):
 /// where there are no more of these, the answer is a plan, or that there is none. Its bound is the least sum of cost and
 /// estimate over the found states that are neither expanded nor reported dead, and the found states prove it (`IsAtLimit`). No
 /// state that is reported dead is expanded, and exactly these are marked dead among the found states. No plan costs less than an
 /// expanded state with its estimate. Where the estimate is consistent, and what follows a state that is reported dead is reported
 /// dead too, an expanded state was reached by a cheapest way, and at the limit none has a greater sum than the bound, nor has the
-/// initial state a greater estimate. The clause leaves open which of several cheapest plans is answered, which states whose sum is as
+/// initial state a greater estimate. Of each found state that is neither expanded nor reported dead its estimate is told, so that it
+/// need not be asked for again. The clauses leave open which of several cheapest plans is answered, which states whose sum is as
 /// much as these cost are expanded before, and the order of the states in the store. Of that order, the contract of `next_waiting`
 /// says that it gives the state found first of those of the least estimate of those of the least sum; that this is the one to be
 /// expanded or answered, and that states are found in the order of the successors, is shown by tests alone.
@@ -103,7 +104,8 @@ pub fn best_first<T: TransitionSystem, G: Guide, S: StateStore>(
     requires width { S.width_of store ≡ T.width_of system.now }
     requires some { 1 ≤ max_states }
     requires limit { max_states ≤ max_states_listed }
-    ensures { IfOk result (IsTrueOutcome (T.means system.now) (λ s. s) (G.estimate_of guide.now) (G.is_dead guide.now) S.states max_states) }
+    ensures outcome { IfOk result (IsTrueOutcome (T.means system.now) (λ s. s) (G.estimate_of guide.now) (G.is_dead guide.now) S.states max_states) }
+    ensures estimates { IfOk result (HasEstimates (G.estimate_of guide.now) (G.is_dead guide.now) S.states) }
 {
     let search = begin(alloc, system, guide, OwnClasses(store))?;
     Ok(match finish(alloc, system, guide, search, max_states)? {
@@ -131,11 +133,17 @@ impl<S> FoundStates<OwnClasses<S>> {
     fn in_store(self) -> FoundStates<S>
         ensures store { result.store ≡ self.store.0 }
         ensures nodes { result.nodes.items ≡ self.nodes.items }
+        ensures estimates { result.estimates.items ≡ self.estimates.items }
     {
-        let FoundStates { store, nodes } = self;
+        let FoundStates {
+            store,
+            nodes,
+            estimates,
+        } = self;
         FoundStates {
             store: store.0,
             nodes,
+            estimates,
         }
     }
 }

@@ -1,5 +1,5 @@
 //! Estimates of what is still to pay from a state on, by which a search chooses the state that is expanded next.
-ghost use Rattle.std.specs.Prelude.{◌≡◌, ℕ, ◌<◌, ◌^◌, ℤ, Bool, List, Some, length};
+ghost use Rattle.std.specs.Prelude.{◌≡◌, ℕ, ◌<◌, ◌^◌, ℤ, Bool, List, length};
 ghost use Rattle.model.specs.Runs.{System};
 ghost use Rattle.packed_state.specs.Packed.{bits_of};
 ghost use Rattle.search.specs.Estimates.{IsConsistent, above_zero, value_by};
@@ -9,8 +9,8 @@ use packed_state::Packed;
 
 /// An estimate of what is still to pay from each state of a transition system, which is at most what that costs.
 ///
-/// Each state has a score, and its estimate is the greater of 0 and the score (`value_of`). A successor's score comes from
-/// that of the state before, so that what an action leaves alone need not be looked at.
+/// Each state has a score, and its estimate is the greater of 0 and the score (`value_of`). A state's score comes from that of
+/// another state, so that what they have in common need not be looked at.
 pub trait Estimate {
     ghost width_of: { Self → ℕ };
 
@@ -18,24 +18,19 @@ pub trait Estimate {
 
     ghost score_of: { Self → List Bool → ℤ };
 
+    /// The width of each state.
+    fn width(&self) -> u32
+        ensures { result ≡ width_of self.now };
+
     /// The state's score.
     fn score(&self, state: &Packed) -> i64
         requires { length (bits_of state.now) ≡ width_of self.now }
         ensures { result ≡ score_of self.now (bits_of state.now) };
 
-    /// The state's estimate: the greater of 0 and its score.
-    fn estimate(&self, state: &Packed) -> u64
-        requires { length (bits_of state.now) ≡ width_of self.now }
-        ensures { result ≡ value_by (score_of self.now) (bits_of state.now) }
-    {
-        value_of(self.score(state))
-    }
-
-    /// The score of the state that the action leads to, from the score of the state before.
-    fn score_after(&self, score: i64, before: &Packed, action: u32, after: &Packed) -> i64
+    /// The score of the state `after`, from that of `before`. It is found the faster the less they differ.
+    fn score_after(&self, score: i64, before: &Packed, after: &Packed) -> i64
         requires before { length (bits_of before.now) ≡ width_of self.now }
         requires after { length (bits_of after.now) ≡ width_of self.now }
-        requires leads { (system_of self.now).step (bits_of before.now) action ≡ Some (bits_of after.now) }
         requires score { score ≡ score_of self.now (bits_of before.now) }
         ensures { result ≡ score_of self.now (bits_of after.now) };
 
@@ -66,11 +61,15 @@ impl<T: TransitionSystem> Estimate for NoEstimate<'_, T> {
 
     ghost is_consistent = { λ estimate. consistent_zero (T.means estimate.0.now) };
 
+    fn width(&self) -> u32 {
+        self.0.width()
+    }
+
     fn score(&self, _state: &Packed) -> i64 {
         0
     }
 
-    fn score_after(&self, _score: i64, _before: &Packed, _action: u32, _after: &Packed) -> i64 {
+    fn score_after(&self, _score: i64, _before: &Packed, _after: &Packed) -> i64 {
         0
     }
 }

@@ -1,5 +1,5 @@
 //! What guides a search: the estimate of each state, unless it is reported a dead end.
-ghost use Rattle.std.specs.Prelude.{◌≡◌, ℕ, ⊤, Bool, List, Some, IfOk, length};
+ghost use Rattle.std.specs.Prelude.{◌≡◌, ℕ, Bool, List, IfOk, length};
 ghost use Rattle.std.proofs.Props.{props};
 ghost use Rattle.model.specs.Runs.{System};
 ghost use Rattle.packed_state.specs.Packed.{bits_of};
@@ -18,11 +18,11 @@ use std::alloc::Global;
 /// Nothing is asked of what an action does to them: the estimate may fall by more than the action costs, and a state that follows
 /// a dead end need not be reported dead. Not each dead end need be reported.
 ///
-/// All that the questions work with is in a room, which is lent to them, so that none takes memory. While a state is expanded
-/// the room is at that state: what is known of it need not be found again for each successor.
+/// All that the questions work with is in a scratch, which is lent to them, so that none takes memory. It is at some state, of which
+/// it knows what helps with others: what they have in common need not be found again. No answer depends on which state that is.
 pub trait Guide {
-    /// What the questions work with.
-    type Room: Drop;
+    /// What the questions work with: what is known of one state.
+    type Scratch: Drop;
 
     ghost width_of: { Self → ℕ };
 
@@ -32,50 +32,28 @@ pub trait Guide {
 
     ghost is_dead: { Self → List Bool → Bool };
 
-    // the room is one of the guide
-    ghost fits: { Self → Self.Room → Type 0 };
+    // the scratch is one of the guide, and what it knows is right
+    ghost fits: { Self → Self.Scratch → Type 0 };
 
-    // and it is at this state
-    ghost is_at: { Self → Self.Room → List Bool → Type 0 };
-
-    /// A room, which is at no state yet.
+    /// A scratch, which is at some state.
     ///
     /// # Errors
     /// Where memory is refused.
-    fn room(&self, alloc: Global) -> Result<Self::Room, NoMemory>
+    fn scratch(&self, alloc: Global) -> Result<Self::Scratch, NoMemory>
         ensures { IfOk result (fits self.now) };
 
-    /// The estimate of the state, unless it is reported dead. The room is at no state then.
-    fn value_in(&self, state: &Packed, room: &mut Self::Room) -> Option<u64>
+    /// Brings the scratch to the state: those that are asked of next are expected to differ little from it.
+    fn move_to(&self, state: &Packed, scratch: &mut Self::Scratch)
         requires width { length (bits_of state.now) ≡ width_of self.now }
-        requires room { fits self.now room.old }
+        requires scratch { fits self.now scratch.old }
+        ensures { fits self.now scratch.new };
+
+    /// The estimate of the state, unless it is reported dead. The scratch stays where it is.
+    fn value(&self, state: &Packed, scratch: &mut Self::Scratch) -> Option<u64>
+        requires width { length (bits_of state.now) ≡ width_of self.now }
+        requires scratch { fits self.now scratch.old }
         ensures value { IsValueUnlessDead (estimate_of self.now) (is_dead self.now) (bits_of state.now) result }
-        ensures room { fits self.now room.new };
-
-    /// Moves the room to the state, whose estimate is known.
-    fn move_to(&self, state: &Packed, estimate: u64, room: &mut Self::Room)
-        requires width { length (bits_of state.now) ≡ width_of self.now }
-        requires estimate { estimate ≡ estimate_of self.now (bits_of state.now) }
-        requires room { fits self.now room.old }
-        ensures { is_at self.now room.new (bits_of state.now) };
-
-    /// The estimate of the state that the action leads to from the one that the room is at, unless it is reported dead. The
-    /// room stays there.
-    fn value_after(
-        &self,
-        before: &Packed,
-        action: u32,
-        after: &Packed,
-        room: &mut Self::Room,
-    ) -> Option<u64>
-        requires before { length (bits_of before.now) ≡ width_of self.now }
-        requires after { length (bits_of after.now) ≡ width_of self.now }
-        requires leads { (system_of self.now).step (bits_of before.now) action ≡ Some (bits_of after.now) }
-        requires room { is_at self.now room.old (bits_of before.now) }
-        ensures value { IsValueUnlessDead (estimate_of self.now) (is_dead self.now) (bits_of after.now) result }
-        ensures room { is_at self.now room.new (bits_of before.now) };
-
-    ghost fits_at: { (guide : Self) (room : Self.Room) (bits : List Bool) → is_at guide room bits → fits guide room };
+        ensures scratch { fits self.now scratch.new };
 
     ghost is_admissible: { (guide : Self) → IsAdmissible (system_of guide) (estimate_of guide) };
 
@@ -110,9 +88,16 @@ impl<'a, E: Estimate, D: DeadEnd> EstimateWithDeadEnds<'a, E, D> {
     }
 }
 
-/// The room is the score of the state that it is at.
+/// A state, and its score by an estimate.
+#[derive(Drop)]
+pub struct ScoredState {
+    state: Packed,
+    score: i64,
+}
+
+/// The scratch is at a state whose score is known: that of another state is found by the atoms that differ.
 impl<E: Estimate, D: DeadEnd> Guide for EstimateWithDeadEnds<'_, E, D> {
-    type Room = i64;
+    type Scratch = ScoredState;
 
     ghost width_of = { λ guide. E.width_of guide.estimate.now };
 
@@ -122,54 +107,28 @@ impl<E: Estimate, D: DeadEnd> Guide for EstimateWithDeadEnds<'_, E, D> {
 
     ghost is_dead = { λ guide. D.is_dead guide.dead_ends.now };
 
-    ghost fits = { λ _ _. ⊤ };
-
-    ghost is_at = { λ guide score bits. score ≡ E.score_of guide.estimate.now bits };
-
-    ghost fits_at = { λ _ _ _ _. tt };
+    ghost fits = { λ guide known. (length (bits_of known.state) ≡ E.width_of guide.estimate.now) × (known.score ≡ E.score_of guide.estimate.now (bits_of known.state)) };
 
     ghost is_admissible = { λ guide. guide.admissible };
 
     ghost reports_dead_ends = { λ guide. guide.reports };
 
-    fn room(&self, _alloc: Global) -> Result<i64, NoMemory> {
-        Ok(0)
+    fn scratch(&self, alloc: Global) -> Result<ScoredState, NoMemory> {
+        let state = Packed::empty(alloc, self.estimate.width())?;
+        let score = self.estimate.score(&state);
+        Ok(ScoredState { state, score })
     }
 
-    fn value_in(&self, state: &Packed, _score: &mut i64) -> Option<u64> {
+    fn move_to(&self, state: &Packed, known: &mut ScoredState) {
+        known.score = self.estimate.score_after(known.score, &known.state, state);
+        known.state.copy_from(state);
+    }
+
+    fn value(&self, state: &Packed, known: &mut ScoredState) -> Option<u64> {
         if self.dead_ends.dead(state) {
             return None;
         }
-        Some(value_of(self.estimate.score(state)))
-    }
-
-    fn move_to(&self, state: &Packed, estimate: u64, score: &mut i64) {
-        *score = score_of(self.estimate, state, estimate);
-    }
-
-    fn value_after(
-        &self,
-        before: &Packed,
-        action: u32,
-        after: &Packed,
-        score: &mut i64,
-    ) -> Option<u64> {
-        if self.dead_ends.dead(after) {
-            return None;
-        }
-        let score = self.estimate.score_after(*score, before, action, after);
+        let score = self.estimate.score_after(known.score, &known.state, state);
         Some(value_of(score))
-    }
-}
-
-/// The score of the state, whose estimate is known: one that is not 0 is the score itself.
-fn score_of<E: Estimate>(by: &E, state: &Packed, estimate: u64) -> i64
-    requires width { length (bits_of state.now) ≡ E.width_of by.now }
-    requires value { estimate ≡ value_by (E.score_of by.now) (bits_of state.now) }
-    ensures { result ≡ E.score_of by.now (bits_of state.now) }
-{
-    match i64::try_from(estimate) {
-        Ok(score) if score > 0 => score,
-        _ => by.score(state),
     }
 }

@@ -54,6 +54,8 @@ pub struct FoundStates<L> {
     pub store: L,
     /// For each of them, in the same order, how it was reached.
     pub nodes: Vec<Node>,
+    /// For each of them, in the same order, its estimate where it waits to be expanded. Of any other state nothing is said here.
+    pub estimates: Vec<u64>,
 }
 
 impl NodeStatus {

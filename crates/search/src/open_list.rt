@@ -4,11 +4,11 @@
 //! that it takes 8 bytes and is compared at once. Such entries are in a heap of their own, and the others come after them.
 ghost use Rattle.std.specs.Prelude.{◌≡◌, ◌+◌, ◌*◌, ◌≤◌, ◌<◌, [], ◌∷◌, length, All, IsPermutation, IfNone, IfSome, OnOk, false};
 ghost use Rattle.std.specs.Ordering.{is_lt};
-ghost use Rattle.search.specs.Nodes.{sum_of, estimate_of, place_of, entry_at};
-ghost use Rattle.search.specs.OpenList.{by_sum, entry_of, waiting_in, IsLeastSum, IsOpenList, Joins};
+ghost use Rattle.search.specs.Nodes.{sum_of, estimate_of, place_of, entry_at, IsEntry};
+ghost use Rattle.search.specs.OpenList.{by_sum, entry_of, waiting_in, AreNoted, IsLeastSum, IsNoted, IsOpenList, Joins};
 
 use crate::best::MAX_STATES;
-use crate::nodes::StateId;
+use crate::nodes::{Node, StateId};
 use faults::NoMemory;
 use std::alloc::Global;
 use std::cmp::Reverse;
@@ -84,6 +84,33 @@ impl OpenList {
                 None => None,
             },
         }
+    }
+
+    /// Puts the estimate of each state that waits at its place: a state waits that an entry reports as it is reached now.
+    pub(crate) fn note_estimates(&self, nodes: &[Node], estimates: &mut [u64])
+        requires entries { All (IsEntry (length nodes.now)) (waiting_in self.now) }
+        requires one_each { length estimates.old ≡ length nodes.now }
+        ensures { AreNoted nodes.now (waiting_in self.now) estimates.old estimates.new }
+    {
+        for &Reverse(word) in self.near.as_slice() {
+            note_estimate(entry_in(word), nodes, estimates);
+        }
+        for &entry in self.far.as_slice() {
+            note_estimate(entry, nodes, estimates);
+        }
+    }
+}
+
+/// Puts the entry's estimate at its state's place, unless the entry is stale.
+fn note_estimate(entry: OpenListEntry, nodes: &[Node], estimates: &mut [u64])
+    requires entry { IsEntry (length nodes.now) entry }
+    requires one_each { length estimates.old ≡ length nodes.now }
+    ensures { IsNoted nodes.now entry estimates.old estimates.new }
+{
+    let Reverse((sum, estimate, id)) = entry;
+    let node = nodes[id.0 as usize];
+    if !node.is_expanded() && node.cost == sum - estimate {
+        estimates[id.0 as usize] = estimate;
     }
 }
 

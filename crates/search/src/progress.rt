@@ -1,10 +1,10 @@
 //! How far a search has come: the states found so far, and which of them wait to be expanded.
-ghost use Rattle.std.specs.Prelude.{◌≡◌, ◌≢◌, ℕ, ◌+◌, ◌<◌, ◌≤◌, ◌^◌, true, false, List, [], ◌∷◌, ◌++◌, length, slice_get, slice_set, Contains, All, MatchBool, MatchOption, IfOk, IfNone, IfSome, OnOk, OnSome, Some};
+ghost use Rattle.std.specs.Prelude.{◌≡◌, ◌≢◌, ℕ, ◌+◌, ◌<◌, ◌≤◌, ◌^◌, Bool, true, false, List, [], ◌∷◌, ◌++◌, length, slice_get, slice_set, Contains, All, MatchBool, MatchOption, IfOk, IfNone, IfSome, OnOk, OnSome, Some};
 ghost use Rattle.packed_state.specs.Packed.{bits_of};
 ghost use Rattle.search.specs.Outcome.{AreClassesOf};
 ghost use Rattle.search.specs.Nodes.{Waiting, IsEntry, IsCurrent, AreOpen, IsPath, IsReachedIn};
 ghost use Rattle.search.specs.OpenList.{waiting_in, IsOpenList, JoinsBy};
-ghost use Rattle.search.specs.Progress.{TakesNext, IsLeastWith, nodes_in, IsSearch, IsAtTurn, IsStopped, IsExpanding, IsPlaceAmong, IsReachedWithin, IsReachedCheaper, IsFreeFor, TakesPlace, IsLeftOut, Reaches, IsFull, Expands, AreWide};
+ghost use Rattle.search.specs.Progress.{AreNotedWith, TakesNext, IsLeastWith, nodes_in, IsSearch, IsAtTurn, IsStopped, IsExpanding, IsPlaceAmong, IsReachedWithin, IsReachedCheaper, IsFreeFor, TakesPlace, IsLeftOut, Reaches, IsFull, Expands, AreWide};
 
 use crate::best::MAX_STATES;
 use crate::guide::Guide;
@@ -12,7 +12,7 @@ use crate::listing::{Place, StateListing};
 use crate::nodes::{FoundStates, Node, NodeStatus, ShortId, StateId, steps_to};
 use crate::open_list::OpenList;
 use crate::transitions::TransitionSystem;
-use crate::turns::{Parent, Reached, Successor, Turn};
+use crate::turns::{Reached, Successor, Turn};
 use faults::NoMemory;
 use packed_state::Packed;
 use std::alloc::Global;
@@ -38,20 +38,20 @@ pub(crate) struct Buffers<R> {
     /// The actions that are applicable in it.
     pub(crate) applicable: Vec<u32>,
     /// What the guide works with.
-    pub(crate) room: R,
+    pub(crate) scratch: R,
 }
 
 impl<R: Drop> Buffers<R> {
-    /// Buffers for states of this width, and for a guide with this room.
-    pub(crate) fn new(alloc: Global, width: u32, room: R) -> Result<Buffers<R>, NoMemory>
+    /// Buffers for states of this width, and for a guide with this scratch.
+    pub(crate) fn new(alloc: Global, width: u32, scratch: R) -> Result<Buffers<R>, NoMemory>
         ensures wide { IfOk result (AreWide width) }
-        ensures room { IfOk result (λ buffers. buffers.room ≡ room) }
+        ensures scratch { IfOk result (λ buffers. buffers.scratch ≡ scratch) }
     {
         Ok(Buffers {
             state: Packed::empty(alloc, width)?,
             next: Packed::empty(alloc, width)?,
             applicable: Vec::new(alloc),
-            room,
+            scratch,
         })
     }
 }
@@ -62,14 +62,14 @@ impl<L: StateListing> Progress<L> {
         alloc: Global,
         system: &T,
         guide: &G,
-        room: &mut G::Room,
+        scratch: &mut G::Scratch,
         mut store: L,
     ) -> Result<Progress<L>, NoMemory>
         requires guide_width { G.width_of guide.now ≡ T.width_of system.now }
-        requires room { G.fits guide.now room.old }
+        requires scratch { G.fits guide.now scratch.old }
         requires empty { L.states store ≡ [] }
         requires width { L.width_of store ≡ T.width_of system.now }
-        ensures room { IfOk result (λ _. G.fits guide.now room.new) }
+        ensures scratch { IfOk result (λ _. G.fits guide.now scratch.new) }
         ensures search { IfOk result (λ p. IsSearch (T.means system.now) (L.class_of store) (G.estimate_of guide.now) (G.is_dead guide.now) L.states p) }
         ensures open { IfOk result (λ p. AreOpen (T.means system.now) (L.class_of store) (nodes_in L.states p)) }
         ensures one { IfOk result (λ p. length (L.states p.store) ≡ 1) }
@@ -83,7 +83,7 @@ impl<L: StateListing> Progress<L> {
             nodes: Vec::new(alloc),
             open_list: OpenList::new(alloc),
         };
-        let value = guide.value_in(&initial, room);
+        let value = guide.value(&initial, scratch);
         let node = Node {
             cost: 0,
             status: NodeStatus::of_reached(value),
@@ -193,29 +193,25 @@ impl<L: StateListing> Progress<L> {
         &mut self,
         system: &T,
         guide: &G,
-        room: &mut G::Room,
-        parent: &Parent<'_>,
+        scratch: &mut G::Scratch,
         to: Successor<'_>,
         max_states: u32,
     ) -> Result<bool, NoMemory>
-        requires made_for { G.system_of guide.now ≡ T.means system.now }
         requires guide_width { G.width_of guide.now ≡ L.width_of self.old.store }
-        requires expanding { IsExpanding (T.means system.now) (L.class_of self.old.store) (G.estimate_of guide.now) (G.is_dead guide.now) L.states self.old parent.now.id.0 }
-        requires parent { slice_get (L.states self.old.store) parent.now.id.0 ≡ Some (bits_of parent.now.state.now) }
-        requires parent_width { length (bits_of parent.now.state.now) ≡ L.width_of self.old.store }
-        requires room { G.is_at guide.now room.old (bits_of parent.now.state.now) }
-        requires leads { (T.means system.now).step (bits_of parent.now.state.now) to.action ≡ Some (bits_of to.state.now) }
+        requires expanding { IsExpanding (T.means system.now) (L.class_of self.old.store) (G.estimate_of guide.now) (G.is_dead guide.now) L.states self.old to.parent.0 }
+        requires scratch { G.fits guide.now scratch.old }
+        requires leads { (s : List Bool) → slice_get (L.states self.old.store) to.parent.0 ≡ Some s → (T.means system.now).step s to.action ≡ Some (bits_of to.state.now) }
         requires width { length (bits_of to.state.now) ≡ L.width_of self.old.store }
         requires within { length (L.states self.old.store) ≤ max_states }
         requires limit { max_states ≤ MAX_STATES }
         ensures width { L.width_of self.new.store ≡ L.width_of self.old.store }
         ensures class { L.class_of self.new.store ≡ L.class_of self.old.store }
-        ensures room { IfOk result (λ _. G.is_at guide.now room.new (bits_of parent.now.state.now)) }
+        ensures scratch { IfOk result (λ _. G.fits guide.now scratch.new) }
         ensures listed { IfOk result (λ is_listed. MatchBool is_listed
-            (Reaches (T.means system.now) (L.class_of self.old.store) (G.estimate_of guide.now) (G.is_dead guide.now) L.states self.old self.new parent.now.id.0 max_states to.entry.action (bits_of to.entry.state.now))
+            (Reaches (T.means system.now) (L.class_of self.old.store) (G.estimate_of guide.now) (G.is_dead guide.now) L.states self.old self.new to.entry.parent.0 max_states to.entry.action (bits_of to.entry.state.now))
             (IsFull (T.means system.now) (G.estimate_of guide.now) (G.is_dead guide.now) L.states self.old self.new max_states)) }
     {
-        let before = self.nodes[parent.id.0 as usize];
+        let before = self.nodes[to.parent.0 as usize];
         let cost = before.cost + u64::from(system.cost(to.action));
         let Some(place) = self.store.place(to.state, max_states)? else {
             return Ok(false);
@@ -223,8 +219,8 @@ impl<L: StateListing> Progress<L> {
         if self.is_reached_within(place, cost) {
             return Ok(true);
         }
-        let estimate = guide.value_after(parent.state, to.action, to.state, room);
-        let node = parent.child(cost, to.action, NodeStatus::of_reached(estimate));
+        let estimate = guide.value(to.state, scratch);
+        let node = to.node(cost, NodeStatus::of_reached(estimate));
         let reached = Reached {
             state: to.state,
             node,
@@ -296,7 +292,7 @@ impl<L: StateListing> Progress<L> {
         &mut self,
         system: &T,
         guide: &G,
-        buffers: &mut Buffers<G::Room>,
+        buffers: &mut Buffers<G::Scratch>,
         turn: Turn,
         max_states: u32,
     ) -> Result<bool, NoMemory>
@@ -304,8 +300,7 @@ impl<L: StateListing> Progress<L> {
         requires guide_width { G.width_of guide.now ≡ T.width_of system.now }
         requires turn { IsAtTurn (T.means system.now) (L.class_of self.old.store) (G.estimate_of guide.now) (G.is_dead guide.now) L.states self.old turn }
         requires classes { AreClassesOf (T.means system.now) (L.class_of self.old.store) }
-        requires value { turn.estimate ≡ G.estimate_of guide.now (bits_of buffers.old.state) }
-        requires room { G.fits guide.now buffers.old.room }
+        requires scratch { G.fits guide.now buffers.old.scratch }
         requires open { AreOpen (T.means system.now) (L.class_of self.old.store) (nodes_in L.states self.old) }
         requires state { slice_get (L.states self.old.store) turn.id.0 ≡ Some (bits_of buffers.old.state) }
         requires no_goal { (T.means system.now).meets_goal (bits_of buffers.old.state) ≡ false }
@@ -316,25 +311,22 @@ impl<L: StateListing> Progress<L> {
         ensures width { IfOk result (λ _. L.width_of self.new.store ≡ T.width_of system.now) }
         ensures class { IfOk result (λ _. L.class_of self.new.store ≡ L.class_of self.old.store) }
         ensures buffers { IfOk result (λ _. AreWide (T.width_of system.now) buffers.new) }
-        ensures room { IfOk result (λ _. G.fits guide.now buffers.new.room) }
+        ensures scratch { IfOk result (λ _. G.fits guide.now buffers.new.scratch) }
         ensures listed { IfOk result (λ is_listed. MatchBool is_listed
             (Expands (T.means system.now) (L.class_of self.old.store) (G.estimate_of guide.now) (G.is_dead guide.now) L.states self.old self.new max_states)
             (IsStopped (T.means system.now) (L.class_of self.old.store) (G.estimate_of guide.now) (G.is_dead guide.now) L.states self.new turn max_states)) }
     {
         system.applicable(&buffers.state, &mut buffers.applicable)?;
         self.mark(turn.id, NodeStatus::Expanded);
-        guide.move_to(&buffers.state, turn.estimate, &mut buffers.room);
+        guide.move_to(&buffers.state, &mut buffers.scratch);
         for &action in &buffers.applicable {
             system.successor(action, &buffers.state, &mut buffers.next);
-            let parent = Parent {
-                id: turn.id,
-                state: &buffers.state,
-            };
             let to = Successor {
+                parent: turn.id,
                 action,
                 state: &buffers.next,
             };
-            if !self.reach(system, guide, &mut buffers.room, &parent, to, max_states)? {
+            if !self.reach(system, guide, &mut buffers.scratch, to, max_states)? {
                 self.mark(turn.id, NodeStatus::Reopened);
                 return Ok(false);
             }
@@ -342,31 +334,83 @@ impl<L: StateListing> Progress<L> {
         Ok(true)
     }
 
-    /// The actions that lead to the goal state, and the found states.
+    /// The estimates of the states that wait, each at its state's place: the state whose turn it is, and those in the open list.
+    fn noted_estimates(&self, alloc: Global, turn: Turn) -> Result<Vec<u64>, NoMemory>
+        requires turn { turn.id.0 < length self.now.nodes.items }
+        requires entries { All (IsEntry (length self.now.nodes.items)) (waiting_in self.now.open_list) }
+        ensures { IfOk result (λ estimates. AreNotedWith self.now.nodes.items turn (waiting_in self.now.open_list) estimates.items) }
+    {
+        let mut estimates = vec![in alloc; 0; self.nodes.len()]?;
+        estimates[turn.id.0 as usize] = turn.estimate;
+        self.open_list.note_estimates(&self.nodes, &mut estimates);
+        Ok(estimates)
+    }
+
+    /// The actions that lead to the goal state, whose turn it is, and the found states.
     pub(crate) fn into_plan(
         self,
         alloc: Global,
-        goal: StateId,
+        goal: Turn,
     ) -> Result<(Vec<u32>, FoundStates<L>), NoMemory>
-        requires { IsReachedIn self.nodes.items goal.0 (length self.nodes.items) }
-        ensures path { IfOk result (λ r. IsPath self.nodes.items goal.0 r.0.items) }
+        requires reached { IsReachedIn self.nodes.items goal.id.0 (length self.nodes.items) }
+        requires turn { goal.id.0 < length self.nodes.items }
+        requires entries { All (IsEntry (length self.nodes.items)) (waiting_in self.open_list) }
+        ensures path { IfOk result (λ r. IsPath self.nodes.items goal.id.0 r.0.items) }
         ensures short { IfOk result (λ r. length r.0.items ≤ length self.nodes.items) }
         ensures store { IfOk result (λ r. r.1.store ≡ self.store) }
         ensures nodes { IfOk result (λ r. r.1.nodes.items ≡ self.nodes.items) }
+        ensures estimates { IfOk result (λ r. AreNotedWith self.nodes.items goal (waiting_in self.open_list) r.1.estimates.items) }
     {
-        let steps = steps_to(alloc, &self.nodes, goal)?;
-        Ok((steps, self.into_states()))
+        let steps = steps_to(alloc, &self.nodes, goal.id)?;
+        let estimates = self.noted_estimates(alloc, goal)?;
+        Ok((steps, self.into_found(estimates)))
     }
 
-    pub(crate) fn into_states(self) -> FoundStates<L>
+    /// The least sum of cost and estimate of the states that wait, and the found states. The one whose turn it was waits again, but is
+    /// not in the open list.
+    pub(crate) fn into_bound(
+        mut self,
+        alloc: Global,
+        turn: Turn,
+    ) -> Result<(u64, FoundStates<L>), NoMemory>
+        requires turn { turn.id.0 < length self.nodes.items }
+        requires heap { IsOpenList self.open_list }
+        requires entries { All (IsEntry (length self.nodes.items)) (waiting_in self.open_list) }
+        ensures least { IfOk result (λ r. IsLeastWith turn.sum (waiting_in self.open_list) self.nodes.items r.0) }
+        ensures store { IfOk result (λ r. r.1.store ≡ self.store) }
+        ensures nodes { IfOk result (λ r. r.1.nodes.items ≡ self.nodes.items) }
+        ensures estimates { IfOk result (λ r. AreNotedWith self.nodes.items turn (waiting_in self.open_list) r.1.estimates.items) }
+    {
+        let estimates = self.noted_estimates(alloc, turn)?;
+        let bound = self.least_with(turn.sum);
+        Ok((bound, self.into_found(estimates)))
+    }
+
+    /// The found states, of which none waits.
+    pub(crate) fn into_states(self, alloc: Global) -> Result<FoundStates<L>, NoMemory>
+        ensures store { IfOk result (λ found. found.store ≡ self.store) }
+        ensures nodes { IfOk result (λ found. found.nodes.items ≡ self.nodes.items) }
+        ensures estimates { IfOk result (λ found. length found.estimates.items ≡ length self.nodes.items) }
+    {
+        let estimates = vec![in alloc; 0; self.nodes.len()]?;
+        Ok(self.into_found(estimates))
+    }
+
+    /// The found states, with these estimates.
+    fn into_found(self, estimates: Vec<u64>) -> FoundStates<L>
         ensures store { result.store ≡ self.store }
         ensures nodes { result.nodes.items ≡ self.nodes.items }
+        ensures estimates { result.estimates.items ≡ estimates.items }
     {
         let Progress {
             store,
             nodes,
             open_list: _,
         } = self;
-        FoundStates { store, nodes }
+        FoundStates {
+            store,
+            nodes,
+            estimates,
+        }
     }
 }

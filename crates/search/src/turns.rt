@@ -14,16 +14,10 @@ pub(crate) struct Turn {
     pub(crate) estimate: u64,
 }
 
-/// The state that is being expanded.
-#[derive(Clone, Copy)]
-pub(crate) struct Parent<'a> {
-    pub(crate) id: StateId,
-    pub(crate) state: &'a Packed,
-}
-
-/// A state to which an action leads from there.
+/// A state to which an action leads from the one that is being expanded.
 #[derive(Clone, Copy)]
 pub(crate) struct Successor<'a> {
+    pub(crate) parent: StateId,
     pub(crate) action: u32,
     pub(crate) state: &'a Packed,
 }
@@ -36,20 +30,20 @@ pub(crate) struct Reached<'a> {
     pub(crate) estimate: Option<u64>,
 }
 
-impl Parent<'_> {
-    /// The node of a state that the action leads to, reached from here at this cost.
-    pub(crate) fn child(&self, cost: u64, action: u32, status: NodeStatus) -> Node
-        requires { self.now.id.0 < MAX_STATES }
+impl Successor<'_> {
+    /// Its node, where it is reached so at this cost.
+    pub(crate) fn node(&self, cost: u64, status: NodeStatus) -> Node
+        requires { self.now.parent.0 < MAX_STATES }
         ensures cost { result.cost ≡ cost }
         ensures status { result.status ≡ status }
-        ensures parent { parent_of result ≡ self.now.id.0 }
-        ensures action { result.action ≡ action }
+        ensures parent { parent_of result ≡ self.now.parent.0 }
+        ensures action { result.action ≡ self.now.action }
     {
         Node {
             cost,
             status,
-            parent: ShortId::new(self.id),
-            action,
+            parent: ShortId::new(self.parent),
+            action: self.action,
         }
     }
 }

@@ -24,7 +24,7 @@
 ghost use Rattle.std.specs.Prelude.{◌≡◌, ◌≤◌, ℕ, [], IfOk};
 ghost use Rattle.model.specs.Limits.{max_states_listed};
 ghost use Rattle.search.specs.OpenList.{IsLeastSum};
-ghost use Rattle.search.specs.Outcome.{AreClassesOf, IsTrueOutcome};
+ghost use Rattle.search.specs.Outcome.{AreClassesOf, HasEstimates, IsTrueOutcome};
 ghost use Rattle.search.specs.UnderWay.{store_in, nodes_of, IsUnderWay, IsTrueHalt};
 
 use crate::best::Outcome;
@@ -36,7 +36,7 @@ use crate::transitions::TransitionSystem;
 use faults::NoMemory;
 use std::alloc::Global;
 
-/// A search that is under way: the states that it found so far, and which of them wait. Its guide's room is an `R`.
+/// A search that is under way: the states that it found so far, and which of them wait. Its guide's scratch is an `R`.
 #[derive(Drop)]
 pub struct Search<L, R> {
     progress: Progress<L>,
@@ -82,16 +82,16 @@ pub fn begin<T: TransitionSystem, G: Guide, L: StateListing>(
     system: &T,
     guide: &G,
     store: L,
-) -> Result<Search<L, G::Room>, NoMemory>
+) -> Result<Search<L, G::Scratch>, NoMemory>
     requires guide_width { G.width_of guide.now ≡ T.width_of system.now }
     requires empty { L.states store ≡ [] }
     requires width { L.width_of store ≡ T.width_of system.now }
     ensures { IfOk result (λ search. (max_states : ℕ) → 1 ≤ max_states
         → IsUnderWay (T.means system.now) (L.class_of store) (G.estimate_of guide.now) (G.is_dead guide.now) (G.fits guide.now) L.states L.class_of L.width_of (T.width_of system.now) max_states search) }
 {
-    let room = guide.room(alloc)?;
-    let mut buffers = Buffers::new(alloc, system.width(), room)?;
-    let progress = Progress::start(alloc, system, guide, &mut buffers.room, store)?;
+    let scratch = guide.scratch(alloc)?;
+    let mut buffers = Buffers::new(alloc, system.width(), scratch)?;
+    let progress = Progress::start(alloc, system, guide, &mut buffers.scratch, store)?;
     Ok(Search { progress, buffers })
 }
 
@@ -101,10 +101,10 @@ pub fn go_on<T: TransitionSystem, G: Guide, L: StateListing>(
     alloc: Global,
     system: &T,
     guide: &G,
-    search: Search<L, G::Room>,
+    search: Search<L, G::Scratch>,
     pause: u32,
     max_states: u32,
-) -> Result<Halt<L, G::Room>, NoMemory>
+) -> Result<Halt<L, G::Scratch>, NoMemory>
     requires made_for { G.system_of guide.now ≡ T.means system.now }
     requires guide_width { G.width_of guide.now ≡ T.width_of system.now }
     requires under_way { IsUnderWay (T.means system.now) (L.class_of (store_in search)) (G.estimate_of guide.now) (G.is_dead guide.now) (G.fits guide.now) L.states L.class_of L.width_of (T.width_of system.now) max_states search }
@@ -118,14 +118,13 @@ pub fn go_on<T: TransitionSystem, G: Guide, L: StateListing>(
     } = search;
     'turns: while progress.store.len() < pause as usize {
         let Some(turn) = progress.next_waiting() else {
-            return Ok(Halt::Ended(Outcome::Exhausted {
-                states: progress.into_states(),
-            }));
+            let states = progress.into_states(alloc)?;
+            return Ok(Halt::Ended(Outcome::Exhausted { states }));
         };
         progress.store.get(turn.id.0, &mut buffers.state);
         if system.meets_goal(&buffers.state) {
             let cost = progress.nodes[turn.id.0 as usize].cost;
-            let (steps, states) = progress.into_plan(alloc, turn.id)?;
+            let (steps, states) = progress.into_plan(alloc, turn)?;
             return Ok(Halt::Ended(Outcome::Found {
                 steps,
                 cost,
@@ -133,11 +132,8 @@ pub fn go_on<T: TransitionSystem, G: Guide, L: StateListing>(
             }));
         }
         if !progress.expand(system, guide, &mut buffers, turn, max_states)? {
-            let bound = progress.least_with(turn.sum);
-            return Ok(Halt::Ended(Outcome::States {
-                bound,
-                states: progress.into_states(),
-            }));
+            let (bound, states) = progress.into_bound(alloc, turn)?;
+            return Ok(Halt::Ended(Outcome::States { bound, states }));
         }
     }
     Ok(Halt::Paused(Search { progress, buffers }))
@@ -148,7 +144,7 @@ pub fn finish<T: TransitionSystem, G: Guide, L: StateListing>(
     alloc: Global,
     system: &T,
     guide: &G,
-    search: Search<L, G::Room>,
+    search: Search<L, G::Scratch>,
     max_states: u32,
 ) -> Result<Outcome<L>, NoMemory>
     requires made_for { G.system_of guide.now ≡ T.means system.now }
@@ -156,7 +152,8 @@ pub fn finish<T: TransitionSystem, G: Guide, L: StateListing>(
     requires under_way { IsUnderWay (T.means system.now) (L.class_of (store_in search)) (G.estimate_of guide.now) (G.is_dead guide.now) (G.fits guide.now) L.states L.class_of L.width_of (T.width_of system.now) max_states search }
     requires classes { AreClassesOf (T.means system.now) (L.class_of (store_in search)) }
     requires limit { max_states ≤ max_states_listed }
-    ensures { IfOk result (IsTrueOutcome (T.means system.now) (L.class_of (store_in search)) (G.estimate_of guide.now) (G.is_dead guide.now) L.states max_states) }
+    ensures outcome { IfOk result (IsTrueOutcome (T.means system.now) (L.class_of (store_in search)) (G.estimate_of guide.now) (G.is_dead guide.now) L.states max_states) }
+    ensures estimates { IfOk result (HasEstimates (G.estimate_of guide.now) (G.is_dead guide.now) L.states) }
 {
     match go_on(alloc, system, guide, search, u32::MAX, max_states)? {
         Halt::Ended(outcome) => Ok(outcome),

@@ -70,9 +70,9 @@ impl FarSigns {
     }
 }
 
-/// The room is one for a state, in which what a door leads to is looked at.
+/// The scratch holds a state: what a door leads to, while that is looked at.
 impl Guide for FarSigns {
-    type Room = Packed;
+    type Scratch = Packed;
 
     ghost width_of = { λ guide. guide.rooms.width };
 
@@ -82,34 +82,20 @@ impl Guide for FarSigns {
 
     ghost is_dead = { λ _ _. false };
 
-    ghost fits = { λ guide room. length (bits_of room) ≡ guide.rooms.width };
-
-    ghost is_at = { λ guide room _. length (bits_of room) ≡ guide.rooms.width };
-
-    ghost fits_at = { λ _ _ _ at. at };
+    ghost fits = { λ guide next. length (bits_of next) ≡ guide.rooms.width };
 
     ghost is_admissible = { λ guide. admissible_far guide.rooms.width guide.rooms.first.now guide.rooms.second.now guide.rooms.first_cost guide.rooms.second_cost guide.rooms.goal guide.signs.now };
 
     ghost reports_dead_ends = { λ guide. none_dead (rooms guide.rooms.width guide.rooms.first.now guide.rooms.second.now guide.rooms.first_cost guide.rooms.second_cost guide.rooms.goal) };
 
-    fn room(&self, alloc: Global) -> Result<Packed, NoMemory> {
+    fn scratch(&self, alloc: Global) -> Result<Packed, NoMemory> {
         let next = Packed::empty(alloc, self.rooms.width)?;
         Ok(next)
     }
 
-    fn value_in(&self, state: &Packed, next: &mut Packed) -> Option<u64> {
+    fn move_to(&self, _state: &Packed, _next: &mut Packed) {}
+
+    fn value(&self, state: &Packed, next: &mut Packed) -> Option<u64> {
         Some(self.believed(state, next))
-    }
-
-    fn move_to(&self, _state: &Packed, _estimate: u64, _next: &mut Packed) {}
-
-    fn value_after(
-        &self,
-        _before: &Packed,
-        _door: u32,
-        after: &Packed,
-        next: &mut Packed,
-    ) -> Option<u64> {
-        Some(self.believed(after, next))
     }
 }

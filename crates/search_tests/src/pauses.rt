@@ -60,6 +60,7 @@ fn states_in_store<S>(states: FoundStates<OwnClasses<S>>) -> FoundStates<S> {
     FoundStates {
         store: states.store.0,
         nodes: states.nodes,
+        estimates: states.estimates,
     }
 }
 

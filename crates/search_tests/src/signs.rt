@@ -41,6 +41,10 @@ impl Estimate for Signs {
 
     ghost is_consistent = { λ e. consistent_signs e.rooms.width e.rooms.first.now e.rooms.second.now e.rooms.first_cost e.rooms.second_cost e.rooms.goal e.signs.now };
 
+    fn width(&self) -> u32 {
+        self.rooms.width
+    }
+
     fn score(&self, state: &Packed) -> i64 {
         if self.rooms.meets_goal(state) {
             0
@@ -49,7 +53,7 @@ impl Estimate for Signs {
         }
     }
 
-    fn score_after(&self, _score: i64, _before: &Packed, _door: u32, after: &Packed) -> i64 {
+    fn score_after(&self, _score: i64, _before: &Packed, after: &Packed) -> i64 {
         self.score(after)
     }
 }

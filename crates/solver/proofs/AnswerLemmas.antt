@@ -1,25 +1,24 @@
 -- What the answer says of the task, and what a list of instances that solves says of them.
-use Rattle.std.proofs.Common.{◌≡◌, ℕ, ◌+◌, ◌<◌, ◌≤◌, ◌*◌, Bool, true, false, List, [], ◌∷◌, length, get_or, None, Some, refl, sym, ap, subst, arith}
+use Rattle.std.proofs.Common.{◌≡◌, ℕ, ◌+◌, ◌<◌, ◌≤◌, ◌*◌, Bool, true, false, List, [], ◌∷◌, length, None, Some, refl, sym, ap, subst, arith}
 use Rattle.std.specs.Prelude.{nat_le, slice_get, Contains}
 use Rattle.std.specs.Option.{option_and_then}
 use Rattle.std.specs.List.{list_all}
 use Rattle.std.proofs.lemmas.Bool.{and_parts, and_from, lt-ltb, leb-true}
 use Rattle.std.proofs.lemmas.Bool.Decides.{nat_tests}
-use Rattle.std.proofs.lemmas.Option.{slice_get-get_or, slice_get_within}
+use Rattle.std.proofs.lemmas.Option.{slice_get_within}
 use Rattle.certificate.specs.declared.states.Listed.{Listed}
-use Rattle.grounding.specs.Ground.{task_in, atoms_in}
 use Rattle.search.specs.Estimates.{IsAdmissible}
 use Rattle.search.specs.DeadEnds.{ReportsDeadEnds}
 use Rattle.search.specs.declared.nodes.Node.{Node}
 use Rattle.search.specs.Outcome as search
 use Rattle.search.specs.declared.best.Outcome.{Outcome}
 use Rattle.search.specs.declared.best.Outcome.TheVariants.{Found, Exhausted, States}
-use Rattle.search.specs.Outcome.{lines_of, AreFound, AreOfOneClass, AreClassesOf, IsTrueOutcome}
+use Rattle.search.specs.Outcome.{lines_of, AreEstimates, AreFound, AreOfOneClass, AreClassesOf, HasEstimates, IsTrueOutcome}
 use Rattle.ground_listings.specs.GroundListing.{listed_states}
 use Rattle.ground_listings.specs.Plans.{IsCarriedOut}
 use Rattle.ground_listings.specs.Reachable.{AreMoreReachable}
 use Rattle.ground_listings.specs.SearchSpace as search_space
-use Rattle.ground_listings.specs.SearchSpace.{class_in, ground_in, IsSearchSpace}
+use Rattle.ground_listings.specs.SearchSpace.{class_in}
 use Rattle.ground_listings.specs.declared.ground_listing.GroundListing.{GroundListing}
 use Rattle.ground_listings.specs.declared.search_space.SearchSpace.{SearchSpace}
 use Rattle.solver.specs.Limit.{is_limit}
@@ -75,23 +74,23 @@ found_width task atoms numbered states nodes found k bits at =
     let reached = found.reachable k bits node at there in
     length-reachable task atoms numbered bits (reached.0, reached.1)
 
+-- the estimates of those that wait are told
+estimates_of : (estimate : List Bool → ℕ) (is_dead : List Bool → Bool) (outcome : Outcome GroundListing) → HasEstimates estimate is_dead listed_states outcome
+    → AreEstimates estimate is_dead (listed_states (found_in outcome).store) (found_in outcome).nodes.items (found_in outcome).estimates.items
+estimates_of estimate is_dead (Found steps cost found) told = told
+estimates_of estimate is_dead (Exhausted found) told = told
+estimates_of estimate is_dead (States least found) told = told
+
 -- so each has its mark
-module _ (space : SearchSpace) (known : IsSearchSpace space) (estimate : List Bool → ℕ) (is_dead : List Bool → Bool) (limits : Limits) (outcome : Outcome GroundListing)
+module _ (space : SearchSpace) (estimate : List Bool → ℕ) (is_dead : List Bool → Bool) (limits : Limits) (outcome : Outcome GroundListing)
     (is : IsTrueOutcome (search_space.system_of space) (class_in space) estimate is_dead listed_states limits.states outcome) where
   abbrev t : System (List Bool) ℕ
   t = search_space.system_of space
 
-  pub can_be_marked : CanBeMarked (length (atoms_in (ground_in space))) is_dead (found_in outcome)
-  can_be_marked =
+  pub can_be_marked : HasEstimates estimate is_dead listed_states outcome → CanBeMarked estimate is_dead (found_in outcome)
+  can_be_marked estimates =
       let (claim, found) = found_of t (class_in space) estimate is_dead limits.states outcome is in
-      let most = most_of_limit limits.states limits.states_within in
-      let states = listed_states (found_in outcome).store in
-      record {
-        one_for_each = found.one_for_each;
-        few = omega (arith, found.within_limit, most);
-        width = λ k d below. found_width (task_in (ground_in space)) (atoms_in (ground_in space)) known.atoms states (found_in outcome).nodes.items found k (get_or states k d) (slice_get-get_or states k d below);
-        marked = found.marked;
-      }
+      record { one_for_each = found.one_for_each; marked = found.marked; estimates = estimates_of estimate is_dead outcome estimates }
 
   pub searched : (guide_system : System (List Bool) ℕ) → guide_system ≡ t → IsAdmissible guide_system estimate → ReportsDeadEnds guide_system is_dead
       → (marks : List Listed) → AreMarksOf estimate is_dead (found_in outcome) marks → IsSearched space estimate is_dead limits.states outcome marks

@@ -1,12 +1,11 @@
 -- The lines of the found states, and what they say of each.
-use Rattle.std.proofs.Common.{◌≡◌, ◌∙◌, ℕ, zero, suc, ◌+◌, ◌<◌, Bool, true, false, List, [], ◌∷◌, ◌++◌, length, map, take, Option, None, Some, inl, inr, refl, sym, ap, arith}
+use Rattle.std.proofs.Common.{◌≡◌, ◌∙◌, ℕ, zero, suc, ◌+◌, ◌<◌, Bool, true, false, List, [], ◌∷◌, ◌++◌, length, map, take, Some, inl, inr, refl, sym, ap, arith}
 use Rattle.std.specs.Prelude.{◌⊎◌, slice_get, Contains, if◌then◌else◌}
 use Rattle.std.proofs.lemmas.Bool.{true≢false}
 use Rattle.std.proofs.lemmas.List.{length-map, map-append}
 use Rattle.search.specs.declared.nodes.Node.{Node}
 use Rattle.search.specs.declared.nodes.NodeStatus.{NodeStatus}
 use Rattle.search.specs.declared.nodes.NodeStatus.TheVariants.{Open, Reopened, Expanded, Dead}
-use Rattle.search.specs.DeadEnds.{IsValueUnlessDead}
 use Rattle.search.specs.Outcome.{is_expanded, is_expanded_status, is_dead_status, is_marked_dead, line_of, lines_of, IsCut}
 use Rattle.search.specs.Outcome as search
 use Rattle.certificate.specs.declared.states.Listed.{Listed}
@@ -66,22 +65,19 @@ module _ {S : Type 0} (value : S → ℕ) (is_dead : S → Bool) where
       let reported : is_dead s ≡ true = sym marked ∙ ap is_dead_status is in
       sym (λ i. line_by node (is_expanded_status (is i)) (reported i) (value s))
 
-  pub waiting_listed : (s : S) (node : Node) (mark : Mark) → (node.status ≡ Open) ⊎ (node.status ≡ Reopened) → mark ≡ (if is_dead s then dead else cut (value s)) → record { cost = node.cost; mark = mark } ≡ mark_of_line (line_of value is_dead s node)
-  waiting_listed s node mark waits said =
+  pub waiting_listed : (s : S) (node : Node) (rest : ℕ) → (node.status ≡ Open) ⊎ (node.status ≡ Reopened) → is_marked_dead node ≡ is_dead s → (IsCut is_dead s node → rest ≡ value s)
+      → record { cost = node.cost; mark = cut rest } ≡ mark_of_line (line_of value is_dead s node)
+  waiting_listed s node rest waits marked is =
       let unexpanded : is_expanded node ≡ false = elim waits [
         | inl is ↦ ap is_expanded_status is
         | inr is ↦ ap is_expanded_status is
       ] in
-      ap (λ (m : Mark). record { cost = node.cost; mark = m }) said ∙ sym (ap (λ (b : Bool). line_by node b (is_dead s) (value s)) unexpanded)
-
-  -- a guide's answer says it of one that waits
-  abbrev pub said_by : Option ℕ → Mark
-  said_by None = dead
-  said_by (Some estimate) = cut estimate
-
-  pub said_is : (s : S) (answer : Option ℕ) → IsValueUnlessDead value is_dead s answer → said_by answer ≡ (if is_dead s then dead else cut (value s))
-  said_is s None reported = sym (ap (λ b. if b then dead else cut (value s)) reported)
-  said_is s (Some estimate) (alive, same, small) = ap (λ n. cut n) same ∙ sym (ap (λ b. if b then dead else cut (value s)) alive)
+      let unmarked : is_marked_dead node ≡ false = elim waits [
+        | inl is ↦ ap is_dead_status is
+        | inr is ↦ ap is_dead_status is
+      ] in
+      let alive : is_dead s ≡ false = sym marked ∙ unmarked in
+      ap (λ (n : ℕ). record { cost = node.cost; mark = cut n }) (is (unexpanded, alive)) ∙ sym (λ i. line_by node (unexpanded i) (alive i) (value s))
 
   -- ---- the lines
 

@@ -1,20 +1,20 @@
 -- What a search may go by, if its certificate is to have it, and what it came to.
-use Rattle.std.specs.Prelude.{◌≡◌, ℕ, ◌≤◌, Bool, IsTrue, List, All, length, map}
+use Rattle.std.specs.Prelude.{◌≡◌, ℕ, ◌≤◌, Bool, IsTrue, List, length, map}
 use Rattle.ground_listings.specs.GroundListing.{listed_states}
 use Rattle.ground_listings.specs.declared.ground_listing.GroundListing.{GroundListing}
 use Rattle.grounding.specs.Ground.{task_in, atoms_in}
 use Rattle.certificate.specs.CertificateParts.{listed_of}
 use Rattle.certificate.specs.declared.states.Listed.{Listed}
-use Rattle.certificate_reader.specs.declared.line.TheConstants.{MAX_STATE_LINES}
 use Rattle.model.specs.Grounding.{ground_system}
 use Rattle.potential_functions.specs.Settled.{initial_value}
 use Rattle.search.specs.Estimates.{IsAdmissible}
 use Rattle.search.specs.DeadEnds.{ReportsDeadEnds}
 use Rattle.search.specs.Outcome as search
-use Rattle.search.specs.Outcome.{AreMarked, IsTrueOutcome}
+use Rattle.search.specs.Outcome.{AreEstimates, AreMarked, IsCut, IsTrueOutcome, is_marked_dead}
 use Rattle.search.specs.declared.best.Outcome.{Outcome}
 use Rattle.search.specs.declared.best.Outcome.TheVariants.{Found, Exhausted, States}
 use Rattle.search.specs.declared.nodes.FoundStates.{FoundStates}
+use Rattle.search.specs.declared.nodes.Node.{Node}
 use Rattle.solver.specs.Guidance.{Guidance, CanBeWritten, AreFairBy, estimate_by, first_value, values_by, version_by}
 use Rattle.solver.specs.Improved.{AreSettledOrHigh, AreDeadSettledOrHigh}
 use Rattle.ground_listings.specs.SearchSpace.{class_in, ground_in, exchanges_in, system_of}
@@ -45,11 +45,16 @@ abbrev pub AreMarksOf : (List Bool → ℕ) → (List Bool → Bool) → FoundSt
 AreMarksOf estimate is_dead found marks = map listed_of marks ≡ map mark_of_line (search.lines_of estimate is_dead (listed_states found.store) found.nodes.items)
 
 -- what is known of the found states where their marks are made
-pub record CanBeMarked (atom_count : ℕ) (is_dead : List Bool → Bool) (found : FoundStates GroundListing) : Type 0 where
+pub record CanBeMarked (estimate : List Bool → ℕ) (is_dead : List Bool → Bool) (found : FoundStates GroundListing) : Type 0 where
   pub one_for_each : length found.nodes.items ≡ length (listed_states found.store)
-  pub few : length (listed_states found.store) ≤ MAX_STATE_LINES
-  pub width : All (λ (bits : List Bool). length bits ≡ atom_count) (listed_states found.store)
   pub marked : AreMarked is_dead (listed_states found.store) found.nodes.items
+  pub estimates : AreEstimates estimate is_dead (listed_states found.store) found.nodes.items found.estimates.items
+
+-- the mark says what the line does of each state that was reached so and has this estimate where it is a cut
+abbrev pub IsMarkOf : Node → ℕ → Listed → Type 0
+IsMarkOf node rest listed =
+    (estimate : List Bool → ℕ) (is_dead : List Bool → Bool) (s : List Bool) → is_marked_dead node ≡ is_dead s → (IsCut is_dead s node → rest ≡ estimate s)
+    → listed_of listed ≡ mark_of_line (search.line_of estimate is_dead s node)
 
 -- A search of the ground task by an estimate and a test for dead ends came to this outcome, with these marks.
 pub record IsSearched (space : SearchSpace) (estimate : List Bool → ℕ) (is_dead : List Bool → Bool) (max_states : ℕ) (outcome : Outcome GroundListing) (marks : List Listed) : Type 0 where

@@ -212,8 +212,8 @@ fn starts_no_lower(
     ensures { IfOk result (λ is. IsTrue is → initial_value (task_in ground.now) (atoms_in ground.now) (potentials_of potentials.now) ≤ greatest_value (functions_of (several_of functions.now)) (ground_system (task_in ground.now) (atoms_in ground.now)).initial) }
 {
     let initial = ground.initial(alloc)?;
-    let mut room = functions.room(alloc)?;
-    let value = functions.value(&initial, &mut room);
+    let mut known = functions.known_state(alloc)?;
+    let value = functions.value(&initial, &mut known);
     Ok(potentials.value(&initial) <= value)
 }
 
@@ -234,7 +234,7 @@ fn search_if_fair<'l, 't, E: Sink>(
     let ground = space.ground();
     match functions.fairness(alloc, ground)? {
         ValuesFairness::Fair => {
-            let guide = FairTables::new(alloc, functions, ground)?;
+            let guide = FairTables::new(functions, ground);
             let searched = search_by(alloc, space, &guide, limits, err)?;
             Ok(Attempt::Done(searched))
         }

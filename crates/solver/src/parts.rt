@@ -108,7 +108,7 @@ fn search_on<'l, 't, G: Guide, E: Sink>(
     alloc: Global,
     space: SearchSpace<'l, 't>,
     guide: &G,
-    search: Search<GroundListing<'l, 't>, G::Room>,
+    search: Search<GroundListing<'l, 't>, G::Scratch>,
     given: Given<'_>,
     limits: Limits,
     err: &mut E,
@@ -136,7 +136,7 @@ fn search_to_end<'l, 't, G: Guide, E: Sink>(
     alloc: Global,
     space: SearchSpace<'l, 't>,
     guide: &G,
-    search: Search<GroundListing<'l, 't>, G::Room>,
+    search: Search<GroundListing<'l, 't>, G::Scratch>,
     limits: Limits,
     err: &mut E,
 ) -> Result<Parts<'l, 't>, NoMemory>
@@ -156,12 +156,12 @@ fn search_to_pause<'l, 't, G: Guide, E: Sink>(
     alloc: Global,
     space: SearchSpace<'l, 't>,
     guide: &G,
-    search: Search<GroundListing<'l, 't>, G::Room>,
+    search: Search<GroundListing<'l, 't>, G::Scratch>,
     given: Given<'_>,
     pause: Pause,
     limits: Limits,
     err: &mut E,
-) -> Result<Part<'l, 't, G::Room>, NoMemory>
+) -> Result<Part<'l, 't, G::Scratch>, NoMemory>
     requires space { IsSearchSpace space }
     requires ground { IsGroundOf (task_in (ground_in space)) [] limits.instances (ground_in space) }
     requires system { G.system_of guide.now ≡ system_of space }

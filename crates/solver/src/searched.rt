@@ -1,21 +1,16 @@
 //! A search, with what its certificate says of each state that it found.
 //!
-//! What is said of the states is asked of the guide where the search ends, so that what the guide works with, as the tables of
-//! values, can go into the certificate and is in memory once.
-ghost use Rattle.std.specs.Prelude.{◌≡◌, count_by, if◌then◌else◌, length, IfOk};
-ghost use Rattle.certificate.specs.CertificateParts as parts;
-ghost use Rattle.certificate_reader.specs.Lines as lines;
+//! What is said of the states is written down where the search ends, so that what its guide works with, as the tables of values, can go
+//! into the certificate and is in memory once. The guide is not asked again: the search tells the estimates of the states that wait.
+ghost use Rattle.std.specs.Prelude.{◌≡◌, ℕ, Bool, List, count_by, length, IfOk};
 ghost use Rattle.grounding.specs.Ground.{task_in, atoms_in};
-ghost use Rattle.model.specs.Claims as model;
-ghost use Rattle.packed_state.specs.Packed.{bits_of};
-ghost use Rattle.search.specs.Outcome.{is_expanded, is_marked_dead, line_of};
+ghost use Rattle.search.specs.Outcome.{is_expanded};
 ghost use Rattle.solver.specs.Guided as guided;
-ghost use Rattle.solver.specs.Guided.{AreMarksOf, CanBeMarked, IsSearched};
+ghost use Rattle.solver.specs.Guided.{AreMarksOf, CanBeMarked, IsMarkOf, IsSearched};
 ghost use Rattle.ground_listings.specs.SearchSpace.{ground_in, system_of, IsSearchSpace};
 ghost use Rattle.progress_lines.specs.Said.{GoesOn};
 ghost use Rattle.solver.specs.Said.{IsTrueLine};
 ghost use Rattle.solver.specs.Stretches.{AreOpenIn, IsStretch, IsUnderWay};
-ghost use Rattle.solver.specs.Listing.{mark_of_line};
 
 use crate::limits::Limits;
 use crate::pauses::{Milestone, is_news, next_pause};
@@ -24,7 +19,6 @@ use certificate::{Listed, Mark};
 use devices::Sink;
 use faults::NoMemory;
 use ground_listings::{GroundListing, GroundSystem, SearchSpace};
-use packed_state::Packed;
 use search::{
     FoundStates, Guide, Halt, Node, NodeStatus, Outcome, Search, StateListing, begin, go_on,
 };
@@ -52,7 +46,7 @@ pub(crate) fn begin_by<'l, 't, G: Guide>(
     space: SearchSpace<'l, 't>,
     guide: &G,
     limits: Limits,
-) -> Result<Search<GroundListing<'l, 't>, G::Room>, NoMemory>
+) -> Result<Search<GroundListing<'l, 't>, G::Scratch>, NoMemory>
     requires { G.width_of guide.now ≡ length (atoms_in (ground_in space)) }
     ensures { IfOk result (IsUnderWay space.entry (G.estimate_of guide.now) (G.is_dead guide.now) (G.fits guide.now) limits.states) }
 {
@@ -66,10 +60,10 @@ fn stretch_by<'l, 't, G: Guide>(
     alloc: Global,
     space: SearchSpace<'l, 't>,
     guide: &G,
-    search: Search<GroundListing<'l, 't>, G::Room>,
+    search: Search<GroundListing<'l, 't>, G::Scratch>,
     pause: u32,
     limits: Limits,
-) -> Result<Stretch<'l, 't, G::Room>, NoMemory>
+) -> Result<Stretch<'l, 't, G::Scratch>, NoMemory>
     requires space { IsSearchSpace space }
     requires system { G.system_of guide.now ≡ system_of space }
     requires width { G.width_of guide.now ≡ length (atoms_in (ground_in space)) }
@@ -79,7 +73,7 @@ fn stretch_by<'l, 't, G: Guide>(
     let system = GroundSystem(space.ground());
     match go_on(alloc, &system, guide, search, pause, limits.states())? {
         Halt::Ended(outcome) => {
-            let marks = marks(alloc, guide, found_in(&outcome))?;
+            let marks = marks(alloc, found_in(&outcome))?;
             Ok(Stretch::Ended(Searched { outcome, marks }))
         }
         Halt::Paused(search) => Ok(Stretch::Paused(search)),
@@ -92,11 +86,11 @@ pub(crate) fn go_on_by<'l, 't, G: Guide, E: Sink>(
     alloc: Global,
     space: SearchSpace<'l, 't>,
     guide: &G,
-    search: Search<GroundListing<'l, 't>, G::Room>,
+    search: Search<GroundListing<'l, 't>, G::Scratch>,
     pause: u32,
     limits: Limits,
     err: &mut E,
-) -> Result<Stretch<'l, 't, G::Room>, NoMemory>
+) -> Result<Stretch<'l, 't, G::Scratch>, NoMemory>
     requires space { IsSearchSpace space }
     requires system { G.system_of guide.now ≡ system_of space }
     requires width { G.width_of guide.now ≡ length (atoms_in (ground_in space)) }
@@ -122,7 +116,7 @@ fn say_news<G: Guide, E: Sink>(
     alloc: Global,
     space: SearchSpace<'_, '_>,
     guide: &G,
-    search: &Search<GroundListing<'_, '_>, G::Room>,
+    search: &Search<GroundListing<'_, '_>, G::Scratch>,
     last: Option<Milestone>,
     err: &mut E,
 ) -> Result<Option<Milestone>, NoMemory>
@@ -145,7 +139,7 @@ fn say_progress<G: Guide, E: Sink>(
     alloc: Global,
     space: SearchSpace<'_, '_>,
     guide: &G,
-    search: &Search<GroundListing<'_, '_>, G::Room>,
+    search: &Search<GroundListing<'_, '_>, G::Scratch>,
     err: &mut E,
 ) -> Result<(), NoMemory>
     requires space { IsSearchSpace space }
@@ -184,7 +178,7 @@ pub(crate) fn finish_by<'l, 't, G: Guide, E: Sink>(
     alloc: Global,
     space: SearchSpace<'l, 't>,
     guide: &G,
-    search: Search<GroundListing<'l, 't>, G::Room>,
+    search: Search<GroundListing<'l, 't>, G::Scratch>,
     limits: Limits,
     err: &mut E,
 ) -> Result<Searched<'l, 't>, NoMemory>
@@ -233,31 +227,22 @@ fn found_in<'o, 'l, 't>(
 }
 
 /// A mark for each found state, in order.
-fn marks<G: Guide>(
-    alloc: Global,
-    guide: &G,
-    found: &FoundStates<GroundListing<'_, '_>>,
-) -> Result<Vec<Listed>, NoMemory>
-    requires { CanBeMarked (G.width_of guide.now) (G.is_dead guide.now) found.now }
-    ensures { IfOk result (λ marks. AreMarksOf (G.estimate_of guide.now) (G.is_dead guide.now) found.now marks.items) }
+fn marks(alloc: Global, found: &FoundStates<GroundListing<'_, '_>>) -> Result<Vec<Listed>, NoMemory>
+    requires { length found.now.estimates.items ≡ length found.now.nodes.items }
+    ensures { IfOk result (λ marks. (estimate : List Bool → ℕ) (is_dead : List Bool → Bool)
+        → CanBeMarked estimate is_dead found.now → AreMarksOf estimate is_dead found.now marks.items) }
 {
-    let mut room = guide.room(alloc)?;
-    let mut state = Packed::empty(alloc, found.store.width())?;
     let mut marks = Vec::with_capacity(alloc, found.nodes.len())?;
     for place in 0..found.nodes.len() {
-        found.store.get(place as u32, &mut state);
-        marks.push(listed(guide, &state, found.nodes[place], &mut room))?;
+        marks.push(listed(found.nodes[place], found.estimates[place]))?;
     }
     Ok(marks)
 }
 
-/// How a state is listed that was reached so: as a dead end where its node says so. The guide is asked of a cut alone.
-fn listed<G: Guide>(guide: &G, state: &Packed, node: Node, room: &mut G::Room) -> Listed
-    requires width { length (bits_of state.now) ≡ G.width_of guide.now }
-    requires room { G.fits guide.now room.old }
-    requires marked { is_marked_dead node ≡ G.is_dead guide.now (bits_of state.now) }
-    ensures listed { parts.listed_of result ≡ mark_of_line (line_of (G.estimate_of guide.now) (G.is_dead guide.now) (bits_of state.now) node) }
-    ensures room { G.fits guide.now room.new }
+/// How a state is listed that was reached so and has this estimate: as an open one where it was expanded, as a dead end where its node
+/// says so, and else as a cut.
+fn listed(node: Node, estimate: u64) -> Listed
+    ensures { IsMarkOf node estimate result }
 {
     let cost = node.cost;
     match node.status {
@@ -271,20 +256,7 @@ fn listed<G: Guide>(guide: &G, state: &Packed, node: Node, room: &mut G::Room) -
         },
         NodeStatus::Open | NodeStatus::Reopened => Listed {
             cost,
-            mark: unexpanded(guide, state, room),
+            mark: Mark::Cut { rest: estimate },
         },
-    }
-}
-
-/// The mark of a state that is not expanded: a cut with its estimate, unless it is reported dead.
-fn unexpanded<G: Guide>(guide: &G, state: &Packed, room: &mut G::Room) -> Mark
-    requires width { length (bits_of state.now) ≡ G.width_of guide.now }
-    requires room { G.fits guide.now room.old }
-    ensures mark { lines.mark_of result ≡ (if G.is_dead guide.now (bits_of state.now) then model.dead else model.cut (G.estimate_of guide.now (bits_of state.now))) }
-    ensures room { G.fits guide.now room.new }
-{
-    match guide.value_in(state, room) {
-        Some(rest) => Mark::Cut { rest },
-        None => Mark::Dead,
     }
 }

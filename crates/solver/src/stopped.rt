@@ -74,14 +74,14 @@ impl Stopped<'_, '_, '_> {
             expanded: 0,
             saved: 0,
         };
-        let mut room = functions.room(alloc)?;
+        let mut known = functions.known_state(alloc)?;
         let mut set = Packed::empty(alloc, self.listing.width())?;
         let step = self.nodes.len() / MAX_ASKED + 1;
         for place in 0..self.nodes.len() {
             let node = self.nodes[place];
             if place % step == 0 && node.is_expanded() {
                 self.listing.get(place as u32, &mut set);
-                let estimate = functions.value_unless_dead(&set, &mut room);
+                let estimate = functions.value_unless_dead(&set, &mut known);
                 saving.count(self.is_saved(node.cost, estimate));
             }
         }

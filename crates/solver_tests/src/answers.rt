@@ -1,4 +1,4 @@
-//! The certificate of an answer, which the checker accepts from its text.
+//! Tests of the certificates of answers: the checker accepts their texts.
 ghost use Rattle.std.specs.Prelude.{IsTrue};
 ghost use Rattle.std.specs.List.{list_all};
 ghost use Rattle.std.specs.Option.{ForSome};
@@ -16,7 +16,7 @@ use std::test::Fail;
 use task::Task;
 use test_texts::{FOUR_BALLS, HOP, on_task};
 
-/// What the checker accepts of the certificate of this text, and of the plan, if one is given.
+/// The checker's answer to the certificate with this text, and to the plan if one is given.
 fn check_text(alloc: Global, task: &Task, text: Memory, plan: Option<&Plan>) -> Option<Accepted>
     requires { ForSome plan (λ p. IsTrue (list_all (is_instance (task_of task.now)) (plan_of p.now))) }
 {
@@ -27,7 +27,7 @@ fn check_text(alloc: Global, task: &Task, text: Memory, plan: Option<&Plan>) -> 
     }
 }
 
-/// The same of the certificate.
+/// The same, for a certificate in memory.
 fn check_cert(
     alloc: Global,
     task: &Task,
@@ -56,7 +56,7 @@ fn is_plan_shown(
     Ok(with_plan == Some(Accepted::Optimal { cost }) && without == Some(Accepted::AtLeast { cost }))
 }
 
-/// Whether there is a plan, and its certificate is accepted.
+/// Whether there is a plan whose certificate is accepted.
 fn is_shown(alloc: Global, task: &Task, limits: Limits) -> Result<bool, Fail> {
     let answer = solve(alloc, task, limits)?;
     let is_accepted = match &answer {
@@ -75,8 +75,8 @@ fn a_plan_is_shown_by_its_certificate(rt: HostRuntime) -> Result<(), Fail> {
     })
 }
 
-/// But for the names of balls and grippers there are 24 states: the robot is in either room, and of the four balls none to four are
-/// there, one to three where it carries one, and none to two where it carries two.
+/// Up to the names of balls and grippers there are 24 states: the robot is in either room, and of the four balls, none to four
+/// are there, one to three if it carries one, and none to two if it carries two.
 #[test]
 fn states_that_differ_in_names_are_listed_once(rt: HostRuntime) -> Result<(), Fail> {
     let limits = Limits::new(24, 1_000).ok_or("no limits")?;

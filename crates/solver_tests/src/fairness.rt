@@ -1,5 +1,5 @@
-//! Hops and leaps: places `a`, `b` and `c`, from each of which to the next a hop leads at 3, and from `a` to `c` a leap at 10.
-//! The numbered atoms are those of being at `a`, `b` and `c`; the kept instances are the two hops, and then the leap.
+//! Tests with hops and leaps: there are places `a`, `b` and `c`; a hop of cost 3 leads from each to the next, and a leap of cost
+//! 10 from `a` to `c`. The numbered atoms are the positions `a`, `b` and `c`; the kept instances are the two hops, then the leap.
 ghost use Rattle.std.specs.Prelude.{◌≡◌, IfOk, IfSome, length};
 ghost use Rattle.packed_state.specs.Packed.{bits_of};
 ghost use Rattle.grounding.specs.Ground.{atoms_in};
@@ -18,7 +18,7 @@ use std::test::Fail;
 use task::Task;
 use test_texts::{HOP, on_task};
 
-/// Potentials of this constant and these weights, where there is one for each atom.
+/// Potentials with this constant and these weights, one for each atom.
 pub(crate) fn weighing(
     alloc: Global,
     constant: i64,
@@ -47,7 +47,7 @@ fn weighing_atoms(
     Ok(Some(potentials))
 }
 
-/// What is reported for the potentials at the allowance.
+/// The fairness of the potentials with this allowance.
 fn reported<A: Allowance>(
     alloc: Global,
     ground: &Ground<'_>,
@@ -60,7 +60,7 @@ fn reported<A: Allowance>(
     Ok(Some(A::fairness(&potentials, alloc, ground)?))
 }
 
-/// Whether the first state is reported dead, and the second, which is as wide.
+/// Whether the first state is detected as a dead end, and whether the second is, if it has the same width.
 fn both_dead<D: DeadEnd>(test: &D, first: &Packed, second: &Packed) -> (bool, bool)
     requires { length (bits_of first.now) ≡ D.width_of test.now }
 {
@@ -70,7 +70,7 @@ fn both_dead<D: DeadEnd>(test: &D, first: &Packed, second: &Packed) -> (bool, bo
     )
 }
 
-/// Whether these potentials, if they are dead-fair, report the initial state dead, and the state in which nothing is true.
+/// Whether these potentials, if they are dead-fair, detect the initial state, and the state without true atoms.
 fn are_dead(
     alloc: Global,
     ground: &Ground<'_>,
@@ -88,7 +88,7 @@ fn are_dead(
     }
 }
 
-/// What fair potentials say of the initial state.
+/// The value of the initial state by these potentials, if they are fair.
 fn estimated(
     alloc: Global,
     ground: &Ground<'_>,
@@ -105,7 +105,7 @@ fn estimated(
     }
 }
 
-/// The value of the initial state by potentials that are 0 at first and are then made better.
+/// The value of the initial state by potentials that start at 0 and are then improved.
 fn improved(alloc: Global, ground: &Ground<'_>, rounds: u32) -> Result<Option<u64>, NoMemory> {
     let potentials = Potentials::zero(alloc, ground)?;
     if potentials.weights().len() != ground.width() as usize {
@@ -123,7 +123,7 @@ fn improved(alloc: Global, ground: &Ground<'_>, rounds: u32) -> Result<Option<u6
     Ok(Some(better.potentials().value(&initial)))
 }
 
-/// What is reported for three potentials for the ground task of `HOP`.
+/// The fairness of three potentials for the ground task of `HOP`.
 fn reported_of_three(
     alloc: Global,
     ground: &Ground<'_>,
@@ -135,7 +135,7 @@ fn reported_of_three(
     ])
 }
 
-/// Two are estimated, of which the second are not fair, and potentials of 0 are made better.
+/// The values by two potentials, the second of which are not fair, and by potentials that start at 0 and are improved.
 fn estimated_and_improved(
     alloc: Global,
     ground: &Ground<'_>,
@@ -147,7 +147,7 @@ fn estimated_and_improved(
     ])
 }
 
-/// The same where nothing is allowed: a hop moves from one place to another, and at the goal one is at `c`.
+/// The same with no allowance: a hop moves from one place to another, and the goal is to be at `c`.
 fn reported_dead_of_three(
     alloc: Global,
     ground: &Ground<'_>,
@@ -159,7 +159,7 @@ fn reported_dead_of_three(
     ])
 }
 
-/// What the first of them report, and what the last do, which are not dead-fair.
+/// The dead ends detected by the first of them, and by the last, which are not dead-fair.
 fn dead_of_two(alloc: Global, ground: &Ground<'_>) -> Result<[Option<(bool, bool)>; 2], NoMemory> {
     Ok([
         are_dead(alloc, ground, 1, &[-1, -1, -1])?,
@@ -167,25 +167,25 @@ fn dead_of_two(alloc: Global, ground: &Ground<'_>) -> Result<[Option<(bool, bool
     ])
 }
 
-/// The same of the task.
+/// The same for the task.
 fn dead_in(alloc: Global, task: &Task) -> Result<[Option<(bool, bool)>; 2], GroundFault> {
     let ground = Ground::new(alloc, task, &[], 10)?;
     Ok(dead_of_two(alloc, &ground)?)
 }
 
-/// What is reported of dead ends of the task.
+/// Dead-fairness of the three potentials, for the task.
 fn reported_dead_in(alloc: Global, task: &Task) -> Result<[Option<Fairness>; 3], GroundFault> {
     let ground = Ground::new(alloc, task, &[], 10)?;
     Ok(reported_dead_of_three(alloc, &ground)?)
 }
 
-/// What is reported of costs of the task.
+/// Fairness of the three potentials, for the task.
 fn reported_in(alloc: Global, task: &Task) -> Result<[Option<Fairness>; 3], GroundFault> {
     let ground = Ground::new(alloc, task, &[], 10)?;
     Ok(reported_of_three(alloc, &ground)?)
 }
 
-/// What is estimated of the task.
+/// The values of the initial state, for the task.
 fn estimated_in(alloc: Global, task: &Task) -> Result<[Option<u64>; 3], GroundFault> {
     let ground = Ground::new(alloc, task, &[], 10)?;
     Ok(estimated_and_improved(alloc, &ground)?)

@@ -1,4 +1,4 @@
-//! The number that the contracts of the solver name.
+//! The number that the solver's contracts mention.
 use solver::MAX_LIMIT;
 
 const _: () = prove!(MAX_LIMIT == 16_777_216);

@@ -1,4 +1,4 @@
-//! Tests of what guides the solver, and of the certificates of its answers.
+//! Tests of the solver's heuristics, and of the certificates of its answers.
 #![tactic(auto)]
 
 #[cfg(test)]

@@ -1,4 +1,4 @@
-//! The listing of states by orbits: what follows the initial state of a task with balls and grippers that are alike.
+//! Tests of listing states by orbits: the successors of the initial state in a task with interchangeable balls and grippers.
 ghost use Rattle.std.specs.Prelude.{◌≡◌, length};
 ghost use Rattle.packed_state.specs.Packed.{bits_of};
 
@@ -14,10 +14,11 @@ use std::test::Fail;
 use task::Task;
 use test_texts::{FOUR_BALLS, on_task};
 
-/// How many states were the first of their class, how many were listed before, and how many were like one that was.
+/// The numbers of states that were the first of their class, that were already listed, and that had another member of their class
+/// listed.
 type Counts = (usize, usize, usize);
 
-/// Where the state is to be listed, if it is as wide as those of the listing.
+/// The place of the state in the listing, if it has the listing's width.
 fn place_of<L: StateListing>(listing: &mut L, state: &Packed) -> Result<Option<Place>, NoMemory> {
     if state.width() != listing.width() || listing.len() > 100 {
         return Ok(None);
@@ -25,7 +26,7 @@ fn place_of<L: StateListing>(listing: &mut L, state: &Packed) -> Result<Option<P
     listing.place(state, 100)
 }
 
-/// The counts with one state more.
+/// The counts after one more state.
 fn counted(counts: Counts, place: Option<Place>) -> Counts {
     let (new, listed, alike) = counts;
     match place {
@@ -36,7 +37,7 @@ fn counted(counts: Counts, place: Option<Place>) -> Counts {
     }
 }
 
-/// The counts of the state and then of what follows it, in the order of the actions.
+/// The counts for the state and then its successors, in the order of actions.
 fn counts_from<T: TransitionSystem, L: StateListing>(
     alloc: Global,
     system: &T,
@@ -56,7 +57,7 @@ fn counts_from<T: TransitionSystem, L: StateListing>(
     Ok(counts)
 }
 
-/// The counts from the initial state on, in the listing of this space.
+/// The counts from the initial state on, in the listing of this search space.
 fn counts_in(alloc: Global, space: SearchSpace<'_, '_>) -> Result<Counts, NoMemory> {
     let system = GroundSystem(space.ground());
     let initial = system.initial(alloc)?;
@@ -64,7 +65,7 @@ fn counts_in(alloc: Global, space: SearchSpace<'_, '_>) -> Result<Counts, NoMemo
     counts_from(alloc, &system, &initial, &mut listing)
 }
 
-/// The counts where each state is a class of its own, and where exchanges make classes.
+/// The counts when each state is a class of its own, and when exchanges form classes.
 fn counts_of(alloc: Global, task: &Task) -> Result<Option<[Counts; 2]>, GroundFault> {
     let ground = Ground::new(alloc, task, &[], 100)?;
     let exchanges = drafted_exchanges(alloc, task)?;
@@ -78,8 +79,8 @@ fn counts_of(alloc: Global, task: &Task) -> Result<Option<[Counts; 2]>, GroundFa
     }
 }
 
-/// The robot may stay, which leads to the initial state, go to the other room, or take any of four balls by either of two
-/// grippers, all of which are alike.
+/// The robot may stay, which leads back to the initial state, go to the other room, or pick up any of four balls with either of
+/// two grippers, and all of those are equivalent.
 #[test]
 fn balls_and_grippers_are_alike(rt: HostRuntime) -> Result<(), Fail> {
     on_task(&rt, rt.alloc(), &FOUR_BALLS, |rt, alloc, task| {

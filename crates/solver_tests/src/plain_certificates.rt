@@ -1,6 +1,6 @@
-//! The certificate of each answer, over the plain store of states: a search that goes by the certificate's potentials, and
-//! keeps its states in that store, finds what the certificate claims and lists. What is listed, with the claim, the atoms and
-//! the potentials, is all that a certificate's text is made of.
+//! Tests of certificates against the plain store of states: a search with the certificate's potentials that keeps its states in
+//! that store finds what the certificate claims and lists. The listing, the claim, the atoms and the potentials are everything
+//! that a certificate's text contains.
 ghost use Rattle.std.specs.Prelude.{◌≡◌};
 ghost use Rattle.potentials_improved.specs.FairPotentials.{ground_in};
 
@@ -19,21 +19,21 @@ use std::test::Fail;
 use task::Task;
 use test_texts::on_task;
 
-/// A limit that is exceeded.
+/// An exceeded limit.
 #[derive(Clone, Copy, Debug, PartialEq, Eq)]
 pub(crate) enum Limit {
-    /// That of the kept instances.
+    /// The limit of kept instances.
     Instances,
-    /// That of the numbered atoms.
+    /// The limit of numbered atoms.
     Atoms,
-    /// That of the listed states.
+    /// The limit of listed states.
     States,
 }
 
-/// What is found out of a task: what a plan costs, or that there is none, or the limit that is exceeded.
+/// The result for a task: the cost of an optimal plan, that there is none, or the exceeded limit.
 pub(crate) type Found = Result<Option<u64>, Limit>;
 
-/// What is found out, but for the plan, the certificate and the bound.
+/// The result in an answer, without plan, certificate and bound.
 fn found(answer: &Answer) -> Found {
     match answer {
         Answer::Plan { cost, .. } => Ok(Some(*cost)),
@@ -53,7 +53,7 @@ fn states_of<S>(outcome: &Outcome<S>) -> Option<&FoundStates<S>> {
     }
 }
 
-/// Copies the state at this place, if there is one of this width.
+/// Copies the state at this index, if there is one and it has this width.
 fn got<S: StateStore>(store: &S, place: u32, into: &mut Packed) -> bool {
     if into.width() != store.width() || place as usize >= store.len() {
         return false;
@@ -62,7 +62,7 @@ fn got<S: StateStore>(store: &S, place: u32, into: &mut Packed) -> bool {
     true
 }
 
-/// Whether the stores have the same states of the width, in the same order.
+/// Whether the stores have the same states of this width, in the same order.
 fn have_same<A: StateStore, B: StateStore>(
     alloc: Global,
     width: u32,
@@ -80,7 +80,7 @@ fn have_same<A: StateStore, B: StateStore>(
     Ok(some.len() == others.len())
 }
 
-/// What the certificate of a search claims that ends so.
+/// The claim of a certificate for this outcome of a search.
 fn claim_of<S>(outcome: &Outcome<S>) -> Claim {
     match outcome {
         Outcome::Found { cost, .. } => Claim::Bound(*cost),
@@ -89,7 +89,7 @@ fn claim_of<S>(outcome: &Outcome<S>) -> Claim {
     }
 }
 
-/// How the state is listed that was reached so, if it is one of the potentials' task.
+/// The line of a state reached like this, if it is a state of the potentials' task.
 fn listed(
     fair: &Fair<'_, '_>,
     dead_ends: &DeadFair<'_, '_>,
@@ -115,7 +115,7 @@ fn listed(
     })
 }
 
-/// Whether each state that was found has its mark, in their order.
+/// Whether each state that was found has its line's role and cost, in order.
 fn have_marks<S: StateStore>(
     alloc: Global,
     fair: &Fair<'_, '_>,
@@ -133,7 +133,7 @@ fn have_marks<S: StateStore>(
     Ok(found.nodes.len() == marks.len())
 }
 
-/// Whether the certificate claims what was found out, and lists the states that were found.
+/// Whether the certificate claims the result, and lists the states that were found.
 fn is_of<S: StateStore>(
     alloc: Global,
     fair: &Fair<'_, '_>,
@@ -152,7 +152,7 @@ fn is_of<S: StateStore>(
     )
 }
 
-/// Whether the certificate is of what a search over the plain store finds by these potentials.
+/// Whether the certificate matches what a search over the plain store finds with these potentials.
 fn is_found(
     alloc: Global,
     ground: &Ground<'_>,
@@ -172,7 +172,7 @@ fn is_found(
     is_of(alloc, fair, dead_ends, &outcome, cert)
 }
 
-/// The same by the certificate's potentials for dead ends.
+/// The same, with the certificate's potentials for dead ends.
 fn is_found_by(
     alloc: Global,
     ground: &Ground<'_>,
@@ -195,7 +195,7 @@ fn is_found_by(
     }
 }
 
-/// The same by both of its potentials.
+/// The same, with both of its potentials.
 fn is_found_by_both(
     alloc: Global,
     ground: &Ground<'_>,
@@ -217,7 +217,7 @@ fn is_found_by_both(
     }
 }
 
-/// Whether the certificate, which has the task's numbered atoms, is of what the search over the plain store finds.
+/// Whether the certificate, which has the task's numbered atoms, matches what the search over the plain store finds.
 fn is_same(alloc: Global, task: &Task, limits: Limits, cert: &Cert) -> Result<bool, NoMemory> {
     match &Ground::new(alloc, task, &[], limits.instances()) {
         Ok(ground) if ground.atoms().as_slice() == cert.atoms() => {
@@ -238,8 +238,8 @@ fn cert_of(answer: &Answer) -> Option<&Cert> {
     }
 }
 
-/// What is found out, whether the certificate is the same over the plain store, whether its states take more than one word,
-/// and whether it lists dead ends.
+/// The result, whether the certificate is the same over the plain store, whether its states take more than one word, and whether
+/// it lists dead ends.
 type Reported = (Found, [bool; 3]);
 
 fn reported_of(

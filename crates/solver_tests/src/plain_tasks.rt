@@ -1,4 +1,4 @@
-//! The tasks whose certificates are looked at over either store of states.
+//! The tasks whose certificates are compared over both stores of states.
 use crate::plain_certificates::{Found, Limit};
 use crate::unlike_tasks::{FOUR_UNLIKE_BALLS, UNLIKE_LAMPS, UNLIKE_PAIRS};
 use test_texts::{
@@ -6,11 +6,11 @@ use test_texts::{
     TIE, TRIP, Texts, UNTIED,
 };
 
-/// A task, how many states may be listed, what is found out but for the bound at that limit, and of its certificate whether a
-/// state takes more than one word, and whether it lists dead ends.
+/// A task, the limit of listed states, the result without the bound at that limit, and for its certificate whether a state takes
+/// more than one word, and whether it lists dead ends.
 pub(crate) type Row = (Texts, u32, Found, [bool; 2]);
 
-/// That more states would have to be listed.
+/// The state limit is exceeded.
 const LIMIT: Found = Err(Limit::States);
 
 #[rattlefmt::skip]

@@ -1,4 +1,4 @@
-//! Scores of states of more than two words.
+//! Tests of scores of states with more than two words.
 use faults::NoMemory;
 use packed_state::Packed;
 use potentials_improved::Potentials;
@@ -7,7 +7,7 @@ use std::test::Fail;
 
 const WIDTH: u32 = 130;
 
-/// The state in which the atoms of these numbers are true.
+/// The state in which the atoms with these numbers are true.
 fn state(alloc: Global, numbers: &[u32]) -> Result<Packed, NoMemory> {
     let mut state = Packed::empty(alloc, WIDTH)?;
     for number in numbers {
@@ -18,7 +18,7 @@ fn state(alloc: Global, numbers: &[u32]) -> Result<Packed, NoMemory> {
     Ok(state)
 }
 
-/// Potentials of the constant 1000, where the atom of number k has the weight k - 64.
+/// Potentials with the constant 1000, in which the atom with number k has the weight k - 64.
 fn rising(alloc: Global) -> Result<Option<Potentials>, NoMemory> {
     let mut weights = Vec::new(alloc);
     for number in 0..WIDTH {
@@ -27,7 +27,7 @@ fn rising(alloc: Global) -> Result<Option<Potentials>, NoMemory> {
     Ok(Potentials::new(1000, weights))
 }
 
-/// The score of each of the two states, and that of the second from that of the first.
+/// The score of each of the two states, and that of the second updated from that of the first.
 fn scores(
     alloc: Global,
     before: &[u32],

@@ -1,5 +1,5 @@
-//! A search by tables: of the places `a`, `b` and `c`, from each of which to the next a hop leads at 3, and from `a` to `c` a
-//! leap at 10, each has a row.
+//! Tests of a search with tables: there are places `a`, `b` and `c`, each with a row; a hop of cost 3 leads from each to the
+//! next, and a leap of cost 10 from `a` to `c`.
 ghost use Rattle.std.specs.Prelude.{◌≡◌, ◌∷◌, [], All, IfOk, IsTrue, length};
 ghost use Rattle.grounding.specs.Ground.{task_in, atoms_in};
 ghost use Rattle.potential_functions.specs.PotentialFunctions.{IsInRange};
@@ -26,10 +26,10 @@ use tables::{IndexedTables, TableFunctions, ValuesFairness};
 use task::Task;
 use test_texts::{HOP, on_task};
 
-/// What a cheapest plan costs, and how many states are found.
+/// The cost of an optimal plan, and the number of states found.
 type Found = Option<(u64, usize)>;
 
-/// The table with one row more, of these atoms and with these two weights.
+/// The table with one more row, with these atoms and these two weights.
 fn with_row(
     alloc: Global,
     mut table: Table,
@@ -53,7 +53,7 @@ fn with_row(
     Ok(table)
 }
 
-/// From `a` there is so much to be paid, from `b` 3, and from `c` nothing.
+/// A table of remaining costs: these values from `a`, 3 from `b`, and 0 from `c`.
 fn distances(alloc: Global, first: &[i64]) -> Result<Table, NoMemory>
     requires long { length first.now ≡ 2 }
     requires range { All IsInRange first.now }
@@ -67,7 +67,7 @@ fn distances(alloc: Global, first: &[i64]) -> Result<Table, NoMemory>
     with_row(alloc, two, &[2], &[0, 0])
 }
 
-/// The value of the tables alone, and no dead ends.
+/// The value of the tables alone, without dead-end detection.
 fn over<'a>(alloc: Global, tables: IndexedTables<'a>) -> Result<TableFunctions<'a>, NoMemory>
     requires count { count_of tables ≡ 2 }
     requires scopes { IsTrue (are_over 3 (tables_of tables)) }
@@ -79,7 +79,7 @@ fn over<'a>(alloc: Global, tables: IndexedTables<'a>) -> Result<TableFunctions<'
     Ok(TableFunctions::new(values, dead_ends, tables))
 }
 
-/// The potentials of three atoms that are 0.
+/// Potentials of three atoms that are all 0.
 fn nothing(alloc: Global) -> Result<Potentials, NoMemory>
     ensures { IfOk result (λ p. length (potentials_of p).weights ≡ 3) }
 {
@@ -89,7 +89,7 @@ fn nothing(alloc: Global) -> Result<Potentials, NoMemory>
     }
 }
 
-/// What a cheapest plan costs that the search by these values finds, and how many states are found.
+/// The optimal plan cost that the search with these values finds, and the number of states found.
 fn found_by(
     alloc: Global,
     ground: &Ground<'_>,
@@ -104,7 +104,7 @@ fn found_by(
     }
 }
 
-/// The same by these tables, if their values are fair.
+/// The same with these tables, if their values are fair.
 fn found_by_tables(
     alloc: Global,
     ground: &Ground<'_>,
@@ -119,11 +119,11 @@ fn found_by_tables(
     let ValuesFairness::Fair = functions.fairness(alloc, ground)? else {
         return Ok(None);
     };
-    let guide = FairTables::new(alloc, functions, ground)?;
+    let guide = FairTables::new(functions, ground);
     found_by(alloc, ground, &guide)
 }
 
-/// The same of three atoms, by what is to be paid from each place.
+/// The same for three atoms, given the remaining costs.
 fn found_from(alloc: Global, ground: &Ground<'_>, first: &[i64]) -> Result<Found, NoMemory>
     requires long { length first.now ≡ 2 }
     requires range { All IsInRange first.now }
@@ -137,7 +137,7 @@ fn found_from(alloc: Global, ground: &Ground<'_>, first: &[i64]) -> Result<Found
     found_by_tables(alloc, ground, tables)
 }
 
-/// The same of the task.
+/// The same for the task.
 fn found(alloc: Global, task: &Task, first: &[i64]) -> Result<Found, GroundFault>
     requires long { length first.now ≡ 2 }
     requires range { All IsInRange first.now }

@@ -1,8 +1,8 @@
-//! Tasks of objects of which no two are interchangeable, so that in a certificate of `solve` each state stands for itself: facts
-//! that no action asks for tell them apart.
+//! Tasks without interchangeable objects, so that in a certificate of `solve` each state represents only itself: facts that no
+//! action uses distinguish the objects.
 use test_texts::Texts;
 
-/// Of three switches two are turned at a time, and one is to be on.
+/// Two of three switches are turned at a time; one must be on in the end.
 pub(crate) const UNLIKE_PAIRS: Texts = [
     "(define (domain pairs) (:predicates (on ?s) (before ?s ?t))
  (:action toggle :parameters (?x ?y) :precondition (not (= ?x ?y))
@@ -22,7 +22,7 @@ pub(crate) const UNLIKE_LAMPS: Texts = [
  (:goal (forall (?s) (on ?s))))",
 ];
 
-/// Each of four balls is picked up and dropped, and two of them are carried at a time: three ways between the rooms.
+/// Four balls are picked up and dropped, two of them carried at a time: three trips between the rooms.
 pub(crate) const FOUR_UNLIKE_BALLS: Texts = [
     "(define (domain gripper)
  (:predicates (room ?r) (ball ?b) (gripper ?g) (at-robot ?r) (at ?b ?r) (free ?g) (carry ?b ?g) (before ?x ?y))

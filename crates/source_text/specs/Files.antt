@@ -1,4 +1,4 @@
--- The files that are given: in the model's terms, and their names and bytes.
+-- The input files in the model's terms, with their names and bytes.
 use Rattle.std.specs.Prelude.{ℕ, List, codes}
 use Rattle.source_text.specs.declared.texts.File.{File}
 use Rattle.source_text.specs.declared.texts.File.TheVariants.{Domain, Problem, Plan}
@@ -23,7 +23,7 @@ text_in texts Domain = texts.domain.text.now
 text_in texts Problem = texts.problem.text.now
 text_in texts Plan = texts.plan.text.now
 
--- the name of a file, as it was given
+-- the name of a file, as given
 abbrev pub name_in : NamedTexts → File → List ℕ
 name_in texts Domain = texts.domain.name.now
 name_in texts Problem = texts.problem.name.now

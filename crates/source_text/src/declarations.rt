@@ -4,7 +4,7 @@ use crate::piece::Piece;
 use faults::NoMemory;
 use std::alloc::Global;
 
-/// A name or a variable that is declared, with its types: none where no type comes after it.
+/// A declared name or variable with its types; none if no type follows it.
 #[derive(Clone, Copy)]
 pub struct TypedName<'w, 'a> {
     /// The name or variable.
@@ -13,10 +13,10 @@ pub struct TypedName<'w, 'a> {
     pub types: &'w [Piece<'a>],
 }
 
-/// How many lists may be open at once.
+/// The maximum number of lists open at once.
 const DEEPEST: usize = 64;
 
-/// The section of this keyword, with its parentheses; no pieces where there is none.
+/// The section with this keyword, with its parentheses; empty if there is none.
 pub fn section<'w, 'a>(
     alloc: Global,
     pieces: &'w [Piece<'a>],
@@ -31,12 +31,12 @@ pub fn section<'w, 'a>(
     Ok(no_pieces(pieces))
 }
 
-/// No pieces, of these.
+/// An empty slice of these pieces.
 fn no_pieces<'w, 'a>(pieces: &'w [Piece<'a>]) -> &'w [Piece<'a>] {
     &pieces[..0]
 }
 
-/// The names of the types that come after a `-`: one, or those of an `(either ..)`.
+/// The type names after a `-`: one, or those of an `(either ..)`.
 fn types_in<'w, 'a>(node: &'w [Piece<'a>]) -> &'w [Piece<'a>] {
     if node.len() >= 3 {
         &node[2..node.len() - 1]
@@ -45,7 +45,7 @@ fn types_in<'w, 'a>(node: &'w [Piece<'a>]) -> &'w [Piece<'a>] {
     }
 }
 
-/// What a typed list declares. Its names, dashes and types are given with the list that they are in.
+/// The declarations in a typed list, given with its items (`nodes`): names, dashes and types.
 fn typed<'w, 'a>(
     alloc: Global,
     list: &'w [Piece<'a>],
@@ -74,7 +74,7 @@ fn is_dash(node: &[Piece<'_>]) -> bool {
     node.len() == 1 && node[0].is(b"-")
 }
 
-/// What a list declares from its second part on, as `(:types ..)` and `(at ?x - place)`.
+/// The declarations in a list after its head, such as `(:types ..)` and `(at ?x - place)`.
 pub fn declared_after_head<'w, 'a>(
     alloc: Global,
     list: &'w [Piece<'a>],
@@ -86,7 +86,7 @@ pub fn declared_after_head<'w, 'a>(
     }
 }
 
-/// What a list of variables declares, as `(?x ?y - place)`.
+/// The declarations in a list of variables, such as `(?x ?y - place)`.
 pub fn declared_in<'w, 'a>(
     alloc: Global,
     list: &'w [Piece<'a>],
@@ -95,7 +95,7 @@ pub fn declared_in<'w, 'a>(
     typed(alloc, list, nodes.as_slice())
 }
 
-/// The list after the keyword of a part of an action; no pieces where there is none.
+/// The list after the keyword of an action's part; empty if there is none.
 fn part_of<'w, 'a>(
     alloc: Global,
     action: &'w [Piece<'a>],
@@ -110,7 +110,7 @@ fn part_of<'w, 'a>(
     Ok(no_pieces(action))
 }
 
-/// The parameters of an action, which is given with its parentheses.
+/// The parameters of an action, given with its parentheses.
 pub fn parameters<'w, 'a>(
     alloc: Global,
     action: &'w [Piece<'a>],
@@ -118,7 +118,7 @@ pub fn parameters<'w, 'a>(
     declared_in(alloc, part_of(alloc, action, b":parameters")?)
 }
 
-/// The variables that a list brings into scope: those of a quantifier, and the parameters of an action.
+/// The variables that a list brings into scope: those of a quantifier, or the parameters of an action.
 fn brought_by<'w, 'a>(
     alloc: Global,
     list: &'w [Piece<'a>],
@@ -133,7 +133,7 @@ fn brought_by<'w, 'a>(
     }
 }
 
-/// The variables in scope at the piece of this index, the innermost list's first.
+/// The variables in scope at the piece with this index, innermost first.
 pub fn in_scope<'w, 'a>(
     alloc: Global,
     pieces: &'w [Piece<'a>],
@@ -152,7 +152,7 @@ pub fn in_scope<'w, 'a>(
     Ok(found)
 }
 
-/// The declaration of a name in a list of declarations, as of predicates, functions or actions: the one of this head.
+/// The declaration with this head in a list of declarations (predicates, functions or actions).
 pub fn declaration_of<'w, 'a>(lists: &[&'w [Piece<'a>]], name: &[u8]) -> Option<&'w [Piece<'a>]> {
     lists
         .iter()
@@ -160,7 +160,7 @@ pub fn declaration_of<'w, 'a>(lists: &[&'w [Piece<'a>]], name: &[u8]) -> Option<
         .copied()
 }
 
-/// The one of some declared names that is this one.
+/// The declared name that equals this one.
 pub fn declared_as<'w, 'a>(
     declared: &[TypedName<'w, 'a>],
     name: &[u8],

@@ -1,4 +1,4 @@
-//! A text as its writer sees it: lines, columns and pieces, even where it does not read.
+//! A text as its writer sees it: lines, columns and pieces, even if it does not read.
 #![tactic(auto)]
 
 mod declarations;

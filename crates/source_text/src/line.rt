@@ -4,10 +4,10 @@ ghost use Rattle.source_text.specs.Places.{IsLineAt, IsWithinLine, BeginsLine, E
 
 use faults::Span;
 
-/// The line that the byte at an offset is in, without its LF. An offset past the end is the end.
+/// The line that contains the byte at an offset, without its LF. An offset past the end counts as the end.
 ///
 /// # Examples
-/// The line of the offset 4 in `ab\ncd\n` is `3..5`, and so is that of 5, where its LF is; that of 6 is `6..6`.
+/// In `ab\ncd\n` the line at offset 4 is `3..5`, and so is the line at 5, its LF; the line at 6 is `6..6`.
 pub fn line_at(text: &[u8], offset: usize) -> Span
     ensures { IsLineAt text.now (min offset (length text.now)) result }
 {
@@ -18,7 +18,7 @@ pub fn line_at(text: &[u8], offset: usize) -> Span
     }
 }
 
-/// Where the line of an offset begins.
+/// Where the line at an offset begins.
 fn line_start(text: &[u8], offset: usize) -> usize
     requires { offset ≤ length text.now }
     ensures within { IsWithinLine text.now result offset }
@@ -33,7 +33,7 @@ fn line_start(text: &[u8], offset: usize) -> usize
     start
 }
 
-/// Where the line of an offset ends.
+/// Where the line at an offset ends.
 fn line_end(text: &[u8], offset: usize) -> usize
     requires { offset ≤ length text.now }
     ensures within { IsWithinLine text.now offset result }

@@ -1,4 +1,4 @@
-//! The lists of a text, as slices of its pieces with their parentheses.
+//! The lists of a text, as slices of its pieces that include the parentheses.
 ghost use Rattle.std.specs.Prelude.{◌<◌, IfSome, length};
 
 use crate::piece::{Piece, Shape};
@@ -12,7 +12,7 @@ pub fn index_at(pieces: &[Piece<'_>], offset: usize) -> Option<usize>
     pieces.iter().position(|piece| piece.span.start == offset)
 }
 
-/// The index of the `(` of the list in which the piece of this index is.
+/// The index of the `(` of the innermost list around the piece with this index.
 pub fn opening_of(pieces: &[Piece<'_>], at: usize) -> Option<usize>
     ensures { IfSome result (λ opening. opening < at) }
 {
@@ -29,7 +29,7 @@ pub fn opening_of(pieces: &[Piece<'_>], at: usize) -> Option<usize>
     None
 }
 
-/// The list whose `(` has this index, with its parentheses; up to the last piece where it is not closed.
+/// The list whose `(` has this index, with its parentheses; up to the last piece if it is not closed.
 pub fn list_from<'w, 'a>(pieces: &'w [Piece<'a>], open: usize) -> &'w [Piece<'a>] {
     let mut depth: usize = 0;
     for index in open..pieces.len() {
@@ -43,7 +43,7 @@ pub fn list_from<'w, 'a>(pieces: &'w [Piece<'a>], open: usize) -> &'w [Piece<'a>
     &pieces[open.min(pieces.len())..]
 }
 
-/// What is in a list that is given with its parentheses: runs, each alone, and lists with their parentheses.
+/// The items of a list given with its parentheses: single runs, and lists with their parentheses.
 pub fn children<'w, 'a>(
     alloc: Global,
     list: &'w [Piece<'a>],
@@ -71,7 +71,7 @@ pub fn children<'w, 'a>(
     Ok(found)
 }
 
-/// The word at the head of a list that is given with its parentheses, and no bytes where there is none.
+/// The word at the head of a list given with its parentheses; no bytes if there is none.
 pub fn head_of<'a>(list: &[Piece<'a>]) -> &'a [u8] {
     match list.get(1) {
         Some(piece) if piece.shape == Shape::Run => piece.text,
@@ -79,7 +79,7 @@ pub fn head_of<'a>(list: &[Piece<'a>]) -> &'a [u8] {
     }
 }
 
-/// The words at the heads of the lists in a list, in order.
+/// The heads of the lists inside a list, in order.
 pub fn heads<'a>(alloc: Global, list: &[Piece<'a>]) -> Result<Vec<Piece<'a>>, NoMemory> {
     let nodes = children(alloc, list)?;
     let mut found = Vec::new(alloc);

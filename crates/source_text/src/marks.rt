@@ -1,4 +1,4 @@
-//! A line of a text with a mark below.
+//! A line of a text with marks below it.
 ghost use Rattle.std.specs.Prelude.{◌≡◌, ◌≤◌, ◌<◌, ◌+◌, length, slice_index};
 
 use crate::line::line_at;
@@ -6,10 +6,10 @@ use crate::place::place_of;
 use faults::{NoMemory, Span};
 use std::alloc::{AllocError, Global};
 
-/// How many bytes of a line are shown.
+/// The maximum number of bytes of a line that are shown.
 const WIDEST: usize = 100;
 
-/// How many bytes before the marked ones are shown of a line that is cut.
+/// The number of bytes shown before the marked ones when a line is cut.
 const LEAD: usize = 40;
 
 /// The line that a span begins in, with its number, and marks below the span's bytes: two lines, each with LF.
@@ -19,14 +19,13 @@ const LEAD: usize = 40;
 ///      |                           ^^^^
 /// ```
 ///
-/// - Of a line over 100 bytes 100 are shown, with `...` where it is cut, and 40 of these before the span where there are
-///   so many.
-/// - A tab is as a tab above and below, so that the mark is under its bytes however wide tabs are. Any other byte that
-///   is not printable ASCII is shown as `\xNN`. A carriage return at the line's end is left out.
-/// - A span of several lines is marked up to the end of its first. Where nothing is left to mark, one `^` is.
+/// - Of a line over 100 bytes, 100 are shown, with `...` where it is cut; up to 40 of them come before the span.
+/// - A tab is copied as a tab to both lines, so that the marks line up at any tab width. Any other byte that is not printable
+///   ASCII is shown as `\xNN`. A carriage return at the end of the line is left out.
+/// - A span of several lines is marked up to the end of its first line. If there is nothing to mark, a single `^` is shown.
 ///
 /// # Errors
-/// Memory was refused.
+/// An allocation failed.
 pub fn marked(alloc: Global, text: &[u8], span: Span) -> Result<String, NoMemory> {
     let line = trimmed(text, line_at(text, span.start));
     let part = part_around(line, span.start);
@@ -68,7 +67,7 @@ fn trimmed(text: &[u8], line: Span) -> Span
     }
 }
 
-/// What is shown of a line: all of it, or where it is long a part that has the bytes about an offset.
+/// The part of a line that is shown: all of it, or for a long line the bytes around an offset.
 fn part_around(line: Span, offset: usize) -> Span
     requires order { line.start ≤ line.end }
     ensures start { line.start ≤ result.start }
@@ -89,7 +88,7 @@ fn part_around(line: Span, offset: usize) -> Span
     }
 }
 
-/// Adds bytes as they are shown.
+/// Appends bytes as they are shown.
 fn add_shown(bytes: &[u8], out: &mut String) -> Result<(), AllocError> {
     for byte in bytes {
         match *byte {
@@ -101,7 +100,7 @@ fn add_shown(bytes: &[u8], out: &mut String) -> Result<(), AllocError> {
     Ok(())
 }
 
-/// Adds what is below a part of a line: blanks before the span, and marks below it.
+/// Appends what goes below a part of a line: blanks up to the span, and marks below it.
 fn add_marks(text: &[u8], part: Span, span: Span, out: &mut String) -> Result<(), AllocError>
     requires order { part.start ≤ part.end }
     requires within { part.end ≤ length text.now }
@@ -121,7 +120,7 @@ fn add_marks(text: &[u8], part: Span, span: Span, out: &mut String) -> Result<()
     add_times("^", if start == end { 1 } else { 0 }, out)
 }
 
-/// In how many columns a byte is shown; a tab's are those of a tab.
+/// The number of columns that a byte takes; a tab counts as one.
 fn width_of(byte: u8) -> usize {
     match byte {
         b'\t' | b' '..=b'~' => 1,
@@ -129,7 +128,7 @@ fn width_of(byte: u8) -> usize {
     }
 }
 
-/// Adds a text so many times.
+/// Appends a text `count` times.
 fn add_times(text: &str, count: usize, out: &mut String) -> Result<(), AllocError> {
     for _ in 0..count {
         out.push_str(text)?;

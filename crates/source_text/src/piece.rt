@@ -1,9 +1,9 @@
-//! The pieces of a text: its parentheses and runs, in order, whether or not it reads as words.
+//! The pieces of a text: its parentheses and runs, in order, whether or not the text reads as words.
 use faults::{NoMemory, Span};
 use std::alloc::Global;
 use tokens::{Form, part_end};
 
-/// What a piece is.
+/// The shape of a piece.
 #[derive(Clone, Copy, Debug, PartialEq, Eq)]
 pub enum Shape {
     /// `(`
@@ -15,7 +15,7 @@ pub enum Shape {
 }
 
 impl Shape {
-    /// The shape of a part of a text that is a piece.
+    /// The shape of a part of a text, if it is a piece.
     fn of(form: Form) -> Option<Shape> {
         match form {
             Form::Opening => Some(Shape::Open),
@@ -29,16 +29,16 @@ impl Shape {
 /// A parenthesis or a run, with its place.
 #[derive(Clone, Copy, Debug)]
 pub struct Piece<'a> {
-    /// What it is.
+    /// Its shape.
     pub shape: Shape,
-    /// Its bytes, as they are in the text.
+    /// Its bytes as written.
     pub text: &'a [u8],
-    /// Where they are.
+    /// Its span.
     pub span: Span,
 }
 
 impl Piece<'_> {
-    /// Whether it is this word; case does not matter.
+    /// Whether it is this word, regardless of case.
     pub fn is(&self, word: &[u8]) -> bool {
         self.text.eq_ignore_ascii_case(word)
     }
@@ -49,7 +49,7 @@ impl Piece<'_> {
     }
 }
 
-/// A part of a text as a piece, where it is one.
+/// The part of a text as a piece, if it is one.
 fn piece_of(start: usize, form: Form, text: &[u8]) -> Option<Piece<'_>> {
     let shape = Shape::of(form)?;
     Some(Piece {

@@ -11,7 +11,7 @@ pub struct LineColumn {
     pub column: usize,
 }
 
-/// The place of the byte at an offset of a text. An offset past the end is the end.
+/// The place of the byte at an offset of a text. An offset past the end counts as the end.
 ///
 /// Lines end with LF, and columns count bytes: a tab and a carriage return count as one each.
 ///

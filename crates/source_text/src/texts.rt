@@ -1,7 +1,7 @@
-//! The texts that are given, by files.
+//! The input texts, by file.
 use std::fmt;
 
-/// One of the three files.
+/// One of the three input files.
 #[derive(Clone, Copy, Debug, PartialEq, Eq)]
 pub enum File {
     /// The domain file.
@@ -29,7 +29,7 @@ impl fmt::Display for File {
     }
 }
 
-/// A text with the name of its file, as the user gave it.
+/// A text, with the name of its file as the user gave it.
 #[derive(Clone, Copy)]
 pub struct NamedText<'a> {
     /// The name.
@@ -38,7 +38,7 @@ pub struct NamedText<'a> {
     pub text: &'a [u8],
 }
 
-/// The texts of a task and a plan. Where no plan is given, its text has no bytes.
+/// The texts of a task and a plan. The plan's text is empty if no plan is given.
 #[derive(Clone, Copy)]
 pub struct NamedTexts<'a> {
     /// The domain file.

@@ -1,4 +1,4 @@
--- The image of an effect changes the image of a state to the image of what the effect changes the state to.
+-- The image of an effect takes the image of a state to the image of the state that the effect leads to.
 use Rattle.std.proofs.Common.{◌≡◌, ◌∙◌, ℕ, Bool, true, false, not, ◌&&◌, ◌||◌, List, [], ◌∷◌, ◌++◌, map, length, refl, sym, ap}
 use Rattle.std.specs.Prelude.{nat_lt, cond, filter}
 use Rattle.std.specs.List.{list_all, list_any}
@@ -30,7 +30,7 @@ literal-image task to scope b (delete a) typed long = ap deletes (atom-image to 
 
 -- ---- some change of an effect, and of its image
 
--- the first test passes a change where the second passes its image
+-- the first test passes a change if the second passes its image
 abbrev IsCarried : Task → (ℕ → ℕ) → (Change → Bool) → (Change → Bool) → Type 0
 IsCarried task to p q =
     (condition : Formula) (scope : List Union) (b : List ℕ) (l : GroundLiteral) → is_formula task scope condition ≡ true → length scope ≡ length b
@@ -86,11 +86,11 @@ abbrev deletes_it : Atom → GroundLiteral → Bool
 deletes_it a (adds b) = false
 deletes_it a (deletes b) = eq_by_cmp atom_cmp a b
 
--- the change is made in the state, and its literal passes
+-- the change takes effect in the state, and its literal passes
 abbrev makes : Task → State → (GroundLiteral → Bool) → Change → Bool
 makes task s test c = holds task c.condition c.binding s && test c.literal
 
--- a list of literals has the atom where one of them passes, for atoms that are added and for those that are deleted alike
+-- a list of literals has the atom if one of them passes, for added and deleted atoms alike
 module _ (task : Task) (s : State) (atoms_of : List GroundLiteral → List Atom) (a : Atom) (test : GroundLiteral → Bool) (none : occurs_in (atoms_of []) a ≡ false)
     (more : (l : GroundLiteral) (ls : List GroundLiteral) → occurs_in (atoms_of (l ∷ ls)) a ≡ (test l || occurs_in (atoms_of ls) a)) where
   made_by : (changes : List Change) → occurs_in (atoms_of (literals_in task s changes)) a ≡ list_any (makes task s test) changes

@@ -1,4 +1,4 @@
--- An exchange of different objects is its own inverse: the objects of a pair are taken to each other, and all others stay.
+-- An exchange of different objects is its own inverse: the objects of a pair are mapped to each other, and all others are fixed.
 use Rattle.std.proofs.Common.{◌≡◌, ◌∙◌, ℕ, inl, inr, Bool, true, false, not, ◌&&◌, ◌||◌, [], ◌∷◌, refl, sym, ap}
 use Rattle.std.specs.Prelude.{◌==◌, cond, Contains}
 use Rattle.std.specs.List.{list_any}
@@ -13,7 +13,7 @@ is_apart o exchange = not (list_any (λ other. other == o) (objects_in exchange)
 flip : (m n : ℕ) → (m == n) ≡ false → (n == m) ≡ false
 flip m n other = false_from_ne_true (n == m) (λ same. let is = eq-eqb m n (sym (eqb-true n m same)) in absurd (cc))
 
--- what it is for all objects of the pairs to be different
+-- what it means that all objects of the pairs are different
 record AreApart (p q : ℕ) (rest : Exchange) : Type 0 where
   other : (q == p) ≡ false
   first : is_apart p rest ≡ true
@@ -36,12 +36,12 @@ at_second : (p q : ℕ) (rest : Exchange) → (q == p) ≡ false → image_of_ob
 at_second p q rest other =
     cond-false (p == q) q (cond (q == q) p (image_of_object rest q)) (flip q p other) ∙ cond-true (q == q) p (image_of_object rest q) (eq-eqb q q refl)
 
--- an object that is neither of the pair
+-- an object that is not in the pair
 past : (p q : ℕ) (rest : Exchange) (o : ℕ) → (p == o) ≡ false → (q == o) ≡ false → image_of_object ((p, q) ∷ rest) o ≡ image_of_object rest o
 past p q rest o first second =
     cond-false (p == o) q (cond (q == o) p (image_of_object rest o)) first ∙ cond-false (q == o) p (image_of_object rest o) second
 
--- an object in none of the pairs stays
+-- an object in none of the pairs is fixed
 stays : (exchange : Exchange) (o : ℕ) → is_apart o exchange ≡ true → image_of_object exchange o ≡ o
 stays [] o none = refl
 stays ((p, q) ∷ rest) o none =
@@ -51,7 +51,7 @@ stays ((p, q) ∷ rest) o none =
 
 -- ---- the whole
 
--- no object comes into the place of one that is in none of the pairs
+-- no other object is mapped to one that is in none of the pairs
 not_there : (exchange : Exchange) (p o : ℕ) → is_apart p exchange ≡ true → ((q : ℕ) → image_of_object exchange (image_of_object exchange q) ≡ q) → (p == o) ≡ false
     → (p == image_of_object exchange o) ≡ false
 not_there exchange p o none back other =

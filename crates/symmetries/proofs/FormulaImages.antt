@@ -1,4 +1,4 @@
--- A formula holds in a state exactly where its image holds in the image of the state, under the image of the binding.
+-- A formula holds in a state exactly if its image holds in the image of the state, under the image of the binding.
 use Rattle.std.proofs.Common.{◌≡◌, ◌∙◌, ℕ, true, false, ◌&&◌, ◌||◌, List, [], ◌∷◌, ◌++◌, map, length, Option, None, Some, refl, sym, ap, subst, arith}
 use Rattle.std.specs.Prelude.{nat_eq, nat_lt, slice_get}
 use Rattle.std.specs.Prelude as bool

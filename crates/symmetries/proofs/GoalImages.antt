@@ -1,4 +1,4 @@
--- The goal is met in a state exactly where it is met in its image, where its conjuncts are mapped onto its conjuncts.
+-- The goal holds in a state exactly if it holds in its image, provided that its conjuncts are mapped onto its conjuncts.
 use Rattle.std.proofs.Common.{◌≡◌, ◌∙◌, ℕ, Bool, true, false, ◌&&◌, List, [], ◌∷◌, map, refl, sym, ap}
 use Rattle.std.specs.List.{list_all}
 use Rattle.std.proofs.lemmas.List.Folds.{list_all-append}
@@ -46,7 +46,7 @@ and_nothing : (b : Bool) → b ≡ (b && true)
 and_nothing true = refl
 and_nothing false = refl
 
--- a test of formulas that passes an `and` where it passes each part
+-- a test that passes an `and` if it passes each part
 module _ (test : Formula → Bool) (all : Formulas → Bool) (of_and : (parts : Formulas) → test (and parts) ≡ all parts) (of_none : all no_formula ≡ true)
     (of_more : (first : Formula) (rest : Formulas) → all (more_formulas first rest) ≡ (test first && all rest)) where
   mutual

@@ -1,5 +1,5 @@
--- Images under an exchange that is its own inverse: an image twice is the thing itself, and an atom is in a state exactly
--- where its image is in the image.
+-- Images under an exchange that is its own inverse: the image of an image is the original, and an atom is in a state exactly if
+-- its image is in the state's image.
 use Rattle.std.proofs.Common.{◌≡◌, ◌∙◌, ℕ, zero, suc, ◌<◌, Bool, true, List, [], ◌∷◌, map, length, refl, sym, ap, subst, get_or, arith}
 use Rattle.std.specs.Prelude.{nat_eq}
 use Rattle.std.specs.List.{list_all, list_any}
@@ -20,7 +20,7 @@ index-map to [] k below = absurd (omega arith)
 index-map to (x ∷ xs) zero below = refl
 index-map to (x ∷ xs) (suc k) below = index-map to xs k (omega arith)
 
--- what a term names under the image binding
+-- the object that a term denotes under the image of the binding
 pub object-image : (to : ℕ → ℕ) (b : List ℕ) (t : Term) → is_bound (length b) t ≡ true → object_of (map to b) (image_of_term to t) ≡ to (object_of b t)
 object-image to b (variable number) bound = index-map to b number (ltb-true number (length b) bound)
 object-image to b (object number) bound = refl
@@ -36,12 +36,12 @@ pub atom-image : (to : ℕ → ℕ) (b : List ℕ) (a : LiftedAtom) → list_all
     → ground_atom (map to b) (image_of_lifted to a) ≡ image_of_atom to (ground_atom b a)
 atom-image to b a bound = ap (λ os. record { predicate = a.predicate; objects = os }) (objects-image to b a.terms bound)
 
--- ---- of any mapping of objects
+-- ---- for any mapping of objects
 
 itself-tied : (a : Atom) → eq_by_cmp atom_cmp a a ≡ true
 itself-tied a = (Equal-is (atom_cmp a a)).1 (tied_itself atoms_total a)
 
--- the items of a list's set are those of the list
+-- the elements of a list's set are those of the list
 any-items : (p : Atom → Bool) (xs : List Atom) (s : State) → from_list xs ≡ s → list_any p (items s) ≡ list_any p xs
 any-items p xs s is = tests_alike (list_any p (items s)) (list_any p xs) forth back
   where
@@ -96,7 +96,7 @@ state_after f g s =
     (λ x. ap (λ os. eq_by_cmp atom_cmp a (record { predicate = x.predicate; objects = os })) (map_after f g x.objects)) (items s)
     ∙ sym (contains-image_of (λ o. f (g o)) s a))
 
--- ---- of one that is its own inverse
+-- ---- for a mapping that is its own inverse
 
 module _ (to : ℕ → ℕ) (both_ways : (o : ℕ) → to (to o) ≡ o) where
   pub same_objects : (m n : ℕ) → nat_eq (to m) (to n) ≡ nat_eq m n
@@ -124,7 +124,7 @@ module _ (to : ℕ → ℕ) (both_ways : (o : ℕ) → to (to o) ≡ o) where
       (λ tie. atoms_tie a b (sym (atom_twice a) ∙ ap (image_of_atom to) (atoms_one (image_of_atom to a) (image_of_atom to b) tie) ∙ atom_twice b))
       (λ tie. atoms_tie (image_of_atom to a) (image_of_atom to b) (ap (image_of_atom to) (atoms_one a b tie)))
 
-  -- an atom's image is in the image of a state exactly where the atom is in the state
+  -- an atom's image is in the image of a state exactly if the atom is in the state
   pub contains-image : (s : State) (a : Atom) → contains (image_of_state to s) (image_of_atom to a) ≡ contains s a
   contains-image s a =
       contains-from_list atoms_total (map (image_of_atom to) (items s)) (image_of_atom to a)
@@ -136,7 +136,7 @@ module _ (to : ℕ → ℕ) (both_ways : (o : ℕ) → to (to o) ≡ o) where
   contains-back s a =
       ap (contains (image_of_state to s)) (sym (atom_twice a)) ∙ contains-image s (image_of_atom to a)
 
-  -- a state with these atoms is the image
+  -- the state with these atoms is the image
   pub is_image : (s t : State) → ((a : Atom) → contains t (image_of_atom to a) ≡ contains s a) → t ≡ image_of_state to s
   is_image s t same =
       same_state t (image_of_state to s) (λ a.

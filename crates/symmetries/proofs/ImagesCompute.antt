@@ -1,4 +1,4 @@
--- Representatives in a form that computes on a written state: with the list of its atoms in place of their set.
+-- Representatives in a form that computes on a given state: with the list of its atoms instead of their set.
 use Rattle.std.proofs.Common.{◌≡◌, ◌∙◌, ℕ, zero, suc, Bool, true, false, List, [], ◌∷◌, map, Option, None, Some, refl, ap}
 use Rattle.std.specs.Prelude.{cond}
 use Rattle.std.specs.Bool.{beq}
@@ -13,7 +13,7 @@ use Rattle.symmetries.specs.Orbits.{comes_before, image_before, with_images}
 use Rattle.symmetries.proofs.ExchangeLemmas.{own_inverse}
 use Rattle.symmetries.proofs.Images.{image_of_list}
 
--- the order of states, of lists of their atoms
+-- the order of states, on lists of their atoms
 abbrev pub list_before : List Atom → List Atom → List Atom → Bool
 list_before [] xs ys = false
 list_before (a ∷ atoms) xs ys = cond (beq (occurs_in xs a) (occurs_in ys a)) (list_before atoms xs ys) (occurs_in xs a)
@@ -28,7 +28,7 @@ abbrev pub AreAllDifferent : List Exchange → Type 0
 AreAllDifferent [] = Unit {0}
 AreAllDifferent (exchange ∷ rest) = (are_different (objects_in exchange) ≡ true) × AreAllDifferent rest
 
--- images of states, of lists of their atoms
+-- images of states, on lists of their atoms
 abbrev pub image_of_all : Exchange → List Atom → List Atom
 image_of_all exchange xs = map (image_of_atom (image_of_object exchange)) xs
 

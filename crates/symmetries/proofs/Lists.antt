@@ -1,4 +1,4 @@
--- Tests of all elements of a list, and of some.
+-- Tests passed by all elements of a list, and by some.
 use Rattle.std.proofs.Common.{◌≡◌, ◌∙◌, inl, inr, Bool, true, false, not, ◌&&◌, ◌||◌, List, [], ◌∷◌, map, Some, refl, sym, ap, subst}
 use Rattle.std.specs.Prelude.{Contains, cond}
 use Rattle.std.specs.List.{list_all, list_any, flat_map, find}
@@ -6,7 +6,7 @@ use Rattle.std.proofs.lemmas.Bool.{and_parts, and_from, or_cases, or_left, or_ri
 use Rattle.std.proofs.lemmas.List.Folds.{list_any-append}
 use Rattle.model.proofs.ListLemmas.{Contains-here, Contains-there, Contains-cases, Contains-none}
 
--- two tests, of which each is passed where the other is
+-- two equivalent tests
 pub tests_alike : (b c : Bool) → (b ≡ true → c ≡ true) → (c ≡ true → b ≡ true) → b ≡ c
 tests_alike true c forth back = sym (forth refl)
 tests_alike false true forth back = back refl
@@ -56,12 +56,12 @@ one_fails : (b c : Bool) → (b && not c) ≡ not (not b || c)
 one_fails true c = refl
 one_fails false c = refl
 
--- all pass where none fails
+-- all pass if none fails
 pub all-none_fails : {X : Type 0} (p : X → Bool) (xs : List X) → list_all p xs ≡ not (list_any (λ x. not (p x)) xs)
 all-none_fails p [] = refl
 all-none_fails p (x ∷ xs) = ap (λ b. p x && b) (all-none_fails p xs) ∙ one_fails (p x) (list_any (λ y. not (p y)) xs)
 
--- what a search finds is in the list, and passes
+-- the result of a search is in the list, and passes
 pub found-at : {X : Type 0} (p : X → Bool) (xs : List X) (x : X) → find p xs ≡ Some x → Contains xs x × (p x ≡ true)
 found-at p [] x is = absurd (cc)
 found-at p (y ∷ xs) x is =

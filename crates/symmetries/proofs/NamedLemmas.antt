@@ -1,4 +1,4 @@
--- What names only objects that stay where they are is its own image.
+-- What names only fixed objects is its own image.
 use Rattle.std.proofs.Common.{◌≡◌, ℕ, List, [], ◌∷◌, ◌++◌, map, refl, ap}
 use Rattle.std.specs.Prelude.{Contains}
 use Rattle.std.specs.List.{flat_map}
@@ -9,7 +9,7 @@ use Rattle.symmetries.specs.Exchanges.{image_of_term, image_of_lifted, image_of_
 use Rattle.symmetries.specs.NamedObjects.{named_in_term, named_in_lifted, named_in_formula, named_in_formulas, named_in_literal, named_in_effect, named_in_effects, named_in_increase}
 
 module _ (to : ℕ → ℕ) where
-  -- these objects stay where they are
+  -- these objects are fixed
   abbrev pub Stay : List ℕ → Type 0
   Stay objects = (o : ℕ) → Contains objects o → to o ≡ o
 

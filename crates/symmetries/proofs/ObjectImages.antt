@@ -1,4 +1,4 @@
--- An exchange permutes the objects of each type, so that a test of each, or of some, may be asked of the images.
+-- An exchange permutes the objects of each type, so a test of all, or of some, may be applied to the images.
 use Rattle.std.proofs.Common.{◌≡◌, ◌∙◌, ℕ, Bool, true, false, not, length, Option, None, Some, refl, sym, ap, arith}
 use Rattle.std.specs.Prelude.{slice_get}
 use Rattle.std.specs.List.{list_all, list_any, range_with_len}

@@ -55,7 +55,7 @@ there_and_back to back is None = refl
 there_and_back to back is (Some x) = ap Some (is x)
 
 module _ {S A : Type 0} (t : System S A) where
-  -- an automorphism the other way round
+  -- the inverse of an automorphism
   backward : (h : S → S) (actions : A → A) (auto : IsAutomorphism t h actions) → IsAutomorphism t auto.permutes_states.0 auto.permutes_actions.0
   backward h actions auto =
       let s_back = auto.permutes_states.0 in
@@ -90,7 +90,7 @@ module _ {S A : Type 0} (t : System S A) where
     goals = λ s r (h, actions, auto, is). sym (auto.goals s) ∙ ap t.meets_goal is;
   }
 
-  -- states of one representative are of one orbit, if each representative is an image of its state
+  -- states with the same representative are in the same orbit, if each representative is an image of its state
   pub represented_alike : (represent : S → S) → ((s : S) → AreOfOneOrbit t s (represent s)) → (s r : S) → represent s ≡ represent r → AreOfOneOrbit t s r
   represented_alike represent symmetric s r is =
       let one = symmetric s in

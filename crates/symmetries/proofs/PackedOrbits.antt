@@ -1,4 +1,4 @@
--- Packed states are alike exactly where the states are that they stand for.
+-- Packed states are related exactly if the states that they represent are.
 use Rattle.std.proofs.Common.{◌∙◌, Bool, List, refl, sym, ap}
 use Rattle.std.specs.Prelude.{IsTrue, All, Contains}
 use Rattle.std.specs.List.{list_all}
@@ -34,7 +34,7 @@ module _ (task : Task) (more : List Atom) (exchanges : List Exchange) (fluent : 
       ap (occurs_in atoms) (sym (atom_twice to symmetry.both_ways a) ∙ ap (image_of_atom to) (same_atom (image_of_atom to a) found.0 found.2))
       ∙ all-at (λ (b : Atom). occurs_in atoms (image_of_atom to b)) atoms found.0 (all-at (keeps_atoms atoms) exchanges exchange numbered at) found.1
 
-  -- the packed representative stands for the representative
+  -- the packed representative represents the representative
   pub stands : (bits : List Bool) (s : State) → StandsFor task atoms bits s → StandsFor task atoms (packed_representative task atoms exchanges bits) (representative atoms exchanges s)
   stands bits s is =
       let packs = packs_states task more fluent in

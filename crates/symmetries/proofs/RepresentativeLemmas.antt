@@ -1,4 +1,4 @@
--- What the first image that comes before a state is.
+-- The first image that comes before a state.
 use Rattle.std.proofs.Common.{◌≡◌, List, map, Some}
 use Rattle.std.specs.Prelude.{Contains}
 use Rattle.model.specs.Task.{Atom}
@@ -9,7 +9,7 @@ use Rattle.symmetries.specs.Orbits.{comes_before, image_before}
 use Rattle.symmetries.proofs.Lists.{found-at}
 
 module _ (atoms : List Atom) (exchanges : List Exchange) where
-  -- an image that comes before a state is that by one of the exchanges
+  -- an image that comes before a state is its image under one of the exchanges
   pub image_is : (s image : State) → image_before atoms exchanges s ≡ Some image
       → (exchange : Exchange) × Contains exchanges exchange × (image_of_state (image_of_object exchange) s ≡ image)
   image_is s image is =

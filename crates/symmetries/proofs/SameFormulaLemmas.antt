@@ -1,4 +1,4 @@
--- Formulas are told the same exactly where they are equal.
+-- The test of formulas for equality is exact.
 use Rattle.std.proofs.Common.{◌≡◌, true, refl, ap, subst}
 use Rattle.std.specs.Prelude.{ℕ, List, nat_eq}
 use Rattle.std.specs.Cmp.Lexicographic.{pointwise, pointwise_decides, bytes_decides}

@@ -1,4 +1,4 @@
--- An instance leads from one state to another, at a cost, exactly where its image leads from image to image at that cost.
+-- An instance leads from one state to another, at a cost, exactly if its image leads from image to image at that cost.
 use Rattle.std.proofs.Common.{◌≡◌, ◌∙◌, ℕ, Bool, true, false, ◌&&◌, List, [], ◌∷◌, ◌++◌, map, length, Option, None, Some, refl, sym, ap}
 use Rattle.std.specs.Prelude.{IsTrue, slice_get, cond, is_some, unwrap_or}
 use Rattle.std.specs.Cmp.{first_so, second_so}
@@ -40,12 +40,12 @@ module _ (task : Task) (well : IsTrue (is_task task)) (to : ℕ → ℕ) (symmet
   amount-image (by_function f) scope b typed long =
       ap (value_in task.values) (atom-image to b f (lifted_bound task scope task.functions f b typed long)) ∙ symmetry.values _
 
-  -- what is known of a schema of the task
+  -- facts about a schema of the task
   module _ (number : ℕ) (s : Schema) (got : slice_get task.schemas number ≡ Some s) where
     typed : is_schema task s ≡ true
     typed = passes_got (is_schema task) task.schemas number s got (second_so _ _ (first_so _ _ (first_so _ _ well)))
 
-    -- it names only objects that stay where they are
+    -- it names only fixed objects
     named : Stay to (named_in_schema s)
     named o at = symmetry.actions o (Contains-flat_map named_in_schema task.schemas s o (Contains-got task.schemas number s got) at)
 
@@ -87,7 +87,7 @@ module _ (task : Task) (well : IsTrue (is_task task)) (to : ℕ → ℕ) (symmet
           (λ i. cond (can-same state i) (Some (after-same state i)) None)
           ∙ map-cond (image_of_state to) (can_apply task s objects state) (after_changes task state (changes_of task s.effect objects))
 
-  -- where the schema's parameters may have the objects or not
+  -- whether or not the objects fit the schema's parameters
   by_fit : (number : ℕ) (s : Schema) → slice_get task.schemas number ≡ Some s → (objects : List ℕ) (state : State) (fit : Bool) → fits task s objects ≡ fit
       → cond (fit && can_apply task s (map to objects) (image_of_state to state)) (Some (after_changes task (image_of_state to state) (changes_of task s.effect (map to objects)))) None
       ≡ option_map (image_of_state to) (cond (fit && can_apply task s objects state) (Some (after_changes task state (changes_of task s.effect objects))) None)
@@ -108,7 +108,7 @@ module _ (task : Task) (well : IsTrue (is_task task)) (to : ℕ → ℕ) (symmet
   instance_twice : (i : Instance) → image_of_instance to (image_of_instance to i) ≡ i
   instance_twice i = λ k. record { schema = i.schema; objects = twice to symmetry.both_ways i.objects k }
 
-  -- what an applicable instance costs
+  -- the cost of an applicable instance
   pub cost-image : (state next : State) (i : Instance) → step task state i ≡ Some next → cost_of task (image_of_instance to i) ≡ cost_of task i
   cost-image state next i leads = ap (λ c. cond task.has_metric c 1) (by_found (slice_get task.schemas i.schema) refl leads)
     where

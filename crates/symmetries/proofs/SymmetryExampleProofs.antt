@@ -1,4 +1,4 @@
--- What the definitions say of the worked examples. The tests compute; a state is a set, which is asked for its atoms.
+-- The worked examples of symmetries. The tests compute; a state, being a set, is given by its atoms.
 use Rattle.std.proofs.Common.{◌≡◌, ◌∙◌, ℕ, Bool, true, false, ◌||◌, List, [], ◌∷◌, refl, sym}
 use Rattle.std.specs.Ordering.{eq_by_cmp}
 use Rattle.std.specs.FinSet.{from_list, contains-from_list}
@@ -79,7 +79,7 @@ representatives_are_judged = record {
     either false true = refl
     either false false = refl
 
-    -- the atoms of two balls in another order
+    -- the atoms of two balls, in another order
     turned : (first second : ℕ) → from_list (ground 1 (3 ∷ first ∷ []) ∷ ground 1 (2 ∷ second ∷ []) ∷ []) ≡ balls_in second first
     turned first second =
         let other = ground 1 (3 ∷ first ∷ []) ∷ ground 1 (2 ∷ second ∷ []) ∷ [] in

@@ -1,4 +1,4 @@
--- States of a task that are alike are of one orbit, and what a listing claims that is closed up to exchanges is true.
+-- States of a task in the same class are in the same orbit, and the claim of a listing closed up to exchanges is true.
 use Rattle.std.proofs.Common.{◌≡◌, ◌∙◌, ℕ, zero, suc, List, Option, None, Some, refl, subst}
 use Rattle.std.specs.Prelude.{IsTrue, Contains}
 use Rattle.std.specs.List.{list_all}
@@ -19,9 +19,9 @@ use Rattle.symmetries.proofs.TestLemmas.{test_is_exact}
 use Rattle.symmetries.proofs.OrbitLemmas.{symmetric_itself, symmetric_after, orbits_are_classes, represented_alike}
 use Rattle.symmetries.proofs.RepresentativeLemmas.{image_is}
 
--- ---- what representatives have
+-- ---- properties of representatives
 
--- what each state has from which such an image is made, its representative has
+-- a property that images preserve passes from each state to its representative
 module _ (task : Task) (atoms : List Atom) (exchanges : List Exchange) (all : IsTrue (list_all (is_symmetry task) exchanges)) where
   pub symmetry_of : (exchange : Exchange) → Contains exchanges exchange → IsSymmetry task (image_of_object exchange)
   symmetry_of exchange at = ((test_is_exact task exchange).0 (all-at (is_symmetry task) exchanges exchange all at)).1

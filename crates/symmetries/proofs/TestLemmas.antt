@@ -1,4 +1,4 @@
--- The test is passed exactly by the exchanges that are symmetries.
+-- The exchanges that pass the test are exactly the symmetries.
 use Rattle.std.proofs.Common.{◌≡◌, ◌∙◌, ℕ, Bool, true, false, not, List, [], ◌∷◌, Option, None, Some, refl, sym, ap, subst}
 use Rattle.std.specs.Prelude.{◌==◌, cond, nat_eq, IsTrue, Contains}
 use Rattle.std.specs.List.{list_any}
@@ -58,7 +58,7 @@ module _ (task : Task) where
 
   -- ---- values
 
-  -- a function that has a value has it of an entry
+  -- a function with a value has it from an entry
   entry : (f : Atom) (n : ℕ) (values : List FunctionValue) → value_in values f ≡ Some n → (v : FunctionValue) × Contains values v × (v.function ≡ f)
   entry f n [] has = absurd (cc)
   entry f n (v ∷ values) has = by_tie (entry f n values) (eq_by_cmp atom_cmp f v.function) refl has

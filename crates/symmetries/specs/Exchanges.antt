@@ -1,5 +1,5 @@
--- Exchanges of objects, and what becomes of the parts of a task where objects change places: their images (the symmetries of a
--- planning task that permute its objects; Pochter, Zohar & Rosenschein 2011; Domshlak, Katz & Shleyfman 2015).
+-- Exchanges of objects (products of disjoint transpositions), and the images of the parts of a task under them (the symmetries of
+-- a planning task that permute its objects; Pochter, Zohar & Rosenschein 2011; Domshlak, Katz & Shleyfman 2015).
 use Rattle.std.specs.Prelude.{ℕ, Bool, true, not, ◌&&◌, ◌==◌, List, [], ◌∷◌, map, if◌then◌else◌}
 use Rattle.std.specs.List.{list_any, flat_map}
 use Rattle.std.specs.FinSet.{from_list, items}
@@ -9,11 +9,11 @@ use Rattle.model.specs.Meaning.{State}
 
 -- ---- exchanges
 
--- The two objects of each pair change places, and all other objects stay where they are.
+-- The two objects of each pair are swapped, and all other objects stay in place.
 abbrev pub Exchange : Type 0
 Exchange = List (ℕ × ℕ)
 
--- the object that comes into the place of one
+-- the image of an object
 abbrev pub image_of_object : Exchange → ℕ → ℕ
 image_of_object [] o = o
 image_of_object (pair ∷ rest) o = if pair.0 == o then pair.1 else if pair.1 == o then pair.0 else image_of_object rest o
@@ -22,14 +22,14 @@ image_of_object (pair ∷ rest) o = if pair.0 == o then pair.1 else if pair.1 ==
 abbrev pub objects_in : Exchange → List ℕ
 objects_in exchange = flat_map (λ (pair : ℕ × ℕ). pair.0 ∷ pair.1 ∷ []) exchange
 
--- no number is there twice
+-- no number is repeated
 abbrev pub are_different : List ℕ → Bool
 are_different [] = true
 are_different (n ∷ rest) = not (list_any (λ other. other == n) rest) && are_different rest
 
--- ---- images, where each object has another in its place, or itself
+-- ---- images under a mapping of objects
 
--- of the objects that variables have
+-- of a binding of variables
 abbrev pub image_of_binding : (ℕ → ℕ) → List ℕ → List ℕ
 image_of_binding to binding = map to binding
 
@@ -43,7 +43,7 @@ image_of_state to state = from_list (map (image_of_atom to) (items state))
 abbrev pub image_of_instance : (ℕ → ℕ) → Instance → Instance
 image_of_instance to i = record { schema = i.schema; objects = image_of_binding to i.objects }
 
--- Of formulas and effects it is the objects that they name that are exchanged.
+-- The image of a formula or an effect replaces the objects that it names.
 abbrev pub image_of_term : (ℕ → ℕ) → Term → Term
 image_of_term to (variable number) = variable number
 image_of_term to (object number) = object (to number)

@@ -1,5 +1,4 @@
--- Read in this order: what exchanges and images are, what makes an exchange a symmetry, which states are of one orbit, what
--- listings show that are closed up to symmetries, and examples.
+-- Read in this order: exchanges and images, symmetries, orbits, what listings closed up to symmetries show, and examples.
 pub mod Exchanges
 pub mod NamedObjects
 pub mod SameFormula

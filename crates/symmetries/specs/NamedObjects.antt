@@ -1,4 +1,4 @@
--- The objects that the actions of a task name: constants of PDDL, where an action speaks of one by its name.
+-- The objects that the actions of a task name: constants of PDDL that occur in an action.
 use Rattle.std.specs.Prelude.{ℕ, List, [], ◌∷◌, ◌++◌}
 use Rattle.std.specs.List.{flat_map}
 use Rattle.model.specs.Task.{LiftedAtom, Term, variable, object, Formula, Formulas, atom, equal, and, or, not, imply, exists, forall, no_formula, more_formulas, EffectLiteral, add, delete, Effect, Effects, literal, both, each, when, no_effect, more_effects, Increase, by_number, by_function, Schema, Task}
@@ -47,6 +47,6 @@ named_in_increase (by_function f) = named_in_lifted f
 abbrev pub named_in_schema : Schema → List ℕ
 named_in_schema s = named_in_formula s.precondition ++ named_in_effect s.effect ++ named_in_increase s.increase
 
--- in a precondition, an effect or an increase; the goal may name others
+-- in a precondition, an effect or a cost increase; the goal may name others
 abbrev pub named_in_actions : Task → List ℕ
 named_in_actions task = flat_map named_in_schema task.schemas

@@ -1,4 +1,4 @@
--- Whether two formulas are the same, part by part.
+-- Whether two formulas are equal, part by part.
 use Rattle.std.specs.Prelude.{Bool, true, false, ◌&&◌, ◌==◌, nat_eq}
 use Rattle.std.specs.Cmp.Lexicographic.{pointwise}
 use Rattle.model.specs.Task.{Term, variable, object, LiftedAtom, Formula, Formulas, atom, equal, and, or, not, imply, exists, forall, no_formula, more_formulas}

@@ -1,5 +1,5 @@
--- Symmetries of a planning task: exchanges of objects that leave it as it is, but for where it starts (Pochter, Zohar &
--- Rosenschein 2011; Domshlak, Katz & Shleyfman 2015). The task is looked at as it was read, not its instances.
+-- Symmetries of a planning task: exchanges of objects that preserve it except for its initial fluent atoms (Pochter, Zohar &
+-- Rosenschein 2011; Domshlak, Katz & Shleyfman 2015). They are symmetries of the task as it was read, not of its instances.
 use Rattle.std.specs.Prelude.{◌≡◌, ℕ, Bool, false, ◌&&◌, ◌==◌, nat_eq, List, [], ◌∷◌, ◌++◌, slice_get, Contains, Option}
 use Rattle.std.specs.List.{list_all, list_any}
 use Rattle.std.specs.Option.{option_map, option_eq}
@@ -12,11 +12,11 @@ use Rattle.symmetries.specs.Exchanges.{Exchange, image_of_object, objects_in, ar
 use Rattle.symmetries.specs.NamedObjects.{named_in_actions}
 use Rattle.symmetries.specs.SameFormula.{is_same_formula}
 
--- the type that an object is declared with, if the task has the object
+-- the declared type of an object, if the task has the object
 abbrev pub declared_type : Task → ℕ → Option ℕ
 declared_type task o = option_map (λ (x : Object). x.type) (slice_get task.objects o)
 
--- the parts of a formula's outermost `and`, and those of an `and` that is such a part; else the formula itself
+-- the conjuncts of a formula: the parts of its outermost `and`, with nested `and`s flattened; or the formula itself
 abbrev mutual
   pub conjuncts : Formula → List Formula
   conjuncts (and parts) = conjuncts_of_all parts
@@ -26,16 +26,16 @@ abbrev mutual
   conjuncts_of_all no_formula = []
   conjuncts_of_all (more_formulas first rest) = conjuncts first ++ conjuncts_of_all rest
 
--- An exchange is a symmetry of the task, if objects that change places have one declared type and are named by no action, and
--- it takes the values of functions, the static atoms of the start and the goal's conjuncts to themselves. Atoms that actions
--- change may differ: two balls are alike wherever they are.
+-- An exchange is a symmetry of the task if swapped objects have the same declared type and are named by no action, and it
+-- preserves the values of functions, the static initial atoms and the goal's conjuncts. Atoms that actions change may differ: two
+-- balls are interchangeable wherever they are.
 pub record IsSymmetry (task : Task) (to : ℕ → ℕ) : Type 0 where
   pub both_ways : (o : ℕ) → to (to o) ≡ o
   pub types : (o : ℕ) → declared_type task (to o) ≡ declared_type task o
   pub actions : (o : ℕ) → Contains (named_in_actions task) o → to o ≡ o
   pub values : (f : Atom) → value_in task.values (image_of_atom to f) ≡ value_in task.values f
   pub statics : (a : Atom) → is_fluent task a.predicate ≡ false → contains (initial_state task) (image_of_atom to a) ≡ contains (initial_state task) a
-  -- into is onto, as the exchange is its own inverse
+  -- one inclusion suffices, as the exchange is its own inverse
   pub goal : (part : Formula) → Contains (conjuncts task.goal) part → Contains (conjuncts task.goal) (image_of_formula to part)
 
 -- ---- the test

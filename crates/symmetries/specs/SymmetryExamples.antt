@@ -1,5 +1,5 @@
--- Worked examples of exchanges that are symmetries of small tasks, of others that are none, and of representatives. Each is
--- chosen so that a wrong reading says otherwise.
+-- Worked examples of exchanges that are symmetries of small tasks, of others that are not, and of representatives. Each is chosen
+-- to expose a wrong reading.
 use Rattle.std.specs.Prelude.{◌≡◌, ℕ, Bool, true, false, List, [], ◌∷◌, ◌++◌, map, codes}
 use Rattle.std.specs.FinSet.{from_list}
 use Rattle.model.specs.Task.{Predicate, Atom, LiftedAtom, Term, variable, object, Formula, atom, equal, and, or, not, imply, exists, forall, add, Effect, each, when, Increase, by_number, by_function, FunctionValue, Schema, Task}
@@ -10,7 +10,7 @@ use Rattle.symmetries.specs.Exchanges.{Exchange}
 use Rattle.symmetries.specs.Symmetries.{is_symmetry}
 use Rattle.symmetries.specs.Orbits.{representative}
 
--- these two change places
+-- the exchange that swaps these two
 abbrev pub swapping : ℕ → ℕ → Exchange
 swapping first second = (first, second) ∷ []
 
@@ -139,7 +139,7 @@ carry = record {
   increase = by_function (weight x);
 }
 
--- the atoms that are true at the start in each of the tasks but one
+-- the atoms that are initially true in each of the tasks but one
 abbrev pub start : List Atom
 start = ground 0 (2 ∷ 0 ∷ []) ∷ ground 0 (3 ∷ 1 ∷ []) ∷ ground 1 (0 ∷ 1 ∷ []) ∷ []
 
@@ -159,7 +159,7 @@ delivery = record {
   has_metric = true;
 }
 
--- the same with another goal, other values, further atoms at the start
+-- the same with another goal, other values, or further initial atoms
 abbrev pub with_goal : Formula → Task
 with_goal goal = record delivery { goal = goal }
 
@@ -170,7 +170,7 @@ abbrev pub with_fragile : List ℕ → Task
 with_fragile [] = delivery
 with_fragile (parcel ∷ parcels) = record delivery { init = ground 2 (parcel ∷ []) ∷ (with_fragile parcels).init }
 
--- with one action more, which is of a parcel: with this precondition, this effect and this increase
+-- with one more action, which has a parcel as its parameter: with this precondition, this effect and this cost increase
 abbrev pub acting : Formula → Effect → Increase → Task
 acting precondition effect increase =
     record delivery { schemas = carry ∷ record { name = codes "act"; parameters = (2 ∷ []) ∷ []; precondition = precondition; effect = effect; increase = increase } ∷ [] }
@@ -181,35 +181,35 @@ asking precondition = acting precondition (adds (fragile x)) (by_number 0)
 abbrev pub doing : Effect → Task
 doing effect = acting (and (formulas [])) effect (by_number 0)
 
--- whether the parcels p and q are alike
+-- whether the parcels p and q are interchangeable
 abbrev pub are_alike : Task → Bool
 are_alike task = is_symmetry task (swapping 2 3)
 
--- ---- what is said of them
+-- ---- the judgements
 
 pub record AreExchangesJudged : Type 0 where
   pub gripper_typed : is_task gripper ≡ true
-  -- Two balls are alike though they start in different rooms, and two grippers are; also both pairs at once.
+  -- Two balls are interchangeable although they start in different rooms, and two grippers are; also both pairs at once.
   pub balls : is_symmetry gripper (swapping 2 3) ≡ true
   pub grippers : is_symmetry gripper (swapping 4 5) ≡ true
   pub balls_and_grippers : is_symmetry gripper ((2, 3) ∷ (4, 5) ∷ []) ≡ true
   pub nothing : is_symmetry gripper [] ≡ true
-  -- A room and a gripper are of two types, and the goal wants the balls in one of the rooms.
+  -- A room and a gripper have different types, and the goal requires the balls in a particular room.
   pub two_types : is_symmetry gripper (swapping 0 4) ≡ false
   pub rooms : is_symmetry gripper (swapping 0 1) ≡ false
-  -- An object is in one place of one pair.
+  -- An object may occur only once, in one pair.
   pub twice : is_symmetry gripper ((2, 3) ∷ (3, 2) ∷ []) ≡ false
   pub with_itself : is_symmetry gripper (swapping 2 2) ≡ false
 
 pub record AreTasksJudged : Type 0 where
   pub delivery_typed : is_task delivery ≡ true
-  -- Two parcels for one place are alike wherever they are. For two places they are not, but each with its place is like the
-  -- other with its own, as the road leads both ways.
+  -- Two parcels with the same destination are interchangeable wherever they are. With different destinations they are not, but
+  -- swapping each together with its destination is a symmetry, since the road leads both ways.
   pub one_destination : are_alike delivery ≡ true
   pub two_destinations : are_alike (with_goal (and (formulas (atom (parcel_at p a) ∷ atom (parcel_at q b) ∷ [])))) ≡ false
   pub with_destinations : is_symmetry (with_goal (and (formulas (atom (parcel_at p a) ∷ atom (parcel_at q b) ∷ [])))) ((2, 3) ∷ (0, 1) ∷ []) ≡ true
   pub one_way : is_symmetry (record (with_goal (and (formulas (atom (parcel_at p a) ∷ atom (parcel_at q b) ∷ [])))) { init = start }) ((2, 3) ∷ (0, 1) ∷ []) ≡ false
-  -- A crate is a parcel, and declared with another type. Nothing else of it differs here from a parcel.
+  -- A crate is a parcel, but declared with another type. That is the only difference here.
   pub below : is_symmetry (record (with_values []) { goal = forall (2 ∷ []) (atom (parcel_at x b)) }) (swapping 3 4) ≡ false
   -- Static atoms and values may not differ.
   pub one_fragile : are_alike (with_fragile (2 ∷ [])) ≡ false
@@ -219,7 +219,7 @@ pub record AreTasksJudged : Type 0 where
   pub one_weighed : are_alike (with_values (weighs 3 1 ∷ [])) ≡ false
   pub none_weighed : are_alike (with_values []) ≡ true
 
--- an action that names one of the parcels, and one that names none
+-- an action that names one of the parcels, and an action that names none
 pub record AreActionsJudged : Type 0 where
   pub acting_typed : is_task (asking (atom (parcel_at p a))) ≡ true
   pub in_precondition : are_alike (asking (atom (parcel_at p a))) ≡ false
@@ -235,7 +235,7 @@ pub record AreActionsJudged : Type 0 where
   pub under_condition : are_alike (doing (when (atom (fragile x)) (add (fragile p) ∷ []))) ≡ false
   pub in_increase : are_alike (acting (and (formulas [])) (adds (fragile x)) (by_function (weight p))) ≡ false
 
--- The goal's conjuncts are taken to its conjuncts, in whatever order and however nested; within another formula, order counts.
+-- The goal's conjuncts are mapped to its conjuncts, in any order and however nested; within another formula, order matters.
 pub record AreGoalsJudged : Type 0 where
   pub goal_typed : is_task (with_goal (or (formulas (atom (parcel_at p b) ∷ atom (parcel_at q b) ∷ [])))) ≡ true
   pub nested : are_alike (with_goal (and (formulas (atom (parcel_at p b) ∷ and (formulas (atom (parcel_at q b) ∷ [])) ∷ [])))) ≡ true
@@ -247,7 +247,7 @@ pub record AreGoalsJudged : Type 0 where
   pub under_forall : are_alike (with_goal (forall (1 ∷ []) (or (formulas (atom (parcel_at p x) ∷ atom (parcel_at q x) ∷ []))))) ≡ false
   pub forall_each : are_alike (with_goal (and (formulas (forall (1 ∷ []) (not (atom (parcel_at p x))) ∷ forall (1 ∷ []) (not (atom (parcel_at q x))) ∷ [])))) ≡ true
 
--- ---- representatives of where the balls are
+-- ---- representatives by the positions of the balls
 
 -- the first ball in the first room, the first in the second, the second in the first, the second in the second
 abbrev pub ball_atoms : List Atom
@@ -260,9 +260,9 @@ balls_in first second = from_list (ground 1 (2 ∷ first ∷ []) ∷ ground 1 (3
 abbrev pub ball_representative : State → State
 ball_representative = representative ball_atoms (swapping 2 3 ∷ [])
 
--- ---- a row of eleven objects, one of which is marked
+-- ---- a row of eleven objects, one of them marked
 
--- in the one exchange neighbours change places from the first object on, in the other from the second on
+-- one exchange swaps neighbours beginning with the first object, the other beginning with the second
 abbrev pub from_first : Exchange
 from_first = (0, 1) ∷ (2, 3) ∷ (4, 5) ∷ (6, 7) ∷ (8, 9) ∷ []
 
@@ -272,7 +272,7 @@ from_second = (1, 2) ∷ (3, 4) ∷ (5, 6) ∷ (7, 8) ∷ (9, 10) ∷ []
 abbrev pub mark_of : ℕ → Atom
 mark_of o = ground 0 (o ∷ [])
 
--- the last object's first
+-- the atoms, the last object's first
 abbrev pub marks : List Atom
 marks = map mark_of (10 ∷ 9 ∷ 8 ∷ 7 ∷ 6 ∷ 5 ∷ 4 ∷ 3 ∷ 2 ∷ 1 ∷ 0 ∷ [])
 
@@ -283,16 +283,17 @@ abbrev pub row_representative : State → State
 row_representative = representative marks (from_first ∷ from_second ∷ [])
 
 pub record AreRepresentativesJudged : Type 0 where
-  -- Where one ball is in each room it is the first that is in the first room, and then nothing comes before.
+  -- If one ball is in each room, it is the first ball that is in the first room, and then nothing comes before.
   pub exchanged : ball_representative (balls_in 1 0) ≡ balls_in 0 1
   pub itself : ball_representative (balls_in 0 1) ≡ balls_in 0 1
   -- Two balls in one room stay where they are.
   pub together : ball_representative (balls_in 1 1) ≡ balls_in 1 1
-  -- In another order of atoms the other one comes before, and without an exchange each state stands for itself.
+  -- In another order of atoms the other state comes first, and without exchanges each state is its own representative.
   pub other_order : representative (ground 1 (3 ∷ 0 ∷ []) ∷ ground 1 (2 ∷ 0 ∷ []) ∷ []) (swapping 2 3 ∷ []) (balls_in 0 1) ≡ balls_in 1 0
   pub alone : representative ball_atoms [] (balls_in 1 0) ≡ balls_in 1 0
-  -- The two exchanges take the mark from one object to the next, by turns. From the first to the last there are ten images, of which
-  -- nine are taken: so the representative of a state may have another one, and states of one orbit may differ in theirs.
+  -- The two exchanges alternately move the mark from one object to the next. From the first to the last there are ten images, of
+  -- which nine are taken: so the representative of a state may itself have another one, and states of the same orbit may have
+  -- different ones.
   pub cut_short : row_representative (marked 0) ≡ marked 9
   pub one_more : row_representative (marked 9) ≡ marked 10
   pub whole_chain : row_representative (marked 1) ≡ marked 10

@@ -1,4 +1,4 @@
-//! Defines which exchanges of objects are symmetries of a task, and what listings show that are closed up to them. No code.
+//! Defines which exchanges of objects are symmetries of a task, and what listings closed under them show. No code.
 #![tactic(auto)]
 
 mod laws;

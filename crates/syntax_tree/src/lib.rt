@@ -1,4 +1,4 @@
-//! The trees of a domain file and of a problem file, before any name is resolved.
+//! The trees of a domain file and of a problem file, before names are resolved.
 #![tactic(auto)]
 
 mod name;

@@ -1,20 +1,20 @@
 //! Names and terms, with their places.
 use faults::Span;
 
-/// A name or a variable: its bytes as they are in the file, not folded, and where they are.
+/// A name or a variable: its bytes as written, not folded to lower case, and their span.
 #[derive(Clone, Copy, Debug)]
 pub struct Name<'a> {
-    /// The bytes of the name. A variable's begin with its `?`.
+    /// The bytes of the name. A variable's bytes begin with `?`.
     pub text: &'a [u8],
-    /// Where they are in the file.
+    /// The span of the bytes in the file.
     pub span: Span,
 }
 
 /// An argument of an atom.
 #[derive(Clone, Copy, Debug)]
 pub enum Term<'a> {
-    /// A variable, as `?x`.
+    /// A variable, such as `?x`.
     Variable(Name<'a>),
-    /// The name of an object.
+    /// An object, by its name.
     Object(Name<'a>),
 }

@@ -1,7 +1,7 @@
-//! What is in a domain and in a problem, name by name, before any name is resolved.
+//! The contents of a domain and of a problem, before names are resolved.
 use crate::name::{Name, Term};
 
-/// One of the two files that a task is read from.
+/// One of the two files of a task.
 #[derive(Clone, Copy, Debug, PartialEq, Eq)]
 pub enum TaskFile {
     /// The domain file.
@@ -10,7 +10,7 @@ pub enum TaskFile {
     Problem,
 }
 
-/// A predicate of some terms.
+/// A predicate applied to terms.
 #[derive(Debug, Drop)]
 pub struct Atom<'a> {
     /// The predicate's name.
@@ -24,19 +24,19 @@ pub struct Atom<'a> {
 pub enum Formula<'a> {
     /// An atom.
     Atom(Atom<'a>),
-    /// `(= t u)`: two terms are one object.
+    /// `(= t u)`: both terms denote the same object.
     Equal(Term<'a>, Term<'a>),
-    /// `(and ..)`, which holds where each part does.
+    /// `(and ..)`: every part holds.
     And(Vec<Formula<'a>>),
-    /// `(or ..)`, which holds where some part does.
+    /// `(or ..)`: some part holds.
     Or(Vec<Formula<'a>>),
-    /// `(not f)`, which holds where its part does not.
+    /// `(not f)`: the part does not hold.
     Not(Box<Formula<'a>>),
-    /// `(imply f g)`, which holds where the second part does or the first does not.
+    /// `(imply f g)`: the second part holds, or the first does not.
     Imply(Box<Formula<'a>>, Box<Formula<'a>>),
-    /// `(exists (variables) f)`, which holds where the part does for some objects of the variables' types.
+    /// `(exists (variables) f)`: the part holds for some objects of the variables' types.
     Exists(Vec<Group<'a>>, Box<Formula<'a>>),
-    /// `(forall (variables) f)`, which holds where the part does for all of them.
+    /// `(forall (variables) f)`: the part holds for all objects of the variables' types.
     Forall(Vec<Group<'a>>, Box<Formula<'a>>),
 }
 
@@ -58,16 +58,16 @@ pub enum Effect<'a> {
     And(Vec<Effect<'a>>),
     /// `(forall (variables) e)`: the effect for all objects of the variables' types.
     Forall(Vec<Group<'a>>, Box<Effect<'a>>),
-    /// `(when f ..)`: literals, where the formula holds before.
+    /// `(when f ..)`: literals that take effect if the formula holds before.
     When(Formula<'a>, Vec<EffectLiteral<'a>>),
 }
 
-/// Names or variables of one type, as `a b - place` or `?x ?y - (either t u)`; a typed list is a list of such groups.
+/// Names or variables of one type, such as `a b - place` or `?x ?y - (either t u)`. A typed list is a list of groups.
 #[derive(Debug, Drop)]
 pub struct Group<'a> {
-    /// The names, in order: at least one.
+    /// The names, in order. There is at least one.
     pub names: Vec<Name<'a>>,
-    /// The types after their `-`, and none where no type comes after them.
+    /// The types after the `-`; empty if no type follows.
     pub types: Vec<Name<'a>>,
 }
 
@@ -76,17 +76,16 @@ pub struct Group<'a> {
 pub struct Predicate<'a> {
     /// The name of the predicate or the function.
     pub name: Name<'a>,
-    /// Its variables, which say how many arguments it has, and of which types.
+    /// Its variables: they give the number and types of its arguments.
     pub parameters: Vec<Group<'a>>,
 }
 
-/// What an increase of the total cost is by.
+/// The amount of an increase of the total cost.
 #[derive(Debug, Drop)]
 pub enum Amount<'a> {
     /// A number, from 0 to 2,147,483,647.
     Number(u32),
-    /// The value of a function of some terms, which is as an atom does: the function's name in the place of the
-    /// predicate's.
+    /// A function applied to terms, stored like an atom: the function's name takes the place of the predicate's.
     Function(Atom<'a>),
 }
 
@@ -95,7 +94,7 @@ pub enum Amount<'a> {
 pub struct Increase<'a> {
     /// Its word `increase`.
     pub word: Name<'a>,
-    /// What it is by.
+    /// Its amount.
     pub amount: Amount<'a>,
 }
 
@@ -106,11 +105,11 @@ pub struct Action<'a> {
     pub name: Name<'a>,
     /// Its parameters, in order.
     pub parameters: Vec<Group<'a>>,
-    /// When it is applicable: `(and)` where the file has no `:precondition`.
+    /// The precondition: `(and)` if the file has no `:precondition`.
     pub precondition: Formula<'a>,
-    /// What it changes: `(and)` where the file has no `:effect`.
+    /// The effect: `(and)` if the file has no `:effect`.
     pub effect: Effect<'a>,
-    /// What is in its effect besides, in order: more than one is a fault.
+    /// The cost increases in its effect, in order. More than one is a fault.
     pub increases: Vec<Increase<'a>>,
 }
 
@@ -119,20 +118,19 @@ pub struct Action<'a> {
 pub struct Domain<'a> {
     /// The domain's name.
     pub name: Name<'a>,
-    /// The types, each group with its parent, in the order of the file.
+    /// The types, in file order; each group has its parent.
     pub types: Vec<Group<'a>>,
-    /// The constants, in the order of the file.
+    /// The constants, in file order.
     pub constants: Vec<Group<'a>>,
-    /// The predicates, in the order of the file.
+    /// The predicates, in file order.
     pub predicates: Vec<Predicate<'a>>,
-    /// What `:functions` declares, in the order of the file: functions of objects, and `total-cost`, which has no
-    /// arguments.
+    /// The declarations in `:functions`, in file order: functions of objects, and `total-cost`, which has no arguments.
     pub functions: Vec<Predicate<'a>>,
-    /// The actions, in the order of the file.
+    /// The actions, in file order.
     pub actions: Vec<Action<'a>>,
 }
 
-/// An atom of objects.
+/// A predicate applied to objects.
 #[derive(Debug, Drop)]
 pub struct GroundAtom<'a> {
     /// The predicate's name.
@@ -141,7 +139,7 @@ pub struct GroundAtom<'a> {
     pub objects: Vec<Name<'a>>,
 }
 
-/// What `(= (total-cost) N)` in `:init` says.
+/// The fact `(= (total-cost) N)` of `:init`.
 #[derive(Clone, Copy, Debug)]
 pub struct InitialCost<'a> {
     /// Its word `=`.
@@ -154,25 +152,25 @@ pub struct InitialCost<'a> {
     pub number: Name<'a>,
 }
 
-/// What `(= (f o ..) N)` in `:init` says.
+/// The fact `(= (f o ..) N)` of `:init`.
 #[derive(Debug, Drop)]
 pub struct InitialValue<'a> {
-    /// The function of some objects, which is as an atom does: the function's name in the place of the predicate's.
+    /// The function applied to objects, stored like an atom: the function's name takes the place of the predicate's.
     pub function: GroundAtom<'a>,
     /// Its value, from 0 to 2,147,483,647.
     pub value: u32,
 }
 
-/// What is in `:init`.
+/// A fact of `:init`.
 #[derive(Debug, Drop)]
 pub enum Fact<'a> {
-    /// An atom that is true at the start.
+    /// An atom that is initially true.
     Atom(GroundAtom<'a>),
-    /// A negated one, with its word `not`.
+    /// A negated atom, with its word `not`.
     Negated(Name<'a>, GroundAtom<'a>),
-    /// The total cost at the start.
+    /// The initial total cost.
     InitialCost(InitialCost<'a>),
-    /// The value of a function of objects.
+    /// The value of a function applied to objects.
     InitialValue(InitialValue<'a>),
 }
 
@@ -181,14 +179,14 @@ pub enum Fact<'a> {
 pub struct Problem<'a> {
     /// The problem's name.
     pub name: Name<'a>,
-    /// The name of the domain that the problem is for.
+    /// The name of the problem's domain.
     pub domain: Name<'a>,
-    /// The objects, in the order of the file.
+    /// The objects, in file order.
     pub objects: Vec<Group<'a>>,
-    /// What is true at the start, in the order of the file.
+    /// The initial facts, in file order.
     pub init: Vec<Fact<'a>>,
-    /// What is to be reached.
+    /// The goal.
     pub goal: Formula<'a>,
-    /// The word `total-cost` of `:metric`, where the file has one.
+    /// The word `total-cost` of `:metric`, if the file has one.
     pub metric: Option<Name<'a>>,
 }

@@ -1,4 +1,4 @@
--- Where no change under a `when` is of an atom of the scope, one row comes after each.
+-- If no change under a `when` affects an atom of the scope, each row has exactly one successor.
 use Rattle.std.proofs.Common.{◌≡◌, ◌∙◌, ℕ, Bool, true, false, not, ◌&&◌, ◌||◌, List, [], ◌∷◌, ◌++◌, map, refl}
 use Rattle.std.specs.Prelude.{if◌then◌else◌, cond}
 use Rattle.std.specs.Bool.{beq}

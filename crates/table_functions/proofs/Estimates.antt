@@ -1,4 +1,4 @@
--- The value of a fair table function, and the greatest of several: what is so of it across a step of the task and at a goal.
+-- The value of a fair table function, and the maximum of several: across a step of the task and in goal states.
 use Rattle.std.proofs.Common.{◌≡◌, ℕ, ◌+◌, ◌<◌, ◌≤◌, max, Bool, true, false, true≢false, not, ◌||◌, List, [], ◌∷◌, length, Some, refl, sym, ap, subst, arith, pos, ◌+ℤ◌, ◌≤ℤ◌}
 use Rattle.std.specs.Prelude.{IsTrue, Contains, nat_lt, slice_get, if◌then◌else◌, is_some}
 use Rattle.std.specs.List.{list_all}
@@ -29,13 +29,13 @@ use Rattle.table_functions.proofs.Rows.{projection-alike, not-shut_out}
 use Rattle.table_functions.proofs.Falls.{has-next, total-falls, total-ends, value-falls, value-ends}
 use Rattle.table_functions.proofs.Steps.{all_changes-are, formula-bit, formula-within, pair-bits, untouched-bits, instance-wants_none, instance-within, steps-within}
 
--- as every reachable state: its static atoms are those of the start, and its fluent atoms have numbers
+-- the state is like every reachable one: its static atoms are the initial ones, and its fluent atoms are numbered
 pub record IsOfAtoms (task : Task) (atoms : List Atom) (state : State) : Type 0 where
   pub statics : HasInitialStatics task state
   pub numbered : HasNumberedFluents task atoms state
 
--- The value of such a state falls by no more than is allowed to an instance, and is 0 where the goal is met; and it looks at no
--- bits but those of the numbered atoms.
+-- The value of such a state falls by no more than an instance's allowance, and is 0 in goal states; and it depends only on the
+-- bits of the numbered atoms.
 pub record IsEstimate (allowance : Instance → ℕ) (task : Task) (atoms : List Atom) (value : List Bool → ℕ) : Type 0 where
   pub falls : (s next : State) (i : Instance) → IsOfAtoms task atoms s → step task s i ≡ Some next
       → value (bits_of_state atoms s) ≤ value (bits_of_state atoms next) + allowance i
@@ -56,7 +56,7 @@ module _ (allowance : Instance → ℕ) (task : Task) (atoms : List Atom) (h : T
   below t at n there =
       ltb-true n (length atoms) (all-among (λ k. nat_lt k (length atoms)) t.scope n (all-at (λ (u : Table). list_all (λ k. nat_lt k (length atoms)) u.scope) h.tables t over.scopes at) there)
 
-  -- an instance that leads from a state that has its rows to another is not shut out
+  -- an instance that leads from a state with rows to another is not shut out
   asked : (s next : State) (i : Instance) → IsOfAtoms task atoms s → step task s i ≡ Some next → has_rows h.tables (bits_of s) ≡ true → is_asked task atoms h.tables i ≡ true
   asked s next i here leads has =
       neither (option_map_or (λ (schema : Schema). wants_unnumbered task atoms schema.precondition i.objects) (slice_get task.schemas i.schema) false) (is_shut_out (literals_of_instance task atoms i) h.tables)
@@ -94,7 +94,7 @@ module _ (allowance : Instance → ℕ) (task : Task) (atoms : List Atom) (h : T
       (score-ends h.potentials (bits_of s) literals (length atoms) (long s) (λ n said_value under said. formula-bit task atoms numberable.distinct s task.goal [] goal n said_value under said))
       (fair.goals.within (not-shut_out (bits_of s) literals h.tables has holding)))
 
-  -- tables look only at bits of their scopes
+  -- tables depend only on the bits of their scopes
   repacked-projection : (bits : List Bool) (t : Table) → Contains h.tables t → projection (repacked task atoms bits) t.scope ≡ projection bits t.scope
   repacked-projection bits t at = projection-alike (repacked task atoms bits) bits t.scope (λ n there. repacked-bit task atoms numberable bits n (below t at n there))
 
@@ -116,7 +116,7 @@ module _ (allowance : Instance → ℕ) (task : Task) (atoms : List Atom) (h : T
   pub one-estimate : IsEstimate allowance task atoms (value h)
   one-estimate = record { falls = one-falls; ends = one-ends; by_numbered = repacked-value }
 
--- ---- the greatest of several
+-- ---- the maximum of several
 
 greater-falls : (a b c d allowed : ℕ) → a ≤ c + allowed → b ≤ d + allowed → max a b ≤ max c d + allowed
 greater-falls a b c d allowed one other = omega arith

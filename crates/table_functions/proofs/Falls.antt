@@ -1,5 +1,5 @@
--- By how much what table functions give falls from one packed state to another, and what it is at a goal. Said of literals and
--- changes by numbers, whatever task they are of.
+-- Upper bounds of how much a table function falls from one packed state to another, and of its value in goal states. Stated for
+-- numbered literals and changes of any task.
 use Rattle.std.proofs.Common.{◌≡◌, ◌∙◌, ℕ, ◌+◌, ◌≤◌, Bool, true, false, not, ◌||◌, List, [], ◌∷◌, map, Some, refl, sym, ap, subst, arith, ℤ, pos, ◌+ℤ◌, neg_ℤ, ◌≤ℤ◌}
 use Rattle.std.specs.Prelude.{Contains, if◌then◌else◌, is_some}
 use Rattle.std.specs.List.{list_all, flat_map, filter_map}
@@ -17,20 +17,20 @@ use Rattle.table_functions.proofs.Rows.{row-is, projection-bit, projection-alike
 
 -- ---- across an instance
 
--- what is so of a step across an instance of these literals and changes, within a scope
+-- the conditions of a step by an instance with these literals and changes, within a scope
 pub record IsStepWithin (literals : List NumberedLiteral) (changes : List ConditionalChange) (bits next : List Bool) (scope : List ℕ) : Type 0 where
   pub literals_hold : HoldWithin literals bits scope
   pub may : (n : ℕ) → is_among scope n ≡ true → may_become (open_changes changes scope (projection bits scope)) n (bit bits n) (bit next n) ≡ true
   pub untouched : (n : ℕ) → is_among scope n ≡ true → touches (changes_in changes) n ≡ false → bit bits n ≡ bit next n
 
--- What becomes of a table's row: the next packed state has one, whose weight is less by no more than the table may lose.
+-- The effect on a table's row: the next packed state has a row, whose weight is lower by no more than the table may lose.
 pub record IsLedTo (place : ℕ) (literals : List NumberedLiteral) (changes : List ConditionalChange) (next : List Bool) (t : Table) (row : Row) : Type 0 where
   pub after : Row
   pub is_row : row_in next t ≡ Some after
   pub falls : weight_at place row ≤ℤ (weight_at place after +ℤ table_loses place literals changes t)
 
 module _ (place : ℕ) (literals : List NumberedLiteral) (changes : List ConditionalChange) (bits next : List Bool) (t : Table) (steps : IsStepWithin literals changes bits next t.scope) where
-  -- the next packed state's projection may come after the row
+  -- the next packed state's projection is a possible successor of the row
   comes-after : (row : Row) → row_in bits t ≡ Some row → Contains (afters_of changes t.scope row.atoms) (projection next t.scope)
   comes-after row at =
       subst (λ atoms. Contains (afters_of changes t.scope atoms) (projection next t.scope)) (sym (row-is t.rows (projection bits t.scope) row at).1)
@@ -71,7 +71,7 @@ module _ (place : ℕ) (literals : List NumberedLiteral) (changes : List Conditi
 
 -- ---- all tables
 
--- the row of a table, where each has one
+-- the row of a table, if each table has one
 row-at : (bits : List Bool) (tables : List Table) (t : Table) → has_rows tables bits ≡ true → Contains tables t → (row : Row) × (row_in bits t ≡ Some row)
 row-at bits tables t has at = is_some-is (row_in bits t) (all-at (λ (u : Table). is_some (row_in bits u)) tables t has at)
 

@@ -1,4 +1,4 @@
--- Lists: tests of all elements and of some, numbers among others, and sums over tables.
+-- Lists: tests of all elements and of some, membership of numbers, and sums over tables.
 use Rattle.std.proofs.Common.{◌≡◌, ◌∙◌, ℕ, inl, inr, Bool, true, false, true≢false, ◌&&◌, ◌||◌, List, [], ◌∷◌, Option, None, Some, refl, sym, ap, subst, arith, ℤ, ◌+ℤ◌, ◌≤ℤ◌}
 use Rattle.std.specs.Prelude.{Contains, ◌==◌, cond, filter, is_some}
 use Rattle.std.specs.List.{list_any, list_all}
@@ -40,7 +40,7 @@ pub is_some-is : {X : Type 0} (o : Option X) → is_some o ≡ true → (x : X) 
 is_some-is None none = absurd (true≢false (sym none))
 is_some-is (Some x) some = (x, refl)
 
--- ---- numbers among others
+-- ---- membership of numbers
 
 pub among-here : (x : ℕ) (xs : List ℕ) → is_among (x ∷ xs) x ≡ true
 among-here x xs = or_left (x == x) (is_among xs x) (eq-eqb x x refl)
@@ -72,7 +72,7 @@ filter-alike p q (x ∷ xs) each =
     let first = each x (among-here x xs) in
     (λ i. cond (first i) (x ∷ rest i) (rest i))
 
--- those that pass, and are among the numbers
+-- the numbers that pass, and are among these
 among-filter : (p : ℕ → Bool) (xs : List ℕ) (k : ℕ) → is_among (filter p xs) k ≡ (is_among xs k && p k)
 among-filter p [] k = refl
 among-filter p (x ∷ xs) k =

@@ -1,5 +1,5 @@
--- Values that fall by no more than instances cost are lower bounds, and those that never fall report dead ends; so do those of
--- fair and of dead-fair table functions.
+-- Values that fall by no more than the instances' costs are lower bounds, and values that never fall detect dead ends; both for
+-- fair and dead-fair table functions.
 use Rattle.std.proofs.Common.{◌≡◌, ◌∙◌, ℕ, zero, suc, ◌+◌, ◌≤◌, ◌||◌, inl, inr, Bool, true, false, true≢false, not, List, [], ◌∷◌, length, sum_by, Some, refl, sym, ap, subst, arith, pos}
 use Rattle.std.specs.Prelude.{IsTrue, nat_le, slice_get, if◌then◌else◌, All}
 use Rattle.std.specs.Ordering.{eq_by_cmp}
@@ -57,10 +57,10 @@ module _ (task : Task) (atoms : List Atom) where
         | false ↦ λ _. refl
       ] refl)
 
--- ---- along any list that runs
+-- ---- along any run
 
 module _ (allowance : Instance → ℕ) (task : Task) (atoms : List Atom) (numbered : AreAllNumbered task atoms) (value : List Bool → ℕ) (estimate : IsEstimate allowance task atoms value) where
-  -- where the fluent atoms have numbers, they have them after a step
+  -- if the fluent atoms are numbered, they are numbered after a step
   stays : (s next : State) (i : Instance) → IsOfAtoms task atoms s → step task s i ≡ Some next → HasNumberedFluents task atoms next
   stays s next i here leads q is has = elim (step-touched task s next i q here.statics leads has) [
     | inl before ↦ here.numbered q is before
@@ -102,7 +102,7 @@ module _ (allowance : Instance → ℕ) (task : Task) (atoms : List Atom) (numbe
     numbered = λ q is has. chosen-occurs_in atoms bits q (sym (contains-fluent (is_fluent task) task.init atoms bits q is) ∙ has);
   }
 
-  -- what is allowed to the instance of a number
+  -- the allowance of the instance with a number
   abbrev allowed : ℕ → ℕ
   allowed number = option_map_or allowance (slice_get (kept_instances task) number) 0
 
@@ -126,7 +126,7 @@ module _ (allowance : Instance → ℕ) (task : Task) (atoms : List Atom) (numbe
       (λ b here met. let none = ground-ends b met in omega (arith, ints)) plan bits end refl runs goal in
       omega (arith, ints)
 
--- ---- what is allowed is the cost
+-- ---- the allowance is the cost
 
 pub are_lower_bounds : (task : Task) (atoms : List Atom) → AreAllNumbered task atoms → (value : List Bool → ℕ) → IsEstimate (cost_of task) task atoms value → AreLowerBounds task atoms value
 are_lower_bounds task atoms numbered value estimate = record {
@@ -142,9 +142,9 @@ are_lower_bounds task atoms numbered value estimate = record {
   };
 }
 
--- ---- nothing is allowed
+-- ---- the allowance is 0
 
--- what comes only where a number is 0 does not come where it is at least 1
+-- what happens only at 0 does not happen at 1 or more
 never-where : (n : ℕ) (b : Bool) → IsTrue (nat_le 1 n) → (b ≡ true → n ≤ 0) → b ≡ false
 never-where n b some none_left = false_from_ne_true b (λ is. let none = none_left is in let least = leb-true 1 n some in absurd (omega arith))
 

@@ -1,4 +1,4 @@
--- Rows of packed states: they agree with literals that hold, and what comes after them is among what may.
+-- Rows of packed states: they agree with literals that hold, and their successors are among the possible ones.
 use Rattle.std.proofs.Common.{◌≡◌, ◌∙◌, ℕ, Bool, true, false, not, ◌||◌, List, [], ◌∷◌, ◌++◌, map, Some, refl, sym, ap, subst}
 use Rattle.std.specs.Prelude.{Contains, ◌==◌, if◌then◌else◌, cond, filter, is_some}
 use Rattle.std.specs.Bool.{beq}
@@ -15,7 +15,7 @@ use Rattle.table_functions.proofs.Lists.{all-from, all-at, any-at, none-passes, 
 
 -- ---- the row of a packed state
 
--- a row that is found is one of the table's, and has these atoms
+-- a row that is found belongs to the table and has these atoms
 pub row-is : (rows : List Row) (atoms : List ℕ) (row : Row) → find (λ (r : Row). pointwise (λ k number. k == number) r.atoms atoms) rows ≡ Some row → Contains rows row × (row.atoms ≡ atoms)
 row-is [] atoms row none = absurd (cc)
 row-is (first ∷ rows) atoms row some =
@@ -27,7 +27,7 @@ row-is (first ∷ rows) atoms row some =
       | false ↦ λ _ later. let rest = row-is rows atoms row later in (Contains-there first rows row rest.0, rest.1)
     ] refl some
 
--- what the projection says of an atom of the scope is so
+-- the projection is right about each atom of the scope
 pub projection-bit : (bits : List Bool) (scope : List ℕ) (n : ℕ) → is_among scope n ≡ true → is_among (projection bits scope) n ≡ bit bits n
 projection-bit bits scope n there = passes-among (bit bits) scope n there
 
@@ -36,7 +36,7 @@ projection-alike bits other scope same = filter-alike (bit bits) (bit other) sco
 
 -- ---- literals that hold
 
--- each literal of an atom of the scope is as it is in the packed state
+-- each literal of an atom of the scope holds in the packed state
 abbrev pub HoldWithin : List NumberedLiteral → List Bool → List ℕ → Type 0
 HoldWithin literals bits scope = (l : NumberedLiteral) → Contains literals l → is_among scope l.atom ≡ true → bit bits l.atom ≡ l.value
 
@@ -60,7 +60,7 @@ row-agrees bits literals t row at holding =
     let alike : agrees literals t.scope row.atoms ≡ true = ap (agrees literals t.scope) found.1 ∙ projection-agrees bits t.scope literals holding in
     (Contains-filter (λ (r : Row). agrees literals t.scope r.atoms) t.rows row found.0 alike, alike)
 
--- and where each table has a row, literals that hold are not shut out
+-- and if each table has a row, literals that hold are not shut out
 pub not-shut_out : (bits : List Bool) (literals : List NumberedLiteral) (tables : List Table) → has_rows tables bits ≡ true
     → ((t : Table) → Contains tables t → HoldWithin literals bits t.scope) → is_shut_out literals tables ≡ false
 not-shut_out bits literals tables has holding =
@@ -69,7 +69,7 @@ not-shut_out bits literals tables has holding =
     let found = row-is t.rows (projection bits t.scope) row.0 row.1 in
     ap not (any-at (λ (r : Row). agrees literals t.scope r.atoms) t.rows row.0 found.0 (row-agrees bits literals t row.0 row.1 (holding t at)).1))
 
--- ---- what may come after
+-- ---- possible successors
 
 pub contains-after : (changes : List NumberedChange) (before : List ℕ) (after : ℕ → Bool) (scope : List ℕ)
     → ((n : ℕ) → is_among scope n ≡ true → may_become changes n (is_among before n) (after n) ≡ true) → Contains (afters changes scope before) (filter after scope)

@@ -1,4 +1,4 @@
--- What a step of the task does to numbered atoms, by the changes that may be made where some of the atoms are so.
+-- How a step of the task changes numbered atoms, by the changes whose conditions are open given some of the atoms.
 use Rattle.std.proofs.Common.{◌≡◌, ◌∙◌, ℕ, ◌<◌, Bool, true, false, true≢false, not, ◌&&◌, ◌||◌, List, [], ◌∷◌, map, length, get_or, Option, None, Some, refl, sym, ap, subst}
 use Rattle.std.specs.Prelude.{Contains, ◌==◌, if◌then◌else◌, cond, filter, slice_get}
 use Rattle.std.specs.Bool.{beq}
@@ -29,7 +29,7 @@ use Rattle.table_functions.proofs.Lists.{any-at}
 use Rattle.table_functions.proofs.Rows.{HoldWithin, same-itself, projection-agrees}
 use Rattle.table_functions.proofs.Falls.{IsStepWithin}
 
--- leaving out changes whose conditions do not hold leaves out nothing that is made
+-- leaving out changes whose conditions do not hold leaves out none that takes effect
 made-open : (task : Task) (s : State) (ok : Change → Bool) → ((c : Change) → ok c ≡ false → holds task c.condition c.binding s ≡ false)
     → (changes : List Change) → literals_in task s (filter ok changes) ≡ literals_in task s changes
 made-open task s ok fails [] = refl
@@ -45,7 +45,7 @@ made-open task s ok fails (c ∷ changes) =
       | false ↦ λ closed. rest ∙ ap (λ m. map literal (cond m (c ∷ filter is_made changes) (filter is_made changes))) (sym (fails c closed))
     ] refl
 
--- what a list says of the atom of one of its literals is what this says
+-- what a list says about the atom of one of its literals is what the literal says
 says-at : (literals : List NumberedLiteral) (l : NumberedLiteral) → Contains literals l → says literals l.atom l.value ≡ true
 says-at literals l at =
     any-at (λ (k : NumberedLiteral). k.atom == l.atom && beq k.value l.value) literals l at (and_from (l.atom == l.atom) (beq l.value l.value) (eq-eqb l.atom l.atom refl) (same-itself l.value))
@@ -54,7 +54,7 @@ module _ (task : Task) (atoms : List Atom) where
   abbrev conditioned : Change → NumberedChange → ConditionalChange
   conditioned c k = record { change = k; condition = numbered_literals task atoms c.condition c.binding; wants_unnumbered = wants_unnumbered task atoms c.condition c.binding }
 
-  -- the changes with their conditions are those without
+  -- the changes with their conditions are those without, extended
   pub all_changes-are : (changes : List Change) → changes_in (filter_map (conditional_change task atoms) changes) ≡ filter_map (numbered_change atoms) changes
   all_changes-are [] = refl
   all_changes-are (c ∷ changes) =
@@ -64,7 +64,7 @@ module _ (task : Task) (atoms : List Atom) where
         | Some k ↦ ap (λ l. k ∷ l) rest
       ]
 
-  -- nothing contradicts the condition, where these atoms of the scope are true
+  -- nothing contradicts the condition, if these atoms of the scope are true
   abbrev may_hold : List ℕ → List ℕ → Change → Bool
   may_hold scope trues c = not (wants_unnumbered task atoms c.condition c.binding) && agrees (numbered_literals task atoms c.condition c.binding) scope trues
 
@@ -90,7 +90,7 @@ module _ (task : Task) (atoms : List Atom) where
       taken k some true others conditional rest = ap (λ l. k ∷ l) rest ∙ ap (λ o. cons_option o (filter_map (numbered_change atoms) others)) (sym some)
       taken k some false others conditional rest = rest
 
-  -- where a formula holds in a state of numbered atoms, it wants none without a number
+  -- if a formula holds in a state of numbered atoms, it requires no atom without a number
   pub wants-none : (s : State) → HasNumberedFluents task atoms s → (f : Formula) (binding : List ℕ) → holds task f binding s ≡ true → wants_unnumbered task atoms f binding ≡ false
   wants-none s numbered f binding holding =
       false_from_ne_true (wants_unnumbered task atoms f binding) (λ wants.
@@ -115,7 +115,7 @@ module _ (task : Task) (atoms : List Atom) where
     bit-is : (s : State) (n : ℕ) → n < length atoms → bit (bits_of_state atoms s) n ≡ contains s (atom_at n)
     bit-is s n below = get_or-map (contains s) atoms n (record { predicate = 0; objects = [] }) false below
 
-    -- where a formula holds, what its literals say is so
+    -- if a formula holds, its literals hold
     pub formula-bit : (s : State) (f : Formula) (binding : List ℕ) → holds task f binding s ≡ true → (n : ℕ) (value : Bool) → n < length atoms
         → says (numbered_literals task atoms f binding) n value ≡ true → bit (bits_of_state atoms s) n ≡ value
     formula-bit s f binding holding n value below said = bit-is s n below ∙ formula-says atoms distinct n (atom_at n) (at n below) task s f binding value holding said
@@ -132,7 +132,7 @@ module _ (task : Task) (atoms : List Atom) where
       abbrev nexts : List Bool
       nexts = bits_of_state atoms next
 
-      -- what may become of an atom, by changes that leave out none whose condition holds
+      -- the possible truth values of an atom, by changes that include all whose conditions hold
       may-open : (ok : Change → Bool) → ((c : Change) → ok c ≡ false → holds task c.condition c.binding s ≡ false) → (n : ℕ) → n < length atoms
           → may_become (filter_map (numbered_change atoms) (filter ok (counting_changes task i))) n (contains s (atom_at n)) (contains next (atom_at n)) ≡ true
       may-open ok fails n below =
@@ -149,7 +149,7 @@ module _ (task : Task) (atoms : List Atom) where
           (makes-made atoms distinct n a (at n below) task s changes true) (makes-made atoms distinct n a (at n below) task s changes false)
           (made-makes atoms distinct n a (at n below) task s changes true) (made-makes atoms distinct n a (at n below) task s changes false))
 
-      -- a pair for each atom
+      -- a pair of truth values for each atom
       pub pair-bits : (n : ℕ) → n < length atoms → is_pair (literals_of_instance task atoms i) (counting_of_instance task atoms i) n (record { before = bit bits n; after = bit nexts n }) ≡ true
       pair-bits n below =
           subst (λ b. is_pair (literals_of_instance task atoms i) (counting_of_instance task atoms i) n (record { before = b; after = bit nexts n }) ≡ true) (sym (bit-is s n below))
@@ -159,7 +159,7 @@ module _ (task : Task) (atoms : List Atom) where
       pub untouched-bits : (n : ℕ) → n < length atoms → touches (counting_of_instance task atoms i) n ≡ false → bit bits n ≡ bit nexts n
       untouched-bits n below none = bit-is s n below ∙ step-untouched atoms distinct n (atom_at n) (at n below) task s next i statics leads none ∙ sym (bit-is next n below)
 
-      -- its precondition wants no atom without a number
+      -- its precondition requires no atom without a number
       pub instance-wants_none : HasNumberedFluents task atoms s → option_map_or (λ (schema : Schema). wants_unnumbered task atoms schema.precondition i.objects) (slice_get task.schemas i.schema) false ≡ false
       instance-wants_none numbered_fluents =
           elim (slice_get task.schemas i.schema) as (λ o. slice_get task.schemas i.schema ≡ o

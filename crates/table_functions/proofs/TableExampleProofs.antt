@@ -1,4 +1,4 @@
--- What the definitions say of the worked examples of tables.
+-- The worked examples of tables.
 use Rattle.std.specs.Prelude.{◌≡◌, ℕ, zero, suc, ◌<◌, Bool, true, false, IsTrue, pos, ◌≤ℤ◌, ℤ, List, [], ◌∷◌, length, slice_get, Some, if◌then◌else◌, All, refl}
 use Rattle.std.specs.List.{list_all, filter_map}
 use Rattle.std.specs.FinSet.{from_list, contains-from_list}
@@ -167,7 +167,7 @@ moves asked allowance h fore_fair back_fair goals =
     let P = λ (i : Instance). IsTrue (asked i) → IsFairAt (allowance i) token_task token_atoms h i in
     record { instances = subst (All P) (sym moves_kept) (All-cons P fore (back ∷ []) (λ _. fore_fair) (All-cons P back [] (λ _. back_fair) (All-nil P))); goals = goals }
 
--- no row meets the goal
+-- no row satisfies the goal
 none_meets : (here there : ℤ) → IsFairAtGoals token_task token_atoms (here_or_there here there)
 none_meets here there = record { within = λ out. absurd (true≢false out) }
 
@@ -181,7 +181,7 @@ fore-fair =
     let h = here_or_there (pos 1) (pos 0) in
     moves (is_asked token_task token_atoms h.tables) (cost_of token_task) h (is_fair token_task token_atoms h 1 fore refl (le_z_yes tt)) (is_fair token_task token_atoms h 1 back refl (le_z_yes tt)) (none_meets (pos 1) (pos 0))
 
--- ---- a condition that may hold or not
+-- ---- a condition that may or may not hold
 
 one : (h : TableFunction) → IsFairAt 1 when_task when_atoms h the_one → IsFairAtGoals when_task when_atoms h → IsFair when_task when_atoms h
 one h fair goals =

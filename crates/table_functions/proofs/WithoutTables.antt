@@ -24,7 +24,7 @@ module _ (task : Task) (atoms : List Atom) (p : PotentialFunction) where
   same-value : (bits : List Bool) → value (without_tables p) bits ≡ or_zero (score p bits)
   same-value bits = ap or_zero (more-zero (score p bits))
 
-  -- what an instance may lose, of its changes with their conditions
+  -- the greatest loss of an instance, by its changes with their conditions
   abbrev lost : Instance → List NumberedChange → ℤ
   lost i changes = loses_at_most (length atoms) p.weights (literals_of_instance task atoms i) changes
 

@@ -1,4 +1,4 @@
--- Read in this order: what a table is and what value it gives, what makes values fair, what fair values are for, and examples.
+-- Read in this order: tables and their values, when values are fair, the purpose of fair values, and examples.
 pub mod TableFunctions
 pub mod FairTables
 pub mod Laws

@@ -1,48 +1,48 @@
-//! Laws of table functions, over all tasks. They are proved; the calls do nothing.
+//! Laws of table functions, proved for all tasks. The functions do nothing.
 ghost use Rattle.table_functions.specs.Laws.{FairOnesAreLowerBounds, GreatestOfFairOnesIsLowerBound, DeadFairOnesReportDeadEnds, FairValuesAreSound, PotentialsAreTableFunctions, GroundAtomsAreAllNumbered, CertainChangesHaveOneAfter};
 ghost use Rattle.table_functions.specs.TableExamples.{AreTablesJudged, AreTasksJudged};
 
-/// The value that a fair table function gives a state with the static atoms of the start is a lower bound: every list of
-/// instances that runs from it to a state that meets the goal, of whatever length, costs at least that. It falls by no more than
-/// an instance costs, and is 0 where the goal is met; so it does in the ground task, whatever bits a packed state has.
+/// The value of a fair table function in a state with the static atoms of the initial state is a lower bound: every run from it
+/// to a goal state, of whatever length, costs at least that much. The value falls by no more than an instance's cost, and is 0 in
+/// goal states. The same holds in the ground task, for all bits of a packed state.
 pub fn fair_tables_are_lower_bounds()
     ensures { FairOnesAreLowerBounds }
 {}
 
-/// So is the greatest of the values of several fair table functions.
+/// The maximum of the values of several fair table functions is a lower bound too.
 pub fn greatest_of_fair_tables_is_lower_bound()
     ensures { GreatestOfFairOnesIsLowerBound }
 {}
 
-/// A state with the static atoms of the start to which a dead-fair table function gives a value of at least 1 is a dead end: no
-/// list of instances, of whatever length, runs from it to a state that meets the goal, and it leads only to such states.
+/// A state with the static atoms of the initial state in which a dead-fair table function has a value of at least 1 is a dead
+/// end: no run, of whatever length, leads from it to a goal state, and its successors are dead ends too.
 pub fn dead_fair_tables_report_dead_ends()
     ensures { DeadFairOnesReportDeadEnds }
 {}
 
-/// Several values over the same tables, each of them fair, with one for dead ends that is dead-fair, are sound: the greatest is
-/// a lower bound, and a state whose value for dead ends is at least 1 is one.
+/// Several fair values over the same tables, with a dead-fair one for dead ends, are sound: the maximum is a lower bound, and a
+/// state whose dead-end value is at least 1 is a dead end.
 pub fn fair_values_are_sound()
     ensures { FairValuesAreSound }
 {}
 
-/// A potential function is the table function without tables: its values are the same, the same makes it fair, where every kept
-/// instance is asked, and the same instance is the first that is not fair.
+/// A potential function is a table function without tables: the values are the same, and so is fairness when every kept instance
+/// is tested, as well as the first instance that is not fair.
 pub fn potentials_are_table_functions()
     ensures { PotentialsAreTableFunctions }
 {}
 
-/// The atoms that a ground task numbers are all that the laws want numbered.
+/// A ground task numbers all atoms that the laws require to be numbered.
 pub fn ground_atoms_are_all_numbered()
     ensures { GroundAtomsAreAllNumbered }
 {}
 
-/// Where no change under a `when` is of an atom of the scope, one row comes after each row.
+/// If no change under a `when` affects an atom of the scope, each row has exactly one successor row.
 pub fn certain_changes_have_one_after()
     ensures { CertainChangesHaveOneAfter }
 {}
 
-/// The worked examples of tables: which rows agree and come after which, what may be lost, what is shut out, and values.
+/// The worked examples of tables: which rows match and succeed which, losses, excluded rows, and values.
 pub fn table_examples_are_judged()
     ensures { AreTablesJudged }
 {}

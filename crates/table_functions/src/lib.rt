@@ -1,4 +1,4 @@
-//! Defines values over tables, and why fair ones are lower bounds and dead-fair ones detect dead ends. No code.
+//! Defines values over tables; fair ones are lower bounds, and dead-fair ones detect dead ends. No code.
 #![tactic(auto)]
 
 mod laws;

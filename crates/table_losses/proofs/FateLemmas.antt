@@ -2,10 +2,9 @@
 use Rattle.std.proofs.Common.{◌≡◌, ◌∙◌, ℕ, zero, suc, ◌+◌, ◌-◌, ◌<◌, ◌≤◌, inl, inr, Bool, true, false, true≢false, not, ◌&&◌, ◌||◌, List, [], ◌∷◌, ◌++◌, length, take, drop, map, get_or, Option, None, Some, refl, sym, ap, subst, arith, ℤ, pos, ◌+ℤ◌, neg_ℤ}
 use Rattle.std.specs.Prelude.{Contains, All, ◌⊎◌, ◌==◌, fold, if◌then◌else◌, slice_get, is_some}
 use Rattle.std.specs.Bool.{beq}
-use Rattle.std.specs.Int.{int_max}
-use Rattle.std.specs.List.{list_all, flat_map, cons_option, range_with_len}
+use Rattle.std.specs.List.{list_all, flat_map, filter_map, range_with_len}
 use Rattle.std.specs.Option.{option_map_or}
-use Rattle.std.proofs.lemmas.Int.{ints, clamps}
+use Rattle.std.proofs.lemmas.Int.{ints}
 use Rattle.std.proofs.lemmas.Bool.{and_parts, and_from, eqb-true, eq-eqb, false_from_ne_true}
 use Rattle.std.proofs.lemmas.List.{take_more, take_all, map_push, append-nil}
 use Rattle.std.proofs.lemmas.List.FromFn.{get_or-range_with_len, length-range_with_len}
@@ -13,17 +12,15 @@ use Rattle.std.proofs.lemmas.List.Folds.{list_all-append}
 use Rattle.std.proofs.lemmas.Grind.{flat_map-append}
 use Rattle.std.proofs.lemmas.Option.{slice_get-get_or, slice_get_within, get_or_from_slice_get}
 use Rattle.std.proofs.lemmas.List.Elements.{All-contains, All-nil, All-cons, All-head, All-tail}
-use Rattle.model.proofs.ListLemmas.{Contains-here, Contains-there, Contains-none, Contains-got, Contains-map, Contains-flat_map, flat_map-Contains, Contains-range, range-Contains}
+use Rattle.model.proofs.ListLemmas.{Contains-here, Contains-there, Contains-none, Contains-got, Contains-map, map-Contains, filter_map-Contains, Contains-flat_map, flat_map-Contains, Contains-range, range-Contains}
 use Rattle.table_functions.proofs.Lists.{all-from, all-at, any-at}
-use Rattle.potential_functions.specs.PotentialFunctions.{IsInRange, weight}
-use Rattle.potential_functions.proofs.Ranges.{weight-range}
+use Rattle.potential_functions.specs.PotentialFunctions.{IsInRange}
+use Rattle.potential_functions.proofs.Ranges.{weight-range, zero-range}
+use Rattle.table_functions.proofs.Rows.{row-is}
 use Rattle.table_functions.specs.TableFunctions.{Row, Table, is_among, row_of, weight_at}
 use Rattle.table_rows.specs.Rows.{atoms_at}
-use Rattle.table_losses.specs.Afters.{When, losses_to, most_of, raised, turns, is_open_at, freed, free_places, ways, ways_of, turned}
-use Rattle.table_losses.specs.Fates.{IsLoss, are_rows, LosesTo, Question, weight_in, is_closed_from, closed_at, lost_from, lost_at, LosesFrom, IsFate, leaves, raised_by, rows_of, LosesInAll}
-use Rattle.table_losses.specs.declared.losses.Fate.{Fate}
-use Rattle.table_losses.specs.declared.losses.Fate.TheVariants.{Disagrees, Leaves}
-use Rattle.table_losses.specs.declared.losses.Fate.TheVariants as code_of_fate
+use Rattle.table_losses.specs.Afters.{When, losses_to, most_of, turns, is_open_at, freed, free_places, ways, ways_of, turned}
+use Rattle.table_losses.specs.Fates.{IsLoss, are_rows, Question, weight_in, is_closed_from, closed_at, lost_from, lost_at, rows_of, LosesInAll}
 use Rattle.table_losses.specs.Candidates.{AreCandidates}
 use Rattle.table_losses.specs.Lists.{list_at, IsIndexOf}
 use Rattle.table_losses.specs.declared.lists.Lists.{Lists}
@@ -32,8 +29,7 @@ use Rattle.packed_state.specs.Sets.{has}
 use Rattle.table_losses.specs.Placed.{placed_of, is_so}
 use Rattle.table_losses.specs.PlacedChanges.{when_of, FitsWhen}
 use Rattle.table_losses.specs.declared.afters.When as code_of_when
-use Rattle.table_losses.proofs.MostLemmas.{most-more, most-alike}
-use Rattle.table_losses.proofs.WayLemmas.{losses-append}
+use Rattle.table_losses.proofs.MostLemmas.{most-alike}
 
 -- ---- lists
 
@@ -75,21 +71,7 @@ row-there (r ∷ rows) (suc row) below = row-there rows row (omega (arith, below
 
 -- ---- sets
 
--- of one set
-pub one-loses : (t : Table) (place : ℕ) (weight lost : ℤ) (set : List Bool) (r : Row) → row_of t (atoms_at t.scope set) ≡ Some r → IsInRange weight → IsInRange (weight_at place r)
-    → lost ≡ (weight +ℤ neg_ℤ (weight_at place r)) → LosesTo t place weight (set ∷ []) lost
-one-loses t place weight lost set r at before after is =
-    let least = before.least in
-    let most = before.most in
-    let after_least = after.least in
-    let after_most = after.most in
-    record {
-      rows = ap (λ o. is_some o && true) at;
-      is = ap (λ o. most_of (map (λ (r : Row). weight +ℤ neg_ℤ (weight_at place r)) (cons_option o []))) at ∙ ap Some (sym is);
-      range = record { least = omega (arith, ints); most = omega (arith, ints) };
-    }
-
-module _ (t : Table) (place : ℕ) (weight : ℤ) (kept changed : List (List Bool)) where
+module _ (t : Table) (kept changed : List (List Bool)) where
   pub first-leaves : are_rows t kept ≡ false → are_rows t (kept ++ changed) ≡ false
   first-leaves none = list_all-append (λ (set : List Bool). is_some (row_of t (atoms_at t.scope set))) kept changed ∙ ap (λ b. b && are_rows t changed) none
 
@@ -100,21 +82,9 @@ module _ (t : Table) (place : ℕ) (weight : ℤ) (kept changed : List (List Boo
       and_no true = refl
       and_no false = refl
 
-  -- the greater of both
-  pub both-lose : (first second lost : ℤ) → LosesTo t place weight kept first → LosesTo t place weight changed second → lost ≡ int_max first second → LosesTo t place weight (kept ++ changed) lost
-  both-lose first second lost one other is =
-      let low = one.range in
-      let high = other.range in
-      let low_least = low.least in
-      let low_most = low.most in
-      let high_least = high.least in
-      let high_most = high.most in
-      record {
-        rows = list_all-append (λ (set : List Bool). is_some (row_of t (atoms_at t.scope set))) kept changed ∙ and_from (are_rows t kept) (are_rows t changed) one.rows other.rows;
-        is = ap most_of (losses-append t place weight kept changed) ∙ most-more (losses_to t place weight kept) (losses_to t place weight changed) second other.is
-            ∙ ap (λ o. Some (raised o second)) one.is ∙ ap Some (sym is);
-        range = record { least = omega (arith, ints, clamps); most = omega (arith, ints, clamps) };
-      }
+  pub both-rows : are_rows t kept ≡ true → are_rows t changed ≡ true → are_rows t (kept ++ changed) ≡ true
+  both-rows one other =
+      list_all-append (λ (set : List Bool). is_some (row_of t (atoms_at t.scope set))) kept changed ∙ and_from (are_rows t kept) (are_rows t changed) one other
 
 -- the ways by the first place
 pub ways-first : (set : List Bool) (free : List ℕ) → 1 ≤ length free
@@ -126,24 +96,26 @@ ways-first set (place ∷ free) some =
 
 -- ---- rows
 
-module _ (q : Question) (row : ℕ) (set : List Bool) (at : slice_get q.sets row ≡ Some set) (agrees : list_all (is_so set) q.literals ≡ true) where
-  closed-is : closed_at q row ≡ are_rows q.table (ways_of q.changes set)
-  closed-is = ap (λ o. option_map_or (is_closed_from q) o true) at ∙ ap (λ b. not b || are_rows q.table (ways_of q.changes set)) agrees
+module _ (q : Question) (row : ℕ) (set : List Bool) (at : slice_get q.sets row ≡ Some set) where
+  -- a row that does not agree
+  pub apart-closed : list_all (is_so set) q.literals ≡ false → closed_at q row ≡ true
+  apart-closed differs = ap (λ o. option_map_or (is_closed_from q) o true) at ∙ ap (λ b. not b || are_rows q.table (ways_of q.changes set)) differs
 
-  pub fate-leaves : are_rows q.table (ways_of q.changes set) ≡ false → closed_at q row ≡ false
-  fate-leaves leaves = closed-is ∙ leaves
+  pub apart-lost : (place : ℕ) → list_all (is_so set) q.literals ≡ false → lost_at q place row ≡ []
+  apart-lost place differs =
+      ap (λ o. option_map_or (lost_from q place (weight_in q place row)) o []) at
+      ∙ ap (λ b. if b then losses_to q.table place (weight_in q place row) (ways_of q.changes set) else []) differs
 
-  pub fate-loses : (weight lost : ℤ) → weight ≡ weight_in q row → LosesTo q.table q.place weight (ways_of q.changes set) lost → LosesFrom q row lost
-  fate-loses weight lost is loses = record {
-    closed = closed-is ∙ loses.rows;
-    is = ap (λ o. most_of (option_map_or (lost_from q (weight_in q row)) o [])) at
-        ∙ ap (λ b. most_of (if b then losses_to q.table q.place (weight_in q row) (ways_of q.changes set) else [])) agrees
-        ∙ ap (λ w. most_of (losses_to q.table q.place w (ways_of q.changes set))) (sym is) ∙ loses.is;
-    range = loses.range;
-  }
+  -- one that agrees
+  module _ (agrees : list_all (is_so set) q.literals ≡ true) where
+    pub agreeing-closed : closed_at q row ≡ are_rows q.table (ways_of q.changes set)
+    agreeing-closed = ap (λ o. option_map_or (is_closed_from q) o true) at ∙ ap (λ b. not b || are_rows q.table (ways_of q.changes set)) agrees
 
-pub weight-is : (q : Question) (row : ℕ) (r : Row) (w : ℤ) → slice_get q.table.rows row ≡ Some r → w ≡ weight_at q.place r → w ≡ weight_in q row
-weight-is q row r w at is = is ∙ sym (ap (λ o. option_map_or (weight_at q.place) o (pos 0)) at)
+    pub agreeing-lost : (place : ℕ) (r : Row) → slice_get q.table.rows row ≡ Some r → lost_at q place row ≡ losses_to q.table place (weight_at place r) (ways_of q.changes set)
+    agreeing-lost place r there =
+        ap (λ o. option_map_or (lost_from q place (weight_in q place row)) o []) at
+        ∙ ap (λ b. if b then losses_to q.table place (weight_in q place row) (ways_of q.changes set) else []) agrees
+        ∙ ap (λ o. losses_to q.table place (option_map_or (weight_at place) o (pos 0)) (ways_of q.changes set)) there
 
 -- ---- free places
 
@@ -238,62 +210,50 @@ among-Contains (x ∷ xs) k at =
 pub Contains-among : (xs : List ℕ) (k : ℕ) → Contains xs k → is_among xs k ≡ true
 Contains-among xs k at = any-at (λ j. j == k) xs k at (eq-eqb k k refl)
 
--- what is so of the rows so far
-pub record LosesSoFar (q : Question) (rows : List ℕ) (most : Option ℤ) : Type 0 where
-  pub closed : list_all (closed_at q) rows ≡ true
-  pub is : most ≡ most_of (flat_map (lost_at q) rows)
-  pub range : (z : ℤ) → most ≡ Some z → IsLoss z
-
-pub loses-none : (q : Question) → LosesSoFar q [] None
-loses-none q = record { closed = refl; is = refl; range = λ z none. absurd (cc) }
-
-module _ (q : Question) (rows : List ℕ) (k row : ℕ) (most : Option ℤ) (at : slice_get rows k ≡ Some row) (so : LosesSoFar q (take k rows) most) where
-  closed-more : closed_at q row ≡ true → list_all (closed_at q) (take (k + 1) rows) ≡ true
-  closed-more here =
+module _ (q : Question) (rows : List ℕ) (k row : ℕ) (at : slice_get rows k ≡ Some row) where
+  pub closed-more : list_all (closed_at q) (take k rows) ≡ true → closed_at q row ≡ true → list_all (closed_at q) (take (k + 1) rows) ≡ true
+  closed-more so here =
       ap (list_all (closed_at q)) (take-at rows k row at) ∙ list_all-append (closed_at q) (take k rows) (row ∷ [])
-      ∙ and_from (list_all (closed_at q) (take k rows)) (closed_at q row && true) so.closed (ap (λ b. b && true) here)
+      ∙ and_from (list_all (closed_at q) (take k rows)) (closed_at q row && true) so (ap (λ b. b && true) here)
 
-  lost-more : flat_map (lost_at q) (take (k + 1) rows) ≡ flat_map (lost_at q) (take k rows) ++ lost_at q row
-  lost-more = ap (flat_map (lost_at q)) (take-at rows k row at) ∙ flat-push (lost_at q) (take k rows) row
+  pub lost-more : (place : ℕ) → flat_map (lost_at q place) (take (k + 1) rows) ≡ flat_map (lost_at q place) (take k rows) ++ lost_at q place row
+  lost-more place = ap (flat_map (lost_at q place)) (take-at rows k row at) ∙ flat-push (lost_at q place) (take k rows) row
 
-  pub disagrees-more : closed_at q row ≡ true → lost_at q row ≡ [] → LosesSoFar q (take (k + 1) rows) most
-  disagrees-more closed none = record {
-    closed = closed-more closed;
-    is = so.is ∙ sym (ap most_of (lost-more ∙ ap (λ l. flat_map (lost_at q) (take k rows) ++ l) none ∙ append-nil (flat_map (lost_at q) (take k rows))));
-    range = so.range;
-  }
-
-  pub loses-more : (lost greater : ℤ) (new : Option ℤ) → LosesFrom q row lost → greater ≡ raised most lost → new ≡ Some greater → LosesSoFar q (take (k + 1) rows) new
-  loses-more lost greater new loses is new_is = record {
-    closed = closed-more loses.closed;
-    is = new_is ∙ ap Some (is ∙ ap (λ o. raised o lost) so.is) ∙ sym (ap most_of lost-more ∙ most-more (flat_map (lost_at q) (take k rows)) (lost_at q row) lost loses.is);
-    range = λ z same. subst IsLoss (sym is ∙ some-same (sym new_is ∙ same)) (ranged most so.range);
-  }
+-- what is lost by weights in range
+module _ (q : Question) (all : All (λ (r : Row). All IsInRange r.weights) q.table.rows) (place : ℕ) where
+  weight-in-range : (row : ℕ) → IsInRange (weight_in q place row)
+  weight-in-range row = of_row (slice_get q.table.rows row) refl
     where
-      some-same : {x y : ℤ} → Some x ≡ Some y → x ≡ y
-      some-same e = cc
+      of_row : (o : Option Row) → slice_get q.table.rows row ≡ o → IsInRange (option_map_or (weight_at place) o (pos 0))
+      of_row None _ = zero-range
+      of_row (Some r) is = row-range q.table.rows row place r all is
 
-      ranged : (m : Option ℤ) → ((z : ℤ) → m ≡ Some z → IsLoss z) → IsLoss (raised m lost)
-      ranged None each = loses.range
-      ranged (Some z) each =
-          let one = each z refl in
-          let other = loses.range in
-          let one_least = one.least in
-          let one_most = one.most in
-          let other_least = other.least in
-          let other_most = other.most in
-          record { least = omega (arith, ints, clamps); most = omega (arith, ints, clamps) }
+  losses-range : (weight : ℤ) (sets : List (List Bool)) (z : ℤ) → IsInRange weight → Contains (losses_to q.table place weight sets) z → IsLoss z
+  losses-range weight sets z range at =
+      let row_at = λ (set : List Bool). row_of q.table (atoms_at q.table.scope set) in
+      let it = map-Contains (λ (r : Row). weight +ℤ neg_ℤ (weight_at place r)) (filter_map row_at sets) z at in
+      let found = filter_map-Contains row_at sets it.0 it.1 in
+      let other = weight-range it.0.weights place (All-contains (λ (r : Row). All IsInRange r.weights) q.table.rows it.0 all (row-is q.table.rows (atoms_at q.table.scope found.0) it.0 found.2).0) in
+      let least = range.least in
+      let most = range.most in
+      let other_least = other.least in
+      let other_most = other.most in
+      let is = it.2 in
+      record { least = omega (arith, ints); most = omega (arith, ints) }
 
-pub fate-more : (q : Question) (rows : List ℕ) (k row : ℕ) (most : Option ℤ) (fate : Fate) → slice_get rows k ≡ Some row → LosesSoFar q (take k rows) most → IsFate q row fate → leaves fate ≡ false
-    → LosesSoFar q (take (k + 1) rows) (raised_by fate most)
-fate-more q rows k row most Disagrees at so is stays = disagrees-more q rows k row most at so is.0 is.1
-fate-more q rows k row most Leaves at so is stays = absurd (true≢false stays)
-fate-more q rows k row most (code_of_fate.Loses lost) at so is stays = loses-more q rows k row most at so lost (raised most lost) (Some (raised most lost)) is refl refl
+  pub lost-range : (row : ℕ) (z : ℤ) → Contains (lost_at q place row) z → IsLoss z
+  lost-range row z at = of_set (slice_get q.sets row) at
+    where
+      of_set : (o : Option (List Bool)) → Contains (option_map_or (lost_from q place (weight_in q place row)) o []) z → IsLoss z
+      of_set None among = absurd (Contains-none z among)
+      of_set (Some set) among = of_bit (list_all (is_so set) q.literals) among
+        where
+          of_bit : (b : Bool) → Contains (if b then losses_to q.table place (weight_in q place row) (ways_of q.changes set) else []) z → IsLoss z
+          of_bit true there = losses-range (weight_in q place row) (ways_of q.changes set) z (weight-in-range row) there
+          of_bit false there = absurd (Contains-none z there)
 
-pub fate-leaves-all : (q : Question) (row : ℕ) (fate : Fate) → IsFate q row fate → leaves fate ≡ true → closed_at q row ≡ false
-fate-leaves-all q row Disagrees is left = absurd (true≢false (sym left))
-fate-leaves-all q row Leaves is left = is
-fate-leaves-all q row (code_of_fate.Loses lost) is left = absurd (true≢false (sym left))
+  pub all-lost-range : (rows : List ℕ) (z : ℤ) → Contains (flat_map (lost_at q place) rows) z → IsLoss z
+  all-lost-range rows z at = let it = flat_map-Contains (lost_at q place) rows z at in lost-range it.0 z it.2
 
 pub range-at : (count place : ℕ) → place < count → slice_get (range_with_len 0 count) place ≡ Some place
 range-at count place below =
@@ -308,37 +268,32 @@ module _ (q : Question) (rows : List ℕ) (are : AreCandidates q.sets q.literals
   leaves-all row at leaves = false_from_ne_true (list_all (closed_at q) (rows_of q)) (λ all. true≢false (sym (all-at (closed_at q) (rows_of q) row all (in-rows row at)) ∙ leaves))
 
   -- a row of the table agrees, and is one of these, or it is of no account
-  covered : (row : ℕ) → Contains (rows_of q) row → Contains rows row ⊎ ((closed_at q row ≡ true) × (lost_at q row ≡ []))
+  covered : (row : ℕ) → Contains (rows_of q) row → Contains rows row ⊎ ((closed_at q row ≡ true) × ((place : ℕ) → lost_at q place row ≡ []))
   covered row at =
       let below = range-Contains 0 (length q.sets) row at in
       let it = row-there q.sets row (omega (arith, below.1)) in
-      elim (list_all (is_so it.0) q.literals) as (λ b. list_all (is_so it.0) q.literals ≡ b → Contains rows row ⊎ ((closed_at q row ≡ true) × (lost_at q row ≡ []))) [
+      elim (list_all (is_so it.0) q.literals) as (λ b. list_all (is_so it.0) q.literals ≡ b → Contains rows row ⊎ ((closed_at q row ≡ true) × ((place : ℕ) → lost_at q place row ≡ []))) [
         | true ↦ λ agrees. inl (among-Contains rows row (are.covers row it.0 it.1 agrees))
-        | false ↦ λ differs. inr (
-          ap (λ o. option_map_or (is_closed_from q) o true) it.1 ∙ ap (λ b. not b || are_rows q.table (ways_of q.changes it.0)) differs,
-          ap (λ o. option_map_or (lost_from q (weight_in q row)) o []) it.1
-              ∙ ap (λ b. if b then losses_to q.table q.place (weight_in q row) (ways_of q.changes it.0) else []) differs,
-        )
+        | false ↦ λ differs. inr (apart-closed q row it.0 it.1 differs, λ place. apart-lost q row it.0 it.1 place differs)
       ] refl
 
-  pub loses-all : (most : Option ℤ) (lost : ℤ) → LosesSoFar q rows most → lost ≡ option_map_or (λ (z : ℤ). z) most (pos 0) → LosesInAll q lost
-  loses-all most lost so is = record {
-    closed = all-from (closed_at q) (rows_of q) (λ row at. elim (covered row at) [
-      | inl among ↦ all-at (closed_at q) rows row so.closed among
-      | inr apart ↦ apart.0
-    ]);
-    is = is ∙ ap (λ o. option_map_or (λ (z : ℤ). z) o (pos 0)) (so.is ∙ most-alike (flat_map (lost_at q) rows) (flat_map (lost_at q) (rows_of q))
-        (λ z at. let it = flat_map-Contains (lost_at q) rows z at in Contains-flat_map (lost_at q) (rows_of q) it.0 z (in-rows it.0 it.1) it.2)
-        (λ z at. let it = flat_map-Contains (lost_at q) (rows_of q) z at in elim (covered it.0 it.1) [
-          | inl among ↦ Contains-flat_map (lost_at q) rows it.0 z among it.2
-          | inr apart ↦ absurd (Contains-none z (subst (λ l. Contains l z) apart.1 it.2))
+  pub closed-all : list_all (closed_at q) rows ≡ true → list_all (closed_at q) (rows_of q) ≡ true
+  closed-all so = all-from (closed_at q) (rows_of q) (λ row at. elim (covered row at) [
+    | inl among ↦ all-at (closed_at q) rows row so among
+    | inr apart ↦ apart.0
+  ])
+
+  pub loses-all : (place : ℕ) (lost : ℤ) → list_all (closed_at q) rows ≡ true → lost ≡ option_map_or (λ (z : ℤ). z) (most_of (flat_map (lost_at q place) rows)) (pos 0) → IsLoss lost → LosesInAll q place lost
+  loses-all place lost so is range = record {
+    closed = closed-all so;
+    is = is ∙ ap (λ o. option_map_or (λ (z : ℤ). z) o (pos 0)) (most-alike (flat_map (lost_at q place) rows) (flat_map (lost_at q place) (rows_of q))
+        (λ z at. let it = flat_map-Contains (lost_at q place) rows z at in Contains-flat_map (lost_at q place) (rows_of q) it.0 z (in-rows it.0 it.1) it.2)
+        (λ z at. let it = flat_map-Contains (lost_at q place) (rows_of q) z at in elim (covered it.0 it.1) [
+          | inl among ↦ Contains-flat_map (lost_at q place) rows it.0 z among it.2
+          | inr apart ↦ absurd (Contains-none z (subst (λ l. Contains l z) (apart.1 place) it.2))
         ]));
-    range = subst IsLoss (sym is) (ranged most so.range);
+    range = range;
   }
-    where
-      ranged : (m : Option ℤ) → ((z : ℤ) → m ≡ Some z → IsLoss z) → IsLoss (option_map_or (λ (z : ℤ). z) m (pos 0))
-      ranged None each = record { least = omega (arith, ints); most = omega (arith, ints) }
-      ranged (Some z) each = each z refl
 
 -- ---- candidates
 

@@ -4,6 +4,7 @@ pub mod AfterLemmas
 pub mod MostLemmas
 pub mod WayLemmas
 pub mod FateLemmas
+pub mod ColumnLemmas
 pub mod ManyWays
 pub mod ListsLemmas
 pub mod PlacingLemmas

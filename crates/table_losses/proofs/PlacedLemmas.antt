@@ -1,13 +1,12 @@
 -- Literals by the places of their atoms in a scope: what they say of a set is what the literals say of its atoms.
 use Rattle.std.proofs.Common.{◌≡◌, ◌∙◌, ℕ, zero, suc, ◌+◌, ◌<◌, Bool, true, false, true≢false, not, ◌&&◌, ◌||◌, List, [], ◌∷◌, ◌++◌, length, take, map, get_or, Option, None, Some, refl, sym, ap, subst, arith}
-use Rattle.std.specs.Prelude.{IsTrue, All, ◌==◌, cond, nat_lt}
+use Rattle.std.specs.Prelude.{IsTrue, All, ◌==◌, nat_lt}
 use Rattle.std.specs.Bool.{beq}
-use Rattle.std.specs.List.{list_any, list_all, filter_map, cons_option, position_or_len}
+use Rattle.std.specs.List.{list_all, filter_map, cons_option}
 use Rattle.std.specs.Option.{option_map, option_map_or}
-use Rattle.std.proofs.lemmas.Bool.{and_parts, or_left, or_right, eqb-true, eq-eqb, false_from_ne_true, ltb-true, lt-ltb}
+use Rattle.std.proofs.lemmas.Bool.{and_parts, or_left, eqb-true, eq-eqb, false_from_ne_true, ltb-true}
 use Rattle.std.proofs.lemmas.List.{length-map, get_or-map, map_push, take_more}
 use Rattle.std.proofs.lemmas.List.Elements.{filter_map-append, All-cons, All-nil}
-use Rattle.std.proofs.lemmas.List.Quantifiers.{position-Some}
 use Rattle.packed_state.specs.Sets.{has}
 use Rattle.model.specs.NumberedLiterals.{NumberedLiteral}
 use Rattle.table_functions.specs.TableFunctions.{is_among}

@@ -1,20 +1,15 @@
 -- What an instance does from the rows of a table, by their sets: whether it leads to rows, and what is lost.
-use Rattle.std.specs.Prelude.{◌≡◌, ℕ, Bool, true, false, not, ◌||◌, if◌then◌else◌, ℤ, pos, neg_ℤ, ◌≤ℤ◌, List, [], length, map, slice_get, Option, None, Some, is_some}
+use Rattle.std.specs.Prelude.{◌≡◌, ℕ, Bool, true, not, ◌||◌, if◌then◌else◌, ℤ, pos, neg_ℤ, ◌≤ℤ◌, List, [], length, map, slice_get, is_some}
 use Rattle.std.specs.List.{list_all, flat_map, range_with_len}
 use Rattle.std.specs.Option.{option_map_or}
 use Rattle.table_functions.specs.TableFunctions.{Table, row_of, weight_at}
 use Rattle.table_rows.specs.Rows.{atoms_at}
 use Rattle.table_losses.specs.Placed.{PlacedLiteral, placed_of, is_so}
-use Rattle.table_losses.specs.Afters.{PlacedChanges, ways_of, losses_to, most_of, raised}
+use Rattle.table_losses.specs.Afters.{PlacedChanges, ways_of, losses_to, most_of}
 use Rattle.table_losses.specs.PlacedChanges.{changes_of}
 use Rattle.table_rows.specs.Tables.{table_of, sets_of}
 use Rattle.table_rows.specs.declared.table.Table as code_of_table
 use Rattle.table_losses.specs.declared.losses.Question as code_of_question
-use Rattle.table_losses.specs.declared.losses.Fate.{Fate}
-use Rattle.table_losses.specs.declared.losses.Fate.TheVariants.{Disagrees, Leaves}
-use Rattle.table_losses.specs.declared.losses.Fate.TheVariants as code
-
--- ---- sets
 
 -- what two weights differ by
 pub record IsLoss (z : ℤ) : Type 0 where
@@ -24,31 +19,20 @@ pub record IsLoss (z : ℤ) : Type 0 where
 abbrev pub are_rows : Table → List (List Bool) → Bool
 are_rows table sets = list_all (λ set. is_some (row_of table (atoms_at table.scope set))) sets
 
--- all are rows, and this is the most of the weight that is lost to them
-pub record LosesTo (table : Table) (place : ℕ) (weight : ℤ) (sets : List (List Bool)) (most : ℤ) : Type 0 where
-  pub rows : are_rows table sets ≡ true
-  pub is : most_of (losses_to table place weight sets) ≡ Some most
-  pub range : IsLoss most
-
-abbrev pub MostLost : Table → ℕ → ℤ → List (List Bool) → Option ℤ → Type 0
-MostLost table place weight sets None = are_rows table sets ≡ false
-MostLost table place weight sets (Some most) = LosesTo table place weight sets most
-
 -- ---- rows
 
 -- what is asked of a table, whose rows have these sets
 pub record Question : Type 0 where
   pub table : Table
   pub sets : List (List Bool)
-  pub place : ℕ
   pub literals : List PlacedLiteral
   pub changes : PlacedChanges
 
 abbrev pub question_of : code_of_table.Table → code_of_question.Question → Question
-question_of t q = record { table = table_of t; sets = sets_of t; place = q.place; literals = map placed_of q.literals.now; changes = changes_of q.changes.now }
+question_of t q = record { table = table_of t; sets = sets_of t; literals = map placed_of q.literals.now; changes = changes_of q.changes.now }
 
-abbrev pub weight_in : Question → ℕ → ℤ
-weight_in q row = option_map_or (weight_at q.place) (slice_get q.table.rows row) (pos 0)
+abbrev pub weight_in : Question → ℕ → ℕ → ℤ
+weight_in q place row = option_map_or (weight_at place) (slice_get q.table.rows row) (pos 0)
 
 -- the row of this set does not agree with the literals, or leads to rows only
 abbrev pub is_closed_from : Question → List Bool → Bool
@@ -57,44 +41,20 @@ is_closed_from q set = not (list_all (is_so set) q.literals) || are_rows q.table
 abbrev pub closed_at : Question → ℕ → Bool
 closed_at q row = option_map_or (is_closed_from q) (slice_get q.sets row) true
 
--- what is lost from it, if it agrees
-abbrev pub lost_from : Question → ℤ → List Bool → List ℤ
-lost_from q weight set = if list_all (is_so set) q.literals then losses_to q.table q.place weight (ways_of q.changes set) else []
+-- what is lost from it by the weights at a place, if it agrees
+abbrev pub lost_from : Question → ℕ → ℤ → List Bool → List ℤ
+lost_from q place weight set = if list_all (is_so set) q.literals then losses_to q.table place weight (ways_of q.changes set) else []
 
-abbrev pub lost_at : Question → ℕ → List ℤ
-lost_at q row = option_map_or (lost_from q (weight_in q row)) (slice_get q.sets row) []
-
--- the row leads to rows, and this is the most that is lost
-pub record LosesFrom (q : Question) (row : ℕ) (most : ℤ) : Type 0 where
-  pub closed : closed_at q row ≡ true
-  pub is : most_of (lost_at q row) ≡ Some most
-  pub range : IsLoss most
-
-abbrev pub IsFate : Question → ℕ → Fate → Type 0
-IsFate q row Disagrees = (closed_at q row ≡ true) × (lost_at q row ≡ [])
-IsFate q row Leaves = closed_at q row ≡ false
-IsFate q row (code.Loses most) = LosesFrom q row most
-
-abbrev pub leaves : Fate → Bool
-leaves Leaves = true
-leaves _ = false
-
--- the most that is lost, by one row more
-abbrev pub raised_by : Fate → Option ℤ → Option ℤ
-raised_by (code.Loses lost) most = Some (raised most lost)
-raised_by _ most = most
+abbrev pub lost_at : Question → ℕ → ℕ → List ℤ
+lost_at q place row = option_map_or (lost_from q place (weight_in q place row)) (slice_get q.sets row) []
 
 -- ---- all rows
 
 abbrev pub rows_of : Question → List ℕ
 rows_of q = range_with_len 0 (length q.sets)
 
--- each leads to rows, and this is the most that is lost from one
-pub record LosesInAll (q : Question) (most : ℤ) : Type 0 where
+-- each leads to rows, and this is the most that is lost from one by the weights at a place
+pub record LosesInAll (q : Question) (place : ℕ) (most : ℤ) : Type 0 where
   pub closed : list_all (closed_at q) (rows_of q) ≡ true
-  pub is : most ≡ option_map_or (λ (z : ℤ). z) (most_of (flat_map (lost_at q) (rows_of q))) (pos 0)
+  pub is : most ≡ option_map_or (λ (z : ℤ). z) (most_of (flat_map (lost_at q place) (rows_of q))) (pos 0)
   pub range : IsLoss most
-
-abbrev pub MostLostInAll : Question → Option ℤ → Type 0
-MostLostInAll q None = list_all (closed_at q) (rows_of q) ≡ false
-MostLostInAll q (Some most) = LosesInAll q most

@@ -4,6 +4,7 @@ pub mod Candidates
 pub mod Afters
 pub mod PlacedChanges
 pub mod Fates
+pub mod Columns
 pub mod FitsTable
 pub mod Losses
 pub mod Giving

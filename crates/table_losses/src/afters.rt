@@ -1,13 +1,15 @@
 //! What may come after a row.
-ghost use Rattle.std.specs.Prelude.{◌≡◌, OnOk, length, map};
+ghost use Rattle.std.specs.Prelude.{◌≡◌, IfOk, OnOk, length, map};
 ghost use Rattle.packed_state.specs.Packed.{bits_of};
 ghost use Rattle.table_losses.specs.Afters as model;
 ghost use Rattle.table_losses.specs.Afters.{left_of, free_places};
+ghost use Rattle.table_losses.specs.FitsTable.{HasWidth};
 ghost use Rattle.table_losses.specs.PlacedChanges.{when_of, changes_of, FitsWhen, FitsWidth};
 
 use crate::placed::{PlacedLiteral, all_are_so};
 use faults::NoMemory;
 use packed_state::{Mask, Packed};
+use std::alloc::Global;
 
 /// A change under a `when`, of an atom of a scope.
 #[derive(Drop)]
@@ -29,6 +31,40 @@ pub(crate) struct PlacedChanges {
     pub(crate) adds: Mask,
     /// The others, of places that no unconditional change adds.
     pub(crate) whens: Vec<When>,
+}
+
+/// Room for a row, for what unconditional changes leave of it, and for the places that it leaves free.
+#[derive(Drop)]
+pub(crate) struct Room {
+    pub(crate) row: Packed,
+    pub(crate) left: Packed,
+    pub(crate) free: Vec<u32>,
+}
+
+impl Room {
+    /// Room for rows of this width.
+    pub(crate) fn new(alloc: Global, width: u32) -> Result<Room, NoMemory>
+        ensures { IfOk result (HasWidth width) }
+    {
+        let row = Packed::empty(alloc, width)?;
+        let left = Packed::empty(alloc, width)?;
+        let free = Vec::new(alloc);
+        Ok(Room { row, left, free })
+    }
+
+    /// Finds what these changes leave of the row, and the places that the row leaves free.
+    pub(crate) fn find(&mut self, changes: &PlacedChanges) -> Result<(), NoMemory>
+        requires fits { FitsWidth (length (bits_of self.old.row)) (changes_of changes.now) }
+        requires left { length (bits_of self.old.left) ≡ length (bits_of self.old.row) }
+        ensures row { OnOk result (bits_of self.new.row ≡ bits_of self.old.row) }
+        ensures left { OnOk result (bits_of self.new.left ≡ left_of (changes_of changes.now) (bits_of self.old.row)) }
+        ensures free { OnOk result (self.new.free.items ≡ free_places (changes_of changes.now).whens (bits_of self.old.row) (left_of (changes_of changes.now) (bits_of self.old.row))) }
+    {
+        self.left.copy_from(&self.row);
+        changes.leave(&mut self.left);
+        changes.list_free(&self.row, &self.left, &mut self.free)?;
+        Ok(())
+    }
 }
 
 impl PlacedChanges {

@@ -1,10 +1,12 @@
 //! What a table gives where literals hold, and whether one of its rows agrees with them.
-ghost use Rattle.std.specs.Prelude.{◌≡◌, ◌<◌, All, IfOk, Some, length, map, slice_get};
+ghost use Rattle.std.specs.Prelude.{◌≡◌, ℤ, pos, ◌<◌, All, IfOk, Some, length, map, slice_get};
+ghost use Rattle.std.specs.Option.{option_map_or};
 ghost use Rattle.std.specs.List.{list_any, list_all};
 ghost use Rattle.grounding.specs.Views.{numbered_of};
 ghost use Rattle.packed_state.specs.Packed.{bits_of};
 ghost use Rattle.table_functions.specs.TableFunctions.{Row};
 ghost use Rattle.table_functions.specs.FairTables as model;
+ghost use Rattle.table_losses.specs.Afters.{raised};
 ghost use Rattle.table_losses.specs.Fates.{IsLoss};
 ghost use Rattle.table_rows.specs.Rows.{atoms_at};
 ghost use Rattle.table_rows.specs.Tables.{sets_of};
@@ -13,8 +15,8 @@ ghost use Rattle.table_losses.specs.Losses.{indexed_of, indexed_count_of};
 ghost use Rattle.table_losses.specs.Placed as by_places;
 ghost use Rattle.table_losses.specs.Placed.{placed_of, is_so};
 
+use crate::columns::greater;
 use crate::indexed::IndexedTable;
-use crate::losses::{greater_of, or_nothing};
 use crate::placed::{PlacedLiteral, all_are_so, placed};
 use faults::NoMemory;
 use grounding::NumberedLiteral;
@@ -96,5 +98,25 @@ impl IndexedTable<'_> {
             return most;
         }
         Some(greater_of(most, self.table.weight(row, place)))
+    }
+}
+
+/// The greater of the number and the other one, if there is one.
+fn greater_of(most: Option<i64>, number: i64) -> i64
+    ensures { result ≡ raised most number }
+{
+    match most {
+        Some(most) => greater(most, number),
+        None => number,
+    }
+}
+
+/// The number, or 0 where there is none.
+fn or_nothing(number: Option<i64>) -> i64
+    ensures { result ≡ option_map_or (λ (z : ℤ). z) number (pos 0) }
+{
+    match number {
+        Some(number) => number,
+        None => 0,
     }
 }

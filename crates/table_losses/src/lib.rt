@@ -3,6 +3,7 @@
 
 mod afters;
 mod candidates;
+mod columns;
 mod giving;
 mod indexed;
 mod lists;

@@ -1,20 +1,20 @@
 //! Whether an instance leads from rows to rows, and what it may lose.
-ghost use Rattle.std.specs.Option.{option_map_or};
-ghost use Rattle.std.specs.Prelude.{◌≡◌, ℤ, pos, ◌^◌, ◌<◌, nat_lt, ◌∷◌, [], All, IfOk, List, OnOk, length, map, slice_get};
-ghost use Rattle.std.specs.Int.{int_max};
+ghost use Rattle.std.specs.Prelude.{◌≡◌, ◌^◌, ◌<◌, nat_lt, ◌∷◌, [], All, IfOk, List, OnOk, length, map};
 ghost use Rattle.packed_state.specs.Packed.{bits_of};
 ghost use Rattle.potential_functions.specs.PotentialFunctions.{IsInRange};
 ghost use Rattle.grounding.specs.Views.{numbered_of};
 ghost use Rattle.grounding.specs.Changes.{conditional_of};
 ghost use Rattle.table_functions.specs.TableFunctions.{Row};
 ghost use Rattle.table_functions.specs.FairTables as model;
-ghost use Rattle.table_losses.specs.Losses.{indexed_of, indexed_count_of, IsLossByTable};
-ghost use Rattle.table_losses.specs.Afters.{raised, turned, ways};
-ghost use Rattle.table_losses.specs.Fates.{question_of, MostLost, IsFate, MostLostInAll};
-ghost use Rattle.table_losses.specs.FitsTable.{FitsTable};
+ghost use Rattle.table_losses.specs.Losses.{indexed_of, indexed_count_of, IsLossByTable, AreLossesByTable};
+ghost use Rattle.table_losses.specs.Afters.{turned, ways};
+ghost use Rattle.table_losses.specs.Columns.{IsMost, RaisesTo, RaisesFrom, LosesInEach};
+ghost use Rattle.table_losses.specs.Fates.{question_of};
+ghost use Rattle.table_losses.specs.FitsTable.{FitsTable, HasWidth};
 ghost use Rattle.table_rows.specs.Tables.{table_of, weight_count_of};
 
-use crate::afters::PlacedChanges;
+use crate::afters::{PlacedChanges, Room};
+use crate::columns::{NOTHING_YET, fill, raise, settle};
 use crate::indexed::IndexedTable;
 use crate::placed::{PlacedLiteral, all_are_so, placed};
 use faults::NoMemory;
@@ -23,23 +23,11 @@ use packed_state::Packed;
 use potentials::touches;
 use std::alloc::Global;
 
-/// What is asked of a table: what an instance of these literals and changes loses by its weights at this place.
+/// What is asked of a table: what an instance of these literals and changes loses.
 #[derive(Clone, Copy)]
 pub(crate) struct Question<'a> {
     pub(crate) literals: &'a [PlacedLiteral],
     pub(crate) changes: &'a PlacedChanges,
-    pub(crate) place: u32,
-}
-
-/// What the instance does from a row.
-#[derive(Clone, Copy)]
-pub(crate) enum Fate {
-    /// Nothing, since the row does not agree with its literals.
-    Disagrees,
-    /// It may lead to what is no row.
-    Leaves,
-    /// It leads to rows, and may lose as much, and no more.
-    Loses(i64),
 }
 
 impl IndexedTable<'_> {
@@ -58,80 +46,93 @@ impl IndexedTable<'_> {
         requires { place < indexed_count_of self.now }
         ensures { IfOk result (IsLossByTable place (map numbered_of literals.now) (map conditional_of changes.now) (indexed_of self.now)) }
     {
+        let mut most = vec![in alloc; 0; self.table.weight_count() as usize]?;
+        if !self.loses_by_each(alloc, literals, changes, &mut most)? {
+            return Ok(None);
+        }
+        Ok(Some(most[place as usize]))
+    }
+
+    /// Whether an instance of these literals and changes leads from rows that agree to rows only. If so, `most` has at each place
+    /// the most that the instance may lose by the weights there, which may be negative; 0 where no change is of an atom of the
+    /// scope. What it had before is lost.
+    ///
+    /// # Errors
+    /// Where memory is refused.
+    pub fn loses_by_each(
+        &self,
+        alloc: Global,
+        literals: &[NumberedLiteral],
+        changes: &[CountingChange<'_>],
+        most: &mut [i64],
+    ) -> Result<bool, NoMemory>
+        requires { length most.old ≡ indexed_count_of self.now }
+        ensures { IfOk result (AreLossesByTable (indexed_count_of self.now) (map numbered_of literals.now) (map conditional_of changes.now) (indexed_of self.now) most.new) }
+    {
         let scope = self.table.scope();
         if !touches_scope(changes, scope) {
-            return Ok(Some(0));
+            fill(most, 0);
+            return Ok(true);
         }
         let literals = placed(alloc, scope, literals)?;
         let changes = PlacedChanges::new(alloc, scope, changes)?;
-        self.most_lost(
-            alloc,
-            &Question {
-                literals: literals.as_slice(),
-                changes: &changes,
-                place,
-            },
-        )
+        let question = Question {
+            literals: literals.as_slice(),
+            changes: &changes,
+        };
+        self.most_lost(alloc, &question, most)
     }
 
-    /// The most that is lost from a row, 0 where none agrees, and none where the instance leads from one to what is no row.
+    /// Whether each row that agrees leads to rows only. If so, `most` has at each place the most that is lost from a row, 0 where
+    /// none agrees.
     pub(crate) fn most_lost(
         &self,
         alloc: Global,
         question: &Question<'_>,
-    ) -> Result<Option<i64>, NoMemory>
-        requires { FitsTable self.now.table.now question.now }
-        ensures { IfOk result (MostLostInAll (question_of self.now.table.now question.now)) }
+        most: &mut [i64],
+    ) -> Result<bool, NoMemory>
+        requires fits { FitsTable self.now.table.now question.now }
+        requires long { length most.old ≡ weight_count_of self.now.table.now }
+        ensures { IfOk result (LosesInEach (question_of self.now.table.now question.now) most.new) }
     {
-        let width = self.table.width();
-        let mut set = Packed::empty(alloc, width)?;
-        let mut left = Packed::empty(alloc, width)?;
-        let mut free = Vec::new(alloc);
+        let mut room = Room::new(alloc, self.table.width())?;
         let candidates = self.candidates(question.literals);
-        let mut most = None;
+        fill(most, NOTHING_YET);
         for k in 0..candidates.len() {
             let row = candidates.at(k);
-            let fate = self.fate(question, row, &mut set, &mut left, &mut free)?;
-            if fate.leaves() {
-                return Ok(None);
+            if !self.raise_from(question, row, &mut room, most)? {
+                return Ok(false);
             }
-            most = fate.raise(most);
         }
-        Ok(Some(or_nothing(most)))
+        settle(most);
+        Ok(true)
     }
 
-    /// What the instance does from the row at this place.
-    fn fate(
+    /// Whether the row at this place leads to rows only, if it agrees. If so, each number is raised to what is lost from it there.
+    fn raise_from(
         &self,
         question: &Question<'_>,
         row: u32,
-        set: &mut Packed,
-        left: &mut Packed,
-        free: &mut Vec<u32>,
-    ) -> Result<Fate, NoMemory>
+        room: &mut Room,
+        most: &mut [i64],
+    ) -> Result<bool, NoMemory>
         requires fits { FitsTable self.now.table.now question.now }
         requires there { row < length (table_of self.now.table.now).rows }
-        requires set { length (bits_of set.old) ≡ length (table_of self.now.table.now).scope }
-        requires left { length (bits_of left.old) ≡ length (table_of self.now.table.now).scope }
-        ensures fate { IfOk result (IsFate (question_of self.now.table.now question.now) row) }
-        ensures set { OnOk result (length (bits_of set.new) ≡ length (table_of self.now.table.now).scope) }
-        ensures left { OnOk result (length (bits_of left.new) ≡ length (table_of self.now.table.now).scope) }
+        requires room { HasWidth (length (table_of self.now.table.now).scope) room.old }
+        requires long { length most.old ≡ weight_count_of self.now.table.now }
+        requires range { All IsMost most.old }
+        ensures raised { IfOk result (RaisesFrom (question_of self.now.table.now question.now) row most.old most.new) }
+        ensures room { OnOk result (HasWidth (length (table_of self.now.table.now).scope) room.new) }
     {
-        self.table.get(row, set);
-        if !all_are_so(set, question.literals) {
-            return Ok(Fate::Disagrees);
+        self.table.get(row, &mut room.row);
+        if !all_are_so(&room.row, question.literals) {
+            return Ok(true);
         }
-        left.copy_from(set);
-        question.changes.leave(left);
-        question.changes.list_free(set, left, free)?;
-        if self.is_outnumbered(free.len()) {
-            return Ok(Fate::Leaves);
+        room.find(question.changes)?;
+        if self.is_outnumbered(room.free.len()) {
+            return Ok(false);
         }
-        let weight = self.table.weight(row, question.place);
-        match self.most_lost_to(left, free, weight, question.place) {
-            Some(lost) => Ok(Fate::Loses(lost)),
-            None => Ok(Fate::Leaves),
-        }
+        Ok(self.raise_to(&mut room.left, &room.free, self.table.weights(row), most))
     }
 
     /// Whether `places` places, each turned or not, give more sets than there are rows. One of the sets is then no row.
@@ -141,64 +142,47 @@ impl IndexedTable<'_> {
         places >= 32 || self.table.row_count() >> places == 0
     }
 
-    /// The most of this weight that is lost to the rows of this set with any of these places turned, and none where one of them
-    /// is no row. The set stays as it is.
-    fn most_lost_to(&self, set: &mut Packed, free: &[u32], weight: i64, place: u32) -> Option<i64>
+    /// Whether this set with any of these places turned is a row. If so, each number is raised to what is lost from these weights
+    /// to those of the rows. The set stays as it is.
+    fn raise_to(&self, set: &mut Packed, free: &[u32], from: &[i64], most: &mut [i64]) -> bool
         requires width { length (bits_of set.old) ≡ length (table_of self.now.table.now).scope }
         requires free { All (λ k. k < length (table_of self.now.table.now).scope) free.now }
-        requires weight { IsInRange weight }
-        requires place { place < weight_count_of self.now.table.now }
-        ensures lost { MostLost (table_of self.now.table.now) place weight (ways (bits_of set.old) free.now) result }
+        requires weights { length from.now ≡ weight_count_of self.now.table.now }
+        requires weights_range { All IsInRange from.now }
+        requires long { length most.old ≡ weight_count_of self.now.table.now }
+        requires range { All IsMost most.old }
+        ensures raised { RaisesTo (table_of self.now.table.now) from.now (ways (bits_of set.old) free.now) most.old most.new result }
         ensures set { bits_of set.new ≡ bits_of set.old }
     {
         match free {
             [first, others @ ..] => {
-                let Some(kept) = self.most_lost_to(set, others, weight, place) else {
-                    return None;
-                };
-                turn(set, *first);
-                let changed = self.most_lost_to(set, others, weight, place);
-                turn(set, *first);
-                match changed {
-                    Some(lost) => Some(greater(kept, lost)),
-                    None => None,
+                if !self.raise_to(set, others, from, most) {
+                    return false;
                 }
+                turn(set, *first);
+                let are_rows = self.raise_to(set, others, from, most);
+                turn(set, *first);
+                are_rows
             }
-            [] => self.lost_to(set, weight, place),
+            [] => self.raise_to_row(set, from, most),
         }
     }
 
-    /// This weight less that of the row of this set, if there is one.
-    fn lost_to(&self, set: &Packed, weight: i64, place: u32) -> Option<i64>
+    /// Whether this set is a row. If so, each number is raised to what is lost from these weights to those of the row.
+    fn raise_to_row(&self, set: &Packed, from: &[i64], most: &mut [i64]) -> bool
         requires width { length (bits_of set.now) ≡ length (table_of self.now.table.now).scope }
-        requires weight { IsInRange weight }
-        requires place { place < weight_count_of self.now.table.now }
-        ensures { MostLost (table_of self.now.table.now) place weight (bits_of set.now ∷ []) result }
+        requires weights { length from.now ≡ weight_count_of self.now.table.now }
+        requires weights_range { All IsInRange from.now }
+        requires long { length most.old ≡ weight_count_of self.now.table.now }
+        requires range { All IsMost most.old }
+        ensures { RaisesTo (table_of self.now.table.now) from.now (bits_of set.now ∷ []) most.old most.new result }
     {
         match self.table.find(set) {
-            Some(row) => Some(weight - self.table.weight(row, place)),
-            None => None,
-        }
-    }
-}
-
-impl Fate {
-    ghost use Rattle.table_losses.specs.Fates.{leaves, raised_by};
-
-    /// Whether it may lead to what is no row.
-    fn leaves(self) -> bool
-        ensures { result ≡ leaves self }
-    {
-        matches!(self, Fate::Leaves)
-    }
-
-    /// The most that is lost, where that is what other rows lose.
-    fn raise(self, most: Option<i64>) -> Option<i64>
-        ensures { result ≡ raised_by self most }
-    {
-        match self {
-            Fate::Loses(lost) => Some(greater_of(most, lost)),
-            Fate::Disagrees | Fate::Leaves => most,
+            Some(row) => {
+                raise(most, from, self.table.weights(row));
+                true
+            }
+            None => false,
         }
     }
 }
@@ -219,32 +203,5 @@ fn turn(set: &mut Packed, place: u32)
         set.remove(place);
     } else {
         set.insert(place);
-    }
-}
-
-/// The greater of two numbers.
-fn greater(one: i64, other: i64) -> i64
-    ensures { result ≡ int_max one other }
-{
-    if other < one { one } else { other }
-}
-
-/// The greater of the number and the other one, if there is one.
-pub(crate) fn greater_of(most: Option<i64>, number: i64) -> i64
-    ensures { result ≡ raised most number }
-{
-    match most {
-        Some(most) => greater(most, number),
-        None => number,
-    }
-}
-
-/// The number, or 0 where there is none.
-pub(crate) fn or_nothing(number: Option<i64>) -> i64
-    ensures { result ≡ option_map_or (λ (z : ℤ). z) number (pos 0) }
-{
-    match number {
-        Some(number) => number,
-        None => 0,
     }
 }

@@ -1,11 +1,10 @@
 -- Fairness of a value by tables, instance by instance.
-use Rattle.std.proofs.Common.{◌≡◌, ◌∙◌, ℕ, ◌+◌, ◌*◌, ◌<◌, ◌≤◌, inl, inr, Bool, true, false, true≢false, not, List, [], length, get_or, Some, refl, sym, ap, subst, arith, ℤ, pos, ◌+ℤ◌, neg_ℤ, ◌≤ℤ◌}
+use Rattle.std.proofs.Common.{◌≡◌, ◌∙◌, ℕ, ◌+◌, ◌*◌, ◌<◌, ◌≤◌, inl, inr, Bool, true, false, true≢false, List, [], length, get_or, Some, refl, sym, ap, subst, arith, ℤ, pos, ◌+ℤ◌, neg_ℤ, ◌≤ℤ◌}
 use Rattle.std.specs.Prelude.{◌↔◌, All, IsTrue, slice_get}
 use Rattle.std.specs.List.{list_all}
 use Rattle.std.specs.Option.{option_map_or}
 use Rattle.std.proofs.lemmas.Bool.{cases_eq, iff_false}
 use Rattle.std.proofs.lemmas.Option.{slice_get-get_or}
-use Rattle.std.proofs.lemmas.Int.{ints}
 use Rattle.model.specs.Task.{Atom, Task, Instance}
 use Rattle.model.specs.StaticallyFalse.{kept_instances}
 use Rattle.model.specs.NumberedLiterals.{NumberedLiteral, NumberedChange, literals_of_instance, literals_of_number, literals_of_goal}
@@ -14,8 +13,8 @@ use Rattle.potential_functions.specs.PotentialFunctions.{IsInRange}
 use Rattle.potential_functions.specs.Fair.{loses_at_most, goal_gives_at_most}
 use Rattle.potential_functions.proofs.Numbers.{literals-named}
 use Rattle.potentials.proofs.LossLemmas.{losing-range}
-use Rattle.table_functions.specs.TableFunctions.{TableFunction, Table, sum_over}
-use Rattle.table_functions.specs.FairTables.{ConditionalChange, changes_in, conditional_of_instance, instance_wants_unnumbered, is_closed, is_shut_out, table_loses, table_gives, all_lose, all_give, is_asked, IsFairAt, IsFairAcross, IsFairAtGoals, IsFirstUnfairAt}
+use Rattle.table_functions.specs.TableFunctions.{TableFunction, sum_over}
+use Rattle.table_functions.specs.FairTables.{ConditionalChange, changes_in, conditional_of_instance, instance_wants_unnumbered, is_closed, is_shut_out, table_gives, all_lose, all_give, is_asked, IsFairAt, IsFairAtGoals, IsFirstUnfairAt}
 use Rattle.tables.specs.ByAtom.{LosesByAll}
 use Rattle.tables.specs.Fairness.{AreInstancesFairAt}
 
@@ -111,10 +110,3 @@ module _ (task : Task) (atoms : List Atom) (h : TableFunction) where
           unfair = λ fair. not_so (λ _. fair);
           earlier = before;
         }
-
--- asked, since it is not shut out
-pub if-asked : (answer out : Bool) (P : Type 0) → out ≡ false → (IsTrue answer ↔ P) → (IsTrue answer ↔ (IsTrue (not out) → P))
-if-asked answer out P is decides = (λ passes _. decides.0 passes, λ fair. decides.1 (fair (ap not is)))
-
-pub not-asked : (out : Bool) (P : Type 0) → out ≡ true → (IsTrue true ↔ (IsTrue (not out) → P))
-not-asked out P is = (λ _ asked. absurd (true≢false (sym asked ∙ ap not is)), λ _. refl)

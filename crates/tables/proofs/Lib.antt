@@ -1,6 +1,10 @@
 pub mod TablesLemmas
 pub mod FairnessLemmas
 pub mod SeveralLemmas
-pub mod StateRowsLemmas
-pub mod RoomLemmas
+pub mod TotalLemmas
+pub mod UnfairLemmas
+pub mod ScopePlacesLemmas
+pub mod ProjectionsLemmas
+pub mod RowSumsLemmas
+pub mod KnownRowsLemmas
 pub mod ValueLemmas

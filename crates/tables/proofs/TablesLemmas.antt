@@ -1,13 +1,13 @@
 -- All tables: which of them an atom names, and sums over them.
-use Rattle.std.proofs.Common.{◌≡◌, ◌∙◌, ℕ, zero, suc, ◌+◌, ◌*◌, ◌<◌, ◌≤◌, inl, inr, Bool, true, false, true≢false, not, ◌&&◌, ◌||◌, List, [], ◌∷◌, ◌++◌, length, take, map, get_or, Option, None, Some, refl, sym, ap, subst, arith, ℤ, pos, ◌+ℤ◌, neg_ℤ, ◌≤ℤ◌}
-use Rattle.std.specs.Prelude.{IsTrue, All, Contains, ◌==◌, slice_get, slice_set, if◌then◌else◌, nat_lt}
+use Rattle.std.proofs.Common.{◌≡◌, ◌∙◌, ℕ, zero, suc, ◌+◌, ◌*◌, ◌<◌, inl, inr, Bool, true, false, true≢false, not, ◌&&◌, ◌||◌, List, [], ◌∷◌, ◌++◌, length, take, map, get_or, Some, refl, sym, ap, subst, arith, ℤ, pos, ◌+ℤ◌, neg_ℤ, ◌≤ℤ◌}
+use Rattle.std.specs.Prelude.{IsTrue, All, ◌==◌, slice_get, nat_lt}
 use Rattle.std.specs.Bool.{beq}
 use Rattle.std.specs.List.{list_any, list_all}
 use Rattle.std.proofs.lemmas.Int.{ints}
 use Rattle.std.proofs.lemmas.Bool.{cases_eq, and_from, or_left, or_right, eqb-true, eq-eqb, lt-ltb, ltb-true, false_from_ne_true}
-use Rattle.std.proofs.lemmas.List.{length-map, length-set, get_or-set_same, get_or-set_other}
+use Rattle.std.proofs.lemmas.List.{length-map}
 use Rattle.std.proofs.lemmas.List.Folds.{list_all-append}
-use Rattle.std.proofs.lemmas.Option.{slice_get_within, slice_get-get_or}
+use Rattle.std.proofs.lemmas.Option.{slice_get_within, slice_get-get_or, get_or_from_slice_get}
 use Rattle.model.specs.NumberedLiterals.{NumberedLiteral, NumberedChange}
 use Rattle.model.proofs.ListLemmas.{Contains-got, Contains-map}
 use Rattle.packed_state.specs.Sets.{has, set_of}
@@ -19,7 +19,7 @@ use Rattle.table_functions.proofs.Lists.{all-from, all-at, none-passes}
 use Rattle.table_losses.specs.declared.lists.Lists.{Lists}
 use Rattle.tables.specs.ByAtom.{IsByAtom, AreMarked}
 use Rattle.table_losses.specs.Lists.{list_at, IsFiledAt}
-use Rattle.table_losses.specs.Losses.{indexed_of, LosesByTable, IsLossByTable}
+use Rattle.table_losses.specs.Losses.{indexed_of, LosesByTable}
 use Rattle.table_losses.specs.Fates.{IsLoss}
 use Rattle.table_functions.specs.Laws.{are_over}
 use Rattle.table_losses.specs.declared.indexed.IndexedTable.{IndexedTable}
@@ -152,10 +152,6 @@ loses-more place literals changes tables k t total lost new at closed so_far lea
 pub by-all : (all : IndexedTables) → IsByAtom (tables_of all) (length (tables_of all)) all.by_atom
 by-all all = subst (λ n. IsByAtom (tables_of all) n all.by_atom) (sym (length-map all.tables.items indexed_of)) all.named
 
-pub none-lost : (place : ℕ) (literals : List NumberedLiteral) (changes : List ConditionalChange) (t : Table) (o : Option ℤ) → ((z : ℤ) → o ≡ Some z → ⊥) → IsLossByTable place literals changes t o → is_closed literals changes t ≡ false
-none-lost place literals changes t None not_some is = is
-none-lost place literals changes t (Some z) not_some is = absurd (not_some z refl)
-
 -- the scope is of so many atoms
 pub scope-below : (width : ℕ) (tables : List Table) (k : ℕ) (t : Table) → IsTrue (are_over width tables) → slice_get tables k ≡ Some t → All (λ n. n < width) t.scope
 scope-below width tables k t all at =
@@ -172,3 +168,6 @@ gives-more place literals tables k t total given new at so_far least most here r
     let high = range.most in
     let more = sum-more tables k t (table_gives place literals) at in
     (omega (arith, ints), omega (arith, ints), omega (arith, ints))
+
+pub each-at : {X : Type 0} (P : X → Type 0) (xs : List X) (k : ℕ) (x : X) → slice_get xs k ≡ Some x → All P xs → P x
+each-at P xs k x at all = subst P (get_or_from_slice_get xs k x x at) (all k x (slice_get_within xs k x at))

@@ -1,5 +1,5 @@
 -- Which tables have an atom in their scope, as the code keeps it, and what all tables lose.
-use Rattle.std.specs.Prelude.{◌≡◌, ℕ, ◌+◌, ◌*◌, ◌<◌, ◌==◌, Bool, true, false, ◌&&◌, ◌||◌, ℤ, pos, neg_ℤ, ◌≤ℤ◌, List, [], ◌∷◌, length, map, slice_get, Option, None, Some}
+use Rattle.std.specs.Prelude.{◌≡◌, ℕ, ◌*◌, ◌<◌, Bool, true, ℤ, pos, neg_ℤ, ◌≤ℤ◌, List, length, slice_get, Some}
 use Rattle.std.specs.List.{list_all}
 use Rattle.packed_state.specs.Sets.{has}
 use Rattle.model.specs.NumberedLiterals.{NumberedLiteral}
@@ -24,8 +24,3 @@ pub record LosesByAll (place : ℕ) (literals : List NumberedLiteral) (changes :
   pub is : lost ≡ sum_over tables (table_loses place literals changes)
   pub least : neg_ℤ (pos (4294967294 * length tables)) ≤ℤ lost
   pub most : lost ≤ℤ pos (4294967294 * length tables)
-
--- none where it leads from a row of some table to what is no row
-abbrev pub IsLossByAll : ℕ → List NumberedLiteral → List ConditionalChange → List Table → Option ℤ → Type 0
-IsLossByAll place literals changes tables None = list_all (is_closed literals changes) tables ≡ false
-IsLossByAll place literals changes tables (Some lost) = LosesByAll place literals changes tables lost

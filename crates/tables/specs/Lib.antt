@@ -1,7 +1,12 @@
 pub mod ByAtom
 pub mod AllTables
+pub mod TotalLosses
 pub mod Fairness
+pub mod Unfair
+pub mod Reports
 pub mod Together
-pub mod Rooms
-pub mod StateRows
+pub mod ScopePlaces
+pub mod Projections
+pub mod RowSums
+pub mod KnownRows
 pub mod Several

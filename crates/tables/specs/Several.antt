@@ -1,17 +1,18 @@
 -- Several values of the code, as the several values that they are, and what is reported of them.
-use Rattle.std.specs.Prelude.{◌≡◌, ℕ, All, List, length, map, take, slice_get, Some}
+use Rattle.std.specs.Prelude.{◌≡◌, ℕ, ◌+◌, Bool, ℤ, pos, All, List, length, map, take, slice_get, slice_index_or, Some}
 use Rattle.model.specs.Task.{Atom, Task}
 use Rattle.model.specs.Meaning.{cost_of}
+use Rattle.packed_state.specs.Packed.{bits_of}
+use Rattle.potential_functions.specs.PotentialFunctions.{score}
 use Rattle.potentials.specs.Potentials.{potentials_of}
+use Rattle.potentials.specs.declared.potentials.Potentials.{Potentials}
 use Rattle.potential_functions.specs.Fair.{nothing}
 use Rattle.table_functions.specs.TableFunctions.{TableFunction, SeveralValues, functions_of, dead_ends_of}
 use Rattle.table_functions.specs.FairTables.{IsFair, IsFairAtGoals, IsFirstUnfair, IsFirstDeadUnfair, AreFair}
 use Rattle.tables.specs.AllTables.{tables_of, count_of}
 use Rattle.tables.specs.Fairness.{AreInstancesFairAt}
-use Rattle.tables.specs.Rooms.{HasRoom}
-use Rattle.tables.specs.StateRows.{HasRowsRoom}
-use Rattle.tables.specs.declared.rooms.Room.{Room}
-use Rattle.tables.specs.declared.state_rows.StateRows.{StateRows}
+use Rattle.tables.specs.KnownRows.{IsKnown}
+use Rattle.tables.specs.declared.known_state.KnownState.{KnownState}
 use Rattle.tables.specs.declared.several.TableFunctions.{TableFunctions}
 use Rattle.tables.specs.declared.several.ValuesFairness.{ValuesFairness}
 use Rattle.tables.specs.declared.several.ValuesFairness.TheVariants as reported
@@ -23,13 +24,21 @@ several_of f = record { values = map potentials_of f.values.items; dead_ends = p
 abbrev pub width_of : TableFunctions → ℕ
 width_of f = length (potentials_of f.dead_ends).weights
 
--- there is room for the rows of a state and for what they give to each value
-abbrev pub HasRoomFor : TableFunctions → Room → Type 0
-HasRoomFor f room = HasRoom (tables_of f.tables) (count_of f.tables) room
+-- by each value the score of the packed state's atoms, and last by that for dead ends
+pub record AreScores (values : List Potentials) (dead_ends : Potentials) (bits : List Bool) (scores : List ℤ) : Type 0 where
+  pub long : length scores ≡ length values + 1
+  pub each : (k : ℕ) (p : Potentials) → slice_get values k ≡ Some p → slice_index_or scores k (pos 0) ≡ score (potentials_of p) bits
+  pub last : slice_index_or scores (length values) (pos 0) ≡ score (potentials_of dead_ends) bits
 
--- and for where these rows are
-abbrev pub HasRowsFor : TableFunctions → StateRows → Type 0
-HasRowsFor f rows = HasRowsRoom (tables_of f.tables) (count_of f.tables) rows
+-- the packed state of which it is known
+abbrev pub state_of : KnownState → List Bool
+state_of k = bits_of k.rows.projections.state
+
+-- what is known is so
+pub record Knows (f : TableFunctions) (k : KnownState) : Type 0 where
+  pub width : length (state_of k) ≡ width_of f
+  pub rows : IsKnown (tables_of f.tables) (count_of f.tables) k.rows
+  pub scores : AreScores f.values.items f.dead_ends (state_of k) k.scores.items
 
 -- the function is that of the value at this place, and all before it are fair
 pub record IsFirstValue (task : Task) (atoms : List Atom) (s : SeveralValues) (place : ℕ) (function : TableFunction) : Type 0 where

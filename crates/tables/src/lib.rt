@@ -1,17 +1,21 @@
-//! Values over several tables: the test whether they are fair, and the value of a state or of its successor.
+//! Values over several tables: the test whether they are fair, and the value of a state, found by what is known of another.
 #![tactic(auto)]
 
 mod fairness;
-mod rooms;
+mod known_rows;
+mod known_state;
+mod losses;
+mod projections;
+mod row_sums;
+mod scope_places;
 mod several;
-mod state_rows;
 mod tables;
 #[cfg(test)]
 mod tests;
+mod unfair;
 mod values;
 
-pub use fairness::{TableValue, is_instance_shut_out};
-pub use rooms::Room;
+pub use fairness::is_instance_shut_out;
+pub use known_state::KnownState;
 pub use several::{TableFunctions, ValuesFairness};
-pub use state_rows::StateRows;
 pub use tables::IndexedTables;

@@ -2,11 +2,12 @@
 ghost use Rattle.std.proofs.Props.{props};
 ghost use Rattle.tables.specs.Together.{FitTogether};
 
-use crate::fairness::TableValue;
+use crate::fairness::{Allowance, TableValue};
 use crate::tables::IndexedTables;
+use crate::unfair::Unfair;
 use faults::NoMemory;
 use grounding::Ground;
-use potentials::{Fairness, Potentials};
+use potentials::Potentials;
 use std::alloc::Global;
 
 /// Several values over the same tables, of which the greatest counts, and one for dead ends. Of each row the weights are theirs
@@ -47,14 +48,15 @@ pub enum ValuesFairness {
 }
 
 impl<'a> TableFunctions<'a> {
-    ghost use Rattle.std.specs.Prelude.{◌≡◌, ◌<◌, All, IfOk, Some, length, map, slice_get};
+    ghost use Rattle.std.specs.Prelude.{◌≡◌, ◌<◌, IfOk, length, map};
     ghost use Rattle.grounding.specs.Ground.{task_in, atoms_in};
+    ghost use Rattle.model.specs.Task.{Task};
     ghost use Rattle.potentials.specs.Potentials.{potentials_of};
-    ghost use Rattle.table_functions.specs.FairTables.{IsFair};
-    ghost use Rattle.table_functions.specs.TableFunctions.{functions_of, dead_ends_of};
-    ghost use Rattle.tables.specs.AllTables.{tables_of};
-    ghost use Rattle.tables.specs.Fairness.{function_of};
+    ghost use Rattle.tables.specs.AllTables.{tables_of, count_of};
+    ghost use Rattle.tables.specs.Fairness.{function_of, allowed_by};
+    ghost use Rattle.tables.specs.Reports.{goals_report, instance_report, first_report};
     ghost use Rattle.tables.specs.Several.{several_of, width_of, ReportsValues};
+    ghost use Rattle.tables.specs.Unfair.{function_in, allowance_in};
 
     /// These values, that for dead ends, and these tables.
     pub fn new(
@@ -80,60 +82,70 @@ impl<'a> TableFunctions<'a> {
         requires { width_of self.now ≡ length (atoms_in ground.now) }
         ensures { IfOk result (ReportsValues (task_in ground.now) (atoms_in ground.now) (several_of self.now)) }
     {
-        for place in 0..self.values.len() {
-            let place = place as u32;
-            match self.value_at(place).fair(alloc, ground)? {
-                Fairness::Fair => {}
-                Fairness::Instance(number) => {
-                    return Ok(ValuesFairness::Instance { place, number });
-                }
-                Fairness::Goal => return Ok(ValuesFairness::Goals { place }),
+        let first = self.first_unfair(alloc, ground)?;
+        for place in 0..self.places_before(first) {
+            if !self.value_at(place).is_fair_at_goals(alloc, ground)? {
+                return Ok(self.unfair_at_goals(place));
             }
         }
-        self.fairness_of_dead_ends(alloc, ground)
+        Ok(self.report(first))
     }
 
-    /// What is reported where all values are fair.
-    fn fairness_of_dead_ends(
-        &self,
-        alloc: Global,
-        ground: &Ground<'_>,
-    ) -> Result<ValuesFairness, NoMemory>
-        requires { width_of self.now ≡ length (atoms_in ground.now) }
-        ensures { All (IsFair (task_in ground.now) (atoms_in ground.now)) (functions_of (several_of self.now))
-            → IfOk result (ReportsValues (task_in ground.now) (atoms_in ground.now) (several_of self.now)) }
+    /// What is reported where the value at this place is not fair at goals.
+    fn unfair_at_goals(&self, place: u32) -> ValuesFairness
+        requires { place < count_of self.now.tables }
+        ensures { result ≡ goals_report (several_of self.now) place }
     {
-        match self.value_of_dead_ends().dead_fair(alloc, ground)? {
-            Fairness::Fair => Ok(ValuesFairness::Fair),
-            Fairness::Instance(number) => Ok(ValuesFairness::DeadEndInstance { number }),
-            Fairness::Goal => Ok(ValuesFairness::DeadEndGoals),
+        if (place as usize) < self.values.len() {
+            ValuesFairness::Goals { place }
+        } else {
+            ValuesFairness::DeadEndGoals
         }
     }
 
-    /// The value at this place, from 0.
-    fn value_at(&self, place: u32) -> TableValue<'_, 'a>
-        requires { place < length (several_of self.now).values }
-        ensures function { slice_get (functions_of (several_of self.now)) place ≡ Some (function_of result) }
+    /// What is reported where values are fair at goals, of those before the first that is not fair for an instance.
+    fn report(&self, first: Option<Unfair>) -> ValuesFairness
+        ensures { result ≡ first_report (several_of self.now) first }
+    {
+        match first {
+            Some(unfair) => self.unfair_for_instance(unfair),
+            None => ValuesFairness::Fair,
+        }
+    }
+
+    /// What is reported where this value is not fair for this instance.
+    fn unfair_for_instance(&self, unfair: Unfair) -> ValuesFairness
+        ensures { result ≡ instance_report (several_of self.now) unfair }
+    {
+        let Unfair { place, number } = unfair;
+        if (place as usize) < self.values.len() {
+            ValuesFairness::Instance { place, number }
+        } else {
+            ValuesFairness::DeadEndInstance { number }
+        }
+    }
+
+    /// The value at this place, from 0, or that for dead ends, which comes after them.
+    pub(crate) fn value_at(&self, place: u32) -> TableValue<'_, 'a>
+        ensures function { function_of result ≡ function_in (several_of self.now) place }
         ensures tables { result.tables.now ≡ self.now.tables }
         ensures width { length (function_of result).potentials.weights ≡ width_of self.now }
         ensures place { result.place ≡ place }
+        ensures allowance { (task : Task) → allowed_by result.allowance task ≡ allowance_in task (several_of self.now) place }
     {
-        TableValue {
-            potentials: &self.values[place as usize],
-            tables: &self.tables,
-            place,
-        }
-    }
-
-    /// That for dead ends.
-    fn value_of_dead_ends(&self) -> TableValue<'_, 'a>
-        ensures function { function_of result ≡ dead_ends_of (several_of self.now) }
-        ensures tables { result.tables.now ≡ self.now.tables }
-    {
-        TableValue {
-            potentials: &self.dead_ends,
-            tables: &self.tables,
-            place: self.values.len() as u32,
+        match self.values.get(place as usize) {
+            Some(potentials) => TableValue {
+                potentials,
+                tables: &self.tables,
+                place,
+                allowance: Allowance::Cost,
+            },
+            None => TableValue {
+                potentials: &self.dead_ends,
+                tables: &self.tables,
+                place,
+                allowance: Allowance::Nothing,
+            },
         }
     }
 }

@@ -5,7 +5,10 @@ ghost use Rattle.table_functions.specs.Laws.{are_over};
 ghost use Rattle.table_losses.specs.declared.indexed.IndexedTable as declared;
 ghost use Rattle.table_losses.specs.Losses.{indexed_of, indexed_count_of};
 ghost use Rattle.tables.specs.ByAtom.{IsByAtom};
+ghost use Rattle.tables.specs.ScopePlaces.{scopes_of, AreScopePlaces};
 
+use crate::losses::{Losses, add_up, clear};
+use crate::scope_places::{ScopePlace, ScopePlaces};
 use faults::NoMemory;
 use grounding::{CountingChange, NumberedLiteral};
 use packed_state::Packed;
@@ -19,9 +22,11 @@ pub struct IndexedTables<'a> {
     tables: Vec<IndexedTable<'a>>,
     count: u32,
     by_atom: Lists,
+    scope_places: ScopePlaces,
     ghost few: { length tables.items < 2 ^ 24 },
     ghost counts: { All (λ (t : declared.IndexedTable). indexed_count_of t ≡ count) tables.items } by { Prim.hlevel props },
     ghost named: { IsByAtom (map indexed_of tables.items) (length tables.items) by_atom } by { Prim.hlevel props },
+    ghost placed: { AreScopePlaces (scopes_of (map indexed_of tables.items)) scope_places } by { Prim.hlevel props },
 }
 
 impl<'a> IndexedTables<'a> {
@@ -38,8 +43,9 @@ impl<'a> IndexedTables<'a> {
     ghost use Rattle.table_rows.specs.Tables.{table_of, weight_count_of};
     ghost use Rattle.table_functions.specs.FairTables as model;
     ghost use Rattle.tables.specs.AllTables.{tables_of, count_of};
-    ghost use Rattle.tables.specs.ByAtom.{AreMarked, IsLossByAll};
-    ghost use Rattle.table_losses.specs.Losses.{IsLossByTable};
+    ghost use Rattle.tables.specs.ByAtom.{AreMarked};
+    ghost use Rattle.tables.specs.TotalLosses.{HasLosses, IsSmall, AddsLosses, LosesByEachOfAll};
+    ghost use Rattle.tables.specs.ScopePlaces.{places_of};
 
     /// These tables over so many atoms, whose rows have so many weights.
     ///
@@ -58,10 +64,12 @@ impl<'a> IndexedTables<'a> {
         ensures count { IfOk result (λ all. count_of all ≡ count) }
     {
         let by_atom = by_atom(alloc, width, &tables)?;
+        let scope_places = ScopePlaces::new(alloc, width, &tables)?;
         Ok(IndexedTables {
             tables,
             count,
             by_atom,
+            scope_places,
         })
     }
 
@@ -94,6 +102,23 @@ impl<'a> IndexedTables<'a> {
         ensures { result.now ≡ self.now.tables.items }
     {
         &self.tables
+    }
+
+    /// The table at this place, from 0.
+    pub(crate) fn table(&self, place: usize) -> &'a Table
+        requires { place < length (tables_of self.now) }
+        ensures table { slice_get (tables_of self.now) place ≡ Some (table_of result.now) }
+        ensures count { weight_count_of result.now ≡ count_of self.now }
+        ensures range { All (λ (r : Row). All IsInRange r.weights) (table_of result.now).rows }
+    {
+        self.tables[place].table()
+    }
+
+    /// The places of the atom of this number in the scopes of tables.
+    pub(crate) fn places_of(&self, number: u32) -> &[ScopePlace]
+        ensures { result.now ≡ places_of self.now.scope_places number }
+    {
+        self.scope_places.of(number)
     }
 
     /// How many tables there are.
@@ -145,52 +170,60 @@ impl<'a> IndexedTables<'a> {
         self.tables[table].some_agrees(alloc, literals)
     }
 
-    /// The most that an instance of these literals and changes may lose by all tables, by the weights at this place. None where
-    /// it leads from a row of one of them that agrees to what is no row.
+    /// Whether an instance of these literals and changes leads from rows that agree to rows only, of each table. If so, the total
+    /// at each place is the most that it may lose by all tables, by the weights there.
     ///
     /// # Errors
     /// Where memory is refused.
-    pub fn lose(
+    pub(crate) fn lose(
         &self,
         alloc: Global,
         literals: &[NumberedLiteral],
         changes: &[CountingChange<'_>],
-        place: u32,
-    ) -> Result<Option<i64>, NoMemory>
-        requires { place < count_of self.now }
-        ensures { IfOk result (IsLossByAll place (map numbered_of literals.now) (map conditional_of changes.now) (tables_of self.now)) }
+        losses: &mut Losses,
+    ) -> Result<bool, NoMemory>
+        requires { HasLosses (count_of self.now) losses.old }
+        ensures lost { IfOk result (LosesByEachOfAll (count_of self.now) (map numbered_of literals.now) (map conditional_of changes.now) (tables_of self.now) losses.new.total.items) }
+        ensures room { OnOk result (HasLosses (count_of self.now) losses.new) }
     {
         let named = self.named_by_changes(alloc, changes)?;
-        let mut total = 0i64;
+        clear(&mut losses.total);
         for table in 0..self.tables.len() {
-            let Some(lost) = self.lost_by(alloc, table, &named, literals, changes, place)? else {
-                return Ok(None);
-            };
-            total += lost;
+            if !self.add_lost(alloc, table, &named, literals, changes, losses)? {
+                return Ok(false);
+            }
         }
-        Ok(Some(total))
+        Ok(true)
     }
 
-    /// What it may lose by the table at this place, where these tables may have atoms of the changes in their scope.
-    fn lost_by(
+    /// Whether it leads from rows that agree to rows only, of the table at this place, where these tables may have atoms of the
+    /// changes in their scope. If so, what it may lose by this table is added to the totals.
+    fn add_lost(
         &self,
         alloc: Global,
         table: usize,
         named: &Packed,
         literals: &[NumberedLiteral],
         changes: &[CountingChange<'_>],
-        place: u32,
-    ) -> Result<Option<i64>, NoMemory>
+        losses: &mut Losses,
+    ) -> Result<bool, NoMemory>
         requires there { table < length (tables_of self.now) }
-        requires place { place < count_of self.now }
         requires named { AreMarked self.now.by_atom (length (tables_of self.now)) (map (λ (c : numbered.NumberedChange). c.atom) (map counting_of changes.now)) (bits_of named.now) }
-        ensures { (t : functions.Table) → slice_get (tables_of self.now) table ≡ Some t
-            → IfOk result (IsLossByTable place (map numbered_of literals.now) (map conditional_of changes.now) t) }
+        requires room { HasLosses (count_of self.now) losses.old }
+        requires small { All IsSmall losses.old.total.items }
+        ensures added { (t : functions.Table) → slice_get (tables_of self.now) table ≡ Some t
+            → IfOk result (AddsLosses (count_of self.now) (map numbered_of literals.now) (map conditional_of changes.now) t losses.old.total.items losses.new.total.items) }
+        ensures room { OnOk result (HasLosses (count_of self.now) losses.new) }
     {
         if !named.has(table as u32) {
-            return Ok(Some(0));
+            return Ok(true);
         }
-        self.tables[table].loses(alloc, literals, changes, place)
+        let indexed = &self.tables[table];
+        if !indexed.loses_by_each(alloc, literals, changes, &mut losses.by_table)? {
+            return Ok(false);
+        }
+        add_up(&mut losses.total, &losses.by_table);
+        Ok(true)
     }
 
     /// The most that rows that agree with the literals give, one of each table, by the weights at this place.
@@ -231,7 +264,7 @@ impl<'a> IndexedTables<'a> {
     }
 
     /// The tables that have an atom of one of the changes in their scope.
-    pub(crate) fn named_by_changes(
+    fn named_by_changes(
         &self,
         alloc: Global,
         changes: &[CountingChange<'_>],

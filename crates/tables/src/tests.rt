@@ -91,9 +91,9 @@ fn value_of(
     requires atoms { All (λ number. number < 5) atoms.now }
 {
     let state = Packed::new(alloc, 5, atoms)?;
-    let mut room = functions.room(alloc)?;
-    let value = functions.value(&state, &mut room);
-    let is_dead = functions.is_dead_end(&state, &mut room);
+    let mut known = functions.known_state(alloc)?;
+    let value = functions.value(&state, &mut known);
+    let is_dead = functions.is_dead_end(&state, &mut known);
     Ok((value, is_dead))
 }
 

@@ -1,170 +1,147 @@
 //! The values of states.
-ghost use Rattle.std.specs.Prelude.{◌≡◌, ◌<◌, ◌^◌, IfOk, IsTrue, MatchOption, false, true, length, map, max};
-ghost use Rattle.grounding.specs.Changes.{conditional_of};
+ghost use Rattle.std.specs.Prelude.{◌≡◌, ◌<◌, ◌^◌, ◌+ℤ◌, ◌≤ℤ◌, pos, IsTrue, MatchOption, Some, false, true, length, max, nat_le, slice_get, slice_index_or};
 ghost use Rattle.packed_state.specs.Packed.{bits_of};
-ghost use Rattle.table_functions.specs.TableFunctions.{functions_of, dead_ends_of, greatest_value, is_dead_by, has_rows};
+ghost use Rattle.table_functions.specs.TableFunctions.{TableFunction, functions_of, dead_ends_of, greatest_value, is_dead_by, has_rows, value};
 ghost use Rattle.tables.specs.AllTables.{tables_of, count_of};
-ghost use Rattle.tables.specs.Rooms.{AreTotals};
-ghost use Rattle.tables.specs.Several.{several_of, width_of, HasRoomFor, HasRowsFor};
-ghost use Rattle.tables.specs.StateRows.{AreKnown, AreNamed, KnowsRows};
+ghost use Rattle.tables.specs.Several.{several_of, state_of, width_of, Knows};
 
-use crate::rooms::Room;
+use crate::known_state::KnownState;
 use crate::several::TableFunctions;
-use crate::state_rows::StateRows;
-use faults::NoMemory;
-use grounding::CountingChange;
 use packed_state::Packed;
 use potentials::or_zero;
-use std::alloc::Global;
 
 impl TableFunctions<'_> {
-    /// Room for the rows of a state, to be lent to the calls that ask for its value.
-    ///
-    /// # Errors
-    /// Where memory is refused.
-    pub fn room(&self, alloc: Global) -> Result<Room, NoMemory>
-        ensures { IfOk result (HasRoomFor self.now) }
-    {
-        self.tables.room(alloc)
-    }
-
-    /// The greatest of the values of the state, 0 where a table has no row for it. No memory is taken.
-    pub fn value(&self, state: &Packed, room: &mut Room) -> u64
+    /// The greatest of the values of the state, 0 where a table has no row for it. What is known is moved to the state. No memory
+    /// is taken.
+    pub fn value(&self, state: &Packed, known: &mut KnownState) -> u64
         requires width { length (bits_of state.now) ≡ width_of self.now }
-        requires room { HasRoomFor self.now room.old }
+        requires known { Knows self.now known.old }
         ensures value { result ≡ greatest_value (functions_of (several_of self.now)) (bits_of state.now) }
-        ensures room { HasRoomFor self.now room.new }
+        ensures known { Knows self.now known.new }
     {
-        if !self.tables.add_up(state, room) {
+        self.move_to(state, known);
+        if !known.rows.are_all() {
             return 0;
         }
-        self.greatest(state, room)
+        self.greatest(known)
     }
 
-    /// The greatest of the values of the state, unless it is dead. Its rows are looked for once, and no memory is taken.
-    pub fn value_unless_dead(&self, state: &Packed, room: &mut Room) -> Option<u64>
+    /// Whether the greatest of the values of the state is at least this: they are asked one after another until one is. What is
+    /// known is moved to the state. No memory is taken.
+    pub fn is_worth(&self, least: u64, state: &Packed, known: &mut KnownState) -> bool
         requires width { length (bits_of state.now) ≡ width_of self.now }
-        requires room { HasRoomFor self.now room.old }
+        requires known { Knows self.now known.old }
+        ensures worth { result ≡ nat_le least (greatest_value (functions_of (several_of self.now)) (bits_of state.now)) }
+        ensures known { Knows self.now known.new }
+    {
+        self.move_to(state, known);
+        if !known.rows.are_all() {
+            return least == 0;
+        }
+        self.is_worth_with_rows(least, known)
+    }
+
+    /// The greatest of the values of the state, unless it is dead. What is known is moved to the state. No memory is taken.
+    pub fn value_unless_dead(&self, state: &Packed, known: &mut KnownState) -> Option<u64>
+        requires width { length (bits_of state.now) ≡ width_of self.now }
+        requires known { Knows self.now known.old }
         ensures value { MatchOption result
             (IsTrue (is_dead_by (dead_ends_of (several_of self.now)) (bits_of state.now)))
             (λ value. (is_dead_by (dead_ends_of (several_of self.now)) (bits_of state.now) ≡ false) × (value ≡ greatest_value (functions_of (several_of self.now)) (bits_of state.now)) × (value < 2 ^ 63)) }
-        ensures room { HasRoomFor self.now room.new }
+        ensures known { Knows self.now known.new }
     {
-        if !self.tables.add_up(state, room) {
+        self.move_to(state, known);
+        if !known.rows.are_all() {
             return Some(0);
         }
-        self.value_with_rows(state, room)
+        self.value_with_rows(known)
     }
 
-    /// The greatest of the values of a state, unless it is dead. It has all its rows, which give these totals.
-    fn value_with_rows(&self, state: &Packed, room: &Room) -> Option<u64>
+    /// Whether the state is dead: whether the value for dead ends is at least 1. What is known is moved to the state. No memory is
+    /// taken.
+    pub fn is_dead_end(&self, state: &Packed, known: &mut KnownState) -> bool
         requires width { length (bits_of state.now) ≡ width_of self.now }
-        requires room { HasRoomFor self.now room.now }
-        requires rows { has_rows (tables_of self.now.tables) (bits_of state.now) ≡ true }
-        requires totals { AreTotals (bits_of state.now) (tables_of self.now.tables) (count_of self.now.tables) room.now.totals.items }
-        ensures { MatchOption result
-            (IsTrue (is_dead_by (dead_ends_of (several_of self.now)) (bits_of state.now)))
-            (λ value. (is_dead_by (dead_ends_of (several_of self.now)) (bits_of state.now) ≡ false) × (value ≡ greatest_value (functions_of (several_of self.now)) (bits_of state.now)) × (value < 2 ^ 63)) }
+        requires known { Knows self.now known.old }
+        ensures dead { result ≡ is_dead_by (dead_ends_of (several_of self.now)) (bits_of state.now) }
+        ensures known { Knows self.now known.new }
     {
-        if self.is_dead_with_rows(state, room) {
+        self.move_to(state, known);
+        if !known.rows.are_all() {
+            return false;
+        }
+        self.is_dead_with_rows(known)
+    }
+
+    /// The greatest of the values of a state that has all its rows, unless it is dead.
+    fn value_with_rows(&self, known: &KnownState) -> Option<u64>
+        requires known { Knows self.now known.now }
+        requires rows { has_rows (tables_of self.now.tables) (state_of known.now) ≡ true }
+        ensures { MatchOption result
+            (IsTrue (is_dead_by (dead_ends_of (several_of self.now)) (state_of known.now)))
+            (λ value. (is_dead_by (dead_ends_of (several_of self.now)) (state_of known.now) ≡ false) × (value ≡ greatest_value (functions_of (several_of self.now)) (state_of known.now)) × (value < 2 ^ 63)) }
+    {
+        if self.is_dead_with_rows(known) {
             return None;
         }
-        Some(self.greatest(state, room))
+        Some(self.greatest(known))
     }
 
-    /// Room for the rows of a state, from which those of the states that follow it are found.
-    ///
-    /// # Errors
-    /// Where memory is refused.
-    pub fn state_rows(&self, alloc: Global) -> Result<StateRows, NoMemory>
-        ensures { IfOk result (HasRowsFor self.now) }
+    /// Whether the greatest of the values of a state that has all its rows is at least this.
+    fn is_worth_with_rows(&self, least: u64, known: &KnownState) -> bool
+        requires known { Knows self.now known.now }
+        requires rows { has_rows (tables_of self.now.tables) (state_of known.now) ≡ true }
+        ensures { result ≡ nat_le least (greatest_value (functions_of (several_of self.now)) (state_of known.now)) }
     {
-        self.tables.state_rows(alloc)
-    }
-
-    /// Finds the rows of the state. No memory is taken.
-    pub fn find_rows(&self, state: &Packed, at: &mut StateRows)
-        requires width { length (bits_of state.now) ≡ width_of self.now }
-        requires room { HasRowsFor self.now at.old }
-        ensures rows { KnowsRows (tables_of self.now.tables) (bits_of state.now) at.new.rows.items }
-        ensures room { HasRowsFor self.now at.new }
-    {
-        self.tables.find_rows(state, at);
-    }
-
-    /// The tables that have an atom of one of the changes in their scope.
-    ///
-    /// # Errors
-    /// Where memory is refused.
-    pub fn named_by(
-        &self,
-        alloc: Global,
-        changes: &[CountingChange<'_>],
-    ) -> Result<Packed, NoMemory>
-        ensures { IfOk result (λ named. AreNamed (tables_of self.now.tables) (map conditional_of changes.now) (bits_of named)) }
-    {
-        self.tables.named_by_changes(alloc, changes)
-    }
-
-    /// The greatest of the values of a state, unless it is dead, where the rows of tables that are not named are known. Only
-    /// those of the others are looked for, and no memory is taken.
-    pub fn value_after(&self, named: &Packed, state: &Packed, at: &mut StateRows) -> Option<u64>
-        requires width { length (bits_of state.now) ≡ width_of self.now }
-        requires room { HasRowsFor self.now at.old }
-        requires named { length (bits_of named.now) ≡ length (tables_of self.now.tables) }
-        requires known { AreKnown (tables_of self.now.tables) (bits_of named.now) (bits_of state.now) at.old.rows.items }
-        ensures value { MatchOption result
-            (IsTrue (is_dead_by (dead_ends_of (several_of self.now)) (bits_of state.now)))
-            (λ value. (is_dead_by (dead_ends_of (several_of self.now)) (bits_of state.now) ≡ false) × (value ≡ greatest_value (functions_of (several_of self.now)) (bits_of state.now)) × (value < 2 ^ 63)) }
-        ensures room { HasRowsFor self.now at.new }
-        ensures rows { at.new.rows.items ≡ at.old.rows.items }
-    {
-        if !self.tables.add_up_after(named, state, at) {
-            return Some(0);
+        for place in 0..self.values.len() {
+            if self.value_with_all(place, known) >= least {
+                return true;
+            }
         }
-        self.value_with_rows(state, &at.room)
+        least == 0
     }
 
-    /// The greatest of the values of a state that has all its rows, which give these totals.
-    fn greatest(&self, state: &Packed, room: &Room) -> u64
-        requires width { length (bits_of state.now) ≡ width_of self.now }
-        requires room { HasRoomFor self.now room.now }
-        requires rows { has_rows (tables_of self.now.tables) (bits_of state.now) ≡ true }
-        requires totals { AreTotals (bits_of state.now) (tables_of self.now.tables) (count_of self.now.tables) room.now.totals.items }
-        ensures value { result ≡ greatest_value (functions_of (several_of self.now)) (bits_of state.now) }
+    /// The value at this place of a state that has all its rows.
+    fn value_with_all(&self, place: usize, known: &KnownState) -> u64
+        requires known { Knows self.now known.now }
+        requires place { place < length self.now.values.items }
+        requires rows { has_rows (tables_of self.now.tables) (state_of known.now) ≡ true }
+        ensures value { (h : TableFunction) → slice_get (functions_of (several_of self.now)) place ≡ Some h → result ≡ value h (state_of known.now) }
+        ensures small { result < 2 ^ 63 }
+    {
+        or_zero(self.total(place, known))
+    }
+
+    /// The greatest of the values of a state that has all its rows.
+    fn greatest(&self, known: &KnownState) -> u64
+        requires known { Knows self.now known.now }
+        requires rows { has_rows (tables_of self.now.tables) (state_of known.now) ≡ true }
+        ensures value { result ≡ greatest_value (functions_of (several_of self.now)) (state_of known.now) }
         ensures small { result < 2 ^ 63 }
     {
         let mut greatest = 0;
         for place in 0..self.values.len() {
-            let score = self.values[place].score(state) + room.totals[place];
-            greatest = greater(greatest, or_zero(score));
+            greatest = greater(greatest, self.value_with_all(place, known));
         }
         greatest
     }
 
-    /// Whether the state is dead: whether the value for dead ends is at least 1. No memory is taken.
-    pub fn is_dead_end(&self, state: &Packed, room: &mut Room) -> bool
-        requires width { length (bits_of state.now) ≡ width_of self.now }
-        requires room { HasRoomFor self.now room.old }
-        ensures dead { result ≡ is_dead_by (dead_ends_of (several_of self.now)) (bits_of state.now) }
-        ensures room { HasRoomFor self.now room.new }
+    /// Whether a state is dead that has all its rows.
+    fn is_dead_with_rows(&self, known: &KnownState) -> bool
+        requires known { Knows self.now known.now }
+        requires rows { has_rows (tables_of self.now.tables) (state_of known.now) ≡ true }
+        ensures { result ≡ is_dead_by (dead_ends_of (several_of self.now)) (state_of known.now) }
     {
-        if !self.tables.add_up(state, room) {
-            return false;
-        }
-        self.is_dead_with_rows(state, room)
+        or_zero(self.total(self.values.len(), known)) > 0
     }
 
-    /// Whether a state is dead that has all its rows, which give these totals.
-    fn is_dead_with_rows(&self, state: &Packed, room: &Room) -> bool
-        requires width { length (bits_of state.now) ≡ width_of self.now }
-        requires room { HasRoomFor self.now room.now }
-        requires rows { has_rows (tables_of self.now.tables) (bits_of state.now) ≡ true }
-        requires totals { AreTotals (bits_of state.now) (tables_of self.now.tables) (count_of self.now.tables) room.now.totals.items }
-        ensures { result ≡ is_dead_by (dead_ends_of (several_of self.now)) (bits_of state.now) }
+    /// What the state's atoms and its rows give, by the value at this place, of which that for dead ends is the last.
+    fn total(&self, place: usize, known: &KnownState) -> i64
+        requires known { Knows self.now known.now }
+        requires place { place < count_of self.now.tables }
+        ensures total { result ≡ (slice_index_or known.now.scores.items place (pos 0) +ℤ slice_index_or known.now.rows.sums.totals.items place (pos 0)) }
+        ensures most { result ≤ℤ pos 72057594037927936 }
     {
-        let score = self.dead_ends.score(state) + room.totals[self.values.len()];
-        or_zero(score) > 0
+        known.scores[place] + known.rows.sums.totals[place]
     }
 }
 

@@ -1,15 +1,15 @@
--- Whether numbers rise, by the first of them and the others.
+-- Whether numbers ascend, by the first of them and the others.
 use Rattle.std.proofs.Common.{◌≡◌, ◌∙◌, ◌-◌, ◌≤◌, ℕ, true, false, List, [], ◌∷◌, length, take, drop, get_or, refl, sym, ap, arith}
 use Rattle.std.specs.Prelude.{Bool, nat_lt, slice_get, ◌&&◌}
 use Rattle.std.specs.Option.{option_map_or}
 use Rattle.std.proofs.lemmas.List.{take_all}
 use Rattle.table_rows.specs.Rows.{are_rising}
 
--- the number is below the first of the others, if there are some
+-- the number is below the first of the others, if there is one
 abbrev is_below : ℕ → List ℕ → Bool
 is_below number others = option_map_or (λ first. nat_lt number first) (slice_get others 0) true
 
--- all but the first, as the code has them
+-- all but the first, as in the code
 abbrev others_of : List ℕ → List ℕ
 others_of numbers = take (length numbers - 1) (drop 1 numbers)
 

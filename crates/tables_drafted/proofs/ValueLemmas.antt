@@ -1,4 +1,4 @@
--- The first value stays the first one as others are added.
+-- The first value stays first as others are added.
 use Rattle.std.proofs.Common.{◌≡◌, List, [], ◌∷◌, ◌++◌, map}
 use Rattle.std.specs.Prelude.{slice_get, Some}
 use Rattle.potential_functions.specs.PotentialFunctions.{PotentialFunction}

@@ -1,4 +1,4 @@
--- The potentials of a value over tables, as the potential function that they are.
+-- The potentials of a value over tables, as a potential function.
 use Rattle.potential_functions.specs.PotentialFunctions.{PotentialFunction}
 use Rattle.potentials.specs.Potentials.{potentials_of}
 use Rattle.tables_drafted.specs.declared.chosen.Value.{Value}

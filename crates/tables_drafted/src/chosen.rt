@@ -1,4 +1,5 @@
-//! Several values, of which the greatest counts: those are chosen by which some states have greater values than by the others.
+//! Chooses several values, whose maximum counts: each value kept exceeds the others in some state (diversification; Seipp, Keller
+//! & Helmert 2020, "Saturated Cost Partitioning for Optimal Classical Planning").
 ghost use Rattle.std.specs.Prelude.{◌≡◌, IfOk, Some, map, slice_get};
 ghost use Rattle.potentials.specs.Potentials.{potentials_of};
 ghost use Rattle.tables_drafted.specs.ValuePotentials.{potentials_in_value};
@@ -12,48 +13,48 @@ use potentials_drafted::Tables;
 use reached_rows::RowGraph;
 use std::alloc::Global;
 
-/// The most values.
+/// The maximum number of values.
 const MAX_VALUES: usize = 9;
 
-/// The most that are tried, of which some are chosen.
+/// The maximum number of candidates that values are chosen from.
 const MAX_CANDIDATES: u64 = 20;
 
-/// How many trials there are for the best order for the initial state, and for another one.
+/// The number of trials for the best order for the initial state, and for another state.
 const TRIALS: u32 = 400;
 
 const TRIALS_OF_STATE: u32 = 12;
 
-/// How many arcs may be looked at for the best order for the initial state, and for those for all others.
+/// Work limits, in arcs: for the initial state's order, and for those of all other states.
 const MAX_WORK: u64 = 20_000_000;
 
 const MAX_WORK_OF_STATES: u64 = 20_000_000;
 
-/// A value: a division of costs among tables, and potentials.
+/// A value: a cost partition over tables, plus potentials.
 #[derive(Drop)]
 pub(crate) struct Value {
-    /// None where no table takes anything.
+    /// `None` if no table takes anything.
     pub(crate) division: Option<Division>,
     pub(crate) potentials: Potentials,
 }
 
-/// A value that may be chosen, and what it gives to states.
+/// A candidate value, and its value in each state.
 #[derive(Drop)]
 struct Candidate {
     value: Value,
     given: Vec<i64>,
 }
 
-/// Those that may be chosen, and what they give to states at most: all in all, and by tables alone.
+/// The candidates, and the greatest value of each state: by all parts, and by tables alone.
 #[derive(Drop)]
 struct Candidates {
     all: Vec<Candidate>,
     most: Vec<i64>,
     most_by_tables: Vec<i64>,
-    /// How often potentials of what is left were looked for.
+    /// How often potentials were drafted for remaining costs.
     rests: u64,
 }
 
-/// What values are chosen by.
+/// The inputs of the choice.
 #[derive(Drop)]
 pub(crate) struct Choosing<'a> {
     pub(crate) graphs: &'a [RowGraph],
@@ -66,7 +67,7 @@ pub(crate) struct Choosing<'a> {
 }
 
 impl Choosing<'_> {
-    /// The values: the potentials alone, and others by which some state's value is greater.
+    /// The values: the potentials alone, and others that raise the value of some state.
     pub(crate) fn values(&self, alloc: Global, tables: &mut Tables) -> Result<Vec<Value>, NoMemory>
         ensures { IfOk result (λ values. slice_get (map potentials_in_value values.items) 0 ≡ Some (potentials_of self.now.potentials.now)) }
     {
@@ -93,8 +94,8 @@ impl Choosing<'_> {
         self.chosen(alloc, all)
     }
 
-    /// Adds the division in this order, with potentials of what is left, if by the tables alone some state's value is greater
-    /// than by any before.
+    /// Adds the partition by this order, with potentials for the remaining costs, if its tables alone raise the value of some
+    /// state.
     fn add(
         &self,
         alloc: Global,
@@ -117,7 +118,7 @@ impl Choosing<'_> {
         }
     }
 
-    /// Adds the division in this order of what potentials leave of costs.
+    /// Adds the partition by this order of the costs that potentials leave.
     fn add_after_potentials(
         &self,
         alloc: Global,
@@ -133,7 +134,7 @@ impl Choosing<'_> {
         self.push(alloc, division, potentials, candidates)
     }
 
-    /// Adds the value, if some state's is greater by it than by any before.
+    /// Adds the value if it raises the value of some state.
     fn push(
         &self,
         alloc: Global,
@@ -152,7 +153,7 @@ impl Choosing<'_> {
         Ok(())
     }
 
-    /// What the value gives to each state, at least 0.
+    /// The value in each state, at least 0.
     fn given(&self, alloc: Global, value: &Value) -> Result<Vec<i64>, NoMemory> {
         let mut given = Vec::with_capacity(alloc, self.rows.len())?;
         for (rows, atoms) in self.rows.iter().zip(self.atoms) {
@@ -166,8 +167,8 @@ impl Choosing<'_> {
         Ok(given)
     }
 
-    /// The potentials alone, and then again and again the candidate by which the initial state and all states gain most, as
-    /// long as some do.
+    /// The potentials alone, then repeatedly the candidate by which the initial state, and next all states, gain most, as long as
+    /// there is a gain.
     #[tactic(auto, using(crate::proofs::ValueLemmas::first_kept))]
     fn chosen(&self, alloc: Global, mut candidates: Vec<Candidate>) -> Result<Vec<Value>, NoMemory>
         ensures { IfOk result (λ values. slice_get (map potentials_in_value values.items) 0 ≡ Some (potentials_of self.now.potentials.now)) }
@@ -196,7 +197,7 @@ impl Choosing<'_> {
     }
 }
 
-/// Raises each number to that at its place, if that is greater; says whether one was.
+/// Raises each number to the one at its index, if that is greater. Returns whether any was raised.
 fn raise(most: &mut [i64], given: &[i64]) -> bool {
     let mut is_raised = false;
     for (before, value) in most.iter_mut().zip(given) {
@@ -208,7 +209,7 @@ fn raise(most: &mut [i64], given: &[i64]) -> bool {
     is_raised
 }
 
-/// The place of the candidate by which states gain most, of which the initial one counts first, if any do.
+/// The index of the candidate with the greatest gain, where the initial state has priority; `None` if there is no gain.
 fn best(candidates: &[Candidate], most: &[i64]) -> Option<usize> {
     let mut best = None;
     let mut greatest = (0i64, 0i64);
@@ -222,7 +223,7 @@ fn best(candidates: &[Candidate], most: &[i64]) -> Option<usize> {
     best
 }
 
-/// How much more the first state has by these values, and how much more all have.
+/// The gain of the first state by these values, and the gain of all states.
 fn gain(given: &[i64], most: &[i64]) -> (i64, i64) {
     let mut first = None;
     let mut all = 0i64;

@@ -1,4 +1,5 @@
-//! Which tables there are: over single variables, and over pairs and triples that go together.
+//! Which tables are built: those over single variables, and over pairs and triples of related variables, chosen like the
+//! interesting patterns of Pommerening, Röger & Helmert 2013, "Getting the Most Out of Pattern Databases for Classical Planning".
 use crate::draft::Effort;
 use crate::links::Links;
 use atom_groups::{Variables, place_of};
@@ -9,22 +10,22 @@ use potentials::instance_count;
 use reached_rows::{GoalValues, Reaching, RowGraph, Shutters};
 use std::alloc::Global;
 
-/// The most variables of a table.
+/// The maximum number of variables of a table.
 const MAX_DEPTH: u32 = 3;
 
-/// How many rows and eighths of arcs there are in all, at most.
+/// The memory limit for all tables: rows plus an eighth of the arcs.
 const MAX_ROOM: usize = 1_500_000;
 
-/// How much may be looked at in all to find them: instances, and classes in rows.
+/// Work limit for building tables: instances, and classes in rows.
 const MAX_LOOKS: u64 = 16_000_000;
 
-/// How many rows may have to be looked at in all to test what instances lose by one value.
+/// The maximum number of row tests needed to test what instances lose by one value.
 const MAX_TESTS: u64 = 4_000_000;
 
-/// The most tables.
+/// The maximum number of tables.
 const MAX_TABLES: usize = 2_000;
 
-/// What tables are collected by.
+/// The state of the collection.
 #[derive(Drop)]
 pub(crate) struct Collecting<'a, 't> {
     pub(crate) ground: &'a Ground<'t>,
@@ -32,35 +33,35 @@ pub(crate) struct Collecting<'a, 't> {
     pub(crate) goals: &'a GoalValues,
     pub(crate) reaching: Reaching<'a>,
     pub(crate) shutters: Shutters,
-    /// What each instance costs, none where it is shut out.
+    /// The cost of each instance; `None` if it is shut out.
     pub(crate) costs: Costs,
-    /// The value of each variable in states whose values are to be raised, the initial state first.
+    /// The values of variables in the states whose values are to be raised, the initial state first.
     pub(crate) states: &'a [Vec<u32>],
     pub(crate) effort: Effort,
     pub(crate) collected: Collected,
-    /// How many rows have to be looked at to test what instances lose by one value.
+    /// The number of row tests needed to test what instances lose by one value.
     pub(crate) tests: u64,
-    /// How many rows and eighths of arcs.
+    /// The memory used: rows plus an eighth of the arcs.
     pub(crate) room: usize,
 }
 
-/// Tables, and what each gives to some states where all costs are its own.
+/// Tables, with the value that each gives to some states under the full costs.
 #[derive(Drop)]
 pub(crate) struct Collected {
     pub(crate) graphs: Vec<RowGraph>,
-    /// Whether each shuts instances out.
+    /// For each table, whether it shuts out instances.
     is_shutting: Vec<bool>,
     gifts: Vec<Gift>,
 }
 
-/// What a table gives each of some states where all costs are its own, and how much of these it takes.
+/// The value of each of some states in a table under the full costs, and the saturated costs.
 #[derive(Drop)]
 struct Gift {
     given: Vec<i64>,
     taken: i64,
 }
 
-/// A table that may be made: its variables, and how many combinations of their values there are.
+/// A candidate table: its variables, and the number of combinations of their values.
 #[derive(Debug, PartialEq, Eq, PartialOrd, Ord, Drop)]
 struct Candidate {
     combinations: u32,
@@ -68,7 +69,7 @@ struct Candidate {
 }
 
 impl Collected {
-    /// None.
+    /// No tables.
     pub(crate) fn new(alloc: Global) -> Collected {
         Collected {
             graphs: Vec::new(alloc),
@@ -77,7 +78,7 @@ impl Collected {
         }
     }
 
-    /// Whether the table at this place shuts instances out.
+    /// Whether the table at this index shuts out instances.
     pub(crate) fn is_shutting(&self, place: usize) -> bool {
         match self.is_shutting.get(place) {
             Some(is_shutting) => *is_shutting,
@@ -85,7 +86,7 @@ impl Collected {
         }
     }
 
-    /// Whether some table over some of the variables gives each state as much, and takes no more for that.
+    /// Whether some table over a subset of the variables gives each state at least as much, and takes no more.
     fn has_as_much(&self, variables: &[u32], gift: &Gift) -> bool {
         self.graphs.iter().zip(&self.gifts).any(|(graph, part)| is_part(
             graph.variables(),
@@ -95,7 +96,7 @@ impl Collected {
 }
 
 impl Gift {
-    /// Whether each state is given as much as by the other, and no more is taken.
+    /// Whether it gives each state at least as much as the other, and takes no more.
     fn is_no_worse(&self, other: &Gift) -> bool {
         self.taken <= other.taken
             && self
@@ -105,19 +106,19 @@ impl Gift {
                 .all(|(own, more)| own >= more)
     }
 
-    /// Whether no state is given anything.
+    /// Whether all values are 0.
     fn is_nothing(&self) -> bool {
         self.given.iter().all(|value| *value == 0)
     }
 }
 
-/// Whether each of these variables is one of the others.
+/// Whether each of these variables is among the others.
 fn is_part(part: &[u32], variables: &[u32]) -> bool {
     part.iter().all(|variable| variables.contains(variable))
 }
 
 impl Collecting<'_, '_> {
-    /// Collects tables over single variables, and then over more that go together with them, smaller ones first.
+    /// Collects tables over single variables, and then over related variables, smaller ones first.
     pub(crate) fn collect(&mut self, alloc: Global) -> Result<(), NoMemory> {
         for variable in 0..self.variables.count() {
             if !self.goals.ask_of(variable) && self.variables.value_count(variable) > 2 {
@@ -144,7 +145,7 @@ impl Collecting<'_, '_> {
         Ok(())
     }
 
-    /// Those of the sets of variables that are not too large, the smallest ones first.
+    /// The sets of variables that are not too large, those with the fewest combinations first.
     fn candidates(&self, alloc: Global, level: Vec<Vec<u32>>) -> Result<Vec<Candidate>, NoMemory> {
         let mut candidates = Vec::new(alloc);
         for variables in level {
@@ -160,7 +161,7 @@ impl Collecting<'_, '_> {
         Ok(candidates)
     }
 
-    /// Those with one variable more that goes together with one of theirs.
+    /// The sets, extended by one variable related to one of theirs.
     fn grown(
         &self,
         alloc: Global,
@@ -185,7 +186,7 @@ impl Collecting<'_, '_> {
         Ok(level)
     }
 
-    /// Adds the set with one variable more, unless it has an atom of one of the others.
+    /// Adds the set extended by the variable, unless it shares an atom with one of the others.
     fn grow(
         &self,
         alloc: Global,
@@ -207,8 +208,8 @@ impl Collecting<'_, '_> {
         Ok(())
     }
 
-    /// Adds the table over these variables, if there is room and work left for it and it is of use: it shuts instances out,
-    /// or gives some state more than tables over some of its variables.
+    /// Adds the table over these variables, if the limits allow it and it is useful: it shuts out instances, or gives some state
+    /// more than the tables over subsets of its variables do.
     fn add(&mut self, alloc: Global, variables: &[u32]) -> Result<(), NoMemory> {
         if self.is_done() {
             return Ok(());
@@ -239,14 +240,14 @@ impl Collecting<'_, '_> {
         Ok(())
     }
 
-    /// Whether nothing more is to be looked at, or kept.
+    /// Whether a limit is reached.
     fn is_done(&self) -> bool {
         self.reaching.looks() > self.effort.part_of(MAX_LOOKS)
             || self.room > MAX_ROOM
             || self.collected.graphs.len() >= MAX_TABLES
     }
 
-    /// What the table gives each of the states, and takes, where all costs are its own.
+    /// The value of each of the states in the table under the full costs, and the saturated costs.
     fn gift(&self, alloc: Global, graph: &RowGraph) -> Result<Gift, NoMemory> {
         let distances = distances(alloc, graph, &self.costs)?;
         let mut given = Vec::with_capacity(alloc, self.states.len())?;
@@ -265,7 +266,7 @@ impl Collecting<'_, '_> {
     }
 }
 
-/// What each instance costs, none where it is shut out.
+/// The cost of each instance; `None` if it is shut out.
 pub(crate) fn costs_of(
     alloc: Global,
     ground: &Ground<'_>,

@@ -17,50 +17,50 @@ use reached_rows::{GoalValues, Reaching, RowLimits, Shutters, Steps};
 use std::alloc::Global;
 use table_rows::Table;
 
-/// How large one table may be.
+/// The size limits of a table.
 const LIMITS: RowLimits = RowLimits {
     combinations: 262_144,
     arcs: 3_000_000,
 };
 
-/// The most atoms and the most instances of a task for which tables are drafted.
+/// The maximum number of atoms and of instances of a task that tables are drafted for.
 const MAX_ATOMS: u32 = 20_000;
 
 const MAX_INSTANCES: usize = 200_000;
 
-/// How many rows are looked at of tables that may be of use for dead ends alone.
+/// The maximum total number of rows examined in tables that may be useful only for dead ends.
 const MAX_ROWS_FOR_DEAD_ENDS: usize = 50_000;
 
-/// Several values over tables, of which the greatest counts, and one for dead ends. Of each row the weights are theirs in this
-/// order, that for dead ends last.
+/// Several values over tables, whose maximum counts, and one for dead ends. The weights of a row are in this order, the one for
+/// dead ends last.
 #[derive(Drop)]
 pub struct DraftedTables {
     /// The tables.
     pub tables: Vec<Table>,
-    /// Of each value the constant and the weights of atoms, the first one that of the given potentials.
+    /// The constant and the atom weights of each value. The first value is the given potentials.
     pub values: Vec<Potentials>,
-    /// Those for dead ends.
+    /// The potentials for dead ends.
     pub dead_ends: Potentials,
 }
 
-/// Tables, and what instances cost that they do not shut out.
+/// Tables, and the costs of the instances that they do not shut out.
 #[derive(Drop)]
 struct Known {
     collected: Collected,
     costs: Costs,
 }
 
-/// How much is looked at for a draft.
+/// How much effort is put into a draft.
 #[derive(Clone, Copy, Debug, PartialEq, Eq)]
 pub enum Effort {
-    /// A tenth of the other.
+    /// A tenth of the limits.
     Quick,
-    /// As much as there may be.
+    /// The full limits.
     Thorough,
 }
 
 impl Effort {
-    /// The part of this count that may be looked at.
+    /// The limit at this effort.
     pub(crate) fn part_of(self, count: u64) -> u64 {
         match self {
             Effort::Quick => count / 10,
@@ -69,26 +69,26 @@ impl Effort {
     }
 }
 
-/// What a draft is made for: potentials, whose values those over tables are to exceed, and such for dead ends; and states, by
-/// their true atoms, in which they are to.
+/// Inputs of a draft: potentials to beat, sample states, effort.
 #[derive(Clone, Copy)]
 pub struct Wanted<'a> {
-    /// The potentials.
+    /// The potentials that the values should exceed.
     pub potentials: &'a Potentials,
-    /// Those for dead ends.
+    /// The potentials for dead ends.
     pub dead_ends: &'a Potentials,
-    /// The states. The initial one counts too, and some on random walks from it.
+    /// The states, by their true atoms, in which the values should exceed them. The initial state and some random-walk states are
+    /// always added.
     pub states: &'a [Vec<u32>],
-    /// States that may be reached as well as those that follow the initial one, by their true atoms.
+    /// Further start states, by their true atoms: they and their successors count as reachable, as the initial state does.
     pub starts: &'a [Vec<u32>],
-    /// How much is looked at.
+    /// The effort.
     pub effort: Effort,
 }
 
-/// Values over tables that may be greater than those of potentials. None where no table is of use, or the task is too large.
+/// Values over tables that may exceed those of potentials. `None` if no table is useful, or the task is too large.
 ///
 /// # Errors
-/// Where memory is refused.
+/// An allocation failed.
 pub fn drafted_tables(
     alloc: Global,
     ground: &Ground<'_>,
@@ -110,7 +110,7 @@ pub fn drafted_tables(
     Ok(draft)
 }
 
-/// The same over these variables.
+/// The same, over these variables.
 fn draft_over(
     alloc: Global,
     ground: &Ground<'_>,
@@ -141,7 +141,7 @@ fn draft_over(
     Ok(draft)
 }
 
-/// What is known of tables over these variables.
+/// What is known about tables over these variables.
 fn known_over<'a, 't>(
     alloc: Global,
     ground: &'a Ground<'t>,
@@ -157,7 +157,7 @@ fn known_over<'a, 't>(
     Ok(known)
 }
 
-/// Tables over these variables, and what instances cost that they do not shut out.
+/// Tables over these variables, and the costs of the instances that they do not shut out.
 fn collected<'a, 't>(
     alloc: Global,
     ground: &'a Ground<'t>,
@@ -191,7 +191,7 @@ fn collected<'a, 't>(
     Ok(Known { collected, costs })
 }
 
-/// The draft by what is known of tables, for states of these true atoms and these values of variables.
+/// The draft from known tables, for states given by these true atoms and these values of variables.
 fn draft_by<'a>(
     alloc: Global,
     variables: &Variables,
@@ -225,7 +225,7 @@ fn draft_by<'a>(
     }))
 }
 
-/// The tables that are of use, with the weights of these values; none where none is.
+/// The useful tables, with the weights of these values; `None` if there are none.
 fn tables_of_use<'a>(
     alloc: Global,
     variables: &'a Variables,
@@ -262,7 +262,7 @@ fn tables_of_use<'a>(
 }
 
 impl Known {
-    /// Whether the table at this place shuts instances out, or takes a part of the costs in one of these values.
+    /// Whether the table at this index shuts out instances, or has a part in one of these values.
     fn is_used(&self, place: usize, values: &[Value]) -> bool {
         self.collected.is_shutting(place)
             || values.iter().any(|value| part_of(value, place).is_some())

@@ -1,6 +1,6 @@
-//! Drafts values over tables: chooses tables by their rows, and divides costs among them.
+//! Drafts values over tables: chooses tables by their rows, and partitions costs among them.
 //!
-//! The first value and the one for dead ends are the given potentials. Whoever takes a draft tests all else.
+//! The first value and the one for dead ends are the given potentials. Users must test everything else.
 #![tactic(auto)]
 
 mod chosen;

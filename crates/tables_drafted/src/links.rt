@@ -1,14 +1,14 @@
-//! Which variables go well together in a table.
+//! Which variables are related, that is, likely to be useful in the same table.
 use atom_groups::{Variables, place_of};
 use faults::NoMemory;
 use grounding::Ground;
 use potentials::instance_count;
 use std::alloc::Global;
 
-/// An instance that changes more variables than this says nothing of which go together.
+/// An instance that changes more variables than this does not relate them.
 const MAX_CHANGED: usize = 40;
 
-/// For each variable those that are wanted where it is changed, and those that are changed with it.
+/// For each variable, those required by instances that change it, and those changed with it.
 #[derive(Drop)]
 pub(crate) struct Links {
     wanted: Vec<Vec<u32>>,
@@ -16,7 +16,7 @@ pub(crate) struct Links {
 }
 
 impl Links {
-    /// Those of the ground task's instances.
+    /// The links from the ground task's instances.
     pub(crate) fn new(
         alloc: Global,
         ground: &Ground<'_>,
@@ -40,7 +40,7 @@ impl Links {
         Ok(links)
     }
 
-    /// Links each changed variable with the wanted ones, and with the other changed ones.
+    /// Links each changed variable with the required ones and with the other changed ones.
     fn add(&mut self, wanted: &[u32], changed: &[u32]) -> Result<(), NoMemory> {
         for variable in changed {
             if let Some(links) = self.wanted.get_mut(place_of(*variable)) {
@@ -53,18 +53,18 @@ impl Links {
         Ok(())
     }
 
-    /// The variables that are wanted where this one is changed.
+    /// The variables required by instances that change this one.
     pub(crate) fn wanted(&self, variable: u32) -> &[u32] {
         list_at(&self.wanted, variable)
     }
 
-    /// Those that are changed with it.
+    /// The variables changed together with this one.
     pub(crate) fn changed(&self, variable: u32) -> &[u32] {
         list_at(&self.changed, variable)
     }
 }
 
-/// The list at this place.
+/// The list at this index.
 fn list_at(lists: &[Vec<u32>], place: u32) -> &[u32] {
     match lists.get(place_of(place)) {
         Some(list) => list,
@@ -72,7 +72,7 @@ fn list_at(lists: &[Vec<u32>], place: u32) -> &[u32] {
     }
 }
 
-/// Puts those of `more` that are new and are not this one into the rising list.
+/// Merges into the sorted list the elements of `more` that are new and are not `but`.
 fn join(links: &mut Vec<u32>, more: &[u32], but: u32) -> Result<(), NoMemory> {
     for variable in more {
         if *variable != but {

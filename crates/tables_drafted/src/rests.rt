@@ -1,14 +1,14 @@
-//! Potentials of what tables leave of costs, and what potentials leave for tables.
+//! Potentials for the costs that tables leave, and costs that potentials leave for tables.
 use costs_divided::Costs;
 use faults::NoMemory;
 use potentials::{Potentials, is_in_range};
 use potentials_drafted::{Tables, drafted_weights};
 use std::alloc::Global;
 
-/// What an instance costs for potentials that is shut out.
+/// The cost of a shut-out instance for potentials.
 const COST_OF_SHUT_OUT: i64 = 1_048_576;
 
-/// What is left of costs, as potentials take it.
+/// The remaining costs, as potentials use them.
 pub(crate) fn rest_of(alloc: Global, costs: &Costs) -> Result<Vec<i64>, NoMemory> {
     let mut rest = Vec::with_capacity(alloc, costs.left().len())?;
     for left in costs.left() {
@@ -20,7 +20,7 @@ pub(crate) fn rest_of(alloc: Global, costs: &Costs) -> Result<Vec<i64>, NoMemory
     Ok(rest)
 }
 
-/// What the weights leave of these costs.
+/// The costs that the weights leave of these.
 pub(crate) fn left_by(
     alloc: Global,
     tables: &Tables,
@@ -39,7 +39,7 @@ pub(crate) fn left_by(
     Ok(Costs::new(left))
 }
 
-/// Potentials that take no more than is left of costs, if some are found.
+/// Potentials that are fair for the remaining costs, if some are found.
 pub(crate) fn potentials_of_rest(
     alloc: Global,
     tables: &mut Tables,
@@ -55,7 +55,7 @@ pub(crate) fn potentials_of_rest(
     Ok(Potentials::new(constant, weights))
 }
 
-/// The score of a state of these true atoms.
+/// The score of a state with these true atoms.
 pub(crate) fn score(potentials: &Potentials, atoms: &[u32]) -> i64 {
     let mut score = potentials.constant();
     for atom in atoms {

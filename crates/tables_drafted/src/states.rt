@@ -5,7 +5,7 @@ use faults::NoMemory;
 use reached_rows::RowGraph;
 use std::alloc::Global;
 
-/// The value of each variable in each of the states, which are given by their true atoms.
+/// The values of all variables in each of the states, which are given by their true atoms.
 pub(crate) fn values_of_all(
     alloc: Global,
     variables: &Variables,
@@ -26,7 +26,7 @@ pub(crate) fn values_of_all(
     Ok(all)
 }
 
-/// The rows of each of the states, by the places of tables.
+/// The rows of each of the states, by table index.
 pub(crate) fn rows_of_all(
     alloc: Global,
     graphs: &[RowGraph],
@@ -43,7 +43,7 @@ pub(crate) fn rows_of_all(
     Ok(all)
 }
 
-/// The values of variables in the states that rows are reached from: the first one of these states, and then these others.
+/// The values of variables in the start states: the first of these states, and then the others.
 pub(crate) fn starts(
     alloc: Global,
     variables: &Variables,
@@ -54,7 +54,7 @@ pub(crate) fn starts(
     values_of_all(alloc, variables, &first)
 }
 
-/// The true atoms of the first one of these states, then of those that a search found, and then of the others.
+/// The true atoms of the first of these states, then of the states that a search found, and then of the rest.
 pub(crate) fn samples(
     alloc: Global,
     states: &[Vec<u32>],

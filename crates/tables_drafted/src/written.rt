@@ -12,21 +12,21 @@ use reached_rows::RowGraph;
 use std::alloc::Global;
 use table_rows::Table;
 
-/// The weight of a row without a way to the goal, for values. It is more than what a row with one has, and what is taken of
-/// costs where a row's way ends.
+/// Finite stand-in for infinity: the weight of a row without a path to the goal, for values. It exceeds the weights of rows with
+/// a path, and the costs taken where a path ends.
 const WEIGHT_OF_DEAD: i64 = 1_073_741_824;
 
-/// What the rows of a table are written by.
+/// What the rows of a table are written from.
 #[derive(Clone, Copy)]
 pub(crate) struct Writing<'a> {
     pub(crate) variables: &'a Variables,
     pub(crate) values: &'a [Value],
-    /// The weight of a row without a way to the goal, for dead ends.
+    /// The weight, for dead ends, of a row without a path to the goal.
     pub(crate) weight_of_dead: i64,
 }
 
-/// The weight for dead ends that a row without a way to the goal has to have, so that any state of the row is dead beside these
-/// potentials.
+/// The dead-end weight that a row without a path to the goal needs, so that every state in the row is detected whatever these
+/// potentials contribute.
 pub(crate) fn weight_of_dead(dead_ends: &Potentials) -> i64 {
     let mut sum = dead_ends.constant().saturating_abs();
     for weight in dead_ends.weights() {
@@ -36,8 +36,8 @@ pub(crate) fn weight_of_dead(dead_ends: &Potentials) -> i64 {
 }
 
 impl Writing<'_> {
-    /// The table of these rows, where `reach` are their distances from the goal by all costs. None where a weight is out of
-    /// range, or the rows are not those of a table.
+    /// The table with these rows, given their goal distances under the full costs. `None` if a weight is out of range, or the
+    /// rows are not valid table rows.
     pub(crate) fn table(
         &self,
         alloc: Global,
@@ -61,8 +61,8 @@ impl Writing<'_> {
         Ok(Some(table))
     }
 
-    /// The weights of the row at this place of the table at that place, so far from the goal by all costs; none where one is
-    /// out of range.
+    /// The weights of the row at this index of this table, with this goal distance under the full costs; `None` if one is out of
+    /// range.
     fn weights(
         &self,
         alloc: Global,
@@ -90,7 +90,7 @@ impl Writing<'_> {
     }
 }
 
-/// What the table at this place has of the value.
+/// The table's part of the value.
 pub(crate) fn part_of(value: &Value, table: usize) -> Option<&Part> {
     match &value.division {
         Some(division) => division.parts.iter().find(|part| part.table == table),
@@ -98,7 +98,7 @@ pub(crate) fn part_of(value: &Value, table: usize) -> Option<&Part> {
     }
 }
 
-/// The weight of the row at this place.
+/// The weight of the row at this index.
 fn weight_of(part: &Part, row: usize) -> i64 {
     match part.distances.get(row) {
         Some(distance) => {
@@ -112,7 +112,7 @@ fn weight_of(part: &Part, row: usize) -> i64 {
     }
 }
 
-/// Adds the row of these atoms and weights, if it is one.
+/// Adds the row with these atoms and weights, if it is a valid row.
 fn add(alloc: Global, table: &mut Table, atoms: &[u32], weights: &[i64]) -> Result<(), NoMemory> {
     if is_rising(atoms)
         && weights.len() == place_of(table.weight_count())
@@ -123,7 +123,7 @@ fn add(alloc: Global, table: &mut Table, atoms: &[u32], weights: &[i64]) -> Resu
     Ok(())
 }
 
-/// Whether each number is above the one before it.
+/// Whether the numbers are strictly ascending.
 #[tactic(auto, using(crate::proofs::RisingLemmas::rising_on, crate::proofs::RisingLemmas::rising_not))]
 fn is_rising(numbers: &[u32]) -> bool
     ensures { result ≡ rows.are_rising numbers.now }
@@ -138,7 +138,7 @@ fn is_rising(numbers: &[u32]) -> bool
     true
 }
 
-/// Whether the number is below the first of the others, if there are some.
+/// Whether the number is below the first of the others, if there is one.
 fn is_below(number: u32, others: &[u32]) -> bool
     ensures { result ≡ option_map_or (λ first. nat_lt number first) (slice_get others.now 0) true }
 {

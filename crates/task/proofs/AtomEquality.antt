@@ -1,4 +1,4 @@
--- The code's test of equality says exactly of which atoms the model says that they are one.
+-- The code's test of equality is equality of atoms in the model.
 use Rattle.std.proofs.Common.{◌≡◌, ◌∙◌, ℕ, Bool, true, false, ◌&&◌, List, [], ◌∷◌, map, Some, refl, sym, ap, subst, if◌then◌else◌}
 use Rattle.std.proofs.lemmas.Bool.{and_parts, eqb-true}
 use Rattle.std.specs.Prelude.{◌==◌}
@@ -20,7 +20,7 @@ use Rattle.model.proofs.StaticLemmas.{same_atom}
 abbrev pub atom_eq : Atom → Atom → Bool
 atom_eq = (atom_impl.ghosts).eq
 
--- ---- what passes the code's test is one in the model
+-- ---- atoms that pass the code's test are equal in the model
 
 equal_objects : (xs ys : List ObjectId) → pointwise (object_impl.ghosts).eq xs ys ≡ true → map object_of xs ≡ map object_of ys
 equal_objects [] [] is = refl
@@ -35,7 +35,7 @@ equal_atoms a b is =
     let parts = and_parts (a.predicate.0 == b.predicate.0) (pointwise (object_impl.ghosts).eq a.objects.items b.objects.items) is in
     λ i. record { predicate = eqb-true a.predicate.0 b.predicate.0 parts.0 i; objects = equal_objects a.objects.items b.objects.items parts.1 i }
 
--- ---- what is one in the model passes the code's test
+-- ---- atoms that are equal in the model pass the code's test
 
 pub each_itself : {X : Type 0} (eq : X → X → Bool) → ((x : X) → eq x x ≡ true) → (xs : List X) → pointwise eq xs xs ≡ true
 each_itself eq itself [] = refl
@@ -58,14 +58,14 @@ numbers_back (x ∷ xs) = ap (λ rest. x ∷ rest) (numbers_back xs)
 atom_at-atom_of : (a : Atom) → atom_at (atom_of a) ≡ a
 atom_at-atom_of a = λ i. record { predicate = a.predicate; objects = record { items = numbers_back a.objects.items i } }
 
--- the view of an atom says all of it
+-- an atom is determined by its view
 pub one_atom : (a b : Atom) → atom_of a ≡ atom_of b → a ≡ b
 one_atom a b same = sym (atom_at-atom_of a) ∙ ap atom_at same ∙ atom_at-atom_of b
 
 pub same_atoms : (a b : Atom) → atom_of a ≡ atom_of b → atom_eq a b ≡ true
 same_atoms a b same = subst (λ c. atom_eq a c ≡ true) (one_atom a b same) (atom_itself a)
 
--- ---- so the two tests are one
+-- ---- so the two tests agree
 
 both_true : (a b : Bool) → (a ≡ true → b ≡ true) → (b ≡ true → a ≡ true) → a ≡ b
 both_true true b to from = sym (to refl)
@@ -78,7 +78,7 @@ eq-alike a b =
     (λ same. subst (λ q. eq_by_cmp atom_cmp (atom_of a) q ≡ true) (equal_atoms a b same) ((eq_by_cmp_equiv atoms_total).refl (atom_of a)))
     (λ same. same_atoms a b (same_atom (atom_of a) (atom_of b) same))
 
--- and a look-up of a function of objects gives the value that it has
+-- and a look-up of a function of objects gives its value
 pub value-alike : (a : Atom) (entries : List (Atom × ℕ)) → lookup (atom_eq a) entries ≡ value_in (map value_of entries) (atom_of a)
 value-alike a [] = refl
 value-alike a (e ∷ entries) = λ i. if eq-alike a e.0 i then Some e.1 else value-alike a entries i

@@ -1,4 +1,4 @@
--- Places and members of lists that other lists give.
+-- Indices and elements of lists derived from other lists.
 use Rattle.std.proofs.Common.{◌≡◌, ℕ, ◌+◌, Bool, false, true, not, cond, ◌||◌, ◌&&◌, List, [], ◌∷◌, map, length, refl, ap, sym, ◌∙◌, arith, nat_eq, nat_lt, None, Some, ◌++◌}
 use Rattle.std.proofs.lemmas.List.{length-map, map_push, map-id, append-nil}
 use Rattle.std.specs.Prelude.{filter}
@@ -14,7 +14,7 @@ pub list_any-map : {X Y : Type 0} (p : Y → Bool) (f : X → Y) (xs : List X) �
 list_any-map p f [] = refl
 list_any-map p f (x ∷ xs) = ap (λ b. p (f x) || b) (list_any-map p f xs)
 
--- whether a number is that of an element, from either side
+-- whether a number is that of an element, in both directions
 pub any_same : {X : Type 0} (number : X → ℕ) (n : ℕ) (xs : List X) → list_any (λ x. nat_eq (number x) n) xs ≡ list_any (nat_eq n) (map number xs)
 any_same number n [] = refl
 any_same number n (x ∷ xs) = let turned : nat_eq (number x) n ≡ nat_eq n (number x) = grind (arith, nat_tests) in (λ i. turned i || any_same number n xs i)

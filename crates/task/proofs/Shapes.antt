@@ -1,5 +1,4 @@
--- A schema of the task, reported by its shape: what its parameters have to be, its precondition, its effect and what it increases the
--- total cost by.
+-- A schema of the task by its shape: the types of its parameters, its precondition, its effect and its cost increase.
 use Rattle.std.specs.Prelude.{◌≡◌, ℕ, ◌≤◌, true, nat_le, List, length, slice_get, IsTrue, Option, None, Some, refl}
 use Rattle.std.proofs.Common.{sym, subst, arith}
 use Rattle.std.specs.Cmp.{first_so, second_so}

@@ -37,7 +37,7 @@ schema_id_of s = s.0
 abbrev pub atom_of : Atom → task.Atom
 atom_of a = record { predicate = a.predicate.0; objects = map object_of a.objects.items }
 
--- the atoms ascend in the model's order, so that each is there once
+-- the atoms are in ascending order, so that each occurs once
 abbrev pub AreInOrder : List Atom → Type 0
 AreInOrder atoms = IsStrictlySortedBy (λ a b. atom_cmp (atom_of a) (atom_of b)) atoms
 
@@ -88,7 +88,7 @@ abbrev pub increase_of : Increase → task.Increase
 increase_of (increase.Number n) = task.by_number n
 increase_of (increase.Function f) = task.by_function (lifted_atom_of f)
 
--- a schema without its name: what its parameters have to be, its precondition, its effect and what it increases the cost by
+-- a schema without its name: the types of its parameters, its precondition, its effect and its cost increase
 abbrev pub shape_of : Schema → List task.Union × task.Formula × task.Effect × task.Increase
 shape_of s = (map union_of s.parameters.items, formula_of s.precondition, effect_of s.effect, increase_of s.increase)
 
@@ -116,7 +116,7 @@ object_entry_of entry = record { name = entry.0.items; type = type_of entry.1 }
 abbrev pub value_of : Atom × ℕ → task.FunctionValue
 value_of entry = record { function = atom_of entry.0; value = entry.1 }
 
--- the task of these parts
+-- the task with these parts
 abbrev pub task_of_parts : TaskParts → task.Task
 task_of_parts p = record {
   types = map type_entry_of p.types.entries;

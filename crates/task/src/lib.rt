@@ -1,4 +1,4 @@
-//! A planning task with numbers for names. It knows nothing of the texts that it comes from.
+//! A planning task with numbers for names. It is independent of the texts it was read from.
 #![tactic(auto)]
 
 mod atoms;

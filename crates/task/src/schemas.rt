@@ -1,7 +1,7 @@
-//! Formulas, effects and the action schemas that they make up.
+//! Formulas, effects and action schemas.
 use crate::atoms::{LiftedAtom, Term, TypeId};
 
-/// Types of which an object has to be of one, as `(either t u)` says.
+/// Alternative types, as in `(either t u)`: an object must be of one of them.
 #[derive(Debug, Drop)]
 pub struct TypeUnion(pub Vec<TypeId>);
 
@@ -10,7 +10,7 @@ impl TypeUnion {
     ghost use Rattle.std.specs.List.{list_any};
     ghost use Rattle.task.specs.TaskParts.{union_of};
 
-    /// Whether the type is one of these.
+    /// Whether the type is listed here.
     pub(crate) fn has(&self, id: TypeId) -> bool
         ensures { result ≡ list_any (nat_eq id.0) (union_of self.now) }
     {
@@ -23,19 +23,19 @@ impl TypeUnion {
 pub enum Formula {
     /// An atom.
     Atom(LiftedAtom),
-    /// It holds where both terms name one object.
+    /// Both terms denote the same object.
     Equal(Term, Term),
-    /// It holds where each part does.
+    /// Every part holds.
     And(Vec<Formula>),
-    /// It holds where some part does.
+    /// Some part holds.
     Or(Vec<Formula>),
-    /// It holds where its part does not.
+    /// The part does not hold.
     Not(Box<Formula>),
-    /// It holds where the second part does, and where the first does not.
+    /// The second part holds, or the first does not.
     Imply(Box<Formula>, Box<Formula>),
-    /// It holds where its part does for some object of these types: the last variable in the part's scope.
+    /// The part holds for some object of these types, bound to the last variable of the part's scope.
     Exists(TypeUnion, Box<Formula>),
-    /// It holds where its part does for each object of these types: the last variable in the part's scope.
+    /// The part holds for every object of these types, bound to the last variable of the part's scope.
     Forall(TypeUnion, Box<Formula>),
 }
 
@@ -55,38 +55,37 @@ pub enum Effect {
     Literal(EffectLiteral),
     /// Several effects together.
     And(Vec<Effect>),
-    /// Its part for each object of these types: the last variable in the part's scope.
+    /// The part for every object of these types, bound to the last variable of the part's scope.
     Forall(TypeUnion, Box<Effect>),
-    /// Literals, where the formula holds in the state before.
+    /// Literals that take effect if the formula holds in the state before.
     When(Formula, Vec<EffectLiteral>),
 }
 
 /// A declaration of a predicate or of a function.
 #[derive(Debug, Drop)]
 pub struct Predicate {
-    /// What each of its arguments has to be.
+    /// The types of each argument.
     pub arguments: Vec<TypeUnion>,
 }
 
-/// What an action increases the total cost by.
+/// The amount by which an action increases the total cost.
 #[derive(Debug, Drop)]
 pub enum Increase {
-    /// A number, from 0 to 2,147,483,647: 0 where it does not increase it.
+    /// A number from 0 to 2,147,483,647: 0 if there is no increase.
     Number(u32),
-    /// The value of a function of some terms, which is written as an atom is: the function's number is in the place of the
-    /// predicate's.
+    /// The value of a function of terms, written like an atom: the function's number takes the place of the predicate's.
     Function(LiftedAtom),
 }
 
 /// An action schema.
 #[derive(Debug, Drop)]
 pub struct Schema {
-    /// What each of its parameters has to be.
+    /// The types of each parameter.
     pub parameters: Vec<TypeUnion>,
-    /// When it is applicable.
+    /// The precondition.
     pub precondition: Formula,
-    /// What it changes.
+    /// The effect.
     pub effect: Effect,
-    /// What it increases the total cost by.
+    /// The increase of the total cost.
     pub increase: Increase,
 }

@@ -1,4 +1,4 @@
-//! The task: a value of its own, from which its parts are got.
+//! The task, with access to its parts.
 ghost use Rattle.std.specs.Prelude.{IsTrue, ◌≤◌, length};
 ghost use Rattle.task.specs.TaskParts.{task_of_parts};
 ghost use Rattle.model.specs.WellTyped.{is_task};
@@ -11,7 +11,7 @@ use faults::NoMemory;
 use indexmap::IndexMap;
 use std::alloc::Global;
 
-/// A planning task with numbers for names. It is well-typed.
+/// A well-typed planning task with numbers for names.
 #[derive(Drop)]
 pub struct Task {
     parts: TaskParts,
@@ -38,22 +38,22 @@ impl Task {
         Task { parts }
     }
 
-    /// The initial state's atoms, as they are in the problem: one may occur there twice.
+    /// The atoms of the initial state, as in the problem: an atom may be repeated.
     pub fn init(&self) -> &[Atom]
         ensures { map atom_of result.now ≡ (task_of self.now).init }
     {
         self.parts.init.as_slice()
     }
 
-    /// The value that the problem gives to a function of objects, and `None` where it gives it none. The function's number
-    /// is in the place of the predicate's. No memory is taken.
+    /// The value that the problem gives to a function of objects; `None` if it gives none. The function's number takes the place
+    /// of the predicate's. Nothing is allocated.
     pub fn value(&self, function: &Atom) -> Option<u32>
         ensures { result ≡ value_in (task_of self.now).values (atom_of function.now) }
     {
         self.parts.values.get(function).copied()
     }
 
-    /// The values that the problem gives to functions of objects, in its order. Each function's number is in the place of the
+    /// The values that the problem gives to functions of objects, in its order. The function's number takes the place of the
     /// predicate's.
     pub fn values(&self) -> &IndexMap<Atom, u32>
         ensures { map value_of result.now.entries ≡ (task_of self.now).values }
@@ -61,28 +61,28 @@ impl Task {
         &self.parts.values
     }
 
-    /// What is to be reached.
+    /// The goal.
     pub fn goal(&self) -> &Formula
         ensures { formula_of result.now ≡ (task_of self.now).goal }
     {
         &self.parts.goal
     }
 
-    /// Whether the total cost is to be least; without it, the count of steps is.
+    /// Whether the total cost is minimized; otherwise the number of steps is.
     pub fn has_metric(&self) -> bool
         ensures { result ≡ (task_of self.now).has_metric }
     {
         self.parts.has_metric
     }
 
-    /// How many types there are, `object` among them.
+    /// The number of types, including `object`.
     pub fn type_count(&self) -> usize
         ensures { result ≡ length (task_of self.now).types }
     {
         self.parts.types.len()
     }
 
-    /// The type of this name, which is given in lower case.
+    /// The type with this name, given in lower case.
     pub fn type_named(&self, folded: &[u8]) -> Option<TypeId>
         ensures { option_map type_of result ≡ position (is_same folded.now) (map (λ t. t.name) (task_of self.now).types) }
     {
@@ -90,7 +90,7 @@ impl Task {
         Some(TypeId(number as u16))
     }
 
-    /// The type's name, in lower case, and `None` where the number is beyond the last.
+    /// The type's name, in lower case; `None` if the number is out of range.
     pub fn type_name(&self, id: TypeId) -> Option<&[u8]>
         ensures { option_copied result ≡ option_map (λ t. t.name) (slice_get (task_of self.now).types id.0) }
     {
@@ -98,7 +98,7 @@ impl Task {
         Some(name.as_slice())
     }
 
-    /// The type that the object is declared with, and `None` where the number is beyond the last.
+    /// The declared type of the object; `None` if the number is out of range.
     pub fn declared_type(&self, id: ObjectId) -> Option<TypeId>
         ensures { option_map type_of result ≡ option_map (λ o. o.type) (slice_get (task_of self.now).objects id.0) }
     {
@@ -106,15 +106,14 @@ impl Task {
         Some(*declared)
     }
 
-    /// All types that the objects of a type are of: itself and those above it, up to `object`. None where the number is
-    /// beyond the last.
+    /// All supertypes of a type: itself and its ancestors, up to `object`. Empty if the number is out of range.
     pub fn supertypes(&self, id: TypeId) -> &[TypeId]
         ensures { map type_of result.now ≡ supertypes_of (task_of self.now) id.0 }
     {
         supertypes(&self.parts.types, id)
     }
 
-    /// Whether the object is of one of these types; false where the number is beyond the last.
+    /// Whether the object is of one of these types; false if the number is out of range.
     pub fn is_of(&self, object: ObjectId, types: &TypeUnion) -> bool
         ensures { result ≡ is_of (task_of self.now) (union_of types.now) object.0 }
     {
@@ -124,14 +123,14 @@ impl Task {
         }
     }
 
-    /// Whether the type is one of these or is below one of them.
+    /// Whether the type is one of these or a subtype of one of them.
     pub(crate) fn is_below(&self, id: TypeId, types: &TypeUnion) -> bool
         ensures { result ≡ is_below (task_of self.now) (union_of types.now) id.0 }
     {
         is_below(&self.parts.types, types, id)
     }
 
-    /// The objects of these types, in order, each once.
+    /// The objects of these types, in order and without repetition.
     pub fn objects_of(&self, alloc: Global, types: &TypeUnion) -> Result<Vec<ObjectId>, NoMemory>
         ensures { IfOk result (λ objects. map object_of objects.items ≡ objects_of (task_of self.now) (union_of types.now)) }
     {
@@ -145,35 +144,35 @@ impl Task {
         Ok(objects)
     }
 
-    /// How many objects there are.
+    /// The number of objects.
     pub fn object_count(&self) -> usize
         ensures { result ≡ length (task_of self.now).objects }
     {
         self.parts.objects.len()
     }
 
-    /// How many predicates there are.
+    /// The number of predicates.
     pub fn predicate_count(&self) -> usize
         ensures { result ≡ length (task_of self.now).predicates }
     {
         self.parts.predicates.len()
     }
 
-    /// How many functions there are that actions increase the total cost by.
+    /// The number of functions by which actions increase the total cost.
     pub fn function_count(&self) -> usize
         ensures { result ≡ length (task_of self.now).functions }
     {
         self.parts.functions.len()
     }
 
-    /// How many action schemas there are.
+    /// The number of action schemas.
     pub fn schema_count(&self) -> usize
         ensures { result ≡ length (task_of self.now).schemas }
     {
         self.parts.schemas.len()
     }
 
-    /// The schema of this number, and `None` where the number is beyond the last.
+    /// The schema with this number; `None` if it is out of range.
     pub fn schema(&self, id: SchemaId) -> Option<&Schema>
         ensures shape { option_map (λ s. shape_of s.now) result ≡ option_map shape_of_schema (slice_get (task_of self.now).schemas id.0) }
         ensures few { IfSome result (λ s. length s.now.parameters.items ≤ MAX_VARIABLES) }
@@ -182,14 +181,14 @@ impl Task {
         Some(schema)
     }
 
-    /// The predicate of this number, and `None` where the number is beyond the last.
+    /// The predicate with this number; `None` if it is out of range.
     pub fn predicate(&self, id: PredicateId) -> Option<&Predicate>
         ensures { option_map (λ p. map union_of p.now.arguments.items) result ≡ option_map (λ p. p.arguments) (slice_get (task_of self.now).predicates id.0) }
     {
         self.parts.predicates.get_index(id.0).map(|entry| entry.1)
     }
 
-    /// The object of this name, which is given in lower case.
+    /// The object with this name, given in lower case.
     pub fn object_named(&self, folded: &[u8]) -> Option<ObjectId>
         ensures { option_map object_of result ≡ position (is_same folded.now) (map (λ o. o.name) (task_of self.now).objects) }
     {
@@ -197,7 +196,7 @@ impl Task {
         Some(ObjectId(number as u32))
     }
 
-    /// The schema of this name, which is given in lower case.
+    /// The schema with this name, given in lower case.
     pub fn schema_named(&self, folded: &[u8]) -> Option<SchemaId>
         ensures { option_map schema_id_of result ≡ position (is_same folded.now) (map (λ s. s.name) (task_of self.now).schemas) }
     {
@@ -205,7 +204,7 @@ impl Task {
         Some(SchemaId(number))
     }
 
-    /// The predicate of this name, which is given in lower case.
+    /// The predicate with this name, given in lower case.
     pub fn predicate_named(&self, folded: &[u8]) -> Option<PredicateId>
         ensures { option_map predicate_id_of result ≡ position (is_same folded.now) (map (λ p. p.name) (task_of self.now).predicates) }
     {
@@ -213,7 +212,7 @@ impl Task {
         Some(PredicateId(number))
     }
 
-    /// The function of this name, which is given in lower case: its number is in the place of a predicate's.
+    /// The function with this name, given in lower case. Its number takes the place of a predicate's.
     pub fn function_named(&self, folded: &[u8]) -> Option<PredicateId>
         ensures { option_map predicate_id_of result ≡ position (is_same folded.now) (map (λ p. p.name) (task_of self.now).functions) }
     {
@@ -221,7 +220,7 @@ impl Task {
         Some(PredicateId(number))
     }
 
-    /// The function's name, in lower case, and `None` where the number is beyond the last.
+    /// The function's name, in lower case; `None` if the number is out of range.
     pub fn function_name(&self, id: PredicateId) -> Option<&[u8]>
         ensures { option_copied result ≡ option_map (λ p. p.name) (slice_get (task_of self.now).functions id.0) }
     {
@@ -229,7 +228,7 @@ impl Task {
         Some(name.as_slice())
     }
 
-    /// The object's name, in lower case, and `None` where the number is beyond the last.
+    /// The object's name, in lower case; `None` if the number is out of range.
     pub fn object_name(&self, id: ObjectId) -> Option<&[u8]>
         ensures { option_copied result ≡ option_map (λ o. o.name) (slice_get (task_of self.now).objects id.0) }
     {
@@ -237,7 +236,7 @@ impl Task {
         Some(name.as_slice())
     }
 
-    /// The predicate's name, in lower case, and `None` where the number is beyond the last.
+    /// The predicate's name, in lower case; `None` if the number is out of range.
     pub fn predicate_name(&self, id: PredicateId) -> Option<&[u8]>
         ensures { option_copied result ≡ option_map (λ p. p.name) (slice_get (task_of self.now).predicates id.0) }
     {
@@ -245,7 +244,7 @@ impl Task {
         Some(name.as_slice())
     }
 
-    /// The schema's name, in lower case, and `None` where the number is beyond the last.
+    /// The schema's name, in lower case; `None` if the number is out of range.
     pub fn schema_name(&self, id: SchemaId) -> Option<&[u8]>
         ensures { option_copied result ≡ option_map (λ s. s.name) (slice_get (task_of self.now).schemas id.0) }
     {

@@ -1,4 +1,4 @@
-//! What types are below.
+//! The order of types: subtypes and supertypes.
 ghost use Rattle.std.specs.Prelude.{◌≡◌, map};
 ghost use Rattle.std.specs.List.{list_all};
 ghost use Rattle.task.specs.TaskParts.{type_entry_of, type_of, union_of};
@@ -8,8 +8,7 @@ use crate::atoms::TypeId;
 use crate::schemas::TypeUnion;
 use indexmap::IndexMap;
 
-/// All types that the objects of a type are of: itself and those above it, up to `object`. None where the number is
-/// beyond the last.
+/// All supertypes of a type: itself and its ancestors, up to `object`. Empty if the number is out of range.
 pub fn supertypes(types: &IndexMap<Vec<u8>, Vec<TypeId>>, id: TypeId) -> &[TypeId]
     ensures { map type_of result.now ≡ supertypes_in (map type_entry_of types.now.entries) id.0 }
 {
@@ -19,14 +18,14 @@ pub fn supertypes(types: &IndexMap<Vec<u8>, Vec<TypeId>>, id: TypeId) -> &[TypeI
     }
 }
 
-/// Whether the type is one of these or is below one of them.
+/// Whether the type is one of these or a subtype of one of them.
 pub fn is_below(types: &IndexMap<Vec<u8>, Vec<TypeId>>, wanted: &TypeUnion, id: TypeId) -> bool
     ensures { result ≡ is_below_in (map type_entry_of types.now.entries) (union_of wanted.now) id.0 }
 {
     supertypes(types, id).iter().any(|above| wanted.has(*above))
 }
 
-/// Whether each of some types is one of these or is below one of them.
+/// Whether each of some types is one of these or a subtype of one of them.
 pub fn all_below(
     types: &IndexMap<Vec<u8>, Vec<TypeId>>,
     wanted: &TypeUnion,

@@ -1,4 +1,4 @@
--- Atoms that are taken, and atoms that came before.
+-- Atoms that are added, and atoms that occurred before.
 use Rattle.std.proofs.Common.{◌≡◌, Bool, true, false, not, List, [], ◌∷◌, ◌++◌, map, refl, sym, ap, ◌∙◌, subst}
 use Rattle.std.specs.Prelude.{ℤ, IsTrue, Contains, if◌then◌else◌}
 use Rattle.std.specs.List.{list_any}
@@ -33,7 +33,7 @@ was_new : (is_new old : Bool) → is_new ≡ not old → is_new ≡ true → old
 was_new is_new true is holds = absurd (false≢true (sym is ∙ holds))
 was_new is_new false is holds = refl
 
--- the heading with these atoms, and the weights of one more
+-- the header with these atoms, and the weights of one more
 abbrev pub with_atom : Heading → List ℤ → List Atom → Heading
 with_atom heading weights atoms = record { version = heading.version; claim = heading.claim; exchanges = heading.exchanges; atoms = atoms; bounds = with_weights heading.bounds weights }
 

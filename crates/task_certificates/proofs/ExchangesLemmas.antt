@@ -1,4 +1,4 @@
--- Exchanges that a text says.
+-- Exchanges given by a text.
 use Rattle.std.proofs.Common.{◌≡◌, ℕ, suc, ◌<◌, ◌≤◌, true, false, cond, List, [], ◌∷◌, map, length, None, Some, refl, arith}
 use Rattle.std.specs.Prelude.{◌&&◌, nat_le, nat_lt, not}
 use Rattle.std.specs.Global.{Vec}
@@ -17,7 +17,7 @@ use Rattle.model.specs.PlanWriting.{is_lower_name}
 
 -- ---- limits
 
--- names that may be exchanged are two at least
+-- the names of an exchange are at least two
 some_pair : (task : Task) (names : List (List ℕ)) → nat_le 2 (length names) ≡ true → nat_le 1 (length (exchange_said task names)) ≡ true
 some_pair task [] two = absurd (omega (arith, leb-true 2 0 two))
 some_pair task (a ∷ []) two = absurd (omega (arith, leb-true 2 1 two))
@@ -29,7 +29,7 @@ two_at_least names are =
     let (first, different) = and_parts (nat_le 2 (length names) && are_paired names) (differ names) first in
     (and_parts (nat_le 2 (length names)) (are_paired names) first).0
 
--- so the exchanges of lines that keep the limits have a pair each
+-- so the exchanges of lines within the limits have at least one pair each
 pub exchanges_kept : (task : Task) (f : Format) (swaps : List (List (List ℕ))) → list_all (is_line f) (map (λ names. swapped names) swaps) ≡ true
     → are_exchanges f.version (map (exchange_said task) swaps) ≡ true
 exchanges_kept task f [] all = refl
@@ -41,7 +41,7 @@ exchanges_kept task f (names ∷ swaps) all =
     let rest = exchanges_kept task f swaps more in
     λ i. (has i && some i) && rest i
 
--- ---- the objects that are said
+-- ---- the objects named
 
 -- a name is that of an object, or of none
 pub said_within : (task : Task) (name : List ℕ) → object_said task name ≤ length task.objects
@@ -49,13 +49,13 @@ said_within task name =
     let long : length (object_names task) ≡ length task.objects = length-map task.objects (λ (o : Object). o.name) in
     omega (arith, long, prefix_len-le-length (λ other. not (is_same name other)) (object_names task))
 
--- of fewer than two names there is no pair
+-- fewer than two names make no pair
 pub none_left : (task : Task) (names : List (Vec ℕ)) → length names < 2 → exchange_said task (map name_of names) ≡ []
 none_left task [] few = refl
 none_left task (a ∷ []) few = refl
 none_left task (a ∷ b ∷ names) few = absurd (omega (arith, few))
 
--- where none is found it is the count
+-- an unknown name gives the number of objects
 pub said_none : (task : Task) (name : List ℕ) → position (is_same name) (object_names task) ≡ None → length task.objects ≡ object_said task name
 said_none task name =
     let place = object_said task name in

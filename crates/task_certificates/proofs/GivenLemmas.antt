@@ -1,4 +1,4 @@
--- What one line more reports.
+-- What one more line gives.
 use Rattle.std.proofs.Common.{◌≡◌, ◌≢◌, ℕ, zero, suc, ◌+◌, ◌⊎◌, inl, inr, ⊎_elim, Bool, true, false, List, [], ◌∷◌, ◌++◌, map, length, None, Some, refl, sym, ap, ◌∙◌, subst, append_assoc, append-nil, true≢false, arith}
 use Rattle.std.specs.Prelude.{IsTrue, ℤ, ◌&&◌, Contains, pos}
 use Rattle.std.specs.List.{flat_map, range_with_len}
@@ -25,7 +25,7 @@ use Rattle.task_certificates.proofs.NamesLemmas.{one_named, same_names}
 
 -- ---- lists of lines
 
--- an atom that is in the lines is reported, and one that is reported is there
+-- an atom in the lines is given, and a given atom is in the lines
 pub atom_reported : (lines : List TextLine) (a : WeightedAtom) → Contains lines (atom a) → Contains (atoms_given lines) a
 atom_reported lines a there = Contains-filter_map atom_in lines (atom a) a there refl
 
@@ -42,7 +42,7 @@ reported_atom lines a reported = let (line, there, is) = filter_map-Contains ato
     line_is (listed l) is = absurd (cc is)
     line_is (last count) is = absurd (cc is)
 
--- ---- where a line is
+-- ---- the position of a line
 
 pub begin_front : (before : List TextLine) (line : TextLine) → BeginCertificate (before ++ line ∷ []) → BeginCertificate before
 begin_front before line (rest, whole) = (line ∷ rest, subst AreWhole (append_assoc before (line ∷ []) rest) whole)
@@ -60,7 +60,7 @@ placed before line begun =
     let (next, is) = followed before place leads line begun in
     record { place = place; at = leads; occurs = occurs before place leads; next = next; leads = is }
 
--- before the version nothing is
+-- nothing comes before the version
 nothing_first : (before : List TextLine) (v : Version) (line : TextLine) → BeginCertificate (before ++ version v ∷ []) → Contains before line → ⊥
 nothing_first before v line begun there = let at = placed before (version v) begun in by_place at.place at.occurs at.next at.leads
   where
@@ -71,7 +71,7 @@ nothing_first before v line begun there = let at = placed before (version v) beg
     by_place (in_body b) are next leads = never next leads
     by_place ended are next leads = never next leads
 
--- before the claim none is
+-- only the version comes before the claim
 only_claim : (before : List TextLine) (c d : Claim) → BeginCertificate (before ++ claims c ∷ []) → Contains before (claims d) → ⊥
 only_claim before c d begun there = let at = placed before (claims c) begun in by_place at.place at.occurs at.next at.leads
   where
@@ -85,7 +85,7 @@ only_claim before c d begun there = let at = placed before (claims c) begun in b
     by_place (in_body b) are next leads = never next leads
     by_place ended are next leads = never next leads
 
--- before the constant none is
+-- only the version and the claim come before the constants
 only_constant : (before : List TextLine) (k d : List ℤ) → BeginCertificate (before ++ constant k ∷ []) → Contains before (constant d) → ⊥
 only_constant before k d begun there = let at = placed before (constant k) begun in by_place at.place at.occurs at.next at.leads
   where
@@ -102,7 +102,7 @@ only_constant before k d begun there = let at = placed before (constant k) begun
     by_place (in_body b) are next leads = never next leads
     by_place ended are next leads = never next leads
 
--- nor an atom
+-- and no atom does
 no_atom_first : (before : List TextLine) (k : List ℤ) → BeginCertificate (before ++ constant k ∷ []) → atoms_given before ≡ []
 no_atom_first before k begun = let at = placed before (constant k) begun in by_place at.place at.occurs at.next at.leads
   where
@@ -135,7 +135,7 @@ constant_first before a begun = let at = placed before (atom a) begun in by_plac
     by_place (in_body b) body next leads = constant_there b before body
     by_place ended are next leads = never next leads
 
--- ---- one line more
+-- ---- one more line
 
 nothing_before : (front : List TextLine) (other : TextLine) (rest : List TextLine) → [] ≡ front ++ other ∷ rest → ⊥
 nothing_before [] other rest same = absurd (cc same)
@@ -144,7 +144,7 @@ nothing_before (f ∷ front) other rest same = absurd (cc same)
 cons_parts : (a b : TextLine) (xs ys : List TextLine) → a ∷ xs ≡ b ∷ ys → (a ≡ b) × (xs ≡ ys)
 cons_parts a b xs ys same = (cc same, cc same)
 
--- a line among some lines and one more is that one, or is among them
+-- a line among some lines and one more is the new one, or is among them
 split_last : (before front rest : List TextLine) (line other : TextLine) → before ++ line ∷ [] ≡ front ++ other ∷ rest
     → ((before ≡ front) × (line ≡ other)) ⊎ ((more : List TextLine) × (before ≡ front ++ other ∷ more))
 split_last [] [] rest line other same = inl (refl, (cons_parts line other [] rest same).0)
@@ -154,14 +154,14 @@ split_last (b ∷ before) (f ∷ front) rest line other same =
     let (here, more) = cons_parts b f (before ++ line ∷ []) (front ++ other ∷ rest) same in
     ⊎_elim (λ (fronts, lines). inl ((λ i. here i ∷ fronts i), lines)) (λ (left, is). inr (left, (λ i. here i ∷ is i))) (split_last before front rest line other more)
 
--- no line is wrong where none was and the next is not
+-- no line is wrong if none was and the next one is right
 right_more : (task : Task) (before : List TextLine) (line : TextLine) → AreRight task before → ((number : ℕ) → IsWrongAfter task before line number → ⊥)
     → AreRight task (before ++ line ∷ [])
 right_more task before line right not_wrong front rest other number splits wrong =
     ⊎_elim (λ (fronts, lines). not_wrong number (subst (λ front. IsWrongAfter task front line number) (sym fronts) (subst (λ line. IsWrongAfter task front line number) (sym lines) wrong)))
     (λ (more, is). right front more other number is wrong) (split_last before front rest line other splits)
 
--- a line that says of no atom, no table and no state is not wrong
+-- a line without an atom, a part of a table or a state is right
 abbrev pub is_plain : TextLine → Bool
 is_plain (version v) = true
 is_plain (claims claim) = true
@@ -187,7 +187,7 @@ named_push task [] (b ∷ atoms) name a are is = absurd are
 named_push task (n ∷ names) [] name a are is = absurd are
 named_push task (n ∷ names) (b ∷ atoms) name a (here, are) is = (here, named_push task names atoms name a are is)
 
--- what is named by one of these names is one of these atoms, and has one of these names
+-- what one of these names denotes is one of these atoms, and has one of these names
 atom_of_name : (task : Task) (names : List NamedAtom) (atoms : List Atom) (name : NamedAtom) → AllName task names atoms → Contains names name
     → (a : Atom) × Contains atoms a × Names task name a
 atom_of_name task [] atoms name are there = absurd (Contains-none name there)
@@ -204,14 +204,14 @@ name_of_atom task (n ∷ names) (b ∷ atoms) a (here, are) there =
     ⊎_elim (λ same. (n, Contains-here n names, subst (Names task n) same here))
     (λ later. let (name, occurs, is) = name_of_atom task names atoms a are later in (name, Contains-there n names name occurs, is)) (Contains-cases b atoms a there)
 
--- the atoms and the names of some lines and one atom more
+-- the atoms and the names of some lines and one more atom
 atoms_more : (before : List TextLine) (a : WeightedAtom) → atoms_given (before ++ atom a ∷ []) ≡ atoms_given before ++ a ∷ []
 atoms_more before a = filter_map-append atom_in before (atom a ∷ [])
 
 names_more : (before : List TextLine) (a : WeightedAtom) → names_given (before ++ atom a ∷ []) ≡ names_given before ++ a.atom ∷ []
 names_more before a = ap (map (λ (a : WeightedAtom). a.atom)) (atoms_more before a) ∙ map-append (λ (a : WeightedAtom). a.atom) (atoms_given before) (a ∷ [])
 
--- each value has the weight of that atom more
+-- each value has the weight of that atom in addition
 value_more : (k : List ℤ) (atoms : List WeightedAtom) (a : WeightedAtom) (place : ℕ)
     → value_given k (atoms ++ a ∷ []) place ≡ with_weight (value_given k atoms place) (weight_said place a.weights)
 value_more k atoms a place = λ i. record { constant = weight_said place k; weights = map-append (λ (a : WeightedAtom). weight_said place a.weights) atoms (a ∷ []) i }
@@ -230,7 +230,7 @@ given_more v k atoms a bounds given = record {
       (λ i. with_weight (given.dead_ends i) (weight_said (count i) a.weights)) ∙ sym (value_more k atoms a (value_count v (length k)));
 }
 
--- no lines say nothing
+-- no lines give nothing
 abbrev pub nothing_said : SeveralValues
 nothing_said = record { values = []; dead_ends = record { constant = pos 0; weights = [] }; tables = [] }
 
@@ -304,7 +304,7 @@ module _ (task : Task) (before : List TextLine) (heading : Heading) (reported : 
   not_given_still : (line : TextLine) → ((k : List ℤ) → Contains (before ++ line ∷ []) (constant k) → ⊥) → AreNotGiven heading.bounds
   not_given_still line absent = reported.not_given (λ k there. absent k (Contains-append_left before (line ∷ []) (constant k) there))
 
-  -- what was reported for a line is reported still, where the next one is another
+  -- what was given by a line is still given if the next one is of another kind
   among_more : (line other : TextLine) → (line ≡ other → ⊥) → Contains (before ++ line ∷ []) other → Contains before other
   among_more line other differs there = ⊎_elim (λ earlier. earlier) (λ same. absurd (differs same)) (Contains-push_cases before line other there)
 
@@ -404,7 +404,7 @@ module _ (task : Task) (before : List TextLine) (heading : Heading) (reported : 
     right = right_more task before (swapped names) reported.right (λ number wrong. plain_is_right task before (swapped names) number wrong refl);
   }
 
-  -- a line that reports neither the version, nor the claim, nor the constants, nor an exchange, nor an atom, nor of a table
+  -- a line that gives neither the version, nor the claim, nor the constants, nor an exchange, nor an atom, nor a part of a table
   pub reported_else : (line : TextLine) → ((v : Version) → line ≡ version v → ⊥) → ((d : Claim) → line ≡ claims d → ⊥) → ((k : List ℤ) → line ≡ constant k → ⊥) → swap_in line ≡ None → atom_in line ≡ None → table_in line ≡ None
       → ((number : ℕ) → IsWrongAfter task before line number → ⊥) → HaveGiven task (before ++ line ∷ []) heading
   reported_else line no_version no_claim no_constant no_exchange no_atom no_table is_right = record {
@@ -489,7 +489,7 @@ module _ (task : Task) (before : List TextLine) (heading : Heading) (reported : 
         let (other, there, other_is) = map-Contains (λ (a : WeightedAtom). a.atom) (atoms_given before) name among in
         repeated_atom said (a, names, typed, changes) (other, reported_atom before other there, other_is ∙ same_names task name said.atom a is names)
 
--- a line that lists no state adds none
+-- a line other than a state line adds no states
 pub states_same : (lines : List TextLine) (line : TextLine) → state_in line ≡ None → states_given (lines ++ line ∷ []) ≡ states_given lines
 states_same lines line is = filter_map-append state_in lines (line ∷ []) ∙ ap (λ more. states_given lines ++ more) (alone line is) ∙ append-nil (states_given lines)
   where
@@ -503,6 +503,6 @@ states_same lines line is = filter_map-append state_in lines (line ∷ []) ∙ a
     alone (listed l) is = absurd (cc is)
     alone (last count) is = refl
 
--- a line that lists no state lists none
+-- a line other than a state line lists no state
 pub no_state_more : (lines : List TextLine) (line : TextLine) → state_in line ≡ None → states_given lines ≡ [] → states_given (lines ++ line ∷ []) ≡ []
 no_state_more lines line is none_before = states_same lines line is ∙ none_before

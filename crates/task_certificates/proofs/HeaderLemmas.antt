@@ -1,4 +1,4 @@
--- Values that begin with the constants, and the weights that come to them.
+-- Values begin with the constants, and then get weights.
 use Rattle.std.proofs.Common.{◌≡◌, ℕ, zero, suc, ◌+◌, ◌<◌, ◌≤◌, List, [], ◌∷◌, ◌++◌, map, length, slice_set, Some, refl, sym, ap, ◌∙◌, arith}
 use Rattle.std.specs.Prelude.{ℤ, slice_get}
 use Rattle.std.specs.List.{range_with_len}
@@ -14,7 +14,7 @@ set_pushes [] place x y w at is = absurd (cc)
 set_pushes (z ∷ xs) zero x y w at is = let same : x ≡ z = cc in ap (λ p. p ∷ map potential_of xs) (is ∙ ap (λ x. with_weight (potential_of x) w) same)
 set_pushes (z ∷ xs) (suc place) x y w at is = ap (λ values. potential_of z ∷ values) (set_pushes xs place x y w at is)
 
--- the first so many values have their weight more; the first is at this place
+-- the first `count` values have one more weight each; the first is at this index
 abbrev pub pushed_to : (start count : ℕ) → List ℤ → List PotentialFunction → List PotentialFunction
 pushed_to start zero weights values = values
 pushed_to start (suc count) weights [] = []

@@ -1,4 +1,4 @@
--- The certificate that a text says keeps the limits, has a weight for each atom, and is the only one.
+-- The certificate that a text denotes is within the limits, has a weight for each atom, and is unique.
 use Rattle.std.proofs.Common.{◌≡◌, ℕ, zero, suc, ◌+◌, ◌-◌, ◌≤◌, Bool, true, false, List, [], ◌∷◌, ◌++◌, map, length, length-append, refl, sym, ap, ◌∙◌, subst, arith}
 use Rattle.std.specs.Prelude.{◌&&◌, ◌==◌, ℤ, pos, IsTrue, All, nat_le}
 use Rattle.std.specs.List.{flat_map, list_all, range_with_len}
@@ -133,7 +133,7 @@ text_limits said keeps =
 
 -- ---- values
 
--- what is said at a place passes a test that all weights pass, and 0, which is said where none is written
+-- the weight at an index passes a test that all weights and 0 pass, 0 being the default
 pub said_kept : (test : ℤ → Bool) → test (pos 0) ≡ true → (weights : List ℤ) (place : ℕ) → list_all test weights ≡ true → test (weight_said place weights) ≡ true
 said_kept test nothing [] place all = nothing
 said_kept test nothing (w ∷ weights) zero all = (and_parts (test w) (list_all test weights) all).0
@@ -142,7 +142,7 @@ said_kept test nothing (w ∷ weights) (suc place) all = said_kept test nothing 
 weight_kept : (count : ℕ) (weights : List ℤ) (place : ℕ) → are_weights count weights ≡ true → is_weight (weight_said place weights) ≡ true
 weight_kept count weights place are = said_kept is_weight refl weights place (and_parts (length weights == count) (list_all is_weight weights) are).1
 
--- what is said of dead ends keeps the limits: it is 0 in version 1
+-- the weights for dead ends are within the limits: they are 0 in version 1
 dead_end_kept : (v : Version) (count : ℕ) (weights : List ℤ) → are_weights count weights ≡ true → is_dead_end_weight v (weight_said (value_count v count) weights) ≡ true
 dead_end_kept one count weights are =
     let long : length weights ≡ count = eqb-true (length weights) count (and_parts (length weights == count) (list_all is_weight weights) are).0 in
@@ -223,7 +223,7 @@ rows_before : (rows : List Row) (more : List TableLine) → row_count (map (λ r
 rows_before [] more = omega arith
 rows_before (r ∷ rows) more = let rest = rows_before rows more in omega (arith, rest)
 
--- there are as many scopes as tables, and as many of their rows as rows of tables
+-- there are as many scopes as tables, and as many row lines as rows of tables
 pub scopes_are : (tables : List Table) → scope_count (flat_map table_lines tables) ≡ length tables
 scopes_are [] = refl
 scopes_are (t ∷ tables) = let rest = scopes_behind_rows t.rows (flat_map table_lines tables) ∙ scopes_are tables in omega (arith, rest)
@@ -234,7 +234,7 @@ rows_are (t ∷ tables) =
     let rest = rows_are tables in
     omega (arith, rest, rows_before t.rows (flat_map table_lines tables), length-append t.rows (rows_of tables))
 
--- a version without tables has no lines of any
+-- a version without tables has no table lines
 no_lines_of_tables : (f : Format) → has_tables f.version ≡ false → (lines : List TableLine) → list_all (is_line f) (map (λ t. tabled t) lines) ≡ true → lines ≡ []
 no_lines_of_tables f none [] all = refl
 no_lines_of_tables f none (t ∷ lines) all =
@@ -245,7 +245,7 @@ no_lines : (tables : List Table) → flat_map table_lines tables ≡ [] → tabl
 no_lines [] same = refl
 no_lines (t ∷ tables) same = absurd (cc same)
 
--- rows whose lines keep the limits, and whose atoms are of this scope
+-- rows whose lines are within the limits, and whose atoms are in this scope
 rows_kept : (f : Format) (atoms : List ℕ) (rows : List Row) → All (λ (r : Row). list_all (is_among atoms) r.atoms ≡ true) rows → list_all (is_line f) (map (λ t. tabled t) (map (λ r. row r) rows)) ≡ true
     → list_all (is_row f.atoms f.weights atoms) rows ≡ true
 rows_kept f atoms [] among all = refl
@@ -256,7 +256,7 @@ rows_kept f atoms (r ∷ rows) among all =
     let rest = rows_kept f atoms rows (λ k d below. among (suc k) d (omega (arith, below))) more in
     λ i. (is i && of_scope i) && rest i
 
--- so are the rows of these tables, each of its scope
+-- the same for the rows of these tables, each with its scope
 abbrev pub AreOfScopes : List Table → Type 0
 AreOfScopes tables = All (λ (t : Table). All (λ (r : Row). list_all (is_among t.scope) r.atoms ≡ true) t.rows) tables
 
@@ -289,7 +289,7 @@ module _ (task : Task) (text : List ℕ) (c : Certificate) (is : IsTextOf task t
   as_many_atoms : length is.said.atoms ≡ length c.atoms
   as_many_atoms = sym (length-map is.said.atoms (λ (a : WeightedAtom). a.atom)) ∙ as_many_names task (map (λ (a : WeightedAtom). a.atom) is.said.atoms) c.atoms is.atoms
 
-  -- it has as many values as its version may have
+  -- it has as many values as its version allows
   pub as_many_values : IsTrue (is_value_count c.version (length c.values))
   as_many_values = (λ i. is_value_count (sym is.version i) (length (is.values i))) ∙ value_count_is is.said limits
 
@@ -312,7 +312,7 @@ module _ (task : Task) (text : List ℕ) (c : Certificate) (is : IsTextOf task t
   no_tables : has_tables c.version ≡ false → c.tables ≡ []
   no_tables none = no_lines c.tables (sym is.tables ∙ no_tables_said none)
 
-  -- its tables keep the limits, if each row is of its table's scope, which the text's own limits do not say
+  -- its tables are within the limits if each row is in its table's scope, which the text's own limits do not ensure
   pub tables_in_limits : AreOfScopes c.tables → IsTrue (are_tables c.version (length c.atoms) (length c.values + 1) c.tables)
   tables_in_limits among = by_version (has_tables c.version) refl
     where
@@ -353,7 +353,7 @@ same_atoms task (n ∷ names) (x ∷ a) (y ∷ b) (here, are) (there, others) =
     let more = same_atoms task names a b are others in
     λ i. first i ∷ more i
 
--- rows and what follows them: the lines of tables, of which no first one is a row
+-- rows and what follows them: the lines of tables, the first of which is not a row
 same_rows : (a b : List Row) (more others : List Table) → map (λ r. row r) a ++ flat_map table_lines more ≡ map (λ r. row r) b ++ flat_map table_lines others
     → (a ≡ b) × (flat_map table_lines more ≡ flat_map table_lines others)
 same_rows [] [] more others same = (refl, same)

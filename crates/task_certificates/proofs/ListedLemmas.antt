@@ -1,4 +1,4 @@
--- States that are taken, and states that came before.
+-- States that are listed, and states that occurred before.
 use Rattle.std.proofs.Common.{◌≡◌, ℕ, Bool, true, List, [], ◌∷◌, ◌++◌, map, Some, refl, sym, ap, ◌∙◌, subst}
 use Rattle.std.specs.Prelude.{◌&&◌, All, Contains, OnOk, Result, Ok, Err}
 use Rattle.std.specs.List.{list_all}
@@ -19,12 +19,12 @@ use Rattle.task_certificates.specs.Listed.{HaveListed}
 use Rattle.certificate.proofs.SetsLemmas.{one_set}
 use Rattle.task_certificates.proofs.GivenLemmas.{reported_else}
 
--- what two clauses of one call say together
+-- two clauses of a call combined
 pub both_reported : {T E A B C : Type 0} (r : Result T E) → (A → B → C) → OnOk r A → OnOk r B → OnOk r C
 both_reported (Ok x) joined a b = joined a b
 both_reported (Err e) joined a b = tt
 
--- a state that is reported is in the lines, and one that is there is reported
+-- a listed state is in the lines, and a state in the lines is listed
 reported_state : (lines : List TextLine) (l : StateLine) → Contains (states_given lines) l → Contains lines (listed l)
 reported_state lines l reported = let (line, there, is) = filter_map-Contains state_in lines l reported in subst (Contains lines) (line_is line is) there
   where
@@ -47,7 +47,7 @@ module _ (before : List TextLine) (claim : Claim) (width : ℕ) (marks : List Ma
   rises_there m occurs =
       let (place, at) = Contains-place (states_given before) m occurs in passes_got (λ (l : StateLine). rise width 0 l.atoms) (states_given before) place m at have.rising
 
-  -- its set is among the sets exactly where a line lists its atoms
+  -- its set is among the sets exactly if a line lists its atoms
   pub set_was_listed : Contains sets (set_of width l.atoms) → ListsAtoms before l.atoms
   set_was_listed there =
       let (m, occurs, same) = map-Contains (λ (l : StateLine). set_of width l.atoms) (states_given before) (set_of width l.atoms) (subst (λ sets. Contains sets (set_of width l.atoms)) have.sets_are there) in
@@ -74,7 +74,7 @@ module _ (before : List TextLine) (claim : Claim) (width : ℕ) (marks : List Ma
       }
 
   module _ (task : Task) (heading : Heading) (claim_is : heading.claim ≡ claim) (reported : HaveGiven task before heading) where
-    -- the line is not wrong where its set is new, and it is no cut that is not allowed
+    -- the line is right if its set is new, and it is not a forbidden cut
     right_state : (Contains sets (set_of width l.atoms) → ⊥) → ((claim ≡ none) × IsCut l.mark → ⊥) → (line : TextLine) (number : ℕ) → IsWrongAfter task before line number → line ≡ listed l → ⊥
     right_state new allowed line number (not_fluent b none_is) same = absurd (cc same)
     right_state new allowed line number (not_of_scope r atoms rows here no_scope) same = absurd (cc same)

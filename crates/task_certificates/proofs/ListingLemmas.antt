@@ -1,4 +1,4 @@
--- The lines of a text, taken one after another, to its end.
+-- The lines of a text, read one after another, to its end.
 use Rattle.std.proofs.Common.{◌≡◌, ℕ, ◌+◌, ◌-◌, ◌<◌, ◌≤◌, Bool, true, false, List, [], ◌∷◌, ◌++◌, map, length, get_or, Option, None, Some, refl, sym, ap, ◌∙◌, subst, append-nil, length-append, arith}
 use Rattle.std.specs.Prelude.{Ok, All, AllPairs, Contains, ◌≢◌}
 use Rattle.std.specs.List.{list_all}
@@ -102,7 +102,7 @@ module _ {R : Type 0} (remaining : R → Option (List ℕ)) (task : Task) (first
     none_listed no_marks no_sets (Some line) (before, at, reported, no_state, body) = (before, at, reported, nothing no_marks no_sets before no_state, body)
     none_listed no_marks no_sets None (lines, over, reported, no_state) = (lines, over, reported, nothing no_marks no_sets lines no_state)
 
-    -- the next line is fit to be listed
+    -- the next line can be listed
     pub fit_next : (line : CertLine) → width ≡ length atoms → IsListedSoFar remaining task first now header width marks sets (Some line) → IsFit width sets (text_line_of line)
     fit_next line wide (before, at, reported, have, body) =
         subst (λ n. IsFit n sets (text_line_of line)) (names_length task before atoms reported.named ∙ sym wide)
@@ -162,7 +162,7 @@ module _ {R : Type 0} (remaining : R → Option (List ℕ)) (task : Task) (first
               allowed = λ is_none. subst (All (λ (l : StateLine). ¬ IsCut l.mark)) (sym states_are) (have.allowed is_none);
             }
 
-    -- what comes after a line that was taken
+    -- what follows a line that was taken
     module _ (before : List TextLine) (line : TextLine) (at : IsAt remaining first now (before ++ line ∷ [])) (reported : HasTaken task (before ++ line ∷ []) header)
         (have : HaveListed (before ++ line ∷ []) claim width marks sets) (body : is_body line ≡ true) (next : CertReader R) (going : has_failed next ≡ false) where
       pub so_far_next : (answer : Option CertLine) → IsAnswer remaining now next (before ++ line ∷ []) (Ok answer) → IsListedSoFar remaining task first next header width marks sets answer

@@ -1,4 +1,4 @@
--- Names and what they name.
+-- Names and what they denote.
 use Rattle.std.proofs.Common.{◌≡◌, ℕ, zero, suc, ◌<◌, ◌≤◌, Bool, true, false, List, [], ◌∷◌, map, length, get_or, cond, Option, None, Some, refl, sym, ap, ◌∙◌, subst, true≢false, arith}
 use Rattle.std.specs.Prelude.{IsTrue, ◌==◌, slice_get, nat_lt}
 use Rattle.std.specs.Cmp.{first_so, second_so}
@@ -17,7 +17,7 @@ use Rattle.certificate_definitions.specs.CertificateText.{NamedAtom}
 use Rattle.certificate_definitions.specs.CertificateNames.{AreNumbersOf, IsNumberOf, Names, predicate_names}
 
 module _ (names : List Name) where
-  -- a name that is no name of these has no number
+  -- a name that is not among these has no number
   pub unnamed : (these : List Name) (k : ℕ) (name : Name) (numbers : List ℕ) → slice_get these k ≡ Some name → position (is_same name) names ≡ None
       → AreNumbersOf names these numbers → ⊥
   unnamed [] k name numbers at none are = absurd (cc at)
@@ -50,14 +50,14 @@ module _ (names : List Name) where
           let rest : a ≡ b = somes_same a b more in
           λ i. here i ∷ rest i
 
--- a name is that of one atom
+-- a name denotes only one atom
 pub one_named : (task : Task) (name : NamedAtom) (a b : Atom) → Names task name a → Names task name b → a ≡ b
 one_named task name a b is other =
     let predicate : a.predicate ≡ b.predicate = one_number (predicate_names task) name.predicate a.predicate b.predicate is.predicate other.predicate in
     let objects : a.objects ≡ b.objects = one_list (object_names task) name.objects a.objects b.objects is.objects other.objects in
     λ i. record { predicate = predicate i; objects = objects i }
 
--- a well-typed atom has no more objects than a predicate may have arguments
+-- a well-typed atom has no more objects than the allowed arguments
 pub few_objects : (task : Task) (a : Atom) → IsTrue (is_task task) → IsTrue (is_atom task a) → length a.objects ≤ 8
 few_objects task a well typed =
     elim (slice_get task.predicates a.predicate) as (λ o. slice_get task.predicates a.predicate ≡ o
@@ -114,7 +114,7 @@ list_named names (x ∷ a) (y ∷ b) (n ∷ numbers) are other =
     rest_is : (names : List Name) (x : Name) (a : List Name) (n : ℕ) (numbers : List ℕ) → AreNumbersOf names (x ∷ a) (n ∷ numbers) → AreNumbersOf names a numbers
     rest_is names x a n numbers are = cc
 
--- an atom has the names of one
+-- an atom has only one name
 pub same_names : (task : Task) (x y : NamedAtom) (a : Atom) → Names task x a → Names task y a → x ≡ y
 same_names task x y a is other =
     let predicate : x.predicate ≡ y.predicate = first_named (predicate_names task) x.predicate y.predicate a.predicate is.predicate other.predicate in

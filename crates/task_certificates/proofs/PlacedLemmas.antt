@@ -25,7 +25,7 @@ use Rattle.task_certificates.specs.Listed.{HaveListed, IsFit}
 use Rattle.task_certificates.proofs.GivenLemmas.{begin_front, placed, states_same, reported_last}
 use Rattle.task_certificates.proofs.SplitLemmas.{few_atoms_kept}
 
--- ---- what whole lists report
+-- ---- what whole lists give
 
 pub swaps_of_text : (c : NamedCertificate) → swaps_given (text_lines c) ≡ c.swaps
 swaps_of_text c =
@@ -55,7 +55,7 @@ named_length task [] (a ∷ atoms) are = absurd are
 named_length task (n ∷ names) [] are = absurd are
 named_length task (n ∷ names) (a ∷ atoms) (here, are) = ap suc (named_length task names atoms are)
 
--- a line that follows some is fit to be listed
+-- a line that follows some can be listed
 pub fit_there : (before : List TextLine) (line : TextLine) → BeginCertificate (before ++ line ∷ []) → (sets : List (List Bool)) → length sets ≡ length (states_given before)
     → IsFit (length (atoms_given before)) sets line
 fit_there before line begun sets = let at = placed before line begun in by_line line at.place at.occurs at.next at.leads
@@ -158,7 +158,7 @@ body_follows before line next begun body =
         after_last next after (subst (λ place. next_place place next ≡ Some after) (sym same) leads_on)
     by_line (last count) ended then leads body next after leads_on = never then leads
 
--- a line of the body that lists no state says nothing
+-- a line of the body other than a state line gives nothing
 pub last_reports : (task : Task) (before : List TextLine) (heading : Heading) (claim : Claim) (width : ℕ) (marks : List Marked) (sets : List (List Bool)) (line : CertLine)
     → ((l : StateLine_) → line ≡ code.Listed l → ⊥) → is_body (text_line_of line) ≡ true → HaveGiven task before heading → HaveListed before claim width marks sets
     → HaveGiven task (before ++ text_line_of line ∷ []) heading × HaveListed (before ++ text_line_of line ∷ []) claim width marks sets
@@ -181,7 +181,7 @@ last_reports task before heading claim width marks sets (code.Last n) other body
       },
     )
 
--- there are few atoms
+-- the number of atoms is limited
 pub few_atoms_reported : (lines : List TextLine) → BeginCertificate lines → length (atoms_given lines) ≤ most_atoms
 few_atoms_reported lines begun = let (place, leads) = place_of_beginning lines begun in by_place place (occurs lines place leads)
   where

@@ -25,7 +25,7 @@ use Rattle.task_certificates.specs.CertFaults.{refusal_of}
 use Rattle.task_certificates.specs.Reading.{CountsRefusal, IsFresh, IsAt, IsAtLast, IsLineRefusal, IsReportedAt}
 use Rattle.task_certificates.specs.Taking.{IsWrongNow}
 
--- ---- what came, and what came then
+-- ---- what was read, and what was read after it
 
 consumes_none : (known : Option (List ℕ)) → Consumes known known []
 consumes_none None = tt
@@ -154,7 +154,7 @@ module _ {R : Type 0} (remaining : R → Option (List ℕ)) (first now : CertRea
   wrong_reported refusal.NoMemory wrong = tt
   wrong_reported _ wrong = absurd wrong
 
--- a wrong line counts no failure of the device
+-- a wrong line does not count as a device failure
 counts_none : (T : Type 0) (task : Task) (before : List TextLine) (line : TextLine) (failed now : ℕ) (x : Refusal) → IsWrongNow task before line x → now ≡ failed → CountsRefusal {T = T} failed now (Err x)
 counts_none T task before line failed now refusal.Device wrong same = absurd wrong
 counts_none T task before line failed now _ wrong same = same

@@ -1,4 +1,4 @@
--- What is said of what came of a certificate is so.
+-- Reports about what was read of a certificate are true.
 use Rattle.std.proofs.Common.{◌≡◌, ◌∙◌, ℕ, List, ◌++◌, length, ap, append_assoc}
 use Rattle.std.specs.Prelude.{Option, None, Some, IfSome}
 use Rattle.std.specs.Io.KnownBytes.{Consumes}
@@ -8,7 +8,7 @@ use Rattle.certificate_reader.specs.Reader.{source_of, waits_in}
 use Rattle.task_certificates.specs.Reading.{IsAt}
 use Rattle.task_certificates.specs.SaidRead.{IsReadLine, lines_line}
 
--- bytes that came begin what was known
+-- the bytes read are a prefix of the known text
 begun : (known after : Option (List ℕ)) (bytes lines waits : List ℕ) → Consumes known after bytes → bytes ≡ lines ++ waits
     → (rest : List ℕ) × IfSome known (λ all. all ≡ lines ++ rest)
 begun None after bytes lines waits consumed splits = (waits, tt)

@@ -1,4 +1,4 @@
--- A certificate's text after some of its lines: what is left are the lines after them, each no longer than a line may be.
+-- A certificate's text after some of its lines: the rest consists of the lines after them, none longer than allowed.
 use Rattle.std.proofs.Common.{◌≡◌, ℕ, suc, ◌+◌, ◌*◌, ◌<◌, ◌≤◌, Bool, true, not, List, [], ◌∷◌, ◌++◌, codes, length, length-append, Option, None, Some, refl, sym, ap, ◌∙◌, subst, append_assoc, append-nil, arith}
 use Rattle.std.specs.Prelude.{◌&&◌, ◌==◌, Contains, IsTrue, nat_le, ℤ, pos, negsuc}
 use Rattle.std.specs.Fmt.{decimal, signed_decimal}
@@ -23,7 +23,7 @@ use Rattle.certificate_reader.proofs.OneText.{is_one_line, line_in_one, one_whol
 use Rattle.certificate_reader.proofs.PlaceRead.{few_atoms, leads_line}
 use Rattle.certificate_reader.proofs.ReaderLemmas.{leads_within}
 
--- ---- a certificate's lines keep the limits
+-- ---- a certificate's lines are within the limits
 
 pub kept_lines : (c : NamedCertificate) → IsTrue (keeps_text_limits c) → IsTrue (list_all (is_line (format_of c)) (text_lines c))
 kept_lines c keeps = (and_parts _ (list_all (is_line (format_of c)) (text_lines c)) keeps).1
@@ -43,7 +43,7 @@ few_weights_kept c keeps =
     let (constants_are, _) = and_parts (test (constant c.constants)) _ others in
     few_constants c.version (length c.constants) (and_parts (is_weight_count c.version (length c.constants)) (list_all is_weight c.constants) constants_are).0
 
--- ---- how long a line is
+-- ---- the length of a line
 
 number_short : (n : ℕ) → IsTrue (is_number n) → length (decimal n) ≤ 19
 number_short n is = let below = is_below n is in length-decimal-le 19 n (omega arith) (omega (arith, below)) (omega (arith, below))
@@ -65,7 +65,7 @@ numbers_short count least (n ∷ numbers) few within all =
     let word : length (after_blank (decimal n)) ≡ 1 + length (decimal n) = omega arith in
     omega (arith, above, below, rest, digits, word, length-append (after_blank (decimal n)) (numbers_text numbers))
 
--- a blank and a weight are at most 12 bytes
+-- a blank and a weight have at most 12 bytes
 pub weights_short : (weights : List ℤ) → IsTrue (list_all is_weight weights) → length (weights_text weights) ≤ 12 * length weights
 weights_short [] all = omega arith
 weights_short (w ∷ weights) all =
@@ -96,7 +96,7 @@ version_is one = refl
 version_is two = refl
 version_is three = refl
 
--- a line that keeps the limits is not too long
+-- a line within the limits is not too long
 module _ (f : Format) (few : f.atoms ≤ most_atoms) (few_weights : f.weights ≤ 33) where
   pub line_short : (line : TextLine) → IsTrue (is_line f line) → length (line_text line) ≤ longest_line
   line_short (version w) is =
@@ -162,26 +162,27 @@ pub line_is_first : (f : Format) → f.atoms ≤ most_atoms → (bytes line : Li
 line_is_first f few bytes line l more is are (following, splits, single, short) =
     (one_whole (line_text l) line (text_of more) following (line_in_one f few l is) (in_one line single) (sym (first_line l more) ∙ sym are ∙ splits ∙ append_assoc line (10 ∷ []) following)).0
 
--- bytes that reach past an LF have it in them
+-- bytes that reach past an LF contain it
 pub end_within : (front rest line following : List ℕ) → front ++ rest ≡ line ++ 10 ∷ following → length line < length front → Contains front 10
 end_within [] rest line following same long = absurd (omega (arith, long))
 end_within (byte ∷ front) rest [] following same long = subst (Contains (byte ∷ front)) (same_head byte 10 (front ++ rest) following same) (Contains-here byte front)
 end_within (byte ∷ front) rest (b ∷ line) following same long =
     Contains-there byte front 10 (end_within front rest line following (same_tail byte b (front ++ rest) (line ++ 10 ∷ following) same) (omega (arith, long)))
 
--- ---- what is left after some lines
+-- ---- the rest after some lines
 
 pub text_push : (lines : List TextLine) (line : TextLine) → text_of (lines ++ line ∷ []) ≡ text_of lines ++ whole_line line
 text_push [] line = append-nil (whole_line line)
 text_push (first ∷ lines) line = ap (λ text. whole_line first ++ text) (text_push lines line) ∙ sym (append_assoc (whole_line first) (text_of lines) (whole_line line))
 
--- where the first of some lines leads
+-- the state that the first of some lines leads to
 step_of : (next : Option CertificatePlace) (lines : List TextLine) (after : CertificatePlace) → option_and_then (λ next. place_from next lines) next ≡ Some after
     → (place : CertificatePlace) × (next ≡ Some place) × (place_from place lines ≡ Some after)
 step_of None lines after leads = never after leads
 step_of (Some place) lines after leads = (place, refl, leads)
 
--- of two lists of lines that lead on from a place, and of which the text of the first begins with that of the other, the first begins with the other
+-- of two lists of lines that lead on from a state, if the text of the first begins with that of the second, the first begins with
+-- the second
 split_from : (before lines : List TextLine) (bytes : List ℕ) (place between after : CertificatePlace) → IsWithin place → place_from place before ≡ Some between → place_from place lines ≡ Some after
     → text_of lines ≡ text_of before ++ bytes → (rest : List TextLine) × (lines ≡ before ++ rest) × (bytes ≡ text_of rest)
 split_from [] lines bytes place between after within h g same = (lines, refl, sym same)
@@ -203,14 +204,14 @@ split_from (l ∷ before) (m ∷ lines) bytes place between after within h g sam
     split_from before lines bytes next between after (leads_within place within l next l_leads) h_more (subst (λ place. place_from place lines ≡ Some after) there g_more) parts.1 in
     (rest, (λ i. here i ∷ are i), left)
 
--- lines that begin a certificate, and with which the text of one begins, are its first lines
+-- lines that are a prefix of a certificate, and whose text is a prefix of another's, are its first lines
 pub split_off : (c : NamedCertificate) → IsTrue (keeps_text_limits c) → (before : List TextLine) (bytes : List ℕ) → BeginCertificate before → text_of (text_lines c) ≡ text_of before ++ bytes
     → (rest : List TextLine) × (text_lines c ≡ before ++ rest) × (bytes ≡ text_of rest)
 split_off c keeps before bytes begun same =
     let (between, leads) = place_of_beginning before begun in
     split_from before (text_lines c) bytes at_version between ended refl leads (end_of_whole (text_lines c) (c, keeps, refl)) same
 
--- ---- where some lines lead
+-- ---- the state that some lines lead to
 
 within_from : (lines : List TextLine) (place after : CertificatePlace) → IsWithin place → place_from place lines ≡ Some after → IsWithin after
 within_from [] place after within leads = subst IsWithin (place_same place after leads) within
@@ -218,6 +219,6 @@ within_from (line ∷ lines) place after within leads =
     let (next, is, more) = step_of (next_place place line) lines after leads in
     within_from lines next after (leads_within place within line next is) more
 
--- the place after some lines is within the limits
+-- the state after some lines is within the limits
 pub within_after : (lines : List TextLine) (place : CertificatePlace) → place_from at_version lines ≡ Some place → IsWithin place
 within_after lines place leads = within_from lines at_version place refl leads

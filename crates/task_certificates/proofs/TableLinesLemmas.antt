@@ -1,4 +1,4 @@
--- Tables in memory that lines give, and lines of tables.
+-- Tables in memory as given by lines, and lines of tables.
 use Rattle.std.proofs.Common.{◌≡◌, ◌∙◌, ℕ, zero, suc, ◌+◌, ◌<◌, ◌≤◌, true, List, [], ◌∷◌, ◌++◌, map, length, length-append, get_or, refl, sym, ap, arith}
 use Rattle.std.specs.Prelude.{IfOk, IsTrue, Result, Ok, Err, nat_lt, slice_set}
 use Rattle.std.proofs.lemmas.Bool.{and_from, lt-ltb}
@@ -33,7 +33,7 @@ last_of (x ∷ z ∷ xs) (suc k) d long =
 
 -- ---- tables in memory
 
--- what is added to the table at the last place is added to the last table
+-- what is added to the table at the last index is added to the last table
 added_to_last : (old : List Table) (k : ℕ) (before after : Table) (r : Row) (a : Added) → length old ≡ suc k → before ≡ get_or old k before → IsAdded (table_of before) (table_of after) r a
     → IsAddedToLast (map table_of old) (map table_of (slice_set old k after)) r a
 added_to_last old k before after r a long is added =
@@ -52,13 +52,13 @@ pub if_added : {E : Type 0} (old : List Table) (k : ℕ) (before after : Table) 
 if_added old k before after r (Ok a) long is added = added_to_last old k before after r a long is added
 if_added old k before after r (Err e) long is added = tt
 
--- and all have as many weights to a row as before
+-- and all rows have as many weights as before
 pub still_weighed : (count : ℕ) (old : List Table) (k : ℕ) (before after : Table) → k < length old → before ≡ get_or old k before → weight_count_of after ≡ weight_count_of before → HaveWeights count old
     → HaveWeights count (slice_set old k after)
 still_weighed count old k before after below is same weighed =
     All-set (λ (t : Table). weight_count_of t ≡ count) old k after (same ∙ ap weight_count_of is ∙ weighed k before below) weighed
 
--- no table has more rows than all together
+-- no table has more rows than all tables together
 pub rows_of_one : (tables : List Table) (k : ℕ) (d : Table) → k < length tables → length (table_of (get_or tables k d)).rows ≤ length (rows_of (map table_of tables))
 rows_of_one [] k d below = absurd (omega (arith, below))
 rows_of_one (t ∷ tables) zero d below = omega (arith, length-append (table_of t).rows (rows_of (map table_of tables)))
@@ -66,7 +66,7 @@ rows_of_one (t ∷ tables) (suc k) d below =
     let rest = rows_of_one tables k d (omega (arith, below)) in
     omega (arith, rest, length-append (table_of t).rows (rows_of (map table_of tables)))
 
--- ---- numbers that rise
+-- ---- ascending numbers
 
 pub rising_from : (count least : ℕ) (numbers : List ℕ) → rise count least numbers ≡ true → IsTrue (are_rising numbers)
 rising_from count least [] all = refl
@@ -76,7 +76,7 @@ rising_from count least (n ∷ m ∷ rest) all =
     let (above, _, _) = rise_parts count (n + 1) m rest more in
     and_from (nat_lt n m) (are_rising (m ∷ rest)) (lt-ltb n m (omega (arith, above))) (rising_from count (n + 1) (m ∷ rest) more)
 
--- there are no more than there are from the least one on
+-- there are no more than from the least one to the count
 pub rising_few : (count least : ℕ) (numbers : List ℕ) → rise count least numbers ≡ true → least ≤ count → length numbers + least ≤ count
 rising_few count least [] all low = omega (arith, low)
 rising_few count least (n ∷ rest) all low =
@@ -105,14 +105,14 @@ rows_same (q ∷ rows) (r ∷ more) same =
     let others = rows_same rows more rest in
     λ i. first i ∷ others i
 
--- no scope is among rows
+-- there is no scope among rows
 no_scope : (rows : List Row) (front : List TableLine) (atoms : List ℕ) (more : List TableLine) → map row rows ≡ front ++ scope atoms ∷ more → ⊥
 no_scope [] [] atoms more same = absurd (cc same)
 no_scope [] (t ∷ front) atoms more same = absurd (cc same)
 no_scope (r ∷ rows) [] atoms more same = absurd (cc (table_parts (row r) (scope atoms) (map row rows) more same).0)
 no_scope (r ∷ rows) (t ∷ front) atoms more same = no_scope rows front atoms more (table_parts (row r) t (map row rows) (front ++ scope atoms ∷ more) same).1
 
--- lines end in one table
+-- lines end in only one table
 pub one_end : (xs ys : List TableLine) (a b : List ℕ) (rows more : List Row) → xs ++ scope a ∷ map row rows ≡ ys ++ scope b ∷ map row more → (a ≡ b) × (rows ≡ more)
 one_end [] [] a b rows more same = let (here, rest) = table_parts (scope a) (scope b) (map row rows) (map row more) same in (scope_same a b here, rows_same rows more rest)
 one_end [] (y ∷ ys) a b rows more same = absurd (no_scope rows ys b (map row more) (table_parts (scope a) y (map row rows) (ys ++ scope b ∷ map row more) same).1)

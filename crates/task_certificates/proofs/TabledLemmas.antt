@@ -33,9 +33,9 @@ use Rattle.task_certificates.proofs.GivenLemmas.{placed, reported_tables}
 use Rattle.task_certificates.proofs.LimitsLemmas.{few_constants, one_constant_more, rows_are, scopes_are}
 use Rattle.task_certificates.proofs.TableLinesLemmas.{one_end, rising_few, rising_from, rows_of_one}
 
--- ---- where a line of a table is
+-- ---- the position of a table line
 
--- for a row there are a table and room
+-- for a row there must be a table, and room in it
 abbrev HasRoomFor : Beginning → TableLine → Type 0
 HasRoomFor g (scope s) = Unit {0}
 HasRoomFor g (row r) = (0 < scope_count g.tables) × (row_count g.tables < most_rows)
@@ -85,7 +85,7 @@ follows_tables before t begun = let at = placed before (tabled t) begun in by_pl
     by_place (in_body b) body next leads = of_body b body t next leads
     by_place ended are next leads = never next leads
 
--- ---- one line more
+-- ---- one more line
 
 module _ (task : Task) (before : List TextLine) (heading : Heading) (reported : HaveGiven task before heading) where
   module _ (t : TableLine) (at : FollowsTables before t) where
@@ -167,7 +167,7 @@ module _ (task : Task) (before : List TextLine) (heading : Heading) (reported : 
     tables_of_rows [] = refl
     tables_of_rows (r ∷ rows) = ap (λ lines. row r ∷ lines) (tables_of_rows rows)
 
-    -- and in no other one
+    -- and in no other
     only_end : (atoms : List ℕ) (rows : List Row) → EndInTable before atoms rows → (atoms ≡ t.scope) × (rows ≡ t.rows)
     only_end atoms rows (others, ends) =
         let table : List TextLine = tabled (scope atoms) ∷ map (λ (r : Row). tabled (row r)) rows in
@@ -262,7 +262,7 @@ module _ (task : Task) (before : List TextLine) (header : Header) (reported : Ha
 
 -- ---- weights of rows
 
--- what comes before all tables
+-- a line that comes before all tables
 abbrev pub is_early : TextLine → Bool
 is_early (version v) = false
 is_early (claims claim) = false
@@ -317,7 +317,7 @@ no_tables_there : (tables : List Table) → flat_map table_lines (map table_of t
 no_tables_there [] none = refl
 no_tables_there (t ∷ tables) none = absurd (cc none)
 
--- before there are tables they have as many weights as one likes
+-- before there are tables, rows may have any number of weights
 pub weighed_early : (task : Task) (before : List TextLine) (line : TextLine) (header : Header) → is_early line ≡ true → BeginCertificate (before ++ line ∷ []) → HasTaken task (before ++ line ∷ []) header
     → AreWeighed header.bounds
 weighed_early task before line header early begun reported =

@@ -1,4 +1,4 @@
--- What a reader's fault is to the checker.
+-- Reader faults as the checker reports them.
 use Rattle.std.specs.Prelude.{ℕ}
 use Rattle.certificate_reader.specs.declared.fault.TextFault.{TextFault}
 use Rattle.certificate_reader.specs.declared.fault.TextFault.TheVariants as text
@@ -8,7 +8,7 @@ use Rattle.task_certificates.specs.declared.refusal.Refusal.{Refusal}
 use Rattle.task_certificates.specs.declared.refusal.Refusal.TheVariants as refusal
 use Rattle.task_certificates.specs.declared.refusal.RefusalCode.TheVariants.{CertForm, CertVersion, Truncated, Limit}
 
--- the refusal of a text at this line; that of a limit has no line
+-- the refusal of a text at this line; a limit has no line
 abbrev pub text_refusal : TextFault → (line : ℕ) → Refusal
 text_refusal text.Form line = refusal.Line CertForm line
 text_refusal text.Version line = refusal.Line CertVersion line

@@ -1,4 +1,4 @@
--- What lines of a certificate's text have reported for a task's certificate.
+-- What the lines of a certificate's text say about a task's certificate.
 use Rattle.std.specs.Prelude.{◌≡◌, ◌≢◌, ℕ, zero, suc, ◌+◌, ℤ, Bool, true, false, ◌&&◌, IsTrue, List, [], ◌∷◌, ◌++◌, length, map, All, AllPairs, Contains}
 use Rattle.std.specs.List.{flat_map, range_with_len}
 use Rattle.model.specs.Task.{Atom, Task}
@@ -18,7 +18,7 @@ use Rattle.certificate_definitions.specs.CertificateChecking.{AreRight}
 abbrev pub names_given : List TextLine → List NamedAtom
 names_given lines = map (λ (a : WeightedAtom). a.atom) (atoms_given lines)
 
--- the line lists a state, or is the last
+-- the line is a state line or the last line
 abbrev pub is_body : TextLine → Bool
 is_body (version v) = false
 is_body (claims claim) = false
@@ -29,19 +29,19 @@ is_body (tabled t) = false
 is_body (listed l) = true
 is_body (last count) = true
 
--- what these constants and atoms give for the value at this place, from 0
+-- what these constants and atoms give for the value at this index, from 0
 abbrev pub value_given : List ℤ → List WeightedAtom → ℕ → PotentialFunction
 value_given constants atoms place = record { constant = weight_said place constants; weights = map (λ (a : WeightedAtom). weight_said place a.weights) atoms }
 
--- for all values of this version
+-- the same for all values of this version
 abbrev pub values_given : Version → List ℤ → List WeightedAtom → List PotentialFunction
 values_given v constants atoms = map (value_given constants atoms) (range_with_len 0 (value_count v (length constants)))
 
--- and for dead ends
+-- the same for dead ends
 abbrev pub dead_ends_given : Version → List ℤ → List WeightedAtom → PotentialFunction
 dead_ends_given v constants atoms = value_given constants atoms (value_count v (length constants))
 
--- what a certificate says before its states
+-- the header of a certificate
 pub record Heading : Type 0 where
   pub version : Version
   pub claim : Claim
@@ -49,17 +49,17 @@ pub record Heading : Type 0 where
   pub atoms : List Atom
   pub bounds : SeveralValues
 
--- there are as many values as the constants give, and they have the weights of the atoms
+-- there are as many values as the constants give, with the weights of the atoms
 pub record AreGiven (v : Version) (constants : List ℤ) (atoms : List WeightedAtom) (bounds : SeveralValues) : Type 0 where
   pub values : bounds.values ≡ values_given v constants atoms
   pub dead_ends : bounds.dead_ends ≡ dead_ends_given v constants atoms
 
--- before the constants there is nothing
+-- there are no values before the constants
 pub record AreNotGiven (bounds : SeveralValues) : Type 0 where
   pub values : bounds.values ≡ []
   pub dead_ends : bounds.dead_ends.weights ≡ []
 
--- The lines report this heading, as far as they go, and nothing is wrong with them.
+-- The lines give this header, as far as they go, and each of them is right.
 pub record HaveGiven (task : Task) (lines : List TextLine) (heading : Heading) : Type 0 where
   pub one_version : (v : Version) → Contains lines (version v) → heading.version ≡ v
   pub one_claim : (c : Claim) → Contains lines (claims c) → heading.claim ≡ c
@@ -78,18 +78,18 @@ pub record HaveGiven (task : Task) (lines : List TextLine) (heading : Heading) :
 abbrev pub with_weight : PotentialFunction → ℤ → PotentialFunction
 with_weight p w = record { constant = p.constant; weights = p.weights ++ w ∷ [] }
 
--- the value at this place, from 0, has this weight more
+-- the value at this index, from 0, with one more weight
 abbrev pub push_at : ℕ → ℤ → List PotentialFunction → List PotentialFunction
 push_at place w [] = []
 push_at zero w (p ∷ values) = with_weight p w ∷ values
 push_at (suc place) w (p ∷ values) = p ∷ push_at place w values
 
--- each value has one weight more, that at its place; the first is at this place
+-- each value with one more weight, the one at its index; the first is at this index
 abbrev pub with_weights_from : ℕ → List ℤ → List PotentialFunction → List PotentialFunction
 with_weights_from place weights [] = []
 with_weights_from place weights (p ∷ values) = with_weight p (weight_said place weights) ∷ with_weights_from (place + 1) weights values
 
--- and dead ends have the one behind those
+-- and dead ends with the one after those
 abbrev pub with_weights : SeveralValues → List ℤ → SeveralValues
 with_weights s weights = record {
   values = with_weights_from 0 weights s.values;
@@ -97,7 +97,7 @@ with_weights s weights = record {
   tables = s.tables;
 }
 
--- as many values as there are constants of values in this version, without weights, after those before
+-- as many values as there are constants for values in this version, without weights, after those before
 abbrev pub begun_with : Version → List ℤ → SeveralValues → SeveralValues
 begun_with v constants s = record {
   values = s.values ++ values_given v constants [];

@@ -1,4 +1,4 @@
--- What lines of a certificate's text have listed.
+-- What the lines of a certificate's text list.
 use Rattle.std.specs.Prelude.{◌≡◌, ℕ, ◌<◌, Bool, length, IsTrue, List, map, All}
 use Rattle.std.specs.List.{list_all}
 use Rattle.packed_state.specs.Sets.{set_of}
@@ -9,15 +9,15 @@ use Rattle.certificate_definitions.specs.CertificateChecking.{IsCut}
 use Rattle.certificate.specs.ListedSets.{Marked, marked}
 use Rattle.task_certificates.specs.Given.{states_given}
 
--- Of the states that the lines list these are the marks, and the sets of numbers below the width; under a claim that no
--- list of actions solves none is cut.
+-- The marks of the states that the lines list, and their sets of numbers below the width; under the claim that no list of actions
+-- solves the task, none is a cut.
 pub record HaveListed (lines : List TextLine) (claim : Claim) (width : ℕ) (marks : List Marked) (sets : List (List Bool)) : Type 0 where
   pub rising : IsTrue (list_all (λ (l : StateLine). rise width 0 l.atoms) (states_given lines))
   pub marks_are : marks ≡ map marked (states_given lines)
   pub allowed : claim ≡ none → All (λ (l : StateLine). ¬ IsCut l.mark) (states_given lines)
   pub sets_are : sets ≡ map (λ (l : StateLine). set_of width l.atoms) (states_given lines)
 
--- where the line lists a state, its numbers rise below the width, and there is room for one more
+-- if the line lists a state, its numbers ascend and are below the width, and there is room for one more
 abbrev pub IsFit : ℕ → List (List Bool) → TextLine → Type 0
 IsFit width sets (version v) = Unit {0}
 IsFit width sets (claims claim) = Unit {0}

@@ -26,13 +26,13 @@ use Rattle.certificate.specs.ListedSets.{Marked}
 use Rattle.task_certificates.specs.Listed.{HaveListed}
 use Rattle.task_certificates.specs.Taking.{HasTaken}
 
--- a reader that has given out nothing, and holds nothing
+-- a reader that has returned nothing and has an empty buffer
 pub record IsFresh {R : Type 0} (reader : CertReader R) : Type 0 where
   pub read : HasRead reader []
   pub waits : waits_in reader ≡ []
   pub going : has_failed reader ≡ false
 
--- From where it was first until now a reader has given out these lines: they and what waits are what came.
+-- Since its first state the reader has returned these lines: they and the buffer are what was read.
 pub record IsAt {R : Type 0} (remaining : R → Option (List ℕ)) (first now : CertReader R) (lines : List TextLine) : Type 0 where
   pub read : HasRead now lines
   pub going : has_failed now ≡ false
@@ -40,20 +40,21 @@ pub record IsAt {R : Type 0} (remaining : R → Option (List ℕ)) (first now : 
   pub consumed : Consumes (remaining (source_of first)) (remaining (source_of now)) bytes
   pub splits : bytes ≡ text_of lines ++ waits_in now
 
--- so, and the lines are all of a certificate, which ends with what came
+-- the same, and the lines are those of a whole certificate, which ends with what was read
 pub record IsAtLast {R : Type 0} (remaining : R → Option (List ℕ)) (first now : CertReader R) (lines : List TextLine) : Type 0 where
   pub whole : AreWhole lines
   pub consumed : Consumes (remaining (source_of first)) (remaining (source_of now)) (text_of lines)
   pub at_end : IsAtEnd (remaining (source_of now))
 
--- The number is reported for this line of what came: of a text that ends too early where it has ended, and else whatever follows.
+-- The number is reported for this line of what was read: for a text that ends too early if it has ended, otherwise whatever
+-- follows.
 abbrev pub IsReportedAt : {R : Type 0} → (remaining : R → Option (List ℕ)) → Task → (first now : CertReader R) → RefusalCode → ℕ → Type 0
 IsReportedAt remaining task first now Truncated line =
     (bytes : List ℕ) × Consumes (remaining (source_of first)) (remaining (source_of now)) bytes × IsAtEnd (remaining (source_of now)) × IsLineFault task bytes 42 line
 IsReportedAt remaining task first now code line =
     (bytes : List ℕ) × Consumes (remaining (source_of first)) (remaining (source_of now)) bytes × ((more : List ℕ) → IsLineFault task (bytes ++ more) (number_of code) line)
 
--- the refusal is that of a line, and that of a limit is reported without its line; or memory was refused, or the device failed
+-- the refusal is that of a line, without the line for a limit; or an allocation failed, or the device failed
 abbrev pub IsLineRefusal : {R : Type 0} → (remaining : R → Option (List ℕ)) → Task → (first now : CertReader R) → Refusal → Type 0
 IsLineRefusal remaining task first now (refusal.Line code line) = IsReportedAt remaining task first now code line
 IsLineRefusal remaining task first now (refusal.Plain code) = (code ≡ Limit) × ((line : ℕ) × IsReportedAt remaining task first now code line)
@@ -61,7 +62,7 @@ IsLineRefusal remaining task first now refusal.NoMemory = Unit {0}
 IsLineRefusal remaining task first now refusal.Device = Unit {0}
 IsLineRefusal remaining task first now _ = ⊥
 
--- The lines up to the next one have reported this; the next one lists a state, or is the last, or the text has ended.
+-- The lines up to the next one have given this; the next one is a state line or the last, or the text has ended.
 abbrev pub IsBegun : {R : Type 0} → (remaining : R → Option (List ℕ)) → Task → (first now : CertReader R) → Header → Option CertLine → Type 0
 IsBegun remaining task first now header (Some line) =
     (before : List TextLine) × IsAt remaining first now (before ++ text_line_of line ∷ []) × HasTaken task before header
@@ -69,12 +70,12 @@ IsBegun remaining task first now header (Some line) =
 IsBegun remaining task first now header None =
     (lines : List TextLine) × IsAtLast remaining first now lines × HasTaken task lines header × (states_given lines ≡ [])
 
--- the failure of a device counts one failure, another answer none
+-- a device failure counts as one failure, any other result as none
 abbrev pub CountsRefusal : {T : Type 0} → (before after : ℕ) → Result T Refusal → Type 0
 CountsRefusal before after (Err refusal.Device) = after ≡ one_more before
 CountsRefusal before after _ = after ≡ before
 
--- The lines up to the next one have reported and listed this; the next one lists a state, or is the last, or the text has ended.
+-- The lines up to the next one have given and listed this; the next one is a state line or the last, or the text has ended.
 abbrev pub IsListedSoFar : {R : Type 0} → (remaining : R → Option (List ℕ)) → Task → (first now : CertReader R) → Header → (width : ℕ) → List Marked → List (List Bool) → Option CertLine → Type 0
 IsListedSoFar remaining task first now header width marks sets (Some line) =
     (before : List TextLine) × IsAt remaining first now (before ++ text_line_of line ∷ []) × HasTaken task before header
@@ -82,7 +83,7 @@ IsListedSoFar remaining task first now header width marks sets (Some line) =
 IsListedSoFar remaining task first now header width marks sets None =
     (lines : List TextLine) × IsAtLast remaining first now lines × HasTaken task lines header × HaveListed lines (claim_of header.claim) width marks sets
 
--- What came to the end is the text of this certificate of the task, and nothing is wrong with any of its lines.
+-- Everything read, to the end, is the text of this certificate of the task, and each of its lines is right.
 pub record IsRead {R : Type 0} (remaining : R → Option (List ℕ)) (task : Task) (first now : CertReader R) (c : Certificate) : Type 0 where
   pub text : List ℕ
   pub consumed : Consumes (remaining (source_of first)) (remaining (source_of now)) text

@@ -1,4 +1,4 @@
--- Lines of tables: which fit what was taken before them, and what comes of them.
+-- Lines of tables: which of them fit what was read before, and their effect.
 use Rattle.std.specs.Prelude.{◌≡◌, ℕ, ◌+◌, ◌<◌, ◌^◌, IsTrue, List, [], ◌∷◌, ◌++◌, length, All}
 use Rattle.table_functions.specs.TableFunctions as model
 use Rattle.table_functions.specs.TableFunctions.{Row, SeveralValues}
@@ -16,34 +16,34 @@ use Rattle.task_certificates.specs.declared.refusal.Refusal.{Refusal}
 use Rattle.task_certificates.specs.declared.refusal.Refusal.TheVariants as refusal
 use Rattle.task_certificates.specs.declared.refusal.RefusalCode.TheVariants.{CertForm, Repeated as RepeatedRow}
 
--- each row of these tables has so many weights
+-- each row of these tables has this many weights
 abbrev pub HaveWeights : ℕ → List Table → Type 0
 HaveWeights count tables = All (λ (t : Table). weight_count_of t ≡ count) tables
 
--- it has one for each value and, last, one for dead ends
+-- each has one for each value and, last, one for dead ends
 abbrev pub AreWeighed : Bounds → Type 0
 AreWeighed bounds = HaveWeights (length bounds.values.items + 1) bounds.tables.items
 
--- so it is in the tables of this certificate, as they stand in memory
+-- the same for the tables of this certificate in memory
 abbrev pub AreWeighedIn : Cert → Type 0
 AreWeighedIn cert = HaveWeights (length (certificate_of cert).values + 1) (tables_in cert)
 
 -- ---- lines that fit
 
--- the atoms rise, and there are few of them and few values
+-- the atoms ascend, and their number and that of the values are within limits
 pub record IsFitScope (bounds : Bounds) (atoms : List ℕ) : Type 0 where
   pub rising : IsTrue (are_rising atoms)
   pub few : length atoms < 2 ^ 32
   pub few_values : length bounds.values.items < 33
 
--- the atoms rise, and there is a table to which one row more may belong, of as many weights as it has
+-- the atoms ascend, and there is a table to which one more row may belong, with as many weights as its rows have
 pub record IsFitRow (tables : List Table) (r : Row) : Type 0 where
   pub some : 0 < length tables
   pub rising : IsTrue (are_rising r.atoms)
   pub weights : HaveWeights (length r.weights) tables
   pub room : All (λ (t : Table). length (table_of t).rows < 16777216) tables
 
--- the line, where it is one of a table, may be taken
+-- if the line is one of a table, it may be taken
 abbrev pub IsFitHead : Bounds → TextLine → Type 0
 IsFitHead bounds (version v) = Unit {0}
 IsFitHead bounds (claims claim) = Unit {0}
@@ -55,7 +55,7 @@ IsFitHead bounds (tabled (row r)) = IsFitRow bounds.tables.items r
 IsFitHead bounds (listed l) = Unit {0}
 IsFitHead bounds (last count) = Unit {0}
 
--- ---- what comes of them
+-- ---- their effect
 
 -- other tables
 abbrev pub with_tables : SeveralValues → List model.Table → SeveralValues
@@ -65,7 +65,7 @@ with_tables s tables = record { values = s.values; dead_ends = s.dead_ends; tabl
 abbrev pub with_scope : SeveralValues → List ℕ → SeveralValues
 with_scope s atoms = with_tables s (s.tables ++ record { scope = atoms; rows = [] } ∷ [])
 
--- the row was to be added to the last of the tables, and this came of it
+-- the row was to be added to the last table, with this result
 pub record IsAddedToLast (old new : List model.Table) (r : Row) (a : Added) : Type 0 where
   pub front : List model.Table
   pub before : model.Table
@@ -80,7 +80,7 @@ pub record IsRowTaken (old new : SeveralValues) (r : Row) : Type 0 where
   pub added : IsAddedToLast old.tables tables r New
   pub bounds : new ≡ with_tables old tables
 
--- the refusal says, at this line, why it is not; or memory was refused
+-- the refusal at this line says why it is not; or an allocation failed
 abbrev pub IsRowRefused : List model.Table → Row → ℕ → Refusal → Type 0
 IsRowRefused tables r number (refusal.Line CertForm at) = (at ≡ number) × (new : List model.Table) × IsAddedToLast tables new r OutsideScope
 IsRowRefused tables r number (refusal.Line RepeatedRow at) = (at ≡ number) × (new : List model.Table) × IsAddedToLast tables new r Repeated

@@ -1,4 +1,4 @@
--- What comes of one line more.
+-- The effect of one more line.
 use Rattle.std.specs.Prelude.{◌≡◌, ◌+◌, true, List, [], ◌∷◌, ◌++◌, length, map, Option, Some, None}
 use Rattle.task.specs.TaskParts.{atom_of}
 use Rattle.model.specs.Task.{Task}
@@ -22,16 +22,16 @@ heading_of header = record {
   bounds = bounds_of header.bounds;
 }
 
--- it is what these lines report
+-- the header is what these lines give
 abbrev pub HasTaken : Task → List TextLine → Header → Type 0
 HasTaken task lines header = HaveGiven task lines (heading_of header)
 
--- the line was taken; or it is of the states, or the last, and was given back
+-- the line was taken; or it is a state line or the last, and was given back
 abbrev pub IsTaken : Task → (before : List TextLine) → TextLine → Header → Option CertLine → Type 0
 IsTaken task before line header None = HasTaken task (before ++ line ∷ []) header × (state_in line ≡ None)
 IsTaken task before line header (Some back) = HasTaken task before header × (text_line_of back ≡ line) × (is_body line ≡ true)
 
--- the refusal is that of this line after those; or memory was refused
+-- the refusal is that of this line after those; or an allocation failed
 abbrev pub IsWrongNow : Task → (before : List TextLine) → TextLine → Refusal → Type 0
 IsWrongNow task before line (refusal.Line code at) = (at ≡ length before + 1) × IsWrongAfter task before line (number_of code)
 IsWrongNow task before line refusal.NoMemory = Unit {0}

@@ -1,4 +1,4 @@
-//! A certificate of a task, read from its text.
+//! Reading a certificate of a task from its text.
 ghost use Rattle.std.specs.Prelude.{IfErr, IfOk};
 ghost use Rattle.task.specs.Task.{task_of};
 ghost use Rattle.certificate_reader.specs.Reader.{source_of};
@@ -17,16 +17,15 @@ use devices::{Sink, Source};
 use std::alloc::Global;
 use task::Task;
 
-/// Reads a certificate, and keeps of each line what it says of the task.
+/// Reads a certificate, resolving each line in the terms of the task.
 ///
 /// # Errors
-/// The first line at fault: 40 to 42, and 55 without its line, by the rules of the text; 40 too where a row has an atom outside its
-/// table's scope; 43 where its atom is none of the task's, or its predicate no action changes; 44 where its atom, its state, or a
-/// row of its table, was in a line before; 52 where it is a cut and it is
-/// claimed that no plan solves the task. [`Refusal::Device`] where the device failed; [`Refusal::NoMemory`] where memory
-/// is refused.
+/// The first faulty line: 40 to 42, and 55 without its line, by the rules of the text; also 40 if a row has an atom outside its
+/// table's scope; 43 if its atom does not belong to the task, or no action changes its predicate; 44 if its atom, its state, or
+/// its row of a table, occurred in an earlier line; 52 if it is a cut although the claim is that no plan solves the task.
+/// [`Refusal::Device`] if the device failed; [`Refusal::NoMemory`] if an allocation failed.
 ///
-/// On the way it says how many lines it read, each time that they are twice as many, from 1,024 on.
+/// Progress is reported by the number of lines read, at 1,024 and at each doubling.
 pub fn read_cert<R: Source, E: Sink>(
     alloc: Global,
     task: &Task,

@@ -1,4 +1,4 @@
-//! Exchanges of objects by their names.
+//! Exchanges of objects, resolved from names.
 ghost use Rattle.std.specs.Prelude.{◌≡◌, ◌++◌, ◌∷◌, [], IfOk, OnOk, map};
 ghost use Rattle.task.specs.Task.{task_of};
 ghost use Rattle.task.specs.TaskParts.{object_of};
@@ -11,7 +11,7 @@ use faults::NoMemory;
 use std::alloc::Global;
 use task::{ObjectId, Task};
 
-/// The objects of these names, two by two.
+/// The objects with these names, in pairs.
 fn exchange_said(
     alloc: Global,
     task: &Task,
@@ -29,7 +29,7 @@ fn exchange_said(
     Ok(pairs)
 }
 
-/// Puts the exchange of the objects of these names after the others.
+/// Appends the exchange of the objects with these names.
 pub(crate) fn take_exchange(
     alloc: Global,
     task: &Task,
@@ -43,7 +43,7 @@ pub(crate) fn take_exchange(
     Ok(())
 }
 
-/// The object of this name. Where none has it, what is named is no object of the task: its number is the count of objects.
+/// The object with this name. An unknown name gives the number of objects, which is not an object of the task.
 fn object_said(task: &Task, name: &[u8]) -> ObjectId
     ensures { object_of result ≡ names.object_said (task_of task.now) name.now }
 {

@@ -1,4 +1,4 @@
-//! What a certificate says before its states, read line by line.
+//! The header of a certificate, read line by line.
 ghost use Rattle.std.specs.Prelude.{◌≡◌, ℕ, ◌<◌, pos, ◌+◌, ◌++◌, ◌∷◌, [], IfErr, IfOk, List, OnOk, length, map};
 ghost use Rattle.task.specs.Task.{task_of};
 ghost use Rattle.formulas.specs.FluentTable.{AreFluentsOf};
@@ -25,7 +25,7 @@ use indexmap::IndexSet;
 use std::alloc::Global;
 use task::Task;
 
-/// What no lines have reported: version 1, a bound of 0, which is always true, and no values, until their lines come.
+/// The header before any line is read: version 1, a bound of 0, which always holds, and no values.
 fn nothing_reported(alloc: Global) -> Header
     ensures taken { (task : model.Task) → HasTaken task [] result }
     ensures weighed { AreWeighed result.bounds }
@@ -43,7 +43,7 @@ fn nothing_reported(alloc: Global) -> Header
     }
 }
 
-/// The potential function of no atoms with this constant.
+/// The potential function with this constant and no atoms.
 fn of_no_atoms(alloc: Global, constant: i64) -> Potential
     ensures { potential_of result ≡ record { constant = constant; weights = [] } }
 {
@@ -53,7 +53,7 @@ fn of_no_atoms(alloc: Global, constant: i64) -> Potential
     }
 }
 
-/// The weight at this place, which is 0 where the text has none.
+/// The weight at this index; 0 if the text has none.
 fn weight_at(weights: &[i64], place: usize) -> i64
     ensures { result ≡ weight_said place weights.now }
 {
@@ -63,7 +63,7 @@ fn weight_at(weights: &[i64], place: usize) -> i64
     }
 }
 
-/// How many of so many constants are those of values: all but that of dead ends, which version 1 does not write.
+/// How many of the constants belong to values: all but that of dead ends, which version 1 does not have.
 fn value_count(version: Version, constant_count: usize) -> usize
     ensures { result ≡ value_count (version_of version) constant_count }
 {
@@ -73,7 +73,7 @@ fn value_count(version: Version, constant_count: usize) -> usize
     }
 }
 
-/// Takes the constants: with them the values begin.
+/// Takes the constants, with which the values begin.
 fn take_constants(
     alloc: Global,
     bounds: &mut Bounds,
@@ -91,7 +91,7 @@ fn take_constants(
     Ok(())
 }
 
-/// Takes the weights of one more atom: each value has the one at its place, and dead ends have the one behind those.
+/// Takes the weights of the next atom: one for each value, in order, then the one for dead ends.
 fn take_weights(bounds: &mut Bounds, weights: &[i64]) -> Result<(), NoMemory>
     ensures { OnOk result (bounds_of bounds.new ≡ with_weights (bounds_of bounds.old) weights.now) }
 {
@@ -103,7 +103,7 @@ fn take_weights(bounds: &mut Bounds, weights: &[i64]) -> Result<(), NoMemory>
     Ok(())
 }
 
-/// Puts the weight after those of the value at this place.
+/// Appends the weight to those of the value at this index.
 fn push_weight(values: &mut Vec<Potential>, place: usize, weight: i64) -> Result<(), NoMemory>
     requires { place < length values.old.items }
     ensures { OnOk result (map potential_of values.new.items ≡ push_at place weight (map potential_of values.old.items)) }
@@ -112,7 +112,7 @@ fn push_weight(values: &mut Vec<Potential>, place: usize, weight: i64) -> Result
     Ok(())
 }
 
-/// Takes the line of this number, from 1; a line that lists a state, or is the last, is given back.
+/// Takes the line with this number, from 1; a state line or the last line is given back.
 fn take(
     alloc: Global,
     header: &mut Header,
@@ -168,7 +168,7 @@ fn take(
     }
 }
 
-/// Puts the atom of these names, which the line of this number gives, and its weights after the others.
+/// Appends the atom with these names, from the line with this number, and its weights.
 fn add_atom(
     header: &mut Header,
     task: &Task,
@@ -199,7 +199,7 @@ fn add_atom(
     Ok(())
 }
 
-/// Reads what comes before the states, and the line after it; `None` where the text has ended before it.
+/// Reads the header, and the line after it; `None` if the text ends before that line.
 pub(crate) fn read_header<R: Source>(
     alloc: Global,
     task: &Task,

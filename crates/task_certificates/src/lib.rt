@@ -1,4 +1,4 @@
-//! Reads the certificate of a task: resolves the names of each line, or reports the first line at fault.
+//! Reads the certificate of a task: resolves the names in each line, or reports the first faulty line.
 #![tactic(auto)]
 
 mod cert_reader;

@@ -1,4 +1,4 @@
-//! The states that a certificate lists, as sets of the numbers of its atoms.
+//! The states that a certificate lists, as sets of atom numbers.
 ghost use Rattle.std.specs.Prelude.{◌≡◌, ℕ, ◌+◌, ◌<◌, ◌↔◌, ◌++◌, ◌∷◌, [], All, IfErr, IsTrue, List, OnOk, length, map};
 ghost use Rattle.packed_state.specs.PooledView.{pooled_width, pooled_states};
 ghost use Rattle.model.specs.Task as model;
@@ -16,7 +16,7 @@ use crate::refusal::{Refusal, RefusalCode};
 use certificate::{CertLine, Claim, Mark, StateLine, States};
 use std::alloc::Global;
 
-/// Takes the line of this number, from 1, under this claim.
+/// Takes the line with this number, from 1, under this claim.
 fn take(
     states: &mut States,
     alloc: Global,
@@ -54,7 +54,7 @@ fn take(
     Ok(())
 }
 
-/// Takes the line of this number, from 1, under this claim, where it lists a state.
+/// Takes the line with this number, from 1, under this claim, if it is a state line.
 pub(crate) fn take_line(
     states: &mut States,
     alloc: Global,
@@ -80,7 +80,7 @@ pub(crate) fn take_line(
     }
 }
 
-/// Whether the line is a cut, and it is claimed that no plan solves the task.
+/// Whether the line is a cut although the claim is that no plan solves the task.
 fn is_cut_not_allowed(claim: Claim, line: &StateLine) -> bool
     ensures { IsTrue result ↔ ((claim_of claim ≡ claims.none) × IsCut (mark_of line.now.mark)) }
 {

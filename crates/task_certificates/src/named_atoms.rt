@@ -1,4 +1,4 @@
-//! Atoms by their names.
+//! Atoms, resolved from names.
 ghost use Rattle.std.specs.Prelude.{◌≡◌, ℕ, ◌≤◌, IfNone, IfSome, IsTrue, List, length, map};
 ghost use Rattle.task.specs.Task.{task_of};
 ghost use Rattle.task.specs.TaskParts.{atom_of, object_of};
@@ -16,7 +16,7 @@ use certificate::NamedAtom;
 use formulas::FluentPredicates;
 use task::{Atom, MAX_ARGUMENTS, ObjectId, Task};
 
-/// The atom of the task that has these names, if it is well-typed and of one of the task's fluent predicates, which these are.
+/// The atom of the task with these names, if it is well-typed and its predicate is among these fluent ones.
 pub(crate) fn fluent_atom_named(
     task: &Task,
     fluents: &FluentPredicates,
@@ -38,7 +38,7 @@ pub(crate) fn fluent_atom_named(
     }
 }
 
-/// The atom that has these names, and `None` where none of as many objects as an atom can have has.
+/// The atom with these names; `None` if there is none, or if it would have too many objects.
 fn atom_named(task: &Task, name: &NamedAtom) -> Option<Atom>
     ensures some { IfSome result (λ a. Names (task_of task.now) (named_atom_of name.now) (atom_of a)) }
     ensures none { IfNone result ((a : model.Atom) → Names (task_of task.now) (named_atom_of name.now) a → length a.objects ≤ 8 → ⊥) }
@@ -48,7 +48,7 @@ fn atom_named(task: &Task, name: &NamedAtom) -> Option<Atom>
     Some(Atom { predicate, objects })
 }
 
-/// The objects of these names, in order, and `None` where there are none, or too many for an atom.
+/// The objects with these names, in order; `None` if a name is unknown, or there are too many for an atom.
 fn objects_named(task: &Task, names: &[Vec<u8>]) -> Option<ArrayVec<ObjectId, MAX_ARGUMENTS>>
     ensures some { IfSome result (λ found. AreNumbersOf (object_names (task_of task.now)) (map name_of names.now) (map object_of found.items)) }
     ensures none { IfNone result ((numbers : List ℕ) → AreNumbersOf (object_names (task_of task.now)) (map name_of names.now) numbers

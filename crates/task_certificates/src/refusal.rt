@@ -8,50 +8,49 @@ use formulas::Instance;
 use std::alloc::AllocFailed;
 use std::fmt;
 
-/// What is wrong with a certificate, or with the plan that was given with it. The number of a code is the one
-/// that the program prints.
+/// What is wrong with a certificate, or with the plan given with it. The discriminant is the number that the program prints.
 #[derive(Clone, Copy, Debug, PartialEq, Eq, Drop)]
 pub enum RefusalCode {
-    /// A line that cannot occur in its place, or is too long, or a byte after the last line.
+    /// A line that is invalid at its place or too long, or a byte after the last line.
     CertForm = 40,
-    /// The first line of another version.
+    /// A first line for another version.
     CertVersion = 41,
-    /// The text ends before the last line does.
+    /// The text ends before its last line does.
     Truncated = 42,
     /// An atom that is not well-typed, or whose predicate no action changes.
     NotFluent = 43,
-    /// An atom, a state, or a row of a table, that was in a line before.
+    /// An atom, a state, or a row of a table, that occurred in an earlier line.
     Repeated = 44,
     /// The initial state is not listed at cost 0.
     NoInitial = 45,
-    /// An instance may make the potential function fall by more than it costs.
+    /// An instance may make the potential function fall by more than its cost.
     Unfair = 46,
-    /// The potential function may be more than 0 at a goal.
+    /// The potential function may exceed 0 in a goal state.
     UnfairGoal = 47,
-    /// An open state meets the goal at a cost that the claim does not allow.
+    /// An open state satisfies the goal at a cost that contradicts the claim.
     GoalOpen = 48,
     /// A successor of an open state is not listed.
     SuccessorMissing = 49,
-    /// A successor of an open state is listed at more than the open state's cost and that of the instance.
+    /// A successor of an open state is listed at more than the open state's cost plus that of the instance.
     SuccessorDearer = 50,
-    /// A cut's bound is more than the state's value, or does not reach the claim.
+    /// A cut's bound exceeds the state's value, or does not reach the claim.
     CutWeak = 51,
-    /// A cut where it is claimed that no plan solves the task.
+    /// A cut although the claim is that no plan solves the task.
     CutNotAllowed = 52,
     /// The plan does not solve the task.
     PlanInvalid = 53,
     /// The plan costs more than the claim.
     PlanDearer = 54,
-    /// One atom, or one state, more than there may be; or the task keeps more instances than the limit once it is
-    /// grounded, or would number more than 1,048,576 atoms.
+    /// More atoms or states than allowed; or the ground task would keep more instances than the limit, or number more than
+    /// 1,048,576 atoms.
     Limit = 55,
-    /// An instance may make the potential function of dead ends fall.
+    /// An instance may make the potential function for dead ends fall.
     DeadUnfair = 56,
-    /// The potential function of dead ends may be more than 0 at a goal.
+    /// The potential function for dead ends may exceed 0 in a goal state.
     DeadUnfairGoal = 57,
-    /// A state is listed as a dead end, and its second value is less than 1.
+    /// A state listed as a dead end whose dead-end value is less than 1.
     NotDead = 58,
-    /// An exchange of objects that is no symmetry of the task, or takes a numbered atom to one that has no number.
+    /// An exchange of objects that is not a symmetry of the task, or that maps a numbered atom to one without a number.
     NotSymmetry = 59,
 }
 
@@ -66,7 +65,7 @@ impl RefusalCode {
         self as u8
     }
 
-    /// The name that the program prints beside the number: that of the variant.
+    /// The name that the program prints beside the number: the variant's name.
     pub fn name(self) -> &'static str
         ensures { result.now ≡ name_of self }
     {
@@ -101,31 +100,31 @@ impl fmt::Display for RefusalCode {
     }
 }
 
-/// Why a certificate, or the plan that was given with it, is refused.
+/// Why a certificate, or the plan given with it, is refused.
 #[derive(Drop)]
 pub enum Refusal {
-    /// This is wrong with a line of the certificate.
+    /// A line of the certificate is wrong.
     Line {
         /// What is wrong.
         code: RefusalCode,
         /// The line of the text, counted from 1.
         line: u64,
     },
-    /// This instance, the first such one, may lose more than it costs.
+    /// The first instance that may lose more than its cost.
     Unfair(Instance),
-    /// This instance, the first such one, may make the potential function of dead ends fall.
+    /// The first instance that may make the potential function for dead ends fall.
     DeadUnfair(Instance),
-    /// This is wrong, and not with one line; or the text has one line of some kind more than there may be.
+    /// Wrong, but not at a particular line; or the text has too many lines of some kind.
     Plain(RefusalCode),
-    /// Memory that was asked for was refused.
+    /// An allocation failed.
     NoMemory,
     /// The device failed.
     Device,
-    /// The reader had reported a fault before.
+    /// The reader reported a fault before.
     Failed,
 }
 
-/// The refusal of a text for this fault, which this line has. A limit is reported without its line.
+/// The refusal of a text for this fault at this line. A limit is reported without its line.
 fn text_refusal(fault: TextFault, line: u64) -> Refusal
     ensures { result ≡ text_refusal fault line }
 {

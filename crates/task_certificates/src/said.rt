@@ -1,4 +1,4 @@
-//! What is said while a certificate is read.
+//! Progress reports while a certificate is read.
 ghost use Rattle.std.specs.Prelude.{◌≡◌, IfOk};
 ghost use Rattle.std.specs.String.{string_bytes};
 ghost use Rattle.task_certificates.specs.SaidRead.{lines_line};
@@ -8,10 +8,10 @@ use devices::Sink;
 use progress_lines::say_line;
 use std::alloc::{AllocError, Global};
 
-/// How many lines are read where it is said for the first time.
+/// The number of lines at which the first report is made.
 pub(crate) const FIRST_REPORT: u64 = 1_024;
 
-/// Says how many lines were read, if as many were as it is due at, and answers where it is due next: at twice as many.
+/// Reports the number of lines read if the report is due, and returns when the next one is: at twice as many.
 pub(crate) fn say_if_due<E: Sink>(alloc: Global, lines: u64, due: u64, err: &mut E) -> u64
     ensures { AreSaid (λ line. line ≡ lines_line lines) E.wants_memory (stream (E.failures err.old) (E.taken err.old)) (stream (E.failures err.new) (E.taken err.new)) }
 {
@@ -22,7 +22,7 @@ pub(crate) fn say_if_due<E: Sink>(alloc: Global, lines: u64, due: u64, err: &mut
     due.saturating_mul(2)
 }
 
-/// Says how many lines were read. Where memory for the line is refused, nothing is said.
+/// Reports the number of lines read. If an allocation for the line fails, nothing is reported.
 fn say_lines<E: Sink>(alloc: Global, lines: u64, err: &mut E)
     ensures { AreSaid (λ line. line ≡ lines_line lines) E.wants_memory (stream (E.failures err.old) (E.taken err.old)) (stream (E.failures err.new) (E.taken err.new)) }
 {

@@ -1,4 +1,4 @@
-//! The tables of a certificate, and their rows, line by line.
+//! The tables of a certificate and their rows, read line by line.
 ghost use Rattle.std.specs.Prelude.{◌≡◌, ℕ, ◌<◌, All, IfErr, IfOk, IsTrue, OnOk, length, map};
 ghost use Rattle.table_rows.specs.Rows.{are_rising};
 ghost use Rattle.table_rows.specs.Tables.{table_of};
@@ -11,7 +11,7 @@ use faults::NoMemory;
 use std::alloc::Global;
 use table_rows::{Added, Table};
 
-/// Takes a table of this scope, which has no rows yet.
+/// Takes a table with this scope, which has no rows yet.
 pub(crate) fn take_scope(
     alloc: Global,
     bounds: &mut Bounds,
@@ -27,7 +27,7 @@ pub(crate) fn take_scope(
     Ok(())
 }
 
-/// Takes the row of these atoms and these weights, which the line of this number gives: it is one of the last table.
+/// Takes a row with these atoms and weights, from the line with this number. It belongs to the last table.
 pub(crate) fn take_row(
     alloc: Global,
     bounds: &mut Bounds,

@@ -1,4 +1,4 @@
--- How many instances there are, parameter by parameter.
+-- The number of instances, parameter by parameter.
 use Rattle.std.proofs.Common.{◌≡◌, ◌∙◌, ℕ, zero, suc, ◌+◌, ◌*◌, ◌/◌, ◌<◌, ◌≤◌, true, false, List, [], ◌∷◌, length, map, refl, sym, ap, arith}
 use Rattle.std.specs.Prelude.{nat_lt}
 use Rattle.std.specs.List.{flat_map}
@@ -11,7 +11,7 @@ pub positive : (n : ℕ) → (n ≡ 0 → ⊥) → 0 < n
 positive zero nonzero = absurd (nonzero refl)
 positive (suc n) nonzero = omega arith
 
--- one list for each first and each of the others
+-- one list for each first element and each of the other lists
 length-product : (firsts : List ℕ) (rests : List (List ℕ)) → length (flat_map (λ first. map (λ rest. first ∷ rest) rests) firsts) ≡ length firsts * length rests
 length-product [] rests = omega arith
 length-product (first ∷ firsts) rests =
@@ -24,7 +24,7 @@ length-product (first ∷ firsts) rests =
     plus_comm : (a b : ℕ) → a + b ≡ b + a
     plus_comm a b = omega arith
 
--- two tests of numbers that hold together
+-- two equivalent tests of numbers
 same_test : (a b x y : ℕ) → (a ≤ b → x ≤ y) → (x ≤ y → a ≤ b) → nat_lt b a ≡ nat_lt y x
 same_test a b x y to from =
     elim (nat_lt b a) as (λ u. nat_lt b a ≡ u → u ≡ nat_lt y x) [
@@ -48,7 +48,7 @@ same_test a b x y to from =
           ] refl
     ] refl
 
--- the lists are more than so many where those of the others are more than the share of each first
+-- there are more lists than the limit if there are more of the others than the share of each first element
 pub within_next : (firsts : List ℕ) (others : List (List ℕ)) (most : ℕ) → 0 < length firsts
     → nat_lt (most / length firsts) (length (product others)) ≡ nat_lt most (length (product (firsts ∷ others)))
 within_next firsts others most some =

@@ -1,4 +1,4 @@
--- Lists that are gathered up to a limit, item by item.
+-- Lists filled up to a limit, element by element.
 use Rattle.std.proofs.Common.{◌≡◌, ℕ, ◌+◌, ◌<◌, ◌≤◌, Bool, true, false, ◌&&◌, cond, List, [], ◌∷◌, ◌++◌, length, take, get_or, refl, sym, ◌∙◌, ap, append_assoc, append-nil, arith}
 use Rattle.std.specs.Prelude.{filter, nat_lt}
 use Rattle.std.specs.List.{flat_map, fold, range_with_len}
@@ -8,7 +8,7 @@ use Rattle.std.proofs.lemmas.Bool.Decides.{nat_tests}
 use Rattle.task.proofs.Lists.{filter_range_more}
 
 module _ {X Y B : Type 0} (step : B → Y → B) (f : X → List Y) (xs : List X) (i : ℕ) (start : B) where
-  -- those so far, and those of the next one
+  -- those so far, and those of the next element
   pub folded_next : (x : X) (now next : B) → i < length xs → x ≡ get_or xs i x → next ≡ fold step now (f x) → now ≡ fold step start (flat_map f (take i xs))
       → next ≡ fold step start (flat_map f (take (i + 1) xs))
   folded_next x now next within at here before =
@@ -22,7 +22,7 @@ module _ {X Y B : Type 0} (step : B → Y → B) (f : X → List Y) (xs : List X
   folded_all now past before = before ∙ ap (λ l. fold step start (flat_map f l)) (take_all i xs past)
 
 module _ {X Y B : Type 0} (step : B → Y → B) (f : X → List Y) where
-  -- with those of the items that are left, the whole is gathered
+  -- together with those of the remaining elements, the whole list is filled
   pub folded_left : (left rest : List X) (x : X) (now next whole : B) → left ≡ x ∷ rest → next ≡ fold step now (f x) → fold step now (flat_map f left) ≡ whole → fold step next (flat_map f rest) ≡ whole
   folded_left left rest x now next whole steps here so =
       ap (λ b. fold step b (flat_map f rest)) here ∙ sym (fold-append step now (f x) (flat_map f rest)) ∙ ap (λ l. fold step now (flat_map f l)) (sym steps) ∙ so
@@ -66,7 +66,7 @@ module _ {X : Type 0} (p : X → Bool) (limit : ℕ) where
       let past : length found ≤ limit = omega (arith, full) in
       take-append-le limit found more within ∙ take_all limit found past
 
-  -- what is gathered is the first of those that pass
+  -- the list has the first elements that pass
   pub gathered : (found : List X) → length found ≤ limit → (xs : List X) → fold (capped p limit) found xs ≡ take limit (found ++ filter p xs)
   gathered found few [] = sym (ap (take limit) (append-nil found) ∙ take_all limit found few)
   gathered found few (x ∷ xs) =

@@ -1,4 +1,4 @@
--- Instances that lack values, one after another: what is gathered is true, and up to the limit it is all.
+-- Instances that lack values, one after another: those gathered do, and up to the limit they are all.
 use Rattle.std.proofs.Common.{◌≡◌, ◌∙◌, ℕ, ◌+◌, ◌<◌, ◌≤◌, Bool, true, false, not, ◌&&◌, ◌||◌, ◌⊎◌, inl, inr, cond, List, [], ◌∷◌, ◌++◌, length, None, Some, refl, sym, ap, subst, arith}
 use Rattle.std.specs.Prelude.{Contains, nat_lt, slice_get}
 use Rattle.std.specs.Cmp.{nat_eq_equiv}
@@ -41,7 +41,7 @@ module _ (t : Task) (limit : ℕ) where
   abbrev next : List Instance → Instance → List Instance
   next = with_lacking t limit
 
-  -- it is left out, or lacks a value and comes to the others
+  -- it is left out, or lacks a value and is added
   grows : (found : List Instance) (x : Instance) → (next found x ≡ found) ⊎ ((next found x ≡ found ++ x ∷ []) × (lacks_value t x ≡ true))
   grows found x =
       elim ((nat_lt (length found) limit && lacks_value t x) && not (list_any (lack_the_same t x) found)) as (λ b.
@@ -78,7 +78,7 @@ module _ (t : Task) (limit : ℕ) where
         | inr more ↦ let long : length (next found x) ≡ length found + 1 = ap length more.0 ∙ length-append found (x ∷ []) in omega (arith, later, long)
       ]
 
-  -- as long as there is room, what lacks a value is told
+  -- while there is room, an instance that lacks a value is reported
   told_here : (found : List Instance) (x : Instance) → length found < limit → lacks_value t x ≡ true → list_any (lack_the_same t x) (next found x) ≡ true
   told_here found x less lacks =
       let room : nat_lt (length found) limit ≡ true = grind (arith, nat_tests) in

@@ -1,4 +1,4 @@
--- Mentions that are found part by part are those of the whole.
+-- The mentions found part by part are those of the whole.
 use Rattle.std.proofs.Common.{◌≡◌, ℕ, ◌+◌, ◌<◌, ◌≤◌, inl, inr, List, [], ◌∷◌, ◌++◌, length, take, map, get_or, refl, sym, ◌∙◌, ap, append_assoc, append-nil, arith}
 use Rattle.std.specs.Prelude.{slice_get}
 use Rattle.std.specs.Global.{Vec}
@@ -46,7 +46,7 @@ mentions_by_both e parts items is same =
 -- ---- one part after another
 
 module _ {X Y : Type 0} (f : X → List Y) (xs : List X) (i : ℕ) (start : List Y) where
-  -- those of the parts so far, and those of the next one
+  -- the mentions in the parts so far, and those in the next one
   pub come_next : (x : X) (now next : List Y) → i < length xs → x ≡ get_or xs i x → next ≡ now ++ f x → now ≡ start ++ flat_map f (take i xs)
       → next ≡ start ++ flat_map f (take (i + 1) xs)
   come_next x now next within at here before =
@@ -58,7 +58,7 @@ module _ {X Y : Type 0} (f : X → List Y) (xs : List X) (i : ℕ) (start : List
   pub come_all : (now : List Y) → length xs ≤ i → now ≡ start ++ flat_map f (take i xs) → now ≡ start ++ flat_map f xs
   come_all now past before = before ∙ ap (λ l. start ++ flat_map f l) (take_all i xs past)
 
--- those of the item at a place
+-- the mentions in the element at an index
 pub come_at : {X Y : Type 0} (f : X → List Y) (xs : List X) (i : ℕ) (start now next : List Y) → i < length xs
     → next ≡ now ++ option_map_or f (slice_get xs i) [] → now ≡ start ++ flat_map f (take i xs) → next ≡ start ++ flat_map f (take (i + 1) xs)
 come_at f xs i start now next within here before =

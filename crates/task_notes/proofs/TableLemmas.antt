@@ -1,4 +1,4 @@
--- Tables of what is used, mark by mark, and what is not marked.
+-- Tables of what is used, mark by mark, and the unmarked numbers.
 use Rattle.std.proofs.Common.{◌≡◌, ℕ, ◌+◌, ◌<◌, Bool, true, false, not, ◌||◌, List, [], ◌∷◌, ◌++◌, cond, get_or, length, map, take, refl, sym, ◌∙◌, ap}
 use Rattle.std.specs.Prelude.{filter}
 use Rattle.std.specs.List.{list_any, range_with_len}
@@ -9,7 +9,7 @@ use Rattle.formulas.proofs.Trees.{list_any_map}
 use Rattle.task_notes.specs.Views.{IsTableOf}
 use Rattle.task_notes.specs.Unused.{without}
 
--- the marks of all things are the table
+-- the marks of all elements are the table
 pub table_of : {X Y : Type 0} (test : ℕ → Y → Bool) (view : X → Y) (xs : List X) (table : List Bool)
     → Marks (λ n. list_any (λ x. test n (view x)) xs) [] table → IsTableOf test (map view xs) table
 table_of test view xs table marks n = marks n ∙ sym (list_any_map (test n) view xs)
@@ -18,7 +18,7 @@ or_assoc : (a b c : Bool) → ((a || b) || c) ≡ (a || (b || c))
 or_assoc true b c = refl
 or_assoc false b c = refl
 
--- the marks of one thing more
+-- the marks of one more element
 pub marks_next : {X : Type 0} (test : ℕ → X → Bool) (xs : List X) (i : ℕ) (one : X) (old now new : List Bool) → i < length xs
     → Marks (λ n. list_any (test n) (take i xs)) old now → Marks (λ n. test n (get_or xs i one)) now new → Marks (λ n. list_any (test n) (take (i + 1) xs)) old new
 marks_next test xs i one old now new within before here n =
@@ -30,7 +30,7 @@ pub without_more : (p : ℕ → Bool) (n : ℕ) (found next : List ℕ) → next
 without_more p n found next more so =
     more ∙ ap (λ l. l ++ filter (λ k. not (p k)) (n ∷ [])) so ∙ sym (filter_range_more (λ k. not (p k)) n)
 
--- numbers that pass the same test
+-- equivalent tests of numbers
 pub without_alike : (p q : ℕ → Bool) (count : ℕ) → ((n : ℕ) → p n ≡ q n) → without p count ≡ without q count
 without_alike p q count same = each (range_with_len 0 count)
   where

@@ -1,4 +1,4 @@
--- Atoms that the goal asks for and that are never true.
+-- Atoms that the goal requires and that are never true.
 use Rattle.std.specs.Prelude.{ℕ, Bool, false, not, ◌&&◌, nat_lt, List, [], ◌∷◌, ◌++◌, length, take, filter, if◌then◌else◌}
 use Rattle.std.specs.Ordering.{eq_by_cmp}
 use Rattle.std.specs.FinSet.{contains}
@@ -15,11 +15,11 @@ makes_true a (deletes b) = false
 abbrev pub change_makes_true : Atom → Change → Bool
 change_makes_true a c = makes_true a c.literal
 
--- a change of the instance, under whatever condition, adds the atom
+-- a change of the instance adds the atom, under any condition
 abbrev pub is_added_by : Task → Atom → Instance → Bool
 is_added_by t a i = list_any (change_makes_true a) (changes_of_instance t i)
 
--- The atom is false at the start, and no kept instance adds it: so it is false in every reachable state.
+-- The atom is initially false and no kept instance adds it: so it is false in every reachable state.
 abbrev pub is_never_true : Task → Atom → Bool
 is_never_true t a = not (contains (initial_state t) a) && not (list_any (is_added_by t a) (kept_instances t))
 
@@ -30,15 +30,15 @@ atom_asked_for _ = []
 abbrev pub atoms_asked_for : List Literal → List Atom
 atoms_asked_for = flat_map atom_asked_for
 
--- the atoms that the goal asks for outright: under nothing but `and` and `forall`
+-- the atoms among the goal's sure literals: under nothing but `and` and `forall`
 abbrev pub goal_atoms : Task → List Atom
 goal_atoms t = atoms_asked_for (sure t t.goal [])
 
--- the first of them that are never true
+-- the first few of them that are never true
 abbrev pub first_missing : Task → (limit : ℕ) → List Atom
 first_missing t limit = take limit (filter (is_never_true t) (goal_atoms t))
 
--- ---- on the way
+-- ---- intermediate definitions
 
 abbrev pub with_missing : Task → (limit : ℕ) → List Atom → Atom → List Atom
 with_missing t limit found a = if nat_lt (length found) limit && is_never_true t a then found ++ a ∷ [] else found

@@ -1,9 +1,9 @@
--- What a task speaks of: the predicates that its formulas ask for, and the objects that it names.
+-- What a task mentions: the predicates that its formulas use, and the objects that it names.
 use Rattle.std.specs.Prelude.{ℕ, Bool, false, ◌==◌, List, [], ◌∷◌, ◌++◌, map}
 use Rattle.std.specs.List.{flat_map}
 use Rattle.model.specs.Task.{Task, Atom, Term, variable, object, Formula, Formulas, atom, equal, and, or, not, imply, exists, forall, no_formula, more_formulas, EffectLiteral, add, delete, Effect, Effects, literal, both, each, when, no_effect, more_effects, Increase, by_number, by_function, Schema}
 
--- a formula asks for an atom of this predicate, or this object is named
+-- a formula uses an atom of this predicate, or this object is named
 pub data Mention : Type 0 where
   asked : ℕ → Mention
   named : ℕ → Mention
@@ -16,7 +16,7 @@ term_mentions (object number) = named number ∷ []
 abbrev pub terms_mentions : List Term → List Mention
 terms_mentions = flat_map term_mentions
 
--- those of a formula and of its parts
+-- the mentions in a formula and its parts
 abbrev mutual
   pub mentions : Formula → List Mention
   mentions (atom a) = asked a.predicate ∷ terms_mentions a.terms
@@ -32,12 +32,12 @@ abbrev mutual
   all_mentions no_formula = []
   all_mentions (more_formulas first rest) = mentions first ++ all_mentions rest
 
--- the objects that a literal of an effect names; it asks for nothing
+-- the objects that a literal of an effect names; it does not use its predicate
 abbrev pub literal_mentions : EffectLiteral → List Mention
 literal_mentions (add a) = terms_mentions a.terms
 literal_mentions (delete a) = terms_mentions a.terms
 
--- those of an effect, of its parts and of its conditions
+-- the mentions in an effect, its parts and its conditions
 abbrev mutual
   pub effect_mentions : Effect → List Mention
   effect_mentions (literal l) = literal_mentions l
@@ -60,7 +60,7 @@ schema_mentions s = mentions s.precondition ++ (effect_mentions s.effect ++ incr
 abbrev pub fact_mentions : Atom → List Mention
 fact_mentions a = map named a.objects
 
--- those of the goal, of the actions and of the facts of the start
+-- the mentions in the goal, the actions and the initial facts
 abbrev pub task_mentions : Task → List Mention
 task_mentions t = (mentions t.goal ++ flat_map schema_mentions t.schemas) ++ flat_map fact_mentions t.init
 

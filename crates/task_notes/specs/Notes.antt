@@ -1,4 +1,4 @@
--- What is told of a task.
+-- The notes on a task.
 use Rattle.std.specs.Prelude.{◌≡◌, ℕ, map}
 use Rattle.task.specs.TaskParts.{atom_of}
 use Rattle.formulas.specs.State.{instance_of}
@@ -9,17 +9,17 @@ use Rattle.task_notes.specs.Costs.{AreLacking, all_looked_at, ignores_costs, pas
 use Rattle.task_notes.specs.Goals.{first_missing}
 use Rattle.task_notes.specs.Unused.{idle_actions, unasked_predicates, unnamed_objects}
 
--- how many missing values, and how many atoms of the goal, are looked for: one more than are told
+-- the maximum number of missing values, and of goal atoms, that are searched for: one more than are reported
 abbrev pub most_found : ℕ
 most_found = 11
 
--- what a look at the files shows
+-- the notes that the files lead to
 pub record AreNotesOf (t : Task) (notes : TaskNotes) : Type 0 where
   pub ignores_costs : notes.ignores_costs ≡ ignores_costs t
   pub unasked_predicates : notes.unasked_predicates.items ≡ unasked_predicates t
   pub unnamed_objects : notes.unnamed_objects.items ≡ unnamed_objects t
 
--- what the kept instances show, where of an action at most so many instances are looked at
+-- the notes that the kept instances lead to, with this limit of instances per action
 pub record AreGroundNotesOf (t : Task) (most : ℕ) (notes : GroundNotes) : Type 0 where
   pub lacking : AreLacking t most_found (all_looked_at t most) (map instance_of notes.lacking.items)
   pub passed_over : notes.passed_over.items ≡ passed_over t most

@@ -1,15 +1,15 @@
--- What a task declares and does not use.
+-- Declarations of a task that are not used.
 use Rattle.std.specs.Prelude.{ℕ, Bool, not, ◌==◌, List, length, filter}
 use Rattle.std.specs.List.{list_any, range_with_len}
 use Rattle.model.specs.Task.{Task, Instance}
 use Rattle.model.specs.StaticallyFalse.{kept_instances}
 use Rattle.task_notes.specs.Mentions.{is_asking, is_naming, task_mentions}
 
--- some precondition, some condition of an effect or the goal has an atom of the predicate
+-- some precondition, some condition of an effect or the goal has an atom with the predicate
 abbrev pub is_asked_for : Task → ℕ → Bool
 is_asked_for t predicate = list_any (is_asking predicate) (task_mentions t)
 
--- a fact of the start, the goal or an action names the object
+-- an initial fact, the goal or an action names the object
 abbrev pub is_named : Task → ℕ → Bool
 is_named t object = list_any (is_naming object) (task_mentions t)
 
@@ -20,11 +20,11 @@ is_of_schema schema i = i.schema == schema
 abbrev pub has_kept_instance : Task → ℕ → Bool
 has_kept_instance t schema = list_any (is_of_schema schema) (kept_instances t)
 
--- the numbers, in order, that do not pass the test
+-- the numbers, in order, that fail the test
 abbrev pub without : (ℕ → Bool) → ℕ → List ℕ
 without used count = filter (λ n. not (used n)) (range_with_len 0 count)
 
--- the predicates that nothing asks for, the objects that nothing names, the actions that are never applicable
+-- the unused predicates, the unnamed objects, and the actions that are never applicable
 abbrev pub unasked_predicates : Task → List ℕ
 unasked_predicates t = without (is_asked_for t) (length t.predicates)
 

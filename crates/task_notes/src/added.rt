@@ -1,4 +1,4 @@
-//! Atoms that the goal asks for and that are never true.
+//! Atoms that the goal requires and that are never true.
 ghost use Rattle.std.specs.Prelude.{◌≡◌, ◌++◌, ◌∷◌, [], map, IfOk, OnOk, IsTrue};
 ghost use Rattle.std.specs.List.{fold, list_all, list_any};
 ghost use Rattle.task.specs.Task.{task_of};
@@ -16,8 +16,8 @@ use grounding_kept::Numbering;
 use std::alloc::Global;
 use task::Task;
 
-/// The first `limit` of the atoms that the goal asks for outright and that are never true: they are false at the start, and no kept
-/// instance adds them.
+/// The first `limit` atoms that are sure literals of the goal and are never true: they are initially false, and no kept instance
+/// adds them.
 pub(crate) fn missing_goals(
     alloc: Global,
     numbering: &Numbering<'_>,
@@ -32,7 +32,7 @@ pub(crate) fn missing_goals(
     Ok(found)
 }
 
-/// Adds those of the literals.
+/// Adds such atoms of the literals.
 fn add_missing(
     alloc: Global,
     numbering: &Numbering<'_>,
@@ -48,7 +48,7 @@ fn add_missing(
     Ok(())
 }
 
-/// Adds the atom that the literal asks for, if it is never true and there is room.
+/// Adds the atom that the literal requires, if it is never true and there is room.
 fn add_if_missing(
     alloc: Global,
     numbering: &Numbering<'_>,
@@ -92,7 +92,7 @@ fn push_copy(atom: &Atom, found: &mut Vec<Atom>) -> Result<(), NoMemory>
     Ok(())
 }
 
-/// Whether the atom is false at the start, and no kept instance adds it.
+/// Whether the atom is initially false and no kept instance adds it.
 fn is_never_true(alloc: Global, numbering: &Numbering<'_>, atom: &Atom) -> Result<bool, NoMemory>
     ensures { IfOk result (λ is. is ≡ defined.is_never_true (task_in numbering.now) (atom_of atom.now)) }
 {
@@ -122,7 +122,7 @@ fn some_adds(
     Ok(false)
 }
 
-/// Whether the instance adds the atom, under whatever condition.
+/// Whether the instance adds the atom, under any condition.
 fn adds(alloc: Global, task: &Task, instance: &Instance, atom: &Atom) -> Result<bool, NoMemory>
     requires { IsTrue (is_instance (task_of task.now) (instance_of instance.now)) }
     ensures { IfOk result (λ is. is ≡ defined.is_added_by (task_of task.now) (atom_of atom.now) (instance_of instance.now)) }

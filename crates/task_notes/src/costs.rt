@@ -8,7 +8,7 @@ ghost use Rattle.task_notes.specs.Costs as defined;
 
 use task::{Increase, SchemaId, Task};
 
-/// Whether some action increases the total cost, which is not to be least.
+/// Whether some action increases the total cost although the task does not minimize it.
 pub(crate) fn ignores_costs(task: &Task) -> bool
     ensures { result ≡ defined.ignores_costs (task_of task.now) }
 {
@@ -30,7 +30,7 @@ fn some_is_costly(task: &Task) -> bool
     false
 }
 
-/// Whether it is by more than 0, or by a function.
+/// Whether the increase is by more than 0, or by a function.
 fn is_costly(increase: &Increase) -> bool
     ensures { result ≡ defined.is_costly (increase_of increase.now) }
 {

@@ -1,4 +1,4 @@
-//! What is quietly wrong with a task, as its instances show.
+//! Suspicious features of a task that show in its instances.
 ghost use Rattle.std.specs.Prelude.{◌≡◌, IfOk};
 ghost use Rattle.grounding_kept.specs.Numbering.{task_in};
 ghost use Rattle.task_notes.specs.Notes.{AreGroundNotesOf};
@@ -12,32 +12,31 @@ use formulas::{Atom, Instance};
 use grounding_kept::Numbering;
 use std::alloc::Global;
 
-/// How many missing values are told, and how many atoms that the goal asks for in vain.
+/// The maximum number of missing values, and of unreachable goal atoms, that are reported.
 pub const MOST_TOLD: usize = 10;
 
-/// How many of them are looked for: one more shows that there are more.
+/// The maximum number that are searched for: one more shows that there are more.
 pub const MOST_FOUND: usize = 11;
 
-/// What is quietly wrong with a task, as its instances show.
+/// Suspicious features of a task that show in its instances.
 #[derive(Drop)]
 pub struct GroundNotes {
-    /// Instances that are never applicable for the one reason that what they increase the total cost by has no value: one for each
-    /// value that an action lacks, and at most [`MOST_FOUND`].
+    /// Instances that are inapplicable only because their cost increase has no value: one for each value that an action lacks,
+    /// and at most [`MOST_FOUND`].
     pub lacking: Vec<Instance>,
-    /// The actions, by their numbers, that have too many instances to be looked at for this.
+    /// The actions, by number, with too many instances to be checked for this.
     pub passed_over: Vec<usize>,
-    /// Atoms that the goal asks for outright, which are false at the start, and which no action can add: at most [`MOST_FOUND`].
+    /// Atoms that are sure literals of the goal, are initially false, and that no action can add: at most [`MOST_FOUND`].
     pub missing_goals: Vec<Atom>,
-    /// The actions, by their numbers, that are never applicable.
+    /// The actions, by number, that are never applicable.
     pub idle_actions: Vec<usize>,
 }
 
 impl GroundNotes {
-    /// What is wrong with the task of this numbering. Of an action with more than `most` instances none is looked at for a value that
-    /// it lacks.
+    /// The notes on the task with this numbering. Actions with more than `most` instances are not checked for missing values.
     ///
     /// # Errors
-    /// Memory was refused, which says nothing of the task.
+    /// An allocation failed, which says nothing about the task.
     pub fn of(alloc: Global, numbering: &Numbering<'_>, most: u32) -> Result<GroundNotes, NoMemory>
         ensures { IfOk result (AreGroundNotesOf (task_in numbering.now) most) }
     {
@@ -59,7 +58,7 @@ impl GroundNotes {
     }
 }
 
-/// The actions of which no instance is kept.
+/// The actions without kept instances.
 fn idle_actions(alloc: Global, numbering: &Numbering<'_>) -> Result<Vec<usize>, NoMemory>
     ensures { IfOk result (λ found. found.items ≡ unused.idle_actions (task_in numbering.now)) }
 {

@@ -1,4 +1,4 @@
-//! Instances that lack a value for their cost.
+//! Instances whose cost has no value.
 ghost use Rattle.std.specs.Prelude.{◌≡◌, ◌+◌, ◌≤◌, [], ◌∷◌, ◌++◌, filter, length, map, nat_lt, not, IfOk, IfSome, OnOk};
 ghost use Rattle.std.specs.List.{list_all, list_any};
 ghost use Rattle.std.specs.Option.{option_map};
@@ -17,17 +17,17 @@ use grounding_kept::Numbering;
 use std::alloc::Global;
 use task::{Increase, MAX_VARIABLES, ObjectId, Schema, SchemaId, Task, Term, TypeUnion};
 
-/// What is looked for: instances of the task of this numbering that lack a value, at most so many.
+/// A search for instances, of the task with this numbering, that lack a value.
 #[derive(Drop)]
 pub(crate) struct LackingSearch<'a, 't> {
     pub(crate) numbering: &'a Numbering<'t>,
     pub(crate) limit: usize,
-    /// Of an action with more instances none is looked at.
+    /// Actions with more instances than this are not checked.
     pub(crate) most: u32,
 }
 
 impl LackingSearch<'_, '_> {
-    /// The first of the instances that are looked at, one for each value that an action lacks.
+    /// The first such instances, one for each value that an action lacks.
     pub(crate) fn all(&self, alloc: Global) -> Result<Vec<Instance>, NoMemory>
         ensures { IfOk result (λ found. map instance_of found.items
             ≡ defined.lacking_among (task_in self.now.numbering.now) self.now.limit [] (defined.all_looked_at (task_in self.now.numbering.now) self.now.most)) }
@@ -39,7 +39,7 @@ impl LackingSearch<'_, '_> {
         Ok(found)
     }
 
-    /// Adds those of the action of this number.
+    /// Adds those of the action with this number.
     fn add_of_schema(
         &self,
         alloc: Global,
@@ -62,7 +62,7 @@ impl LackingSearch<'_, '_> {
         }
     }
 
-    /// Adds those whose first objects are these, and whose others are one for each of the types that are left.
+    /// Adds those that begin with these objects and have one more for each of the remaining types.
     fn add(
         &self,
         schema: SchemaId,
@@ -84,7 +84,7 @@ impl LackingSearch<'_, '_> {
         Ok(())
     }
 
-    /// Adds the instance of these objects, if it lacks a value that none so far lacks, and there is room.
+    /// Adds the instance with these objects, if it lacks a value that no instance found so far lacks, and there is room.
     fn add_one(
         &self,
         schema: SchemaId,
@@ -111,7 +111,7 @@ impl LackingSearch<'_, '_> {
         Ok(())
     }
 
-    /// Whether the instance is the task's and lacks a value, for which alone it is never applicable.
+    /// Whether the instance belongs to the task and is inapplicable only because it lacks a value.
     fn lacks_value(&self, instance: &Instance) -> bool
         ensures { result ≡ defined.lacks_value (task_in self.now.numbering.now) (instance_of instance.now) }
     {
@@ -143,7 +143,7 @@ fn some_lacks_the_same(task: &Task, instance: &Instance, found: &[Instance]) -> 
     false
 }
 
-/// Whether both are of one action, and by its increase of the same function of the same objects.
+/// Whether both are of the same action, and its cost function has the same objects in both.
 fn lack_the_same(task: &Task, one: &Instance, other: &Instance) -> bool
     ensures { result ≡ defined.lack_the_same (task_of task.now) (instance_of one.now) (instance_of other.now) }
 {
@@ -156,7 +156,7 @@ fn lack_the_same(task: &Task, one: &Instance, other: &Instance) -> bool
     }
 }
 
-/// Whether the increase is by the same function of the same objects.
+/// Whether the increase is by the same function of the same objects under both bindings.
 fn is_same_value(increase: &Increase, one: &Binding, other: &Binding) -> bool
     ensures { result ≡ defined.is_same_value (increase_of increase.now) (map object_of one.now.items) (map object_of other.now.items) }
 {
@@ -166,7 +166,7 @@ fn is_same_value(increase: &Increase, one: &Binding, other: &Binding) -> bool
     }
 }
 
-/// Whether each term names the same object.
+/// Whether each term denotes the same object under both bindings.
 fn are_same_terms(terms: &[Term], one: &Binding, other: &Binding) -> bool
     ensures { result ≡ list_all (defined.is_same_term (map object_of one.now.items) (map object_of other.now.items)) (map term_of terms.now) }
 {
@@ -178,14 +178,14 @@ fn are_same_terms(terms: &[Term], one: &Binding, other: &Binding) -> bool
     true
 }
 
-/// Whether the term names the same object.
+/// Whether the term denotes the same object under both bindings.
 fn is_same_term(term: &Term, one: &Binding, other: &Binding) -> bool
     ensures { result ≡ defined.is_same_term (map object_of one.now.items) (map object_of other.now.items) (term_of term.now) }
 {
     named_by(term, one).0 == named_by(term, other).0
 }
 
-/// The object that the term names, where the variables have these objects: the first one, where its variable has none.
+/// The object that the term denotes under this binding: the first object for an unbound variable.
 pub(crate) fn named_by(term: &Term, binding: &Binding) -> ObjectId
     ensures { result.0 ≡ meaning.object_of (map object_of binding.now.items) (term_of term.now) }
 {
@@ -195,7 +195,7 @@ pub(crate) fn named_by(term: &Term, binding: &Binding) -> ObjectId
     }
 }
 
-/// The action of this number, if it increases the total cost by a function.
+/// The action with this number, if it increases the total cost by a function.
 fn valued(task: &Task, number: usize) -> Option<&Schema>
     ensures shape { option_map (λ s. shape_of s.now) result ≡ option_map shape_of_schema (defined.valued_schema (task_of task.now) number) }
     ensures few { IfSome result (λ s. length s.now.parameters.items ≤ MAX_VARIABLES) }
@@ -207,7 +207,7 @@ fn valued(task: &Task, number: usize) -> Option<&Schema>
     }
 }
 
-/// Whether at most so many instances of the action of this number are to be looked at.
+/// Whether the action with this number has at most `most` instances to be checked.
 pub(crate) fn are_few(
     alloc: Global,
     task: &Task,
@@ -222,7 +222,7 @@ pub(crate) fn are_few(
     }
 }
 
-/// Whether there are at most so many lists of an object for each of these types.
+/// Whether there are at most `most` ways to choose an object for each of these types.
 fn is_product_within(
     alloc: Global,
     task: &Task,
@@ -241,7 +241,7 @@ fn is_product_within(
     is_product_within(alloc, task, rest, most / objects)
 }
 
-/// The actions of which no instance is looked at, as they have too many.
+/// The actions that are not checked because they have too many instances.
 pub(crate) fn passed_over(alloc: Global, task: &Task, most: u32) -> Result<Vec<usize>, NoMemory>
     ensures { IfOk result (λ found. found.items ≡ defined.passed_over (task_of task.now) most) }
 {
@@ -252,7 +252,7 @@ pub(crate) fn passed_over(alloc: Global, task: &Task, most: u32) -> Result<Vec<u
     Ok(found)
 }
 
-/// Adds the number of the action, if it has too many instances.
+/// Adds the number of the action if it has too many instances.
 fn add_if_many(
     alloc: Global,
     task: &Task,

@@ -1,4 +1,4 @@
-//! Finds what is quietly wrong with a well-typed task: lost costs, goals never reached, unused declarations.
+//! Finds suspicious features of a well-typed task: ignored costs, unreachable goals, unused declarations.
 #![tactic(auto)]
 
 mod added;

@@ -1,4 +1,4 @@
-//! What a task speaks of.
+//! What a task mentions.
 ghost use Rattle.std.specs.Prelude.{◌≡◌, ◌++◌, [], map, IfOk, OnOk, slice_get};
 ghost use Rattle.std.specs.List.{flat_map};
 ghost use Rattle.std.specs.Option.{option_map_or};
@@ -13,14 +13,14 @@ use task::{
     Atom, Effect, EffectLiteral, Formula, Increase, ObjectId, PredicateId, SchemaId, Task, Term,
 };
 
-/// A formula asks for an atom of this predicate, or this object is named.
+/// A formula uses an atom of this predicate, or this object is named.
 #[derive(Debug, Drop)]
 pub(crate) enum Mention {
     Asked(PredicateId),
     Named(ObjectId),
 }
 
-/// All that the task speaks of: its goal, then its actions, then its facts.
+/// All mentions in the task: in its goal, then its actions, then its facts.
 pub(crate) fn mentions_of(alloc: Global, task: &Task) -> Result<Vec<Mention>, NoMemory>
     ensures { IfOk result (λ found. map mention_of found.items ≡ defined.task_mentions (task_of task.now)) }
 {
@@ -31,7 +31,7 @@ pub(crate) fn mentions_of(alloc: Global, task: &Task) -> Result<Vec<Mention>, No
     Ok(found)
 }
 
-/// Adds those of the actions.
+/// Adds the mentions in the actions.
 fn add_schemas(task: &Task, found: &mut Vec<Mention>) -> Result<(), NoMemory>
     ensures { OnOk result (Come (flat_map defined.schema_mentions (task_of task.now).schemas) found.old.items found.new.items) }
 {
@@ -41,7 +41,7 @@ fn add_schemas(task: &Task, found: &mut Vec<Mention>) -> Result<(), NoMemory>
     Ok(())
 }
 
-/// Adds those of the action of this number.
+/// Adds the mentions in the action with this number.
 fn add_schema(task: &Task, id: SchemaId, found: &mut Vec<Mention>) -> Result<(), NoMemory>
     ensures { OnOk result (Come (option_map_or defined.schema_mentions (slice_get (task_of task.now).schemas id.0) []) found.old.items found.new.items) }
 {
@@ -73,7 +73,7 @@ fn add_objects(objects: &[ObjectId], found: &mut Vec<Mention>) -> Result<(), NoM
     Ok(())
 }
 
-/// Adds those of the formula.
+/// Adds the mentions in the formula.
 fn add_formula(formula: &Formula, found: &mut Vec<Mention>) -> Result<(), NoMemory>
     ensures { OnOk result (Come (defined.mentions (formula_of formula.now)) found.old.items found.new.items) }
 {
@@ -107,7 +107,7 @@ fn add_formula(formula: &Formula, found: &mut Vec<Mention>) -> Result<(), NoMemo
     }
 }
 
-/// Adds those of the effect.
+/// Adds the mentions in the effect.
 fn add_effect(effect: &Effect, found: &mut Vec<Mention>) -> Result<(), NoMemory>
     ensures { OnOk result (Come (defined.effect_mentions (effect_of effect.now)) found.old.items found.new.items) }
 {
@@ -127,7 +127,7 @@ fn add_effect(effect: &Effect, found: &mut Vec<Mention>) -> Result<(), NoMemory>
     }
 }
 
-/// Adds those of the literals.
+/// Adds the mentions in the literals.
 fn add_literals(literals: &[EffectLiteral], found: &mut Vec<Mention>) -> Result<(), NoMemory>
     ensures { OnOk result (Come (flat_map defined.literal_mentions (map effect_literal_of literals.now)) found.old.items found.new.items) }
 {
@@ -137,7 +137,7 @@ fn add_literals(literals: &[EffectLiteral], found: &mut Vec<Mention>) -> Result<
     Ok(())
 }
 
-/// Adds those of the literal.
+/// Adds the mentions in the literal.
 fn add_literal(literal: &EffectLiteral, found: &mut Vec<Mention>) -> Result<(), NoMemory>
     ensures { OnOk result (Come (defined.literal_mentions (effect_literal_of literal.now)) found.old.items found.new.items) }
 {
@@ -147,7 +147,7 @@ fn add_literal(literal: &EffectLiteral, found: &mut Vec<Mention>) -> Result<(), 
     }
 }
 
-/// Adds those of what the total cost is increased by.
+/// Adds the mentions in the amount of a cost increase.
 fn add_increase(increase: &Increase, found: &mut Vec<Mention>) -> Result<(), NoMemory>
     ensures { OnOk result (Come (defined.increase_mentions (increase_of increase.now)) found.old.items found.new.items) }
 {

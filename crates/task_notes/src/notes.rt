@@ -1,4 +1,4 @@
-//! What is quietly wrong with a task, as its files show.
+//! Suspicious features of a task that show in its files.
 ghost use Rattle.std.specs.Prelude.{◌≡◌, map, IfOk};
 ghost use Rattle.task.specs.Task.{task_of};
 ghost use Rattle.task_notes.specs.Mentions.{task_mentions};
@@ -13,22 +13,22 @@ use faults::NoMemory;
 use std::alloc::Global;
 use task::Task;
 
-/// What is quietly wrong with a task, as its files show.
+/// Suspicious features of a task that show in its files.
 #[derive(Drop)]
 pub struct TaskNotes {
-    /// Whether some action increases the total cost, which is not to be least: each step costs 1.
+    /// Whether some action increases the total cost although the task does not minimize it: each step costs 1.
     pub ignores_costs: bool,
-    /// The predicates, by their numbers, that no precondition, no condition of an effect and no goal asks for.
+    /// The predicates, by number, that occur in no precondition, no condition of an effect and no goal.
     pub unasked_predicates: Vec<usize>,
-    /// The objects, by their numbers, that no fact, no action and no goal names.
+    /// The objects, by number, that no fact, no action and no goal names.
     pub unnamed_objects: Vec<usize>,
 }
 
 impl TaskNotes {
-    /// What is wrong with this task.
+    /// The notes on this task.
     ///
     /// # Errors
-    /// Memory was refused, which says nothing of the task.
+    /// An allocation failed, which says nothing about the task.
     pub fn of(alloc: Global, task: &Task) -> Result<TaskNotes, NoMemory>
         ensures { IfOk result (AreNotesOf (task_of task.now)) }
     {
@@ -43,7 +43,7 @@ impl TaskNotes {
     }
 }
 
-/// The predicates that are not asked for, where these are all mentions.
+/// The predicates that are not used, given all mentions.
 fn unasked_predicates(
     alloc: Global,
     task: &Task,
@@ -56,7 +56,7 @@ fn unasked_predicates(
     unmarked(alloc, &asked, task.predicate_count())
 }
 
-/// The objects that are not named, where these are all mentions.
+/// The objects that are not named, given all mentions.
 fn unnamed_objects(alloc: Global, task: &Task, mentions: &[Mention]) -> Result<Vec<usize>, NoMemory>
     requires { map mention_of mentions.now ≡ task_mentions (task_of task.now) }
     ensures { IfOk result (λ found. found.items ≡ unused.unnamed_objects (task_of task.now)) }

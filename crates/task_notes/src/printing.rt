@@ -1,4 +1,4 @@
-//! Notes as lines of text, each without an LF.
+//! Notes as lines of text, each without LF.
 use crate::ground_notes::{GroundNotes, MOST_TOLD};
 use crate::lacking::named_by;
 use crate::notes::TaskNotes;
@@ -11,7 +11,7 @@ impl TaskNotes {
     /// Adds a line for each note.
     ///
     /// # Errors
-    /// Memory was refused.
+    /// An allocation failed.
     ///
     /// # Examples
     /// ```text
@@ -55,7 +55,7 @@ impl GroundNotes {
     /// Adds a line for each note.
     ///
     /// # Errors
-    /// Memory was refused.
+    /// An allocation failed.
     ///
     /// # Examples
     /// ```text
@@ -102,7 +102,7 @@ fn add_lacking(
     Ok(())
 }
 
-/// Adds the line of an instance that lacks a value.
+/// Adds the line for an instance that lacks a value.
 fn add_lacking_line(
     alloc: Global,
     task: &Task,
@@ -124,7 +124,7 @@ fn add_lacking_line(
     Ok(())
 }
 
-/// Adds a line for each action whose instances were not looked at.
+/// Adds a line for each action whose instances were not checked.
 fn add_passed_over(
     alloc: Global,
     task: &Task,
@@ -142,7 +142,7 @@ fn add_passed_over(
     Ok(())
 }
 
-/// Adds a line for each atom that the goal asks for in vain.
+/// Adds a line for each unreachable atom of the goal.
 fn add_missing_goals(
     alloc: Global,
     task: &Task,
@@ -163,7 +163,7 @@ fn add_missing_goals(
     Ok(())
 }
 
-/// What has a name.
+/// A kind of named entity.
 #[derive(Clone, Copy)]
 enum Kind {
     Predicate,
@@ -171,7 +171,7 @@ enum Kind {
     Action,
 }
 
-/// Adds a line with the names of these numbers, if there are any: the first, and how many more there are.
+/// Adds a line with the names of these numbers, if there are any: the first few, and how many more there are.
 fn add_names(
     alloc: Global,
     task: &Task,
@@ -198,7 +198,7 @@ fn add_names(
     Ok(())
 }
 
-/// Adds the name of this number.
+/// Adds the name for this number.
 fn add_name(task: &Task, kind: Kind, number: usize, line: &mut String) -> Result<(), NoMemory> {
     let name = match kind {
         Kind::Predicate => task.predicate_name(PredicateId(number)),
@@ -211,7 +211,7 @@ fn add_name(task: &Task, kind: Kind, number: usize, line: &mut String) -> Result
     add_bytes(name.unwrap_or(b""), line)
 }
 
-/// Adds the function of the objects that its terms name.
+/// Adds the function of the objects that its terms denote.
 fn add_function(
     task: &Task,
     function: &LiftedAtom,
@@ -227,7 +227,7 @@ fn add_function(
     Ok(())
 }
 
-/// Adds this name with these objects in parentheses.
+/// Adds this name and these objects, in parentheses.
 fn add_form(
     task: &Task,
     name: &[u8],
@@ -249,7 +249,7 @@ fn add_object(task: &Task, object: ObjectId, line: &mut String) -> Result<(), No
     add_bytes(task.object_name(object).unwrap_or(b""), line)
 }
 
-/// Adds bytes that are all ASCII, as names are.
+/// Adds bytes, which are all ASCII, as names are.
 fn add_bytes(bytes: &[u8], line: &mut String) -> Result<(), NoMemory> {
     for byte in bytes {
         line.push(char::from(*byte))?;

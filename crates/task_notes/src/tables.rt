@@ -1,4 +1,4 @@
-//! Which numbers are used, as tables.
+//! Sets of numbers, as tables of booleans.
 ghost use Rattle.std.specs.Prelude.{◌≡◌, ◌==◌, ◌∷◌, ◌++◌, [], filter, map, not, IfOk, OnOk};
 ghost use Rattle.formulas.specs.FluentTable.{Marks, is_marked};
 ghost use Rattle.formulas.specs.State.{instance_of};
@@ -12,7 +12,7 @@ use faults::NoMemory;
 use formulas::Instance;
 use std::alloc::Global;
 
-/// Which predicates are asked for.
+/// The predicates that are used.
 pub(crate) fn asked_table(alloc: Global, mentions: &[Mention]) -> Result<Vec<bool>, NoMemory>
     ensures { IfOk result (λ table. IsTableOf is_asking (map mention_of mentions.now) table.items) }
 {
@@ -23,7 +23,7 @@ pub(crate) fn asked_table(alloc: Global, mentions: &[Mention]) -> Result<Vec<boo
     Ok(table)
 }
 
-/// Marks the predicate that is asked for.
+/// Marks the predicate that is used.
 fn mark_asked(mention: &Mention, table: &mut Vec<bool>) -> Result<(), NoMemory>
     ensures { OnOk result (Marks (λ n. is_asking n (mention_of mention.now)) table.old.items table.new.items) }
 {
@@ -33,7 +33,7 @@ fn mark_asked(mention: &Mention, table: &mut Vec<bool>) -> Result<(), NoMemory>
     }
 }
 
-/// Which objects are named.
+/// The objects that are named.
 pub(crate) fn named_table(alloc: Global, mentions: &[Mention]) -> Result<Vec<bool>, NoMemory>
     ensures { IfOk result (λ table. IsTableOf is_naming (map mention_of mentions.now) table.items) }
 {
@@ -54,7 +54,7 @@ fn mark_named(mention: &Mention, table: &mut Vec<bool>) -> Result<(), NoMemory>
     }
 }
 
-/// Which actions the instances are of.
+/// The actions that the instances are of.
 pub(crate) fn schema_table(alloc: Global, instances: &[Instance]) -> Result<Vec<bool>, NoMemory>
     ensures { IfOk result (λ table. IsTableOf defined.is_of_schema (map instance_of instances.now) table.items) }
 {

@@ -1,4 +1,4 @@
--- The faults of the terms of an atom, as they are found one after another.
+-- The faults of the terms of an atom, found one after another.
 use Rattle.std.proofs.Common.{◌≡◌, ℕ, ◌+◌, ◌<◌, ◌≤◌, List, [], ◌∷◌, ◌++◌, map, length, get_or, drop, slice_get, Option, refl, ap, sym, ◌∙◌, arith, zero, suc}
 use Rattle.std.proofs.lemmas.List.{drop_more, drop_all}
 use Rattle.model.specs.Task as task
@@ -13,14 +13,14 @@ drop-nil : {X : Type 0} (n : ℕ) → drop {A = X} n [] ≡ []
 drop-nil zero = refl
 drop-nil (suc n) = refl
 
--- the first that is left is the one at the place
+-- the first remaining element is the one at the index
 first_left : {X : Type 0} (xs : List X) (i : ℕ) → slice_get (drop i xs) 0 ≡ slice_get xs i
 first_left [] zero = refl
 first_left [] (suc i) = refl
 first_left (x ∷ xs) zero = refl
 first_left (x ∷ xs) (suc i) = first_left xs i
 
--- and what is left without it is left after the place
+-- and the rest without it is what remains after the index
 rest_left : {X : Type 0} (xs : List X) (i : ℕ) → drop 1 (drop i xs) ≡ drop (i + 1) xs
 rest_left [] i = ap (drop 1) (drop-nil i) ∙ sym (drop-nil (i + 1))
 rest_left (x ∷ xs) zero = refl
@@ -28,7 +28,7 @@ rest_left (x ∷ xs) (suc i) =
     let same : suc (i + 1) ≡ suc i + 1 = omega arith in
     rest_left xs i ∙ ap (λ n. drop n (x ∷ xs)) same
 
--- one term more
+-- one more term
 pub argument_step : {X : Type 0} (file : TaskFile) (known : Known) (arguments : List task.Union) (seen : X → tree.Term) (xs : List X) (i : ℕ) (d : X) → i < length xs
     → (least new whole : Option TypingFault) → new ≡ found least (argument_faults file known (slice_get arguments i) (seen (get_or xs i d)))
     → found least (terms_faults file known (drop i arguments) (map seen (drop i xs))) ≡ whole
@@ -42,7 +42,7 @@ argument_step file known arguments seen xs i d l least new whole finds h =
     ∙ (λ j. (own ++ misfit_faults file known (first_left arguments i j) x) ++ terms_faults file known (rest_left arguments i j) (map seen (drop (i + 1) xs))) in
     ap (λ o. found o rest) finds ∙ sym (found-append least (own ++ misfit) rest) ∙ sym (ap (found least) parts) ∙ h
 
--- and none more
+-- and the end
 pub argument_end : {X : Type 0} (file : TaskFile) (known : Known) (arguments : List task.Union) (seen : X → tree.Term) (xs : List X) (i : ℕ) → length xs ≤ i
     → (least whole : Option TypingFault) → found least (terms_faults file known (drop i arguments) (map seen (drop i xs))) ≡ whole → least ≡ whole
 argument_end file known arguments seen xs i l least whole h =

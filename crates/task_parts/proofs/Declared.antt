@@ -1,4 +1,4 @@
--- What is found of variables that are declared, and the names of types where none is declared twice.
+-- The faults found for declared variables, and the names of types if none is declared twice.
 use Rattle.std.proofs.Common.{◌≡◌, ℕ, cond, Bool, true, false, List, [], ◌∷◌, ◌++◌, codes, map, fold, take, length, refl, ap, sym, ◌∙◌, if◌then◌else◌}
 use Rattle.std.specs.List.{flat_map}
 use Rattle.std.proofs.lemmas.List.{append_assoc}
@@ -25,7 +25,7 @@ among_one_by_one names (x ∷ xs) = by (is_known names x.name) (among_one_by_one
     by true e = ap (λ fs. refused_word x.file 20 x.name ++ fs) e
     by false e = e
 
--- lists that begin with one another
+-- prefixes of prefixes
 pub begins_further : (before middle after : List (Vec ℕ × TypeUnion)) → BeginsWith before middle → BeginsWith middle after → BeginsWith before after
 begins_further before middle after first second = (first.0 ++ second.0, second.1 ∙ ap (λ vs. vs ++ second.0) first.1 ∙ append_assoc before first.0 second.0)
 
@@ -37,7 +37,7 @@ taken_again before after begins = ap (take (length before)) begins.1 ∙ taken b
     taken [] ys = refl
     taken (x ∷ xs) ys = ap (λ zs. x ∷ zs) (taken xs ys)
 
--- the names of the types, where none is declared twice
+-- the names of the types, if none is declared twice
 pub names_are : (xs : List Declared) → repeated_after (codes "object" ∷ []) (words_of xs) ≡ []
     → fold with_name (codes "object" ∷ []) (names_of xs) ≡ codes "object" ∷ map folded (names_of xs)
 names_are xs e =

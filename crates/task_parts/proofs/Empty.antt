@@ -1,4 +1,4 @@
--- Lists of faults that are empty, and what follows for what is declared.
+-- Empty lists of faults, and what they imply for declarations.
 use Rattle.std.proofs.Common.{◌≡◌, ℕ, ◌≤◌, Bool, true, false, ◌&&◌, List, [], ◌∷◌, ◌++◌, map, length, fold, refl, ap, sym, ◌∙◌, if◌then◌else◌, arith, zero, suc}
 use Rattle.std.proofs.lemmas.Bool.Decides.{nat_tests}
 use Rattle.std.proofs.lemmas.List.{append_assoc, append-nil}
@@ -16,11 +16,11 @@ none_after zero (x ∷ xs) e = absurd (cc)
 none_after (suc n) [] e = omega arith
 none_after (suc n) (x ∷ xs) e = omega (arith, none_after n xs e)
 
--- a limit that is kept
+-- a limit that is respected
 pub within : (code n : ℕ) (words : List Placed) → refused code (one_after n words) ≡ [] → length words ≤ n
 within code n words e = none_after n words (not_refused code (one_after n words) e)
 
--- names that are not repeated are kept each
+-- names that are not repeated are all kept
 pub not_repeated : (before : List task.Name) (words : List Placed) → repeated_after before words ≡ []
     → fold with_name before (map (λ (w : Placed). w.word) words) ≡ before ++ map (λ (w : Placed). folded w.word) words
 not_repeated before [] e = sym (append-nil before)
@@ -37,7 +37,7 @@ not_repeated before (w ∷ rest) e = by (is_known before w.word) refl e (not_rep
 pub and_true : (a b : Bool) → a ≡ true → b ≡ true → (a && b) ≡ true
 and_true a b p q = grind (arith, nat_tests)
 
--- the first of some words that are not repeated are not either
+-- the first of some words that are not repeated are not repeated either
 pub first_once : (before : List task.Name) (words more : List Placed) → repeated_after before (words ++ more) ≡ [] → repeated_after before words ≡ []
 first_once before [] more e = refl
 first_once before (w ∷ words) more e =

@@ -1,4 +1,4 @@
--- How what is found grows along a list.
+-- How the faults found grow along a list.
 use Rattle.std.proofs.Common.{◌≡◌, ℕ, zero, suc, arith, ◌+◌, ◌<◌, ◌≤◌, List, [], ◌∷◌, ◌++◌, map, length, get_or, drop, take, Option, refl, ap, sym, ◌∙◌, if◌then◌else◌}
 use Rattle.std.proofs.lemmas.List.{at_drop_more, at_drop_all, drop_more, drop_all, map-append, take_all, append_assoc, append-nil}
 use Rattle.std.proofs.lemmas.List.Folds.{flat_map-map}
@@ -15,11 +15,11 @@ map-map F g (x ∷ xs) = ap (λ ys. F (g x) ∷ ys) (map-map F g xs)
 pub found-append : (least : Option TypingFault) (fs gs : List TypingFault) → found least (fs ++ gs) ≡ found (found least fs) gs
 found-append least fs gs = fold-append earlier least fs gs
 
--- what was found, and then what more
+-- what was found, followed by more
 pub found_after : (before middle last : Option TypingFault) (fs gs : List TypingFault) → middle ≡ found before fs → last ≡ found middle gs → last ≡ found before (fs ++ gs)
 found_after before middle last fs gs m l = l ∙ ap (λ o. found o gs) m ∙ sym (found-append before fs gs)
 
--- one element more, and none more
+-- one more element, and the end
 pub found_more : {X : Type 0} (F : X → List TypingFault) (least : Option TypingFault) (xs : List X) (i : ℕ) (d : X) → i < length xs
     → found least (flat_map F (drop i xs)) ≡ found (found least (F (get_or xs i d))) (flat_map F (drop (i + 1) xs))
 found_more F least xs i d l =
@@ -36,14 +36,14 @@ pub found_step : {X : Type 0} (F : X → List TypingFault) (xs : List X) (i : �
 found_step F xs i x l is least new whole finds h =
     ap (λ o. found o (flat_map F (drop (i + 1) xs))) (finds ∙ ap (λ y. found least (F y)) is) ∙ sym (found_more F least xs i x l) ∙ h
 
--- the same, reported by the place of the element
+-- the same, by the index of the element
 pub found_at : {X : Type 0} (F : X → List TypingFault) (xs : List X) (i : ℕ) (d : X) → i < length xs
     → (least new whole : Option TypingFault) → new ≡ found least (F (get_or xs i d))
     → found least (flat_map F (drop i xs)) ≡ whole → found new (flat_map F (drop (i + 1) xs)) ≡ whole
 found_at F xs i d l least new whole finds h =
     ap (λ o. found o (flat_map F (drop (i + 1) xs))) finds ∙ sym (found_more F least xs i d l) ∙ h
 
--- one declaration more
+-- one more declaration
 pub found_repeated : (least : Option TypingFault) (before : List task.Name) (w : Placed) (rest : List Placed)
     → found least (refused 16 (repeated_after before (w ∷ rest)))
     ≡ found (found least (refused 16 (if is_known before w.word then w ∷ [] else []))) (refused 16 (repeated_after (with_name before w.word) rest))
@@ -51,7 +51,7 @@ found_repeated least before w rest =
     ap (found least) (map-append _ (if is_known before w.word then w ∷ [] else []) (repeated_after (with_name before w.word) rest))
     ∙ found-append least (refused 16 (if is_known before w.word then w ∷ [] else [])) (refused 16 (repeated_after (with_name before w.word) rest))
 
--- what is found once one more of a list is declared
+-- what is found after one more declaration of a list
 pub found_declared : {X : Type 0} (placed_as : X → Placed) (xs : List X) (i : ℕ) (x : X) → i < length xs → x ≡ get_or xs i x
     → (before after : List task.Name) (least new whole : Option TypingFault)
     → after ≡ with_name before (placed_as x).word
@@ -67,7 +67,7 @@ found_declared placed_as xs i x l is before after least new whole names finds h 
     ∙ ap (λ ys. found least (refused 16 (repeated_after before (map placed_as ys)))) (sym split)
     ∙ h
 
--- the element at a place is there whatever stands for one that is not
+-- the element at an index, whatever the default
 pub got_twice : {X : Type 0} (xs : List X) (i : ℕ) (d : X) → i < length xs → get_or xs i d ≡ get_or xs i (get_or xs i d)
 got_twice [] i d l = absurd (omega (arith, l))
 got_twice (x ∷ xs) zero d l = refl
@@ -86,7 +86,7 @@ pub found_declared_at : {X : Type 0} (placed_as : X → Placed) (xs : List X) (i
     → found new (refused 16 (repeated_after after (map placed_as (drop (i + 1) xs)))) ≡ whole
 found_declared_at placed_as xs i d l = found_declared placed_as xs i (get_or xs i d) l (got_twice xs i d l)
 
--- a list that grows by what each element gives, by one more, and once the last is added
+-- a list that grows by what each element gives, by one more element, and at the end
 pub grown_more : {X Z : Type 0} (F : X → List Z) (xs : List X) (i : ℕ) (x : X) → i < length xs → x ≡ get_or xs i x
     → (old new whole : List Z) → new ≡ old ++ F x
     → old ++ flat_map F (drop i xs) ≡ whole → new ++ flat_map F (drop (i + 1) xs) ≡ whole
@@ -110,7 +110,7 @@ pub mapped_all : {X Z : Type 0} (F : X → Z) (xs : List X) (i : ℕ) → length
     → old ++ map F (drop i xs) ≡ whole → old ≡ whole
 mapped_all F xs i l old whole h = sym (append-nil old) ∙ ap (λ ys. old ++ map F ys) (sym (drop_all i xs l)) ∙ h
 
--- a list that was made element by element, once the last is made
+-- a list built element by element, at the end
 pub map_to_end : {X Z : Type 0} (F : X → Z) (xs ys : List X) (i : ℕ) (zs : List Z) → zs ≡ map F (take i xs) → length xs ≤ i → xs ≡ ys → zs ≡ map F ys
 map_to_end F xs ys i zs e l s = e ∙ ap (map F) (take_all i xs l ∙ s)
 
@@ -118,12 +118,12 @@ pub map_taken : {X Y Z : Type 0} (F : Y → Z) (g : X → Y) (xs ys : List X) (i
     → zs ≡ map F (map g ys)
 map_taken F g xs ys i zs e l s = map_to_end (λ x. F (g x)) xs ys i zs e l s ∙ sym (map-map F g ys)
 
--- what a walk over a list found, once it is at the end
+-- what a walk over a list has found at the end
 pub found_to_end : {X : Type 0} (F : X → List TypingFault) (xs ys : List X) (i : ℕ) (least before : Option TypingFault)
     → found least (flat_map F (drop i xs)) ≡ found before (flat_map F xs) → length xs ≤ i → xs ≡ ys → least ≡ found before (flat_map F ys)
 found_to_end F xs ys i least before e l s = sym (found_all F least xs i l) ∙ e ∙ ap (λ zs. found before (flat_map F zs)) s
 
--- the same of a list that is read
+-- the same for a list that is read
 pub found_walked : {X Y : Type 0} (F : Y → List TypingFault) (g : X → Y) (xs ys : List X) (i : ℕ) (least before : Option TypingFault)
     → found least (flat_map (λ x. F (g x)) (drop i xs)) ≡ found before (flat_map (λ x. F (g x)) xs) → length xs ≤ i → xs ≡ ys
     → least ≡ found before (flat_map F (map g ys))

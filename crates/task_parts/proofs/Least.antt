@@ -1,4 +1,4 @@
--- What is found by taking the earlier of two faults, one after another, is the least of all.
+-- Taking the lesser of two faults, one after another, gives the least of all.
 use Rattle.std.proofs.Common.{◌≡◌, Bool, true, false, List, [], ◌∷◌, fold, Option, None, Some, All, Contains, ◌⊎◌, inl, inr, refl, sym, ap, subst, ◌∙◌, arith, true≢false, if◌then◌else◌, Contains, All, suc, zero}
 use Rattle.std.specs.Cmp.Lexicographic.{slice_cmp}
 use Rattle.std.specs.Ordering.{nat_cmp, is_lt, is_gt, ordering_reverse}
@@ -18,7 +18,7 @@ is_gt-lt Less h = refl
 is_gt-lt Equal h = refl
 is_gt-lt Greater h = absurd (true≢false (sym h))
 
--- what a fold by the earlier of two gives, over any order
+-- the result of a fold by the lesser of two, for any order
 module _ {X : Type 0} (before : X → X → Bool)
     (asym : (x y : X) → before x y ≡ true → before y x ≡ false)
     (trans : (x y z : X) → before y x ≡ false → before z y ≡ false → before z x ≡ false) where
@@ -76,7 +76,7 @@ module _ {X : Type 0} (before : X → X → Bool)
             upto_all = all_cons (λ y. before y f ≡ false) x xs (trans f g x rest.upto_first is) rest.upto_all;
           }
 
-  -- once something is found, something is
+  -- once something is found, something stays found
   pub stays_found : (g : X) (xs : List X) → fold earlier_by (Some g) xs ≡ None → ⊥
   stays_found g [] e = cc
   stays_found g (x ∷ xs) e = by (before x g) e (stays_found x xs) (stays_found g xs)
@@ -99,7 +99,7 @@ is_before-trans : (f g h : TypingFault) → is_before g f ≡ false → is_befor
 is_before-trans f g h p q =
     not_before f h ∙ upto nat_list_cmp_total (key_of f) (key_of g) (key_of h) (sym (not_before f g) ∙ p) (sym (not_before g h) ∙ q)
 
--- nothing is found where there is nothing
+-- nothing is found exactly if there is nothing
 pub found-None : (faults : List TypingFault) → found None faults ≡ None → faults ≡ []
 found-None [] e = refl
 found-None (f ∷ more) e = absurd (stays_found is_before is_before-asym is_before-trans f more e)

@@ -1,4 +1,4 @@
--- Places and members of lists that other lists give.
+-- Indices and elements of lists derived from other lists.
 use Rattle.std.proofs.Common.{◌≡◌, ℕ, ◌+◌, ◌≤◌, ◌<◌, Bool, true, false, not, cond, ◌||◌, ◌&&◌, List, [], ◌∷◌, map, length, refl, ap, sym, ◌∙◌, arith, nat_eq, nat_lt, None, Some, zero, suc, take, drop, get_or, ◌++◌}
 use Rattle.std.proofs.lemmas.List.{length-map, map_push, map_more, map-id, append-nil}
 use Rattle.std.specs.Prelude.{filter}
@@ -12,7 +12,7 @@ pub same_more : {X Z : Type 0} (z : Z) (xs : List X) (i : ℕ) → i < length xs
 same_more z [] i l = absurd (omega (arith, l))
 same_more z (x ∷ xs) i l = map_more (λ _. z) (x ∷ xs) i x l
 
--- some element passes where the first that does is within the list
+-- some element passes if the first that does is within the list
 pub list_any-position : {X : Type 0} (p : X → Bool) (xs : List X) → list_any p xs ≡ nat_lt (position_or_len p xs) (length xs)
 list_any-position p [] = refl
 list_any-position p (x ∷ xs) = by (p x) (list_any-position p xs)
@@ -29,7 +29,7 @@ position_or_len-le p (x ∷ xs) = by (p x) (position_or_len-le p xs)
     by true e = omega arith
     by false e = omega arith
 
--- what a search for a place says
+-- the result of a search for an index
 pub position-found : {X : Type 0} (p : X → Bool) (xs : List X) (i : ℕ) → Some i ≡ position p xs → (i ≡ position_or_len p xs) × (list_any p xs ≡ true)
 position-found p xs i e = by (nat_lt (position_or_len p xs) (length xs)) e (list_any-position p xs)
   where
@@ -44,13 +44,13 @@ position-missing p xs e = by (nat_lt (position_or_len p xs) (length xs)) refl e 
     by true t e is = absurd (cc)
     by false t e is = (let low = position_or_len-le p xs in grind (arith, nat_tests), is)
 
--- the one after this many
+-- the element after this many
 pub one_after-at : {X Y : Type 0} (f : X → Y) (xs : List X) (n : ℕ) (x : X) → n < length xs → x ≡ get_or xs n x → take 1 (drop n (map f xs)) ≡ f x ∷ []
 one_after-at f [] n x l e = absurd (omega (arith, l))
 one_after-at f (y ∷ ys) zero x l e = ap (λ z. f z ∷ []) (sym e)
 one_after-at f (y ∷ ys) (suc n) x l e = one_after-at f ys n x (omega (arith, l)) e
 
--- the first of a list that grows
+-- the first elements of a list that grows
 pub take-push : {X : Type 0} (n : ℕ) (xs : List X) (x : X) → length (take n xs) < n → take n (xs ++ x ∷ []) ≡ take n xs ++ x ∷ []
 take-push zero xs x h = absurd (omega (arith, h))
 take-push (suc n) [] x h = ap (λ ys. x ∷ ys) (take-nil n)
@@ -65,7 +65,7 @@ take-full zero xs x h = refl
 take-full (suc n) [] x h = absurd (omega (arith, h))
 take-full (suc n) (y ∷ ys) x h = ap (λ zs. y ∷ zs) (take-full n ys x (omega (arith, h)))
 
--- a list of the first few, as its source grows by one
+-- a list of the first few elements, as its source grows by one
 pub kept_push : {X O N : Type 0} (F : X → N) (view : O → N) (n : ℕ) (xs : List X) (i : ℕ) (d : X) → i < length xs → (items : List O) (o : O) → view o ≡ F (get_or xs i d)
     → map view items ≡ take n (map F (take i xs)) → length items < n → map view (items ++ o ∷ []) ≡ take n (map F (take (i + 1) xs))
 kept_push F view n xs i d l items o same kept low =

@@ -1,4 +1,4 @@
--- Which atoms of the initial state have names that are known, each of them.
+-- Which atoms of the initial state have only known names.
 use Rattle.std.proofs.Common.{◌≡◌, ℕ, ◌<◌, ◌≤◌, Bool, true, false, ◌&&◌, List, [], ◌∷◌, map, length, take, nat_lt, nat_le, refl, ap, sym, ◌∙◌, arith}
 use Rattle.std.specs.List.{list_all}
 use Rattle.std.proofs.lemmas.Bool.Decides.{nat_tests}
@@ -8,11 +8,11 @@ use Rattle.model.specs.Trees.{Name, GroundAtom}
 use Rattle.model.specs.Typing.{Known, folded, is_same, is_known, is_named, number_in, names_of_predicates, names_of_objects}
 use Rattle.task_parts.proofs.Lists.{list_all-map, list_any-position}
 
--- a name is known where its number is that of one
+-- a name is known if its number is that of one
 known_below : (names : List task.Name) (name : Name) → is_known names name ≡ nat_lt (number_in names name) (length names)
 known_below names name = list_any-position (is_same (folded name)) names
 
--- and each of some objects is, where they are no more than an atom may have
+-- and each of some objects is known, if they are no more than an atom may have
 pub objects_known : (known : Known) (given : List Name) (objects : List ℕ) → objects ≡ take 8 (map (number_in (names_of_objects known.objects)) given) → length given ≤ 8
     → list_all (λ n. nat_lt n (length known.objects)) objects ≡ list_all (is_known (names_of_objects known.objects)) given
 objects_known known given objects is few =
@@ -30,7 +30,7 @@ objects_known known given objects is few =
     each (x ∷ xs) =
         λ i. (ap (nat_lt (number_in (names_of_objects known.objects) x)) count ∙ sym (known_below (names_of_objects known.objects) x)) i && each xs i
 
--- the name of the predicate is known, and the objects are no more
+-- the name of the predicate is known, and the objects are no more than allowed
 module _ (known : Known) (a : GroundAtom) (predicate : ℕ) (is : predicate ≡ number_in (names_of_predicates known.predicates) a.predicate) where
   declared : is_known (names_of_predicates known.predicates) a.predicate ≡ nat_lt predicate (length known.predicates)
   declared =

@@ -1,4 +1,4 @@
--- What a look-up in a table of names says of the names.
+-- Look-ups in tables of names, in terms of the names.
 use Rattle.std.proofs.Common.{◌==◌, ◌≤◌, arith, slice_get, ◌≡◌, ℕ, Bool, true, false, cond, List, [], ◌∷◌, ◌++◌, map, length, refl, ap, sym, ◌∙◌, Option, None, Some, if◌then◌else◌, nat_eq, is_some, ◌||◌, true≢false}
 use Rattle.std.proofs.lemmas.Bool.Decides.{nat_tests}
 use Rattle.std.specs.Option.{option_map, option_map_or}
@@ -17,7 +17,7 @@ use Rattle.task_parts.specs.Scope.{keys_in, names_in}
 pub use Rattle.task.proofs.Tables.{key_is, keys_in-named, named_at}
 use Rattle.task_parts.proofs.Lists.{position_or_len-map, position_or_len-le, list_any-map, position-found, position-map, position-missing}
 
--- the number that a name gets by a look-up, and whether it is known
+-- the number that a look-up gives a name, and whether it is known
 pub reported_of_place : (name : tree.Name) (q : List ℕ) → q ≡ folded name → (keys : List (Vec ℕ)) (count : ℕ) → count ≡ length keys
     → (place : Option ℕ) → place ≡ position (key_is q) keys
     → (option_map_or (λ n. n) place count ≡ number_in (names_in keys) name) × (is_some place ≡ is_known (names_in keys) name)
@@ -35,7 +35,7 @@ reported_of_place name q is keys count all None e =
 pub number_in-le : (keys : List (Vec ℕ)) (name : tree.Name) → number_in (names_in keys) name ≤ length keys
 number_in-le keys name = omega (arith, position_or_len-le (is_same (folded name)) (names_in keys), length-map keys (λ (k : Vec ℕ). k.items))
 
--- the same of a table whose entries show the names of their keys
+-- the same for a table whose entries show the names of their keys
 pub reported_of_entry : {V S : Type 0} (shown : Vec ℕ × V → S) (label : S → task.Name) (named : (e : Vec ℕ × V) → label (shown e) ≡ e.0.items)
     → (name : tree.Name) (q : List ℕ) → q ≡ folded name → (entries : List (Vec ℕ × V)) (count : ℕ) → count ≡ length entries
     → (place : Option ℕ) → place ≡ position (key_is q) (keys_of entries)
@@ -76,7 +76,7 @@ module _ {P : Type 0} (shown : Vec ℕ × P → task.Predicate) (named : (e : Ve
             ∙ ap (λ o. faults_against file o name count) (slice_get_past (map shown entries) (length entries) (omega (arith, length-map entries shown))),
       )
 
--- whether a count is that of a declaration
+-- whether a number of terms is that of a declaration
 pub other_count : (arity count : ℕ) → (arity ≡ count → ⊥) → (count == arity) ≡ false
 other_count arity count h = grind (arith, nat_tests)
 
@@ -96,7 +96,7 @@ lookup-any test (e ∷ es) = by (test e.0) (lookup-any test es)
     by true h = refl
     by false h = h
 
--- a table whose entries show the names of their keys, after one more entry is put in
+-- a table whose entries show the names of their keys, after one more entry
 module _ {V S : Type 0} (shown : Vec ℕ × V → S) (label : S → List ℕ) (named : (e : Vec ℕ × V) → label (shown e) ≡ e.0.items)
     (name : tree.Name) (key : Vec ℕ) (is : key.items ≡ folded name) (value : V) where
   abbrev labels : List (Vec ℕ × V) → List (List ℕ)
@@ -120,7 +120,7 @@ module _ {V S : Type 0} (shown : Vec ℕ × V → S) (label : S → List ℕ) (n
       by true t f rest = absurd (true≢false f)
       by false t f rest = ap (λ r. e ∷ r) (rest f)
 
-  -- a key that is there keeps its place, and its label
+  -- an existing key keeps its index and its label
   insert-present : (es : List (Vec ℕ × V)) → list_any (λ e. key_is key.items e.0) es ≡ true
       → labels (insert_entry (λ (x y : Vec ℕ). pointwise nat_eq x.items y.items) es key value) ≡ labels es
   insert-present [] h = absurd (true≢false (sym h))

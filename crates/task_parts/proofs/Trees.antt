@@ -1,4 +1,4 @@
--- The parts of a conjunction as a list: what they are resolved to, and what is found in them.
+-- The parts of a conjunction as a list: what they resolve to, and the faults found in them.
 use Rattle.std.proofs.Common.{◌≡◌, List, [], ◌∷◌, ◌++◌, map, Option, refl, sym, ap, ◌∙◌}
 use Rattle.std.specs.Global.{Vec}
 use Rattle.std.specs.List.{flat_map}
@@ -48,7 +48,7 @@ formulas_faults-joined : (file : TaskFile) (known : Known) (parts : List read_fo
 formulas_faults-joined file known [] = refl
 formulas_faults-joined file known (part ∷ rest) = ap (λ faults. formula_faults file known (read.formula_of part) ++ faults) (formulas_faults-joined file known rest)
 
--- a conjunction or a disjunction is what its parts are resolved to, and what is found in them is found in it
+-- a conjunction or a disjunction resolves to the list of its resolved parts, and has the faults of its parts
 module _ (file : TaskFile) (known : Known) (whole : read_formula.Formula) (parts : Vec read_formula.Formula) (items : List read_formula.Formula) (same : items ≡ parts.items) where
   joined_parts : (resolved : List task.Formula) → resolved ≡ map (λ x. formula_in file known (read.formula_of x)) items → joined_formulas resolved ≡ formulas_in file known (formulas (map read.formula_of parts.items))
   joined_parts resolved are = ap joined_formulas (are ∙ ap (map (λ x. formula_in file known (read.formula_of x))) same) ∙ sym (formulas_in-joined file known parts.items)
@@ -75,7 +75,7 @@ module _ (file : TaskFile) (known : Known) (whole : read_formula.Formula) (parts
       → least ≡ found before (formula_faults file known (read.formula_of whole))
   or_faults_by_parts is least before finds = found_in_parts least before finds ∙ ap (λ f. found before (formula_faults file known f)) (sym (ap read.formula_of is ∙ rows.formula_of-Or parts))
 
--- one quantifier more, inside the others
+-- one more quantifier, inside the others
 pub exists_each-push : (us : List task.Union) (u : task.Union) (part : task.Formula) → exists_each (us ++ u ∷ []) part ≡ exists_each us (task.exists u part)
 exists_each-push [] u part = refl
 exists_each-push (v ∷ us) u part = ap (task.exists v) (exists_each-push us u part)
@@ -84,7 +84,7 @@ pub forall_each-push : (us : List task.Union) (u : task.Union) (part : task.Form
 forall_each-push [] u part = refl
 forall_each-push (v ∷ us) u part = ap (task.forall v) (forall_each-push us u part)
 
--- a quantifier over no variable
+-- a quantifier over no variables
 pub exists_over_none : (parts : Vec Formula) (part : Formula) (us : List task.Union) → parts.items ≡ part ∷ [] → us ≡ [] → formula_of (formula.Or parts) ≡ exists_over us (formula_of part)
 exists_over_none parts part us one none =
     formula_of-Or parts ∙ ap (λ items. task.or (joined_formulas (map formula_of items))) one ∙ sym (ap (λ vs. exists_over vs (formula_of part)) none)

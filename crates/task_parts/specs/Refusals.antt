@@ -7,7 +7,7 @@ use Rattle.faults.specs.declared.refused.Refused.{Refused}
 use Rattle.faults.specs.declared.refused.Refused.TheVariants.{At, NoMemory}
 use Rattle.model.specs.Typing.{TypingFault, IsLeastOf}
 
--- what a refusal reports
+-- the fault that a refusal reports
 abbrev pub refusal_of : TaskRefusal → TypingFault
 refusal_of r = record {
   file = file_of r.file;
@@ -17,7 +17,7 @@ refusal_of r = record {
 abbrev pub TaskFault : Type 0
 TaskFault = Refused TaskRefusal
 
--- the least of these faults is reported; running out of memory says nothing of them
+-- the least of these faults is reported; nothing is stated for running out of memory
 abbrev pub ReportsLeastOf : List TypingFault → TaskFault → Type 0
 ReportsLeastOf faults NoMemory = Unit {0}
 ReportsLeastOf faults (At r) = IsLeastOf faults (refusal_of r)

@@ -1,4 +1,4 @@
--- What the names of formulas, effects and atoms stand for, in the model's terms.
+-- The meaning of names in formulas, effects and atoms, in the model's terms.
 use Rattle.std.specs.Prelude.{◌≡◌, ℕ, List, [], ◌∷◌, map, take, ◌++◌, slice_get, Option}
 use Rattle.std.specs.Global.{Vec}
 use Rattle.std.specs.Map.{keys_of}
@@ -13,7 +13,7 @@ use Rattle.model.specs.Trees as tree
 use Rattle.model.specs.Trees.{TaskFile}
 use Rattle.model.specs.Typing.{Known, TypingFault, Variable, atom_in, folded, term_faults, misfit_faults}
 
--- the table has an entry more, by which the name stands for this
+-- the table has one more entry, with this meaning of the name
 abbrev pub IsAdded : {V : Type 0} → List (Vec ℕ × V) → List (Vec ℕ × V) → tree.Name → V → Type 0
 IsAdded before after name value = (key : Vec ℕ) × (key.items ≡ folded name) × (after ≡ before ++ (key, value) ∷ [])
 
@@ -30,11 +30,11 @@ known_of s = record {
   objects = map object_entry_of s.objects.now.entries;
 }
 
--- the variables that were in scope are first among those that are
+-- the variables that were in scope come first among those in scope now
 abbrev pub BeginsWith : List (Vec ℕ × TypeUnion) → List (Vec ℕ × TypeUnion) → Type 0
 BeginsWith before after = (more : List (Vec ℕ × TypeUnion)) × (after ≡ before ++ more)
 
--- what may be named in a file where these are the variables in scope
+-- the names visible in a file with these variables in scope
 abbrev pub known_over : Globals → List (Vec ℕ × TypeUnion) → Known
 known_over g variables = record {
   type_names = keys_in g.types.now.by_name.entries;
@@ -45,23 +45,23 @@ known_over g variables = record {
   objects = map object_entry_of g.objects.now.entries;
 }
 
--- what may be named where no variable is in scope
+-- the names visible with no variable in scope
 abbrev pub known_outside : Globals → Known
 known_outside g = known_over g []
 
--- what each argument of the predicate of this number has to be, if there is one
+-- the types of each argument of the predicate with this number, if there is one
 abbrev pub arguments_at : Known → ℕ → List task.Union
 arguments_at known number = option_map_or (λ (p : task.Predicate). p.arguments) (slice_get known.predicates number) []
 
--- the faults of a term where this is wanted
+-- the faults of a term where this is required
 abbrev pub argument_faults : TaskFile → Known → Option task.Union → tree.Term → List TypingFault
 argument_faults file known wanted term = term_faults file known term ++ misfit_faults file known wanted term
 
--- an atom with as many of its objects as a predicate may have
+-- an atom with at most as many of its objects as a predicate may have
 abbrev pub narrow_atom_in : Known → tree.GroundAtom → task.Atom
 narrow_atom_in known f = let a = atom_in known f in record { predicate = a.predicate; objects = take 8 a.objects }
 
--- the atoms of the initial state, each with as many of its objects
+-- the atoms of the initial state, each truncated in this way
 abbrev pub narrow_atoms_in : Known → tree.Fact → List task.Atom
 narrow_atoms_in known (tree.fact a) = narrow_atom_in known a ∷ []
 narrow_atoms_in known (tree.negated word a) = []

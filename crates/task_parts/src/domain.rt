@@ -1,4 +1,4 @@
-//! The names of the domain and of its types.
+//! The names of the domain and its types.
 ghost use Rattle.std.specs.Prelude.{◌≡◌, ◌≤◌, [], ◌∷◌, ◌++◌, codes, false, fold, if◌then◌else◌, length, map, IfErr, IfOk, OnOk};
 ghost use Rattle.task_parts.specs.TypedLists.{declared_of};
 ghost use Rattle.task_parts.specs.Scope.{keys_in, IsAdded};
@@ -20,10 +20,10 @@ use std::alloc::Global;
 use syntax_tree::{Domain, Name, Problem};
 use task::TypeId;
 
-/// The most types that a domain may declare.
+/// The maximum number of types that a domain may declare.
 const MAX_TYPES: usize = 4095;
 
-/// The name of the domain that the problem is for is this one. Another is refused.
+/// Refuses a problem whose `:domain` is not the name of this domain.
 fn compare(walk: &mut Walk, domain: &Name<'_>, wanted: &Name<'_>)
     ensures { Finds walk.old walk.new (if typing.is_same (typing.folded (read.name_of wanted.now)) (typing.folded (read.name_of domain.now)) then [] else typing.refused_word problem_file 21 (read.name_of wanted.now)) }
 {
@@ -40,7 +40,7 @@ fn refuse_again(walk: &mut Walk, file: TaskFile, name: &Name<'_>, again: bool)
     }
 }
 
-/// Puts what a name stands for into a table. It gives whether the name was there before.
+/// Enters a name and its meaning into a table. Returns whether the name was there before.
 pub fn put<V: Drop>(
     alloc: Global,
     table: &mut IndexMap<Vec<u8>, V>,
@@ -56,7 +56,7 @@ pub fn put<V: Drop>(
     Ok(before.is_some())
 }
 
-/// Declares a name, which stands for this. One that is declared before is refused.
+/// Declares a name with its meaning. Refuses a name declared before.
 pub fn declare<V: Drop>(
     alloc: Global,
     walk: &mut Walk,
@@ -74,7 +74,7 @@ pub fn declare<V: Drop>(
     Ok(())
 }
 
-/// The name `object` alone.
+/// A table with the name `object` only.
 fn root(alloc: Global) -> Result<IndexMap<Vec<u8>, Vec<TypeId>>, NoMemory>
     ensures { IfOk result (λ m. keys_in m.entries ≡ codes "object" ∷ []) }
 {
@@ -83,7 +83,7 @@ fn root(alloc: Global) -> Result<IndexMap<Vec<u8>, Vec<TypeId>>, NoMemory>
     Ok(types)
 }
 
-/// The names of the types, each once, and `object` first.
+/// The names of the types, without repetition, `object` first.
 fn type_names(
     alloc: Global,
     walk: &mut Walk,
@@ -100,7 +100,7 @@ fn type_names(
     Ok(names)
 }
 
-/// The names of the types of a domain, where the problem is for it.
+/// The names of a domain's types, after checking that the problem is for this domain.
 fn checked_names(
     alloc: Global,
     domain: &Domain<'_>,
@@ -121,13 +121,12 @@ fn checked_names(
     walk.finish(names)
 }
 
-/// The names of the types of a domain, where the problem is for it, as names become numbers by them: what the objects of
-/// each are of is still to be found. Given is what the domain declares of types.
+/// The table of a domain's type names, after checking that the problem is for this domain. The supertypes are not filled in yet.
+/// `declared`: the flattened `:types` list.
 ///
 /// # Errors
-/// The least fault of the first phase: a problem that is for another domain, a type that is declared again (`object` is
-/// declared at the start), the name of a parent that is no type, or a type that is one too many;
-/// [`TaskFault::NoMemory`] where memory is refused.
+/// The least fault of the first phase: a problem for another domain, a type that is declared again (`object` is predeclared), an
+/// unknown parent type, or the first type beyond the limit; [`TaskFault::NoMemory`] if an allocation failed.
 pub fn names(
     alloc: Global,
     domain: &Domain<'_>,

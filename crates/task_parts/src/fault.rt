@@ -1,4 +1,4 @@
-//! Why a pair of a domain and a problem is no task.
+//! Why a pair of a domain and a problem is not a task.
 ghost use Rattle.std.specs.Prelude.{◌≡◌};
 ghost use Rattle.task_parts.specs.Refusals.{refusal_of};
 ghost use Rattle.model.specs.Typing.{is_before};
@@ -6,8 +6,7 @@ ghost use Rattle.model.specs.Typing.{is_before};
 use faults::{Code, Refused, Span};
 use syntax_tree::TaskFile;
 
-/// A pair of a domain and a problem is not well-typed: this file is refused by this code, for what is at this place
-/// of it.
+/// A pair of a domain and a problem is not well-typed: the refused file, the code and the place.
 #[derive(Clone, Copy, Debug, PartialEq, Eq)]
 pub struct TaskRefusal {
     /// The file that the place is in.
@@ -18,12 +17,11 @@ pub struct TaskRefusal {
     pub span: Span,
 }
 
-/// Why a pair of a domain and a problem is no task.
+/// Why a pair of a domain and a problem is not a task.
 pub type TaskFault = Refused<TaskRefusal>;
 
 impl TaskRefusal {
-    /// Whether this refusal is reported rather than the other: the domain comes before the problem, then the least start,
-    /// and then the lower number.
+    /// The order of reporting: the domain before the problem, then the least start, then the lower number.
     pub(crate) fn is_before(&self, other: &TaskRefusal) -> bool
         ensures { result ≡ is_before (refusal_of self.now) (refusal_of other.now) }
     {

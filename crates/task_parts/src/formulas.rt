@@ -1,4 +1,4 @@
-//! Names of formulas become numbers.
+//! Formulas: from names to numbers.
 ghost use Rattle.std.specs.Prelude.{◌≡◌, ◌++◌, map, IfOk, OnOk};
 ghost use Rattle.std.specs.List.{flat_map};
 ghost use Rattle.task.specs.TaskParts as parts;
@@ -71,7 +71,7 @@ fn negation(alloc: Global, part: Formula) -> Result<Formula, NoMemory>
     Ok(Formula::Not(Box::new(alloc, part)?))
 }
 
-/// One `exists` for each variable of these types, the first outermost.
+/// Nested `exists`, one for each variable of these types, the first outermost.
 fn exists_each(alloc: Global, unions: Vec<TypeUnion>, part: Formula) -> Result<Formula, NoMemory>
     ensures { IfOk result (λ f. parts.formula_of f ≡ typing.exists_each (map parts.union_of unions.items) (parts.formula_of part)) }
 {
@@ -83,7 +83,7 @@ fn exists_each(alloc: Global, unions: Vec<TypeUnion>, part: Formula) -> Result<F
     Ok(formula)
 }
 
-/// The `exists` of a file over variables of these types: over none, a disjunction of the part alone.
+/// The `exists` of a file over variables of these types; over no variable, a disjunction of the single part.
 fn exists_over(alloc: Global, unions: Vec<TypeUnion>, part: Formula) -> Result<Formula, NoMemory>
     ensures { IfOk result (λ f. parts.formula_of f ≡ typing.exists_over (map parts.union_of unions.items) (parts.formula_of part)) }
 {
@@ -94,7 +94,7 @@ fn exists_over(alloc: Global, unions: Vec<TypeUnion>, part: Formula) -> Result<F
     }
 }
 
-/// One `forall` for each variable of these types, the first outermost.
+/// Nested `forall`, one for each variable of these types, the first outermost.
 fn forall_each(alloc: Global, unions: Vec<TypeUnion>, part: Formula) -> Result<Formula, NoMemory>
     ensures { IfOk result (λ f. parts.formula_of f ≡ typing.forall_each (map parts.union_of unions.items) (parts.formula_of part)) }
 {
@@ -106,7 +106,7 @@ fn forall_each(alloc: Global, unions: Vec<TypeUnion>, part: Formula) -> Result<F
     Ok(formula)
 }
 
-/// The `forall` of a file over variables of these types: over none, a conjunction of the part alone.
+/// The `forall` of a file over variables of these types; over no variable, a conjunction of the single part.
 fn forall_over(alloc: Global, unions: Vec<TypeUnion>, part: Formula) -> Result<Formula, NoMemory>
     ensures { IfOk result (λ f. parts.formula_of f ≡ typing.forall_over (map parts.union_of unions.items) (parts.formula_of part)) }
 {
@@ -117,7 +117,7 @@ fn forall_over(alloc: Global, unions: Vec<TypeUnion>, part: Formula) -> Result<F
     }
 }
 
-/// Brings the variables of a quantifier or of an effect's `forall` into scope. It gives what each has to be.
+/// Brings the variables of a quantifier or of an effect's `forall` into scope. Returns their types.
 pub fn enter(
     alloc: Global,
     walk: &mut Walk,
@@ -141,14 +141,14 @@ pub fn enter(
     Ok(unions)
 }
 
-/// What each variable of a quantifier has to be, and its part, in which they are in scope.
+/// The types of a quantifier's variables, and its part, in which they are in scope.
 #[derive(Drop)]
 struct Quantified {
     unions: Vec<TypeUnion>,
     part: Formula,
 }
 
-/// The variables and the part of a quantifier. The variables are in scope in the part alone.
+/// The variables and the part of a quantifier. The variables are in scope only in the part.
 #[cycle(formulas)]
 fn quantifier(
     alloc: Global,
@@ -197,8 +197,8 @@ fn several(
     Ok(resolved)
 }
 
-/// A precondition or a goal, where these variables are in scope. They are in scope after it again, and no other. What is
-/// wrong with it is found on the walk.
+/// A precondition or a goal under these variables. Afterwards exactly the same variables are in scope again. Faults are recorded
+/// in the walk.
 #[cycle(formulas)]
 pub fn formula(
     alloc: Global,

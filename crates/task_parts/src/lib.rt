@@ -1,4 +1,4 @@
-//! Resolves names in formulas to numbers, and keeps the least fault on the way.
+//! Resolves the names in formulas to numbers, and keeps the least fault found.
 #![tactic(auto)]
 
 pub mod domain;

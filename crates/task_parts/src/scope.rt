@@ -1,4 +1,4 @@
-//! Names of atoms become numbers.
+//! Atoms: from names to numbers.
 ghost use Rattle.std.specs.Prelude.{◌≡◌, ◌≤◌, length, map};
 ghost use Rattle.std.specs.List.{list_any};
 ghost use Rattle.syntax_tree.specs.Tree as read;
@@ -19,12 +19,12 @@ use task::{
     VariableId, all_below, is_below,
 };
 
-/// What may be named all over a file: what is declared outside its actions.
+/// The names visible all over a file: those declared outside its actions.
 #[derive(Drop)]
 pub struct Globals<'g> {
     /// The file.
     pub file: TaskFile,
-    /// The types by name, each with all types that its objects are of.
+    /// The types by name, each with its supertypes.
     pub types: &'g TypeTable,
     /// The predicates by name.
     pub predicates: &'g IndexMap<Vec<u8>, Predicate>,
@@ -35,27 +35,27 @@ pub struct Globals<'g> {
     ghost few: { length objects.now.entries ≤ 65535 },
 }
 
-/// What may be named where an atom of a file is.
+/// Names visible to an atom.
 ///
-/// A name that is not known gets the number after the last: the fault is reported, and no task is made of it.
+/// An unknown name gets the number after the last: its fault is reported, and no task results.
 #[derive(Drop)]
 pub struct Scope<'s> {
     /// The file.
     pub file: TaskFile,
-    /// The types by name, each with all types that its objects are of.
+    /// The types by name, each with its supertypes.
     pub types: &'s TypeTable,
     /// The predicates by name.
     pub predicates: &'s IndexMap<Vec<u8>, Predicate>,
     /// The functions by name.
     pub functions: &'s IndexMap<Vec<u8>, Predicate>,
-    /// The variables in scope, each with what it has to be.
+    /// The variables in scope, each with its types.
     pub variables: &'s IndexMap<Vec<u8>, TypeUnion>,
     /// The objects by name, each with its type.
     pub objects: &'s IndexMap<Vec<u8>, TypeId>,
     ghost few: { length objects.now.entries ≤ 65535 },
 }
 
-/// Whether the total cost is among these functions.
+/// Whether the total cost is declared among these functions.
 pub fn declares_cost(functions: &IndexMap<Vec<u8>, Predicate>) -> bool
     ensures { result ≡ list_any (is_same total_cost) (names_of_predicates (map parts.predicate_of functions.now.entries)) }
 {
@@ -65,7 +65,7 @@ pub fn declares_cost(functions: &IndexMap<Vec<u8>, Predicate>) -> bool
 impl Globals<'_> {
     ghost use Rattle.task_parts.specs.Scope.{known_of, known_over};
 
-    /// What may be named where these variables are in scope.
+    /// The names visible where these variables are in scope.
     pub fn with<'v>(&'v self, variables: &'v IndexMap<Vec<u8>, TypeUnion>) -> Scope<'v>
         ensures file { result.file ≡ self.now.file }
         ensures known { known_of result ≡ known_over self.now variables.now.entries }
@@ -99,7 +99,7 @@ impl Scope<'_> {
         declares_cost(self.functions)
     }
 
-    /// What may be named in a function of terms or objects: the functions are in the place of the predicates.
+    /// The names visible in a function of terms or objects: the functions take the place of the predicates.
     pub fn in_function(&self) -> Scope<'_>
         ensures file { result.file ≡ self.now.file }
         ensures known { known_of result ≡ in_function (known_of self.now) }
@@ -114,7 +114,7 @@ impl Scope<'_> {
         }
     }
 
-    /// The predicate of this name, which is with this count of terms.
+    /// The predicate with this name, used with this number of terms.
     fn predicate(
         &self,
         walk: &mut Walk,
@@ -139,7 +139,7 @@ impl Scope<'_> {
         }
     }
 
-    /// The number of a name: its place, where it has one. Another is refused, and gets the number after the last.
+    /// The number of a name: its place, if it has one. A name without one is refused and gets the number after the last.
     fn number(&self, walk: &mut Walk, place: Option<usize>, count: usize, name: &Name<'_>) -> usize
         ensures value { result ≡ option_map_or (λ n. n) place count }
         ensures finds { Finds walk.old walk.new (if is_some place then [] else refused_word (file_of self.now.file) 17 (read.name_of name.now)) }
@@ -153,7 +153,7 @@ impl Scope<'_> {
         }
     }
 
-    /// The variable of this name.
+    /// The variable with this name.
     fn variable(&self, walk: &mut Walk, name: &Name<'_>) -> Result<VariableId, NoMemory>
         ensures value { IfOk result (λ v. v.0 ≡ number_in (names_of_variables (known_of self.now).variables) (read.name_of name.now)) }
         ensures finds { OnOk result (Finds walk.old walk.new (unknown_faults (file_of self.now.file) 17 (names_of_variables (known_of self.now).variables) (read.name_of name.now))) }
@@ -164,7 +164,7 @@ impl Scope<'_> {
         Ok(VariableId(number))
     }
 
-    /// The object of this name.
+    /// The object with this name.
     fn object(&self, walk: &mut Walk, name: &Name<'_>) -> Result<ObjectId, NoMemory>
         ensures value { IfOk result (λ o. o.0 ≡ number_in (names_of_objects (known_of self.now).objects) (read.name_of name.now)) }
         ensures finds { OnOk result (Finds walk.old walk.new (unknown_faults (file_of self.now.file) 17 (names_of_objects (known_of self.now).objects) (read.name_of name.now))) }
@@ -175,7 +175,7 @@ impl Scope<'_> {
         Ok(ObjectId(number as u32))
     }
 
-    /// The variable or the object that is in an atom or an equality.
+    /// The variable or the object in an atom or an equality.
     pub(crate) fn term(&self, walk: &mut Walk, term: &tree::Term<'_>) -> Result<Term, NoMemory>
         ensures value { IfOk result (λ t. parts.term_of t ≡ term_in (known_of self.now) (read.term_of term.now)) }
         ensures finds { OnOk result (Finds walk.old walk.new (term_faults (file_of self.now.file) (known_of self.now) (read.term_of term.now))) }
@@ -186,7 +186,7 @@ impl Scope<'_> {
         }
     }
 
-    /// Whether each type of a variable fits an argument. That it is not known is no misfit.
+    /// Whether every type of a variable fits an argument. An unknown variable fits.
     fn variable_fits(&self, wanted: &TypeUnion, id: VariableId) -> bool
         ensures { result ≡ fits_in (known_of self.now) (parts.union_of wanted.now) (variable id.0) }
     {
@@ -196,7 +196,7 @@ impl Scope<'_> {
         }
     }
 
-    /// Whether the type of an object fits an argument. That it is not known is no misfit.
+    /// Whether the type of an object fits an argument. An unknown object fits.
     fn object_fits(&self, wanted: &TypeUnion, id: ObjectId) -> bool
         ensures { result ≡ fits_in (known_of self.now) (parts.union_of wanted.now) (object id.0) }
     {
@@ -216,7 +216,7 @@ impl Scope<'_> {
         }
     }
 
-    /// What an argument of a predicate has to be, if there is such an argument.
+    /// The types that an argument of a predicate must have; `None` if there is no such argument.
     fn wanted(&self, predicate: PredicateId, index: usize) -> Option<&TypeUnion>
         ensures { option_map (λ u. parts.union_of u.now) result ≡ slice_get (arguments_at (known_of self.now) predicate.0) index }
     {
@@ -224,7 +224,7 @@ impl Scope<'_> {
         predicate.arguments.get(index)
     }
 
-    /// Whether a term fits the argument at this place, if there is one.
+    /// Whether a term fits the argument at this place; true if there is none.
     fn fits_argument(&self, predicate: PredicateId, index: usize, term: Term) -> bool
         ensures { result ≡ fits_wanted (known_of self.now) (slice_get (arguments_at (known_of self.now) predicate.0) index) (parts.term_of term) }
     {
@@ -234,7 +234,7 @@ impl Scope<'_> {
         }
     }
 
-    /// A term that does not fit its argument is refused.
+    /// Refuses a term that does not fit its argument.
     fn check_fit(
         &self,
         walk: &mut Walk,
@@ -249,7 +249,7 @@ impl Scope<'_> {
         walk.refuse_unless(fits, self.file, Code::WrongType, word);
     }
 
-    /// The term at this place of an atom.
+    /// The term at this index of an atom.
     fn argument(
         &self,
         walk: &mut Walk,
@@ -299,7 +299,7 @@ impl Scope<'_> {
         Ok(LiftedAtom { predicate, terms })
     }
 
-    /// The object at this place of an atom.
+    /// The object at this index of an atom.
     fn ground_argument(
         &self,
         walk: &mut Walk,
@@ -315,7 +315,7 @@ impl Scope<'_> {
         Ok(object)
     }
 
-    /// The objects of an atom, as many as a predicate may have.
+    /// The objects of an atom, at most as many as a predicate may have.
     fn ground_objects(
         &self,
         walk: &mut Walk,
@@ -335,8 +335,8 @@ impl Scope<'_> {
         Ok(objects)
     }
 
-    /// An atom of the initial state. Of more objects than a predicate may have, the first are kept: the count is
-    /// a fault of the atom then.
+    /// An atom of the initial state. Of more objects than a predicate may have only the first are kept; their number is a fault
+    /// then.
     pub fn atom(&self, walk: &mut Walk, atom: &GroundAtom<'_>) -> Result<Atom, NoMemory>
         ensures value { IfOk result (λ a. parts.atom_of a ≡ narrow_atom_in (known_of self.now) (read.ground_atom_of atom.now)) }
         ensures finds { OnOk result (Finds walk.old walk.new (ground_atom_faults (file_of self.now.file) (known_of self.now) (read.ground_atom_of atom.now))) }
@@ -347,7 +347,7 @@ impl Scope<'_> {
         Ok(Atom { predicate, objects })
     }
 
-    /// Whether each of some objects is known.
+    /// Whether all objects are known.
     fn all_known(&self, objects: &[ObjectId]) -> bool
         ensures { result ≡ list_all (λ n. nat_lt n (length (known_of self.now).objects)) (map parts.object_of objects.now) }
     {
@@ -355,8 +355,8 @@ impl Scope<'_> {
         objects.iter().all(|object| (object.0 as usize) < count)
     }
 
-    /// Whether each name of an atom of the initial state is known, and it has no more objects than it may have. Given is
-    /// the atom that [`Scope::atom`] made of it.
+    /// Whether all names in an atom of the initial state are known, and it does not have too many objects. `atom` is what
+    /// [`Scope::atom`] made of it.
     fn is_named(&self, given: &GroundAtom<'_>, atom: &Atom) -> bool
         requires { parts.atom_of atom.now ≡ narrow_atom_in (known_of self.now) (read.ground_atom_of given.now) }
         ensures { result ≡ is_named (known_of self.now) (read.ground_atom_of given.now) }
@@ -366,7 +366,7 @@ impl Scope<'_> {
             && self.all_known(&atom.objects)
     }
 
-    /// An atom of the initial state, if each of its names is known and it has no more objects than it may have.
+    /// An atom of the initial state, if all its names are known and it does not have too many objects.
     pub fn named_atom(
         &self,
         walk: &mut Walk,
@@ -384,7 +384,7 @@ impl Scope<'_> {
     }
 }
 
-/// The word that a term is.
+/// The word of a term.
 fn word<'t>(term: &'t tree::Term<'t>) -> &'t Name<'t>
     ensures { read.name_of result.now ≡ word_of (read.term_of term.now) }
 {

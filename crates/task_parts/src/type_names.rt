@@ -1,4 +1,4 @@
-//! The names of types become numbers.
+//! Types: from names to numbers.
 ghost use Rattle.std.specs.Prelude.{◌≡◌, ◌≤◌, [], ◌∷◌, length, map, IfOk};
 ghost use Rattle.task.specs.TaskParts as parts;
 
@@ -10,10 +10,10 @@ use std::alloc::Global;
 use syntax_tree::Name;
 use task::{TypeId, TypeUnion};
 
-/// The types by name, `object` first: each in the place of its number.
+/// The types by name, `object` first, each at the index of its number.
 #[derive(Drop)]
 pub struct TypeTable {
-    /// The names, in lower case, each with all types that its objects are of: with none, until these are found.
+    /// The names, in lower case, each with its supertypes; empty until they are computed.
     pub by_name: IndexMap<Vec<u8>, Vec<TypeId>>,
     ghost few: { length by_name.entries ≤ 4096 },
 }
@@ -33,7 +33,7 @@ impl TypeTable {
     ghost use Rattle.syntax_tree.specs.Tree as read;
     ghost use Rattle.model.specs.Typing as typing;
 
-    /// The number of a name: its place, or how many there are where it has none.
+    /// The number of a name: its place, or the number of names if it has none.
     fn number(&self, room: &mut Vec<u8>, name: &Name<'_>) -> Result<TypeId, NoMemory>
         ensures { IfOk result (λ t. t.0 ≡ typing.number_in (keys_in self.now.by_name.entries) (read.name_of name.now)) }
     {
@@ -44,7 +44,7 @@ impl TypeTable {
         }
     }
 
-    /// The type that is written after a `-`, or `object`.
+    /// The type after a `-`, or `object` if there is none.
     pub fn declared_type(&self, room: &mut Vec<u8>, types: &[Name<'_>]) -> Result<TypeId, NoMemory>
         ensures { IfOk result (λ t. t.0 ≡ typing.type_in (keys_in self.now.by_name.entries) (map read.name_of types.now)) }
     {
@@ -54,7 +54,7 @@ impl TypeTable {
         }
     }
 
-    /// The numbers of names.
+    /// The numbers of the names.
     fn numbers(
         &self,
         alloc: Global,
@@ -70,7 +70,7 @@ impl TypeTable {
         Ok(numbers)
     }
 
-    /// The types that are written after a `-`, or `object`.
+    /// The types after a `-`, or `object` if there are none.
     pub(crate) fn union(
         &self,
         alloc: Global,
@@ -86,7 +86,7 @@ impl TypeTable {
         }
     }
 
-    /// What each of the declared has to be.
+    /// The types of each declared name.
     pub fn unions(
         &self,
         alloc: Global,
@@ -102,7 +102,7 @@ impl TypeTable {
         Ok(unions)
     }
 
-    /// The parents of the types, `object` its own.
+    /// The parents of the types. `object` is its own parent.
     pub fn parents(
         &self,
         alloc: Global,

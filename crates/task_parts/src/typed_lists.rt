@@ -1,4 +1,4 @@
-//! What typed lists declare, name by name.
+//! The declarations of typed lists, name by name.
 ghost use Rattle.std.specs.Prelude.{◌≡◌, ◌++◌, map, IfOk, OnOk};
 ghost use Rattle.task_parts.specs.TypedLists.{declared_by, declared_of};
 ghost use Rattle.syntax_tree.specs.Tree.{file_of};
@@ -12,18 +12,18 @@ use faults::{Code, NoMemory};
 use std::alloc::Global;
 use syntax_tree::{Group, Name};
 
-/// A name that a typed list of a file declares, and the types after its `-`.
+/// A name declared in a typed list, with the types after its `-`.
 #[derive(Drop)]
 pub struct Declared<'t> {
     /// The file.
     pub file: TaskFile,
     /// The name.
     pub name: Name<'t>,
-    /// The types after its `-`, none where there is no `-`.
+    /// The types after its `-`; empty if there is no `-`.
     pub types: &'t [Name<'t>],
 }
 
-/// What a name of a group with these types declares.
+/// The declaration of a name in a group with these types.
 fn one<'t>(file: TaskFile, name: &Name<'t>, types: &'t [Name<'t>]) -> Declared<'t>
     ensures { declared_of result ≡ declared_by (file_of file) (map read.name_of types.now) name.now }
 {
@@ -34,7 +34,7 @@ fn one<'t>(file: TaskFile, name: &Name<'t>, types: &'t [Name<'t>]) -> Declared<'
     }
 }
 
-/// Adds what a group of names declares.
+/// Appends the declarations of a group.
 fn add_group<'t>(
     declared: &mut Vec<Declared<'t>>,
     file: TaskFile,
@@ -49,7 +49,7 @@ fn add_group<'t>(
     Ok(())
 }
 
-/// Adds what a typed list declares, in order.
+/// Appends the declarations of a typed list, in order.
 pub fn add<'t>(
     declared: &mut Vec<Declared<'t>>,
     file: TaskFile,
@@ -63,7 +63,7 @@ pub fn add<'t>(
     Ok(())
 }
 
-/// What a typed list declares, in order.
+/// The declarations of a typed list, in order.
 pub fn collect<'t>(
     alloc: Global,
     file: TaskFile,
@@ -76,7 +76,7 @@ pub fn collect<'t>(
     Ok(declared)
 }
 
-/// The name after this many is one too many.
+/// Refuses the first name beyond this limit.
 pub fn limit(walk: &mut Walk, declared: &[Declared<'_>], most: usize)
     ensures { Finds walk.old walk.new (typing.refused 25 (typing.one_after most (typing.words_of (map declared_of declared.now)))) }
 {

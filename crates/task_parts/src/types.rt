@@ -1,4 +1,4 @@
-//! Types that are not known.
+//! The check for unknown types.
 ghost use Rattle.std.specs.Prelude.{◌≡◌, map, OnOk};
 ghost use Rattle.task_parts.specs.TypedLists.{declared_of};
 ghost use Rattle.task_parts.specs.Scope.{keys_in};
@@ -16,7 +16,7 @@ use indexmap::IndexMap;
 use syntax_tree::Name;
 use task::TypeId;
 
-/// A type that is not known is refused.
+/// Refuses a type that is unknown.
 fn check_type(
     walk: &mut Walk,
     names: &IndexMap<Vec<u8>, Vec<TypeId>>,
@@ -31,7 +31,7 @@ fn check_type(
     Ok(())
 }
 
-/// The types of a declaration that are not known are refused.
+/// Refuses the unknown types of a declaration.
 fn check_types(
     walk: &mut Walk,
     names: &IndexMap<Vec<u8>, Vec<TypeId>>,
@@ -46,7 +46,7 @@ fn check_types(
     Ok(())
 }
 
-/// The types of declarations that are not known are refused.
+/// Refuses the unknown types of declarations.
 pub fn check_all(
     walk: &mut Walk,
     names: &IndexMap<Vec<u8>, Vec<TypeId>>,

@@ -1,4 +1,4 @@
-//! Variables come into scope: the parameters of an action, and those of a quantifier.
+//! Variables that come into scope: the parameters of an action, and those of a quantifier.
 ghost use Rattle.std.specs.Prelude.{◌≡◌, [], if◌then◌else◌, map, OnOk};
 ghost use Rattle.task_parts.specs.TypedLists.{declared_of};
 ghost use Rattle.task_parts.specs.Scope.{keys_in, variable_entry_of, BeginsWith};
@@ -15,7 +15,7 @@ use indexmap::IndexMap;
 use std::alloc::Global;
 use task::{MAX_VARIABLES, TypeUnion};
 
-/// The variables that are in the list before are refused.
+/// Refuses variables that occur earlier in their list.
 fn check_repeated(alloc: Global, walk: &mut Walk, declared: &[Declared<'_>]) -> Result<(), NoMemory>
     ensures { OnOk result (Finds walk.old walk.new (typing.refused 16 (typing.repeated (typing.words_of (map declared_of declared.now))))) }
 {
@@ -26,7 +26,7 @@ fn check_repeated(alloc: Global, walk: &mut Walk, declared: &[Declared<'_>]) -> 
     Ok(())
 }
 
-/// A variable is refused whose name is in scope.
+/// Refuses a variable whose name is in scope already.
 fn check_shadow(
     walk: &mut Walk,
     variables: &IndexMap<Vec<u8>, TypeUnion>,
@@ -41,7 +41,7 @@ fn check_shadow(
     Ok(())
 }
 
-/// The variables are refused whose names are in scope.
+/// Refuses the variables whose names are in scope already.
 fn check_shadows(
     walk: &mut Walk,
     variables: &IndexMap<Vec<u8>, TypeUnion>,
@@ -56,7 +56,7 @@ fn check_shadows(
     Ok(())
 }
 
-/// The variable that makes 17 in scope is refused, where this many are in scope already.
+/// Refuses the 17th variable in scope, given the number already in scope.
 fn limit_scope(walk: &mut Walk, count: usize, declared: &[Declared<'_>])
     ensures { Finds walk.old walk.new (typing.refused 25 (typing.one_too_many count (typing.words_of (map declared_of declared.now)))) }
 {
@@ -65,7 +65,7 @@ fn limit_scope(walk: &mut Walk, count: usize, declared: &[Declared<'_>])
     }
 }
 
-/// What is wrong with a list of variables, where these are in scope already.
+/// Reports the faults of a list of variables, given those already in scope.
 fn check_variables(
     alloc: Global,
     walk: &mut Walk,
@@ -83,7 +83,7 @@ fn check_variables(
     Ok(())
 }
 
-/// Brings a variable into scope, where none of its name is.
+/// Brings a variable into scope, unless its name is there already.
 fn add_variable(
     alloc: Global,
     room: &mut Vec<u8>,
@@ -104,7 +104,7 @@ fn add_variable(
     Ok(())
 }
 
-/// Brings the variables of a list into scope, each once.
+/// Brings the variables of a list into scope, without repetition.
 fn add_variables(
     alloc: Global,
     room: &mut Vec<u8>,
@@ -122,7 +122,7 @@ fn add_variables(
     Ok(())
 }
 
-/// Brings the variables of a list into scope, each once, and finds what is wrong with them.
+/// Brings the variables of a list into scope, without repetition, and reports their faults.
 pub fn declare_variables(
     alloc: Global,
     walk: &mut Walk,

@@ -1,4 +1,4 @@
-//! What a walk over the trees gathers: the least fault so far.
+//! What a walk over the trees collects: the least fault so far.
 ghost use Rattle.std.specs.Prelude.{◌≡◌, [], if◌then◌else◌, None, IfErr, IfOk, OnOk};
 ghost use Rattle.syntax_tree.specs.Tree.{name_of};
 ghost use Rattle.model.specs.Typing.{folded, refused_word};
@@ -9,16 +9,16 @@ use faults::{Code, NoMemory};
 use std::alloc::Global;
 use syntax_tree::Name;
 
-/// The least fault that was found so far, and room for a name in lower case.
+/// The least fault found so far, and a buffer for a name in lower case.
 #[derive(Drop)]
 pub struct Walk {
-    /// The least fault so far, if there is one.
+    /// The least fault so far, if any.
     pub least: Option<TaskRefusal>,
-    /// Room for a name in lower case.
+    /// A buffer for a name in lower case.
     pub folded: Vec<u8>,
 }
 
-/// Puts the name in lower case into the room for it.
+/// Writes the name in lower case into the buffer.
 pub(crate) fn fold(room: &mut Vec<u8>, name: &Name<'_>) -> Result<(), NoMemory>
     ensures { OnOk result (room.new.items ≡ folded (name_of name.now)) }
 {
@@ -33,7 +33,7 @@ impl Walk {
     ghost use Rattle.syntax_tree.specs.Tree.{file_of};
     ghost use Rattle.faults.specs.Fault.{number_of};
 
-    /// A walk that has found nothing yet.
+    /// A walk that has found no fault yet.
     pub fn new(alloc: Global) -> Walk
         ensures { least_of result ≡ None }
     {
@@ -43,7 +43,7 @@ impl Walk {
         }
     }
 
-    /// Finds that the word is refused by the code.
+    /// Records that the word is refused with this code.
     pub fn refuse(&mut self, file: TaskFile, code: Code, word: &Name<'_>)
         ensures { least_of self.new ≡ found (least_of self.old) (refused_word (file_of file) (number_of code) (name_of word.now)) }
     {
@@ -62,7 +62,7 @@ impl Walk {
         }
     }
 
-    /// Finds that the word is refused by the code, unless it is right.
+    /// Records that the word is refused with this code, unless `right`.
     pub fn refuse_unless(&mut self, right: bool, file: TaskFile, code: Code, word: &Name<'_>)
         ensures { least_of self.new ≡ found (least_of self.old) (if right then [] else refused_word (file_of file) (number_of code) (name_of word.now)) }
     {
@@ -71,7 +71,7 @@ impl Walk {
         }
     }
 
-    /// Puts the name in lower case into `folded`.
+    /// Writes the name in lower case into `folded`.
     pub fn fold(&mut self, name: &Name<'_>) -> Result<(), NoMemory>
         ensures folded { OnOk result (self.new.folded.items ≡ folded (name_of name.now)) }
         ensures least { self.new.least ≡ self.old.least }
@@ -79,10 +79,10 @@ impl Walk {
         fold(&mut self.folded, name)
     }
 
-    /// Ends the walk: what was made on it, if no fault was found.
+    /// Ends the walk: returns `made` if no fault was found.
     ///
     /// # Errors
-    /// The least fault that was found, where one was.
+    /// The least fault, if one was found.
     pub fn finish<T: Drop>(self, made: T) -> Result<T, TaskFault>
         ensures none { IfOk result (λ t. (t ≡ made) × (least_of self ≡ None)) }
         ensures some { IfErr result (ReportsFound (least_of self)) }

@@ -1,4 +1,4 @@
--- Atoms and formulas and what they become, part by part.
+-- Atoms and formulas and their images, part by part.
 use Rattle.std.proofs.Common.{◌≡◌, ◌∙◌, ℕ, ◌+◌, ◌<◌, ◌≤◌, Bool, true, false, ◌&&◌, List, [], ◌∷◌, ◌++◌, length, map, take, drop, get_or, Option, Some, refl, sym, ap}
 use Rattle.std.specs.Cmp.Lexicographic.{pointwise}
 use Rattle.std.specs.Global.{Vec}
@@ -31,7 +31,7 @@ module _ (to : ℕ → ℕ) (images objects : List ObjectId) (i : ℕ) where
       both [] = refl
       both (one ∷ rest) = ap (λ l. to (object_of one) ∷ l) (both rest)
 
--- ---- two lists, place by place
+-- ---- two lists, index by index
 
 pub pair_passes : {A B : Type 0} (p : A → B → Bool) (xs : List A) (ys : List B) (i : ℕ) (d : A) (e : B) → i < length xs → i < length ys → pointwise p (drop i xs) (drop i ys) ≡ pointwise p xs ys
     → p (get_or xs i d) (get_or ys i e) ≡ true → pointwise p (drop (i + 1) xs) (drop (i + 1) ys) ≡ pointwise p xs ys
@@ -80,7 +80,7 @@ image_of_or to fs (task.imply g h) = refl
 image_of_or to fs (task.exists types g) = refl
 image_of_or to fs (task.forall types g) = refl
 
--- a formula that is a conjunction, or a disjunction, by the list of its parts
+-- a conjunction, or a disjunction, by the list of its parts
 pub parts_of-And : (f : Formula) (parts : Vec Formula) → f ≡ formula.And parts → Some (map formula_of parts.items) ≡ and_parts (formula_of f)
 parts_of-And f parts is = ap Some (sym (listed_in parts.items)) ∙ sym (ap (λ g. and_parts (formula_of g)) is ∙ ap and_parts (formula_of-And parts))
 

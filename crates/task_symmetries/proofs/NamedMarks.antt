@@ -26,7 +26,7 @@ or_assoc false b c = refl
 pub marks_no : (table : List Bool) → MarksAll [] table table
 marks_no table n = sym (or_false (is_marked table n))
 
--- these, and then those
+-- first these, then those
 pub marks_both : (xs ys : List ℕ) (old now new : List Bool) → MarksAll xs old now → MarksAll ys now new → MarksAll (xs ++ ys) old new
 marks_both xs ys old now new first second n =
     second n ∙ ap (λ b. b || is_among ys n) (first n) ∙ or_assoc (is_marked old n) (is_among xs n) (is_among ys n)
@@ -41,7 +41,7 @@ marks_same xs ys old new same marks n = marks n ∙ ap (λ l. is_marked old n ||
 -- ---- several things, one after another
 
 module _ {X : Type 0} (f : X → List ℕ) (xs : List X) (i : ℕ) (old : List Bool) where
-  -- the next one in its place, by a name or by a default
+  -- the next one at its index, by a name or by a default
   pub marks_next : (x : X) (now new : List Bool) → i < length xs → x ≡ get_or xs i x → MarksAll (flat_map f (take i xs)) old now → MarksAll (f x) now new
       → MarksAll (flat_map f (take (i + 1) xs)) old new
   marks_next x now new within at before here =
@@ -95,7 +95,7 @@ flat_map_over f g (x ∷ xs) = ap (λ l. f (g x) ++ l) (flat_map_over f g xs)
 
 -- ---- the actions, one after another
 
--- those that the actions from this number on name come to the table's, and then all are there
+-- the objects that the actions from this number on name are added to the table, and then it is complete
 abbrev pub Lacks : Task → ℕ → List Bool → Type 0
 Lacks t number table = (n : ℕ) → is_among (named_in_actions t) n ≡ (is_marked table n || is_among (flat_map named_in_schema (drop number t.schemas)) n)
 

@@ -22,7 +22,7 @@ use Rattle.symmetries.specs.Exchanges.{image_of_atom}
 use Rattle.symmetries.proofs.Lists.{any-at}
 use Rattle.task_symmetries.specs.Numbers.{image_number, pair_from, exchanged_below}
 
--- ---- the place in the code's set is the number
+-- ---- the index in the code's set is the number
 
 place-alike : (a : Atom) (keys : List Atom) → position_or_len (atom_eq a) keys ≡ position_or_len (eq_by_cmp atom_cmp (atom_of a)) (map atom_of keys)
 place-alike a [] = refl
@@ -31,7 +31,7 @@ place-alike a (k ∷ keys) = λ i. cond (not (eq-alike a k i)) (1 + place-alike 
 pub position-alike : (a : Atom) (keys : List Atom) → position (atom_eq a) keys ≡ number_of (map atom_of keys) (atom_of a)
 position-alike a keys = λ i. cond (nat_lt (place-alike a keys i) (sym (length-map keys atom_of) i)) (Some (place-alike a keys i)) None
 
--- ---- atoms that have a number
+-- ---- numbered atoms
 
 first_within : {X : Type 0} (p : X → Bool) (xs : List X) → list_any p xs ≡ true → position_or_len p xs < length xs
 first_within p [] some = absurd (true≢false (sym some))
@@ -57,7 +57,7 @@ module _ (atoms : List task.Atom) where
           cond-true (nat_lt place (length atoms)) (Some place) None (lt-ltb place (length atoms) (first_within (eq_by_cmp atom_cmp a) atoms is)) in
           absurd (none-some place (sym none ∙ some))
 
-  -- the atom's image has a number
+  -- the atom's image is numbered
   abbrev pub is_kept : (ℕ → ℕ) → task.Atom → Bool
   is_kept to a = occurs_in atoms (image_of_atom to a)
 

@@ -1,4 +1,4 @@
--- What a table of images has in an object's place, and lists in which no object is twice.
+-- A table's image of an object, and lists without repeated objects.
 use Rattle.std.proofs.Common.{◌≡◌, ◌∙◌, ℕ, ◌+◌, ◌<◌, Bool, true, false, not, ◌&&◌, ◌||◌, List, [], ◌∷◌, ◌++◌, length, map, take, drop, get_or, Option, None, Some, refl, sym, ap}
 use Rattle.std.specs.Prelude.{◌==◌, cond, if◌then◌else◌}
 use Rattle.std.specs.List.{list_any}
@@ -107,7 +107,7 @@ repeats_go_on (x ∷ xs) ys twice = by_here (repeats_go_on xs ys) (list_any (λ 
         and_none true = refl
         and_none false = refl
 
--- what the set of the objects so far has
+-- the elements of the set of the objects so far
 among : (o : ObjectId) (keys : List ObjectId) → list_any (object_eq o) keys ≡ list_any (λ other. other == object_of o) (map object_of keys)
 among o [] = refl
 among o (key ∷ keys) = λ i. flip (object_of o) (object_of key) i || among o keys i
@@ -149,7 +149,7 @@ module _ (objects : List ObjectId) (i : ℕ) (d : ObjectId) (within : i < length
 
 -- ---- pairs
 
--- the objects of the pairs are those that there were
+-- the objects of the pairs are the given ones
 pub objects_paired : (objects : List ℕ) (pairs : Exchange) → two_by_two objects ≡ Some pairs → objects_in pairs ≡ objects
 objects_paired [] pairs is = ap objects_in (sym (same pairs is))
   where

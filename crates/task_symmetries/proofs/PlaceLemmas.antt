@@ -1,4 +1,4 @@
--- The places at which objects are named, as they are found.
+-- The indices at which objects are named, as they are found.
 use Rattle.std.proofs.Common.{◌≡◌, ◌∙◌, ℕ, zero, suc, ◌+◌, ◌<◌, ◌≤◌, Bool, true, false, ◌&&◌, ◌||◌, List, [], ◌∷◌, ◌++◌, length, map, take, get_or, Option, None, Some, refl, sym, ap, subst, arith}
 use Rattle.std.specs.Prelude.{◌==◌, cond, nat_lt, slice_get, if◌then◌else◌}
 use Rattle.std.specs.Global.{Vec}
@@ -19,7 +19,7 @@ use Rattle.task_symmetries.proofs.PairLemmas.{flip}
 
 -- ---- rows
 
--- the rows with an empty one more
+-- the rows with one more, empty row
 pub row_longer : (rows : List (Vec ℕ)) (row : Vec ℕ) → row.items ≡ [] → (o : ℕ)
     → option_map_or (λ (row : Vec ℕ). row.items) (slice_get (rows ++ row ∷ []) o) [] ≡ option_map_or (λ (row : Vec ℕ). row.items) (slice_get rows o) []
 row_longer [] row empty zero = empty
@@ -92,7 +92,7 @@ function_found entries place entry at =
     twice None = refl
     twice (Some e) = refl
 
--- the places below this one are in the rows of the objects of their atoms
+-- the indices below this one are in the rows of the objects of their atoms
 abbrev pub CoversBelow : List task.Atom → ℕ → PlacesByObject → Type 0
 CoversBelow atoms count t = (place : ℕ) (a : task.Atom) → place < count → slice_get atoms place ≡ Some a → (o : ℕ) → is_among a.objects o ≡ true → is_among (row_of t o) place ≡ true
 

@@ -35,7 +35,7 @@ use Rattle.task_symmetries.proofs.PairLemmas.{flip}
 -- ---- one place after another
 
 module _ {X : Type 0} (p : X → Bool) (xs : List X) (i : ℕ) where
-  -- what is at a place passes, or nothing is there
+  -- what is at an index passes, or nothing is there
   pub at_more : i < length xs → option_map_or p (slice_get xs i) true ≡ true → list_all p (take i xs) ≡ true → list_all p (take (i + 1) xs) ≡ true
   at_more within here before =
       elim (slice_get_cases xs i).1 [
@@ -74,7 +74,7 @@ types_alike a b m n is also = by_types a b ∙ (λ i. option_eq nat_eq (is i) (a
 
 -- ---- actions
 
--- an object of a pair is not the other
+-- an object of a pair is not the other one
 pub pair_apart : (exchange : Exchange) → are_different (objects_in exchange) ≡ true → (pair : ℕ × ℕ) → Contains exchange pair → (pair.0 == pair.1) ≡ false
 pair_apart [] different pair at = absurd (Contains-none pair at)
 pair_apart ((p, q) ∷ rest) different pair at =
@@ -115,7 +115,7 @@ module _ (named : List ℕ) where
     abbrev to : ℕ → ℕ
     to = image_of_object exchange
 
-    -- where each stays that actions name, no other is named
+    -- if every object that actions name is fixed, no other is named
     moved_unnamed : list_all (λ o. to o == o) named ≡ true → (n : ℕ) → (to n == n) ≡ false → is_among named n ≡ false
     moved_unnamed all n moves = by_test (is_among named n) refl
       where
@@ -162,11 +162,11 @@ filter_all f q (x ∷ xs) = by_first (f x) (filter_all f q xs)
 pub statics_by_atoms : (t : Task) (to : ℕ → ℕ) → list_all (keeps_atom t to) t.init ≡ keeps_statics t to
 statics_by_atoms t to = filter_all (λ (a : task.Atom). is_fluent t a.predicate) (λ a. occurs_in t.init (image_of_atom to a)) t.init
 
--- the image is true at the start
+-- the image is initially true
 pub true_at_start : (t : Task) (a : task.Atom) (b : Bool) → b ≡ contains (initial_state t) a → b ≡ list_any (eq_by_cmp atom_cmp a) t.init
 true_at_start t a b is = is ∙ contains-from_list atoms_total t.init a
 
--- ---- what names no object that is exchanged
+-- ---- what names no exchanged object
 
 all-fails : {X : Type 0} (p : X → Bool) (xs : List X) → list_all p xs ≡ false → (x : X) × Contains xs x × (p x ≡ false)
 all-fails p [] none = absurd (cc)
@@ -176,12 +176,12 @@ all-fails p (x ∷ xs) none =
       | inr later ↦ let rest = all-fails p xs later in (rest.0, Contains-there x xs rest.0 rest.1, rest.2)
     ]
 
--- what is at the places of both objects passes
+-- what is at the indices of both objects passes
 abbrev pub pair_keeps : {X : Type 0} → (X → Bool) → List X → (ℕ → List ℕ) → ℕ × ℕ → Bool
 pair_keeps test xs rows pair = keeps_at test xs rows pair.0 && keeps_at test xs rows pair.1
 
--- Where the places of each object are in its row, and what names no object that is exchanged passes, the places of the objects
--- that are exchanged decide.
+-- If the indices of each object are in its row, and what names no exchanged object passes, the indices of the exchanged objects
+-- decide.
 module _ {X : Type 0} (test : X → Bool) (xs : List X) (named_by : X → List ℕ) (rows : ℕ → List ℕ) (exchange : Exchange)
     (covers : (place : ℕ) (x : X) → slice_get xs place ≡ Some x → (o : ℕ) → is_among (named_by x) o ≡ true → is_among (rows o) place ≡ true)
     (still : (x : X) → Contains xs x → ((o : ℕ) → Contains (named_by x) o → image_of_object exchange o ≡ o) → test x ≡ true) where
@@ -219,7 +219,7 @@ module _ {X : Type 0} (test : X → Bool) (xs : List X) (named_by : X → List �
       (λ all. all-from test xs (one_keeps all))
       (λ all. all-from (pair_keeps test xs rows) exchange (λ pair _. and_from (keeps_at test xs rows pair.0) (keeps_at test xs rows pair.1) (all_keep all pair.0) (all_keep all pair.1)))
 
--- an atom whose objects stay is its own image
+-- an atom with fixed objects is its own image
 still_atom : (to : ℕ → ℕ) (a : task.Atom) → ((o : ℕ) → Contains a.objects o → to o ≡ o) → image_of_atom to a ≡ a
 still_atom to a stay = λ i. record { predicate = a.predicate; objects = each a.objects stay i }
   where

@@ -1,4 +1,4 @@
--- The code's exchanges, in the terms of the definitions.
+-- The code's exchanges, in the definitions' terms.
 use Rattle.std.specs.Prelude.{ℕ}
 use Rattle.task_symmetries.specs.declared.exchange.Exchange.{Exchange}
 use Rattle.task_symmetries.specs.Pairs.{pairs_in}
@@ -7,6 +7,6 @@ use Rattle.symmetries.specs.Exchanges as exchanges
 abbrev pub exchange_of : Exchange → exchanges.Exchange
 exchange_of e = pairs_in e.pairs.items
 
--- the object that comes into the place of one
+-- the image of an object
 abbrev pub image : Exchange → ℕ → ℕ
 image e = exchanges.image_of_object (exchange_of e)

@@ -1,4 +1,4 @@
--- Formulas that are lent, in the model's terms.
+-- Borrowed formulas, in the model's terms.
 use Rattle.std.specs.Prelude.{◌≡◌, Bool, List, [], ◌∷◌, map, Option, None, Some}
 use Rattle.std.specs.List.{list_all, list_any}
 use Rattle.std.specs.Borrow.{Bor}
@@ -20,11 +20,11 @@ listed (task.more_formulas first rest) = first ∷ listed rest
 abbrev pub formulas_lent : List (Bor Formula) → List task.Formula
 formulas_lent formulas = map lent_formula formulas
 
--- Both lists have the same formulas, by whatever test.
+-- Both lists contain the same formulas, for any test.
 abbrev pub PassAlike : List task.Formula → List task.Formula → Type 0
 PassAlike one other = (p : task.Formula → Bool) → (list_all p one ≡ list_all p other) × (list_any p one ≡ list_any p other)
 
--- the parts of a formula that is an `and`, and of one that is an `or`
+-- the parts of an `and`, and of an `or`
 abbrev pub and_parts : task.Formula → Option (List task.Formula)
 and_parts (task.and parts) = Some (listed parts)
 and_parts other = None

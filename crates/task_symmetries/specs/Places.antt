@@ -1,4 +1,4 @@
--- Tables of the places at which objects are named.
+-- Tables of the indices at which objects are named.
 use Rattle.std.specs.Prelude.{◌≡◌, ℕ, true, ◌&&◌, ◌||◌, ◌==◌, List, [], map, slice_get, Some}
 use Rattle.std.specs.Global.{Vec}
 use Rattle.std.specs.Option.{option_map_or}
@@ -6,21 +6,21 @@ use Rattle.task_symmetries.specs.declared.places.PlacesByObject.{PlacesByObject}
 use Rattle.task_symmetries.specs.Named.{is_among}
 use Rattle.model.specs.Task.{Atom, FunctionValue}
 
--- the places of an object, and none past the last row
+-- the indices for an object; empty past the last row
 abbrev pub row_of : PlacesByObject → ℕ → List ℕ
 row_of t o = option_map_or (λ (row : Vec ℕ). row.items) (slice_get t.rows.items o) []
 
 abbrev pub functions_of : List FunctionValue → List Atom
 functions_of values = map (λ (v : FunctionValue). v.function) values
 
--- the place comes to the rows of these objects
+-- the index is added to the rows of these objects
 abbrev pub IsAdded : ℕ → List ℕ → PlacesByObject → PlacesByObject → Type 0
 IsAdded place objects old new = (o p : ℕ) → is_among (row_of new o) p ≡ (is_among (row_of old o) p || (is_among objects o && place == p))
 
--- the place of this atom, if it has one, comes to the rows of its objects
+-- the index of this atom, if there is one, is added to the rows of its objects
 abbrev pub IsAddedAt : List Atom → ℕ → PlacesByObject → PlacesByObject → Type 0
 IsAddedAt atoms place old new = IsAdded place (option_map_or (λ (a : Atom). a.objects) (slice_get atoms place) []) old new
 
--- the place of an atom is in the rows of its objects
+-- the index of an atom is in the rows of its objects
 abbrev pub Covers : List Atom → PlacesByObject → Type 0
 Covers atoms t = (place : ℕ) (a : Atom) → slice_get atoms place ≡ Some a → (o : ℕ) → is_among a.objects o ≡ true → is_among (row_of t o) place ≡ true

@@ -8,7 +8,8 @@ use faults::NoMemory;
 use std::alloc::Global;
 use task::Formula;
 
-/// The parts of the formula's outermost `and`, and those of an `and` that is such a part; else the formula itself.
+/// The conjuncts of the formula: the parts of its outermost `and`, with nested `and`s flattened; or the formula itself if it is
+/// not an `and`.
 pub(crate) fn conjuncts<'t>(
     alloc: Global,
     formula: &'t Formula,
@@ -20,7 +21,7 @@ pub(crate) fn conjuncts<'t>(
     Ok(found)
 }
 
-/// Adds those of the formula.
+/// Adds the conjuncts of the formula.
 fn add_conjuncts<'t>(formula: &'t Formula, found: &mut Vec<&'t Formula>) -> Result<(), NoMemory>
     ensures { OnOk result (formulas_lent found.new.items ≡ formulas_lent found.old.items ++ defined.conjuncts (formula_of formula.now)) }
 {

@@ -1,4 +1,4 @@
-//! Exchanges of objects of a task.
+//! Exchanges of objects of a task: products of disjoint transpositions.
 ghost use Rattle.std.specs.Prelude.{◌≡◌, ℕ, true, map, IfOk};
 ghost use Rattle.std.specs.List.{list_all};
 ghost use Rattle.std.specs.Option.{option_map};
@@ -15,11 +15,11 @@ use indexmap::{IndexMap, IndexSet};
 use std::alloc::Global;
 use task::{ObjectId, Task};
 
-/// Objects, all different, that change places two by two.
+/// Pairs of objects that change places. All objects are different.
 #[derive(Drop)]
 pub struct Exchange {
     pairs: Vec<(ObjectId, ObjectId)>,
-    /// What comes into the place of each of them.
+    /// The image of each of these objects.
     images: IndexMap<ObjectId, ObjectId>,
     ghost different: { exchanges.are_different (objects_in (pairs_in pairs.items)) ≡ true } by { Prim.hlevel props },
     ghost imaged: { (o : ℕ) → image_in images.entries o ≡ image_of_object (pairs_in pairs.items) o } by { Prim.hlevel props },
@@ -28,11 +28,11 @@ pub struct Exchange {
 impl Exchange {
     ghost use Rattle.task_symmetries.specs.Exchange.{exchange_of, image};
 
-    /// The exchange of these objects: the first and the second change places, the third and the fourth, and so on. `None`, unless
-    /// they are different objects of the task and their number is even.
+    /// The exchange that swaps the first object with the second, the third with the fourth, and so on. `None` unless they are
+    /// different objects of the task and their number is even.
     ///
     /// # Errors
-    /// Memory was refused, which says nothing of the objects.
+    /// An allocation failed, which says nothing about the objects.
     pub fn new(
         alloc: Global,
         task: &Task,
@@ -54,14 +54,14 @@ impl Exchange {
         Ok(Some(Exchange { pairs, images }))
     }
 
-    /// The pairs of objects that change places.
+    /// The transpositions: pairs of objects that change places.
     pub fn pairs(&self) -> &[(ObjectId, ObjectId)]
         ensures { pairs_in result.now ≡ exchange_of self.now }
     {
         self.pairs.as_slice()
     }
 
-    /// The object that comes into the place of this one: the object itself, if it is in no pair.
+    /// The image of this object: the object itself if it is in no pair.
     pub fn image(&self, object: ObjectId) -> ObjectId
         ensures { result.0 ≡ image self.now object.0 }
     {
@@ -84,7 +84,7 @@ fn are_objects(task: &Task, objects: &[ObjectId]) -> bool
     true
 }
 
-/// Whether no object is there twice.
+/// Whether all objects are different.
 fn are_different(alloc: Global, objects: &[ObjectId]) -> Result<bool, NoMemory>
     ensures { IfOk result (λ different. different ≡ exchanges.are_different (map object_of objects.now)) }
 {
@@ -98,7 +98,7 @@ fn are_different(alloc: Global, objects: &[ObjectId]) -> Result<bool, NoMemory>
     Ok(true)
 }
 
-/// The objects two by two, if none is left over.
+/// The objects in pairs; `None` if one is left over.
 fn pairs_of(
     alloc: Global,
     objects: &[ObjectId],
@@ -118,8 +118,7 @@ fn pairs_of(
     }
 }
 
-/// What comes into the place of each object of the pairs. They are gone through from the last one, as an earlier pair decides where
-/// two have one object.
+/// The image of each object in the pairs. They are entered last to first: if two pairs share an object, the earlier pair decides.
 fn images_of(
     alloc: Global,
     pairs: &[(ObjectId, ObjectId)],

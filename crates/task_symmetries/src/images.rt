@@ -1,4 +1,4 @@
-//! What becomes of atoms, and whether a formula is the image of another.
+//! Images of atoms, and the test whether a formula is the image of another.
 ghost use Rattle.std.specs.Prelude.{◌≡◌, map, nat_eq};
 ghost use Rattle.std.specs.Cmp.Lexicographic.{pointwise};
 ghost use Rattle.std.specs.Option.{option_map};
@@ -70,7 +70,7 @@ pub(crate) fn is_image(exchange: &Exchange, formula: &Formula, other: &Formula) 
     }
 }
 
-/// Whether there are as many formulas, and each is the image of the one in its place.
+/// Whether the lists have the same length, and each formula is the image of the one at its index.
 #[cycle(is_image)]
 fn are_images(exchange: &Exchange, formulas: &[Formula], others: &[Formula]) -> bool
     ensures { result ≡ pointwise (λ f g. is_same_formula (image_of_formula (image exchange.now) f) g) (map formula_of formulas.now) (map formula_of others.now) }
@@ -136,7 +136,7 @@ fn is_image_of_lifted(exchange: &Exchange, atom: &LiftedAtom, other: &LiftedAtom
         && are_images_of_terms(exchange, &atom.terms, &other.terms)
 }
 
-/// Whether there are as many terms, and each is the image of the one in its place.
+/// Whether the lists have the same length, and each term is the image of the one at its index.
 fn are_images_of_terms(exchange: &Exchange, terms: &[Term], others: &[Term]) -> bool
     ensures { result ≡ pointwise is_same_term (map (image_of_term (image exchange.now)) (map term_of terms.now)) (map term_of others.now) }
 {
@@ -167,7 +167,7 @@ fn is_image_of_term(exchange: &Exchange, term: &Term, other: &Term) -> bool
     }
 }
 
-/// Whether both are the same types, in one order.
+/// Whether both are the same types in the same order.
 fn are_same(types: &TypeUnion, others: &TypeUnion) -> bool
     ensures { result ≡ pointwise nat_eq (union_of types.now) (union_of others.now) }
 {

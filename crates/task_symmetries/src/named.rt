@@ -11,15 +11,15 @@ use faults::NoMemory;
 use std::alloc::Global;
 use task::{Effect, EffectLiteral, Formula, Increase, ObjectId, Schema, SchemaId, Task, Term};
 
-/// Which objects actions of a task name: in a precondition, an effect or an increase.
+/// The objects that the task's actions name in a precondition, an effect or a cost increase.
 #[derive(Drop)]
 pub(crate) struct NamedObjects {
-    /// For each object, by its number, up to the last that is named.
+    /// Indexed by object, up to the last one that is named.
     table: Vec<bool>,
 }
 
 impl NamedObjects {
-    /// Those of the task.
+    /// The named objects of the task.
     pub(crate) fn new(alloc: Global, task: &Task) -> Result<NamedObjects, NoMemory>
         ensures { IfOk result (λ named. AreNamedIn (task_of task.now) named.table.items) }
     {
@@ -33,7 +33,7 @@ impl NamedObjects {
         Ok(NamedObjects { table })
     }
 
-    /// Whether the object is one of these.
+    /// Whether the object is named.
     pub(crate) fn contains(&self, object: ObjectId) -> bool
         ensures { result ≡ is_marked self.now.table.items object.0 }
     {
@@ -124,7 +124,7 @@ fn mark_literal(literal: &EffectLiteral, table: &mut Vec<bool>) -> Result<(), No
     }
 }
 
-/// Marks the objects that the total cost is increased by.
+/// Marks the objects that the cost increase names.
 fn mark_increase(increase: &Increase, table: &mut Vec<bool>) -> Result<(), NoMemory>
     ensures { OnOk result (MarksAll (defined.named_in_increase (increase_of increase.now)) table.old.items table.new.items) }
 {

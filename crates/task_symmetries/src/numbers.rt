@@ -1,4 +1,4 @@
-//! The numbered atoms that an exchange takes to one another.
+//! The numbered atoms that an exchange swaps.
 ghost use Rattle.std.specs.Prelude.{◌≡◌, ◌<◌, ◌++◌, ◌∷◌, [], nat_lt, if◌then◌else◌, is_some, length, map, IfOk, IfSome, OnOk};
 ghost use Rattle.task.specs.TaskParts.{atom_of};
 ghost use Rattle.task_symmetries.specs.Exchange.{exchange_of, image};
@@ -12,11 +12,11 @@ use indexmap::IndexSet;
 use std::alloc::Global;
 use task::Atom;
 
-/// The pairs of numbers of atoms that the exchange takes to one another, each with its lower number first, the lowest ones first. An
-/// atom's number is its place. `None`, if the image of one of the atoms is none of them.
+/// The pairs of atoms, by number, that the exchange swaps: the lower number first in each pair, and the pairs in ascending order.
+/// An atom's number is its index. `None` if the image of some atom is not among the atoms.
 ///
 /// # Errors
-/// Memory was refused, which says nothing of the atoms.
+/// An allocation failed, which says nothing about the atoms.
 pub fn exchanged_numbers(
     alloc: Global,
     atoms: &IndexSet<Atom>,
@@ -35,7 +35,7 @@ pub fn exchanged_numbers(
     Ok(Some(pairs))
 }
 
-/// The number of the image of the atom of this number, if there is one.
+/// The number of the image of the atom with this number, if there is one.
 fn number_of_image(atoms: &IndexSet<Atom>, exchange: &Exchange, number: usize) -> Option<usize>
     ensures { result ≡ defined.image_number (map atom_of atoms.now.keys) (image exchange.now) number }
 {
@@ -46,7 +46,7 @@ fn number_of_image(atoms: &IndexSet<Atom>, exchange: &Exchange, number: usize) -
     atoms.get_index_of(&image)
 }
 
-/// Adds the pair of these numbers, if the first is the lower one.
+/// Adds this pair of numbers if the first is the lower one.
 fn add_if_rising(
     number: usize,
     other: usize,

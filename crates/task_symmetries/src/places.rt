@@ -1,4 +1,4 @@
-//! Which places of a list name an object.
+//! An index from objects to the list entries that name them.
 ghost use Rattle.std.specs.Prelude.{◌≡◌, ℕ, ◌<◌, ◌++◌, ◌∷◌, [], ◌==◌, if◌then◌else◌, length, map, slice_get, IfOk, OnOk};
 ghost use Rattle.std.specs.Option.{option_map};
 ghost use Rattle.task.specs.TaskParts.{atom_of, object_of, value_of};
@@ -9,7 +9,7 @@ use indexmap::IndexMap;
 use std::alloc::Global;
 use task::{Atom, ObjectId};
 
-/// For each object, by its number, the places of what names it.
+/// For each object, by number, the indices of the entries that name it.
 #[derive(Drop)]
 pub(crate) struct PlacesByObject {
     alloc: Global,
@@ -17,7 +17,7 @@ pub(crate) struct PlacesByObject {
 }
 
 impl PlacesByObject {
-    /// Those of the atoms.
+    /// The index of the atoms.
     pub(crate) fn of_atoms(alloc: Global, atoms: &[Atom]) -> Result<PlacesByObject, NoMemory>
         ensures { IfOk result (Covers (map atom_of atoms.now)) }
     {
@@ -28,7 +28,7 @@ impl PlacesByObject {
         Ok(places)
     }
 
-    /// Those of the functions that have values.
+    /// The index of the functions that have values.
     pub(crate) fn of_functions(
         alloc: Global,
         values: &IndexMap<Atom, u32>,
@@ -42,7 +42,7 @@ impl PlacesByObject {
         Ok(places)
     }
 
-    /// The function at this place has this place, if there is one.
+    /// Enters the function at this index, if there is one.
     fn add_function(&mut self, values: &IndexMap<Atom, u32>, place: usize) -> Result<(), NoMemory>
         ensures { OnOk result (IsAddedAt (functions_of (map value_of values.now.entries)) place self.old self.new) }
     {
@@ -52,7 +52,7 @@ impl PlacesByObject {
         }
     }
 
-    /// None for any object.
+    /// An empty index.
     fn none(alloc: Global) -> PlacesByObject
         ensures { (o : ℕ) → row_of result o ≡ [] }
     {
@@ -62,7 +62,7 @@ impl PlacesByObject {
         }
     }
 
-    /// The places of what names the object.
+    /// The indices of the entries that name the object.
     pub(crate) fn of(&self, object: ObjectId) -> &[usize]
         ensures { result.now ≡ row_of self.now object.0 }
     {
@@ -72,7 +72,7 @@ impl PlacesByObject {
         }
     }
 
-    /// What is at this place names these objects.
+    /// Enters that the entry at this index names these objects.
     fn add(&mut self, objects: &[ObjectId], place: usize) -> Result<(), NoMemory>
         ensures { OnOk result (IsAdded place (map object_of objects.now) self.old self.new) }
     {
@@ -83,7 +83,7 @@ impl PlacesByObject {
         Ok(())
     }
 
-    /// Gives the object a row, if it has none.
+    /// Ensures that the object has a row.
     fn grow(&mut self, object: ObjectId) -> Result<(), NoMemory>
         ensures within { OnOk result (object.0 < length self.new.rows.items) }
         ensures rows { OnOk result ((o : ℕ) → row_of self.new o ≡ row_of self.old o) }
@@ -94,7 +94,7 @@ impl PlacesByObject {
         Ok(())
     }
 
-    /// Adds the place to the object's row.
+    /// Adds the index to the object's row.
     fn push(&mut self, object: ObjectId, place: usize) -> Result<(), NoMemory>
         requires { object.0 < length self.old.rows.items }
         ensures { OnOk result ((o : ℕ) → row_of self.new o ≡ (if o == object.0 then row_of self.old o ++ place ∷ [] else row_of self.old o)) }
@@ -104,7 +104,7 @@ impl PlacesByObject {
     }
 }
 
-/// The function at this place, if there is one.
+/// The function at this index, if there is one.
 fn function_at(values: &IndexMap<Atom, u32>, place: usize) -> Option<&Atom>
     ensures { option_map (λ function. atom_of function.now) result ≡ slice_get (functions_of (map value_of values.now.entries)) place }
 {

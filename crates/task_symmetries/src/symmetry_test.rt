@@ -22,17 +22,17 @@ use formulas::{FluentPredicates, State};
 use std::alloc::Global;
 use task::{Atom, Formula, ObjectId, PredicateId, Task};
 
-/// Tells which exchanges are symmetries of a task. What the tests of several exchanges share is found once.
+/// Tests whether exchanges are symmetries of a task. Data shared by several tests is computed once.
 #[derive(Drop)]
 pub struct SymmetryTest<'t> {
     task: &'t Task,
     named: NamedObjects,
     fluents: FluentPredicates,
     initial: State,
-    /// Where the atoms of the start name an object, and where the functions that have values do.
+    /// Where the initial atoms name an object, and where the functions with values do.
     atoms: PlacesByObject,
     functions: PlacesByObject,
-    /// Those of the goal.
+    /// The conjuncts of the goal.
     conjuncts: Vec<&'t Formula>,
     ghost are_named: { AreNamedIn (task_of task.now) named.table.items } by { Prim.hlevel props },
     ghost are_fluents: { AreFluentsOf (task_of task.now) fluents } by { Prim.hlevel props },
@@ -56,10 +56,10 @@ impl<'t> SymmetryTest<'t> {
     ghost use Rattle.model.specs.NumberedAtoms.{occurs_in};
     ghost use Rattle.symmetries.specs.NamedObjects.{named_in_actions};
 
-    /// That of the task.
+    /// Prepares the test for the task.
     ///
     /// # Errors
-    /// Memory was refused, which says nothing of the task.
+    /// An allocation failed, which says nothing about the task.
     pub fn new(alloc: Global, task: &'t Task) -> Result<SymmetryTest<'t>, NoMemory>
         ensures { IfOk result (λ test. task_tested test ≡ task_of task.now) }
     {
@@ -80,7 +80,7 @@ impl<'t> SymmetryTest<'t> {
         })
     }
 
-    /// Whether the exchange is a symmetry of the task. No memory is taken.
+    /// Whether the exchange is a symmetry of the task. Nothing is allocated.
     pub fn is_symmetry(&self, exchange: &Exchange) -> bool
         ensures { result ≡ defined.is_symmetry (task_tested self.now) (exchange_of exchange.now) }
     {
@@ -99,7 +99,7 @@ impl<'t> SymmetryTest<'t> {
         self.keeps_goal(exchange)
     }
 
-    /// Whether the objects of each pair are declared with one type.
+    /// Whether the objects of each pair have the same declared type.
     fn keeps_types(&self, exchange: &Exchange) -> bool
         ensures { result ≡ defined.keeps_types (task_tested self.now) (exchange_of exchange.now) }
     {
@@ -111,7 +111,7 @@ impl<'t> SymmetryTest<'t> {
         true
     }
 
-    /// Whether both objects are declared with one type.
+    /// Whether both objects have the same declared type.
     fn have_one_type(&self, one: ObjectId, other: ObjectId) -> bool
         ensures { result ≡ option_eq nat_eq (defined.declared_type (task_tested self.now) one.0) (defined.declared_type (task_tested self.now) other.0) }
     {
@@ -120,7 +120,7 @@ impl<'t> SymmetryTest<'t> {
         first == second
     }
 
-    /// Whether no action names an object that is exchanged.
+    /// Whether no action names an exchanged object.
     fn keeps_actions(&self, exchange: &Exchange) -> bool
         ensures { result ≡ defined.keeps_actions (task_tested self.now) (image exchange.now) }
     {
@@ -146,7 +146,7 @@ impl<'t> SymmetryTest<'t> {
         self.named.contains(object)
     }
 
-    /// Whether each function has the value of its image. Only functions of objects that are exchanged may lack it.
+    /// Whether each function has the same value as its image. Only functions of exchanged objects can fail.
     fn keeps_values(&self, exchange: &Exchange) -> bool
         ensures { result ≡ defined.keeps_values (task_tested self.now) (image exchange.now) }
     {
@@ -158,7 +158,7 @@ impl<'t> SymmetryTest<'t> {
         true
     }
 
-    /// Whether each function of one of the objects has the value of its image.
+    /// Whether each function of one of the objects has the same value as its image.
     fn keeps_values_of_pair(&self, exchange: &Exchange, one: ObjectId, other: ObjectId) -> bool
         ensures { result ≡ (keeps_at (keeps_value (task_tested self.now) (image exchange.now)) (task_tested self.now).values (row_of self.now.functions) one.0
             && keeps_at (keeps_value (task_tested self.now) (image exchange.now)) (task_tested self.now).values (row_of self.now.functions) other.0) }
@@ -166,7 +166,7 @@ impl<'t> SymmetryTest<'t> {
         self.keeps_values_of(exchange, one) && self.keeps_values_of(exchange, other)
     }
 
-    /// Whether each function of the object has the value of its image.
+    /// Whether each function of the object has the same value as its image.
     fn keeps_values_of(&self, exchange: &Exchange, object: ObjectId) -> bool
         ensures { result ≡ keeps_at (keeps_value (task_tested self.now) (image exchange.now)) (task_tested self.now).values (row_of self.now.functions) object.0 }
     {
@@ -178,7 +178,7 @@ impl<'t> SymmetryTest<'t> {
         true
     }
 
-    /// Whether the function that is given a value at this place, if one is, has that of its image.
+    /// Whether the function valued at this index, if there is one, has the same value as its image.
     fn keeps_value_at(&self, exchange: &Exchange, place: usize) -> bool
         ensures { result ≡ option_map_or (keeps_value (task_tested self.now) (image exchange.now)) (slice_get (task_tested self.now).values place) true }
     {
@@ -188,7 +188,7 @@ impl<'t> SymmetryTest<'t> {
         }
     }
 
-    /// Whether the function has the value of its image.
+    /// Whether the function has the same value as its image.
     fn keeps_value(&self, exchange: &Exchange, function: &Atom) -> bool
         ensures { result ≡ keeps_value_of (task_tested self.now) (image exchange.now) (atom_of function.now) }
     {
@@ -198,8 +198,8 @@ impl<'t> SymmetryTest<'t> {
         value_of_image == value
     }
 
-    /// Whether the image of each static atom of the start is true at the start. Only an atom that names objects that are exchanged
-    /// has another image than itself.
+    /// Whether the image of each static initial atom is initially true. Only an atom that names exchanged objects differs from
+    /// its image.
     fn keeps_statics(&self, exchange: &Exchange) -> bool
         ensures { result ≡ defined.keeps_statics (task_tested self.now) (image exchange.now) }
     {
@@ -211,7 +211,7 @@ impl<'t> SymmetryTest<'t> {
         true
     }
 
-    /// Whether each atom of the start that names one of the objects is fluent, or its image is true at the start.
+    /// Whether each initial atom that names one of the objects is fluent, or has an initially true image.
     fn keeps_atoms_of_pair(&self, exchange: &Exchange, one: ObjectId, other: ObjectId) -> bool
         ensures { result ≡ (keeps_at (keeps_atom (task_tested self.now) (image exchange.now)) (task_tested self.now).init (row_of self.now.atoms) one.0
             && keeps_at (keeps_atom (task_tested self.now) (image exchange.now)) (task_tested self.now).init (row_of self.now.atoms) other.0) }
@@ -219,7 +219,7 @@ impl<'t> SymmetryTest<'t> {
         self.keeps_atoms_of(exchange, one) && self.keeps_atoms_of(exchange, other)
     }
 
-    /// Whether each atom of the start that names the object is fluent, or its image is true at the start.
+    /// Whether each initial atom that names the object is fluent, or has an initially true image.
     fn keeps_atoms_of(&self, exchange: &Exchange, object: ObjectId) -> bool
         ensures { result ≡ keeps_at (keeps_atom (task_tested self.now) (image exchange.now)) (task_tested self.now).init (row_of self.now.atoms) object.0 }
     {
@@ -231,7 +231,7 @@ impl<'t> SymmetryTest<'t> {
         true
     }
 
-    /// Whether the atom at this place of the start, if there is one, is fluent, or its image is true at the start.
+    /// Whether the initial atom at this index, if there is one, is fluent or has an initially true image.
     fn keeps_atom_at(&self, exchange: &Exchange, place: usize) -> bool
         ensures { result ≡ option_map_or (keeps_atom (task_tested self.now) (image exchange.now)) (slice_get (task_tested self.now).init place) true }
     {
@@ -241,7 +241,7 @@ impl<'t> SymmetryTest<'t> {
         }
     }
 
-    /// Whether the atom is fluent, or its image is true at the start.
+    /// Whether the atom is fluent or has an initially true image.
     fn keeps_atom(&self, exchange: &Exchange, atom: &Atom) -> bool
         ensures { result ≡ keeps_atom (task_tested self.now) (image exchange.now) (atom_of atom.now) }
     {
@@ -259,14 +259,14 @@ impl<'t> SymmetryTest<'t> {
         self.fluents.contains(predicate)
     }
 
-    /// Whether the atom is true at the start.
+    /// Whether the atom is initially true.
     fn is_initial(&self, atom: &Atom) -> bool
         ensures { result ≡ occurs_in (task_tested self.now).init (atom_of atom.now) }
     {
         self.initial.contains(atom)
     }
 
-    /// Whether the image of each conjunct of the goal is one of them.
+    /// Whether the image of each conjunct of the goal is a conjunct of the goal.
     fn keeps_goal(&self, exchange: &Exchange) -> bool
         ensures { result ≡ defined.keeps_goal (task_tested self.now) (image exchange.now) }
     {
@@ -278,7 +278,7 @@ impl<'t> SymmetryTest<'t> {
         true
     }
 
-    /// Whether the image of the conjunct at this place, if there is one, is a conjunct of the goal. Most are their own images.
+    /// Whether the image of the conjunct at this index, if there is one, is a conjunct of the goal. Most are their own images.
     fn has_image_at(&self, exchange: &Exchange, place: usize) -> bool
         ensures { result ≡ option_map_or (has_image (task_tested self.now) (image exchange.now)) (option_map lent_formula (slice_get self.now.conjuncts.items place)) true }
     {

@@ -1,4 +1,4 @@
--- Where the first file of a name is in a table, and what a table holds once a file was put into it.
+-- The index of the first file with a name in a table, and the contents of the table after a file was put into it.
 use Rattle.std.proofs.Common.{◌≡◌, ◌≢◌, ℕ, zero, suc, ◌+◌, ◌<◌, ◌≤◌, nat_lt, Bool, true, false, not, cond, List, [], ◌∷◌, ◌++◌, drop, set, length, Option, None, Some, refl, sym, ◌∙◌, ap, subst, arith, if◌then◌else◌}
 use Rattle.std.proofs.lemmas.Bool.Decides.{nat_tests}
 use Rattle.std.proofs.lemmas.Slice.Eq.{bytes_eq-Decides}
@@ -33,8 +33,7 @@ contents_past [] (suc i) name h = refl
 contents_past (x ∷ rest) zero name h = absurd (omega (arith, h))
 contents_past (x ∷ rest) (suc i) name h = contents_past rest i name (omega (arith, h))
 
--- What the entries hold where the first file of this name is written anew, or where a file of a name that none has
--- is at their end.
+-- The entries after the first file with this name is replaced, or after a file with a new name is appended.
 one_after : (n : ℕ) → 1 + n ≡ suc n
 one_after n = omega arith
 
@@ -89,7 +88,7 @@ module _ {X : Type 0} (given : Entry → Option X) (entry : Entry) (name : List 
   pushed_elsewhere other differs [] = ap (λ b. if b then given entry else None) (is_no_other entry name other same differs)
   pushed_elsewhere other differs (x ∷ rest) = ap (λ found. if is_named other x then given x else found) (pushed_elsewhere other differs rest)
 
-  -- a file is put at the place of the first of its name, or at the end where none has it
+  -- a file is put at the index of the first with its name, or at the end if there is none
   pub put_at_place : (entries : List Entry) (i : ℕ) → Some i ≡ position (is_named name) entries → Puts (first_of given entries) (first_of given (set entries i entry)) name (given entry)
   put_at_place entries i is =
       elim (nat_lt (position_or_len (is_named name) entries) (length entries)) as (λ b. nat_lt (position_or_len (is_named name) entries) (length entries) ≡ b

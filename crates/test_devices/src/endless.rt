@@ -1,15 +1,15 @@
-//! A device whose bytes never end, for tests.
+//! An endless device, for tests.
 ghost use Rattle.std.specs.Prelude.{◌≡◌, ◌<◌, ◌≤◌, ◌++◌, drop, length, min, take, vec_len};
 
 use devices::{DeviceFault, Source, fill};
 
-/// A source of a text, and then of the same bytes again and again. It never ends, and it never fails.
+/// A source that gives a text and then the same bytes over and over. It never ends and never fails.
 #[derive(Drop)]
 pub struct Endless {
     text: Vec<u8>,
     again: Vec<u8>,
     text_read: usize,
-    // of the bytes that come again, since they last began
+    // How many of the repeated bytes were read since they last began.
     again_read: usize,
     ghost in_text: { text_read ≤ vec_len text },
     ghost in_again: { again_read < vec_len again },
@@ -18,7 +18,7 @@ pub struct Endless {
 impl Endless {
     ghost use Rattle.test_devices.specs.Endless.{again as bytes_again, left};
 
-    /// The text, and then these bytes for ever, of which there is one at least.
+    /// The text, then these bytes repeated forever. There must be at least one.
     pub fn new(text: Vec<u8>, again: Vec<u8>) -> Endless
         requires { 0 < vec_len again }
         ensures left { left result ≡ text.items ++ again.items }

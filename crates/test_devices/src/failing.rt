@@ -4,12 +4,12 @@ ghost use Rattle.devices.specs.Devices.{one_more};
 
 use devices::{DeviceFault, IoFault, Sink, Source};
 
-/// A device that fails at one call, and else does what the device in it does.
+/// A device that fails at one call and otherwise behaves like the device inside it.
 #[derive(Drop)]
 pub struct FailsAt<D> {
-    /// The device in it.
+    /// The device inside.
     pub inner: D,
-    // how many calls succeed before the one that fails, and `None` where none will
+    // How many calls succeed before the one that fails; `None` if none fails.
     calls_before: Option<u64>,
     failures: u64,
 }
@@ -17,7 +17,7 @@ pub struct FailsAt<D> {
 impl<D> FailsAt<D> {
     ghost use Rattle.test_devices.specs.Failing.{after_a_call, calls_left, fails_now};
 
-    /// The device, failing once, at the call after so many; at `None` it never fails of itself.
+    /// The device, failing once after this many calls; with `None` it never fails by itself.
     pub fn new(inner: D, calls_before: Option<u64>) -> FailsAt<D>
         ensures inner { result.inner ≡ inner }
         ensures calls { calls_left result ≡ calls_before }
@@ -29,7 +29,7 @@ impl<D> FailsAt<D> {
         }
     }
 
-    /// Whether the call that begins is the one that fails.
+    /// Whether the call that begins now is the one that fails.
     fn is_failing_call(&mut self) -> bool
         ensures fails { result ≡ fails_now (calls_left self.old) }
         ensures calls { calls_left self.new ≡ after_a_call (calls_left self.old) }
@@ -61,7 +61,7 @@ impl<D> FailsAt<D> {
 impl<S: Source> FailsAt<S> {
     ghost use Rattle.test_devices.specs.Failing.{calls_left};
 
-    /// The same as a source of which no read has failed yet.
+    /// The same, as a source with no failed read.
     pub fn source(inner: S, reads_before: Option<u64>) -> FailsAt<S>
         ensures failures { ⟦<FailsAt<S> as Source>⟧.failures result ≡ 0 }
         ensures remaining { ⟦<FailsAt<S> as Source>⟧.remaining result ≡ S.remaining inner }
@@ -75,7 +75,7 @@ impl<S: Source> FailsAt<S> {
         }
     }
 
-    /// How often a read of it has failed.
+    /// How often reading has failed.
     pub fn failed_reads(&self) -> u64
         ensures { result ≡ ⟦<FailsAt<S> as Source>⟧.failures self.now }
     {
@@ -126,7 +126,7 @@ impl<S: Source> Source for FailsAt<S> {
 impl<S: Sink> FailsAt<S> {
     ghost use Rattle.test_devices.specs.Failing.{calls_left};
 
-    /// The same as a sink of which no write has failed yet.
+    /// The same, as a sink with no failed write.
     pub fn sink(inner: S, writes_before: Option<u64>) -> FailsAt<S>
         ensures failures { ⟦<FailsAt<S> as Sink>⟧.failures result ≡ 0 }
         ensures taken { ⟦<FailsAt<S> as Sink>⟧.taken result ≡ S.taken inner }
@@ -140,7 +140,7 @@ impl<S: Sink> FailsAt<S> {
         }
     }
 
-    /// How often a write of it has failed. A write that is refused for running out of memory has not.
+    /// How often writing has failed. A write that fails for want of memory does not count.
     pub fn failed_writes(&self) -> u64
         ensures { result ≡ ⟦<FailsAt<S> as Sink>⟧.failures self.now }
     {

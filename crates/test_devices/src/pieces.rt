@@ -1,12 +1,12 @@
-//! A device that comes in pieces, for tests.
+//! A device that works in pieces, for tests.
 ghost use Rattle.std.specs.Prelude.{◌≡◌, ◌<◌, ◌≤◌, length, min};
 
 use devices::{DeviceFault, IoFault, Sink, Source};
 
-/// A device that moves at most so many bytes at a call.
+/// A device that moves a limited number of bytes per call.
 #[derive(Drop)]
 pub struct InPieces<D> {
-    /// The device in it.
+    /// The device inside.
     pub inner: D,
     length: usize,
     ghost some: { 0 < length },
@@ -15,7 +15,7 @@ pub struct InPieces<D> {
 impl<D> InPieces<D> {
     ghost use Rattle.test_devices.specs.Pieces.{piece_length};
 
-    /// The device, cut into pieces of this length.
+    /// The device, limited to pieces of this length.
     pub fn new(inner: D, length: usize) -> InPieces<D>
         requires { 0 < length }
         ensures inner { result.inner ≡ inner }

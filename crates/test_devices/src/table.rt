@@ -15,7 +15,7 @@ use std::alloc::Global;
 struct Entry {
     name: String,
     bytes: Vec<u8>,
-    // how many reads succeed before the one that fails, and `None` where none fails
+    // How many reads succeed before the one that fails; `None` if none fails.
     reads_before: Option<u64>,
 }
 
@@ -27,7 +27,7 @@ pub struct Table {
     failures: u64,
 }
 
-/// A file of the table that is being written: it is in the table once it is closed.
+/// A file of the table that is being written. It enters the table when it is closed.
 #[derive(Drop)]
 pub struct Draft {
     name: String,
@@ -35,7 +35,7 @@ pub struct Draft {
 }
 
 impl Table {
-    /// No file; no call has failed yet.
+    /// An empty table; no call has failed yet.
     pub fn new(alloc: Global) -> Table
         ensures empty { (name : List ℕ) → ⟦<Table as Files>⟧.contents result name ≡ None }
         ensures failures { ⟦<Table as Files>⟧.failures result ≡ 0 }
@@ -47,7 +47,7 @@ impl Table {
         }
     }
 
-    /// Puts a file into the table, in place of one of that name.
+    /// Puts a file into the table, replacing any with that name.
     pub fn put(&mut self, name: &str, bytes: &[u8]) -> Result<(), NoMemory>
         ensures put { OnOk result (PutsFile self.old self.new name.now bytes.now None) }
         ensures refused { OnErr result (KeepsFiles self.old self.new) }
@@ -58,7 +58,7 @@ impl Table {
         self.insert(name, bytes, None)
     }
 
-    /// Puts a file into the table whose device fails once, at the read after so many.
+    /// Puts a file into the table whose device fails once, after this many reads.
     pub fn put_failing(
         &mut self,
         name: &str,
@@ -74,7 +74,7 @@ impl Table {
         self.insert(name, bytes, Some(reads_before))
     }
 
-    /// The bytes of a file, and `None` where there is none of this name.
+    /// The bytes of a file; `None` if there is none with this name.
     pub fn get(&self, name: &str) -> Option<&[u8]>
         ensures { option_map (λ bytes. bytes.now) result ≡ ⟦<Table as Files>⟧.contents self.now name.now }
     {
@@ -108,7 +108,7 @@ impl Table {
         Ok(())
     }
 
-    /// Where the first file of this name is.
+    /// The index of the first file with this name.
     fn place_of(&self, name: &str) -> Option<usize>
         ensures { result ≡ position (is_named name.now) self.now.entries.items }
     {

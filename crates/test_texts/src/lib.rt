@@ -1,4 +1,4 @@
-//! Texts of tasks that the tests share.
+//! Texts of tasks, shared by the tests.
 #![tactic(auto)]
 
 mod tasks;

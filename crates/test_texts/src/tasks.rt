@@ -1,4 +1,4 @@
-//! Tasks of texts, and their atoms and instances by numbers.
+//! Tasks from texts, with atoms and instances given by numbers.
 use arrayvec::ArrayVec;
 use faults::{Fault, NoMemory};
 use formulas::{Atom, Instance};
@@ -9,16 +9,16 @@ use task::{ObjectId, PredicateId, SchemaId, Task};
 use tokens::scan;
 use typing::FromTrees;
 
-/// A predicate or an action, and its objects, by their numbers.
+/// A predicate or an action applied to objects, all by number.
 pub type Application = (usize, &'static [u32]);
 
-/// The tree of a domain's text.
+/// Parses a domain's text.
 pub fn read_domain(alloc: Global, text: &[u8]) -> Result<Domain<'_>, Fault> {
     let words = scan(alloc, text)?;
     domain(alloc, words.as_slice())
 }
 
-/// The tree of a problem's text.
+/// Parses a problem's text.
 pub fn read_problem(alloc: Global, text: &[u8]) -> Result<Problem<'_>, Fault> {
     let words = scan(alloc, text)?;
     problem(alloc, words.as_slice())
@@ -31,7 +31,7 @@ fn read_task(alloc: Global, texts: &[&str; 2]) -> Result<Task, Fail> {
     Ok(Task::new(alloc, domain, problem)?)
 }
 
-/// Does this with the task of the texts.
+/// Runs this function on the task of the texts.
 pub fn on_task<R, F: FnOnce(&R, Global, &Task) -> Result<(), Fail> + Drop>(
     rt: &R,
     alloc: Global,
@@ -44,7 +44,7 @@ pub fn on_task<R, F: FnOnce(&R, Global, &Task) -> Result<(), Fail> + Drop>(
     act(rt, alloc, &task)
 }
 
-/// The objects of these numbers.
+/// The objects with these numbers.
 fn objects<const N: usize>(numbers: &[u32]) -> ArrayVec<ObjectId, N> {
     let mut objects = ArrayVec::new();
     for number in numbers {
@@ -53,7 +53,7 @@ fn objects<const N: usize>(numbers: &[u32]) -> ArrayVec<ObjectId, N> {
     objects
 }
 
-/// The atom of a predicate and objects.
+/// The atom of this predicate and these objects.
 pub fn atom(predicate: usize, numbers: &[u32]) -> Atom {
     Atom {
         predicate: PredicateId(predicate),
@@ -70,7 +70,7 @@ pub fn atoms(alloc: Global, rows: &[Application]) -> Result<Vec<Atom>, NoMemory>
     Ok(atoms)
 }
 
-/// The instance of a schema with objects.
+/// The instance of this schema with these objects.
 pub fn instance(schema: usize, numbers: &[u32]) -> Instance {
     Instance {
         schema: SchemaId(schema),
@@ -78,7 +78,7 @@ pub fn instance(schema: usize, numbers: &[u32]) -> Instance {
     }
 }
 
-/// Whether the instance is of this schema and these objects.
+/// Whether the instance is this schema with these objects.
 pub fn is_of(found: &Instance, wanted: &Application) -> bool {
     let objects = objects(wanted.1);
     found.schema == SchemaId(wanted.0) && found.objects == objects

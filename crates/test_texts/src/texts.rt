@@ -10,7 +10,7 @@ const GO_DOMAIN: &str = "(define (domain go) (:predicates (p) (q))
 #[rattlefmt::skip]
 pub const GO: Texts = [GO_DOMAIN, "(define (problem g) (:domain go) (:init (p)) (:goal (and (p) (q))))"];
 
-/// The goal holds at the start.
+/// The goal holds initially.
 #[rattlefmt::skip]
 pub const DONE: Texts = [GO_DOMAIN, "(define (problem g) (:domain go) (:init (p)) (:goal (p)))"];
 
@@ -33,7 +33,7 @@ const PATH_DOMAIN: &str = "(define (domain path) (:predicates (at ?x) (road ?x ?
  (:action go :parameters (?x ?y) :precondition (and (at ?x) (road ?x ?y))
   :effect (and (not (at ?x)) (at ?y))))";
 
-/// Three places in a row, of which the last is to be reached.
+/// Three places in a row; the goal is to reach the last.
 pub const PATH: Texts = [
     PATH_DOMAIN,
     "(define (problem p) (:domain path) (:objects a b c)
@@ -47,7 +47,7 @@ pub const FORK: Texts = [
  (:init (at a) (road a b) (road a c)) (:goal (at c)))",
 ];
 
-/// Three places, of which the last is reached by two hops at 3 each, and by a leap at 10.
+/// Three places; the last is reached by two hops of cost 3 each, or by a leap of cost 10.
 pub const HOP: Texts = [
     "(define (domain hop) (:predicates (at ?x) (road ?x ?y) (far ?x ?y)) (:functions (total-cost) - number)
  (:action hop :parameters (?x ?y) :precondition (and (at ?x) (road ?x ?y))
@@ -58,7 +58,7 @@ pub const HOP: Texts = [
  (:goal (at c)) (:metric minimize (total-cost)))",
 ];
 
-/// Of three switches two are turned at a time, and one is to be on.
+/// Two of three switches are turned at a time; one must be on in the end.
 pub const PAIRS: Texts = [
     "(define (domain pairs) (:predicates (on ?s))
  (:action toggle :parameters (?x ?y) :precondition (not (= ?x ?y))
@@ -68,7 +68,7 @@ pub const PAIRS: Texts = [
  (:goal (exists (?s) (and (on ?s) (forall (?t) (or (= ?s ?t) (not (on ?t))))))))",
 ];
 
-/// Two towers of two blocks, of which `b` is in the way of `c`: `b` is moved twice, `c` and `a` once.
+/// Two towers of two blocks, with `b` blocking `c`: `b` is moved twice, `c` and `a` once.
 pub const FOUR_BLOCKS: Texts = [
     "(define (domain blocks)
  (:predicates (on ?x ?y) (on-table ?x) (clear ?x) (holding ?x) (hand-empty))
@@ -85,7 +85,7 @@ pub const FOUR_BLOCKS: Texts = [
  (:goal (and (on a b) (on b c) (on c d))))",
 ];
 
-/// Each of four balls is picked up and dropped, and two of them are carried at a time: three ways between the rooms.
+/// Four balls are picked up and dropped, two of them carried at a time: three trips between the rooms.
 pub const FOUR_BALLS: Texts = [
     "(define (domain gripper)
  (:predicates (room ?r) (ball ?b) (gripper ?g) (at-robot ?r) (at ?b ?r) (free ?g) (carry ?b ?g))
@@ -104,7 +104,7 @@ pub const FOUR_BALLS: Texts = [
  (:goal (and (at b1 b) (at b2 b) (at b3 b) (at b4 b))))",
 ];
 
-/// A condition is read in the state before.
+/// Conditions are evaluated in the state before the step.
 pub const SNAP: Texts = [
     "(define (domain snap) (:predicates (lit) (out))
  (:action snap :parameters () :effect (and (not (lit)) (when (lit) (out)))))",
@@ -117,25 +117,25 @@ const SPIN_DOMAIN: &str =
  (:action back :parameters () :precondition (y) :effect (and (not (y)) (x)))
  (:action pay :parameters () :precondition (y) :effect (and (paid) (increase (total-cost) 4))))";
 
-/// Two steps cost nothing, and lead round.
+/// Two steps cost nothing and form a cycle.
 #[rattlefmt::skip]
 pub const SPIN: Texts = [SPIN_DOMAIN, "(define (problem s) (:domain spin) (:init (x)) (:goal (paid)) (:metric minimize (total-cost)))"];
 
-/// Nothing is true at the start, and no step is applicable.
+/// Nothing is true initially, and no step is applicable.
 #[rattlefmt::skip]
 pub const STILL: Texts = [SPIN_DOMAIN, "(define (problem s) (:domain spin) (:init) (:goal (paid)) (:metric minimize (total-cost)))"];
 
 const BOX_DOMAIN: &str = "(define (domain box) (:types box) (:predicates (open ?b - box)))";
 
-/// There is no box, and no atom: the only state has no word.
+/// There are no boxes and no atoms: packed states have no words.
 #[rattlefmt::skip]
 pub const EACH_BOX: Texts = [BOX_DOMAIN, "(define (problem b) (:domain box) (:init) (:goal (forall (?b - box) (open ?b))))"];
 
-/// The same, and one is to be open.
+/// The same, but one box must be open.
 #[rattlefmt::skip]
 pub const SOME_BOX: Texts = [BOX_DOMAIN, "(define (problem b) (:domain box) (:init) (:goal (exists (?b - box) (open ?b))))"];
 
-/// What an instance costs is a value of its objects.
+/// The cost of an instance is a function of its objects.
 pub const TRIP: Texts = [
     "(define (domain trip) (:predicates (at ?p) (road ?x ?y)) (:functions (len ?x ?y) - number (total-cost) - number)
  (:action go :parameters (?x ?y) :precondition (and (at ?x) (road ?x ?y))
@@ -153,13 +153,13 @@ pub const LAMPS: Texts = [
  (:goal (forall (?s) (on ?s))))",
 ];
 
-/// Tiles on a board, of which one beside the gap slides into it. Cells are no tiles, but no condition says so.
+/// Tiles on a board: a tile next to the gap slides into it. Cells are not tiles, but no condition says so.
 const SLIDE_DOMAIN: &str = "(define (domain slide) (:predicates (at ?t ?c) (gap ?c) (beside ?c ?d))
  (:action slide :parameters (?t ?from ?to) :precondition (and (at ?t ?from) (gap ?to) (beside ?from ?to))
   :effect (and (not (at ?t ?from)) (at ?t ?to) (not (gap ?to)) (gap ?from))))";
 
-/// Five tiles on two rows of three cells, as far from the goal as can be: 21 steps. 360 states are reachable, and a state has
-/// 72 atoms, those of tiles in cells and those of cells in cells, in two words.
+/// Five tiles on two rows of three cells, as far from the goal as possible: 21 steps. There are 360 reachable states, and 72
+/// atoms (tiles in cells and cells in cells), which take two words.
 pub const SLIDE: Texts = [
     SLIDE_DOMAIN,
     "(define (problem far) (:domain slide) (:objects c1 c2 c3 c4 c5 c6 t1 t2 t3 t4 t5)
@@ -169,7 +169,7 @@ pub const SLIDE: Texts = [
  (:goal (and (at t1 c1) (at t2 c2) (at t3 c3) (at t4 c4) (at t5 c5) (gap c6))))",
 ];
 
-/// Two tiles are to change places, which no list of steps does.
+/// Two tiles should be swapped, which is impossible.
 pub const SWAP: Texts = [
     SLIDE_DOMAIN,
     "(define (problem swap) (:domain slide) (:objects c1 c2 c3 c4 c5 c6 t1 t2 t3 t4 t5)

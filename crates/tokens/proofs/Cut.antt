@@ -1,4 +1,4 @@
--- A text is cut into parts in one way: `cut` is that way.
+-- A text is cut into parts in exactly one way, by `cut`.
 use Rattle.std.proofs.Common.{◌≡◌, ℕ, suc, ◌+◌, ◌-◌, ◌<◌, Bool, true, false, cond, List, [], ◌∷◌, ◌++◌, length, get_or, take, drop, sym, refl, ap, ◌∙◌, subst, append_assoc, one-add, arith}
 use Rattle.std.specs.List.{list_all, prefix_len}
 use Rattle.std.proofs.lemmas.List.{append-nil, drop_more, drop-drop}
@@ -13,7 +13,7 @@ with_none part = ap (λ others. let p : Part = record { first = part.first; othe
 with_both : (part : Part) (a b : List ℕ) → with_more (with_more part a) b ≡ with_more part (a ++ b)
 with_both part a b = ap (λ others. let p : Part = record { first = part.first; others = others } in p) (append_assoc part.others a b)
 
--- what goes on is the longest stretch
+-- what continues a part is the longest stretch
 going_is : (part : Part) (rest : List ℕ) → going part rest ≡ with_more part (take (prefix_len (goes_on (form part)) rest) rest) ∷ cut (drop (prefix_len (goes_on (form part)) rest) rest)
 going_is part [] = ap (λ p. p ∷ []) (sym (with_none part))
 going_is part (byte ∷ rest) = by_test (goes_on (form part) byte) (going_is (with_more part (byte ∷ [])) rest)
@@ -25,7 +25,7 @@ going_is part (byte ∷ rest) = by_test (goes_on (form part) byte) (going_is (wi
     by_test true inner = rw one-add (inner ∙ ap (λ p. p ∷ cut (drop n rest)) (with_both part (byte ∷ []) (take n rest)))
     by_test false inner = ap (λ p. p ∷ cut (byte ∷ rest)) (sym (with_none part))
 
--- what goes on, where it is known
+-- the continuation, where it is known
 going_at : (part : Part) (more rest : List ℕ) → list_all (goes_on (form part)) more ≡ true → EndsBefore (form part) rest → going part (more ++ rest) ≡ with_more part more ∷ cut rest
 going_at part [] [] passes ends = ap (λ p. p ∷ []) (sym (with_none part))
 going_at part [] (byte ∷ rest) passes ends =
@@ -36,7 +36,7 @@ going_at part (byte ∷ more) rest passes ends =
     ∙ going_at (with_more part (byte ∷ [])) more rest both.1 ends
     ∙ ap (λ p. p ∷ cut rest) (with_both part (byte ∷ []) more)
 
--- a text has no other parts
+-- a text has no other parts than these
 pub cut_unique : (text : List ℕ) (parts : List Part) → AreParts text parts → parts ≡ cut text
 cut_unique text [] h = sym (ap cut h)
 cut_unique text (part ∷ parts) (rest, text_is, passes, ends, more) =

@@ -10,7 +10,7 @@ use Rattle.tokens.specs.Scanner.{fault_by, fault_of_run, fault_of_word, fault_at
 use Rattle.tokens.proofs.Cut.{cut, cut_unique, cut_parts}
 use Rattle.tokens.proofs.Reading.{or_else, first_fault, closed_stays}
 
--- a part at fault, by how many lists are open before it and whether the first has closed
+-- a faulty part, given the number of open lists before it and whether the first list is closed
 pub data AtFault (n : ℕ) (c : Bool) (f : Form) (text : List ℕ) : ℕ → Type 0 where
   byte' : f ≡ stray → AtFault n c f text 1
   word' : f ≡ run → kind_by f text ≡ None → AtFault n c f text 2
@@ -69,7 +69,7 @@ word_number : (n : ℕ) (c : Bool) (f : Form) (text : List ℕ) (code : ℕ) →
 word_number n true f text code w e = same_number n true f text (trailing' w refl) e
 word_number n false f text code w e = absurd (cc)
 
--- the number that is reported for a part is one of its faults
+-- the number reported for a part is that of one of its faults
 reported_fault : (n : ℕ) (c : Bool) (f : Form) (text : List ℕ) (code : ℕ) → fault_by n c f text ≡ Some code → AtFault n c f text code
 reported_fault n c blank text code e = absurd (cc)
 reported_fault n c comment text code e = absurd (cc)
@@ -103,7 +103,7 @@ later start n c [] fault h = omega arith
 later start n c (part ∷ parts) fault (inl h) = omega arith
 later start n c (part ∷ parts) fault (inr h) = omega (arith, later (start + size part) (open_with n (form part)) (closed_with n c (form part)) parts fault h)
 
--- where none is found there is none
+-- where the scanner finds no fault there is none
 pub none_found : (start n : ℕ) (c : Bool) (parts : List Part) (fault : reported.Fault) → first_fault start n c parts ≡ None → FaultIn start n c parts fault → ⊥
 none_found start n c [] fault none h =
     let e = cond-true (ltb 0 n) (Some (let g : reported.Fault = record { code = 3; span = record { start = start; end = start } } in g)) None (lt-ltb 0 n h.0) in
@@ -121,7 +121,7 @@ none_found start n c (part ∷ parts) fault none h = by_number (fault_by n c (fo
         let impossible : None ≡ Some t.0 = sym e ∙ t.1 in
         cc
 
--- what is found is a fault
+-- what the scanner finds is a fault
 pub found : (start n : ℕ) (c : Bool) (parts : List Part) (fault : reported.Fault) → first_fault start n c parts ≡ Some fault → FaultIn start n c parts fault
 found start n c [] fault is = ⊎_elim
     (λ (h : 0 < n).
@@ -145,7 +145,7 @@ found start n c (part ∷ parts) fault is = by_number (fault_by n c (form part) 
         let same : g ≡ fault = cc in
         subst (λ (x : reported.Fault). FaultIn start n c (part ∷ parts) x) same (inl (reported_fault n c (form part) (bytes part) k e, refl, refl))
 
--- and none comes before it
+-- and no fault comes before it
 pub found_first : (start n : ℕ) (c : Bool) (parts : List Part) (fault other : reported.Fault) → first_fault start n c parts ≡ Some fault → FaultIn start n c parts other → ComesNoLater fault other
 found_first start n c [] fault other is h =
     let mine = found start n c [] fault is in
@@ -173,7 +173,7 @@ found_first start n c (part ∷ parts) fault other is h = by_number (fault_by n 
         let after = later (start + size part) (open_with n (form part)) (closed_with n c (form part)) parts other h in
         subst (λ (x : reported.Fault). ComesNoLater x other) same (inl (omega (arith, after)))
 
--- how many lists are open, and whether the first has closed, after these parts
+-- the number of open lists after these parts, and whether the first list is closed
 abbrev open_from : ℕ → List Part → ℕ
 open_from n parts = fold (λ k (part : Part). open_with k (form part)) n parts
 
@@ -227,7 +227,7 @@ size_is text (part ∷ parts) (rest, e, _, _, more) =
     let joined = length-append (bytes part) rest in
     omega (arith, sum, inner, whole, joined)
 
--- each fault of a text is one that the scanner meets
+-- the scanner meets each fault of the text
 pub fault_met : (text : List ℕ) (fault : reported.Fault) → IsFault text fault → FaultIn 0 0 false (cut text) fault
 fault_met text fault (at_part before after part parts wrong start end) =
     subst (λ ps. FaultIn 0 0 false ps fault) (cut_unique text (before ++ part ∷ after) parts)
@@ -237,7 +237,7 @@ fault_met text fault (open_at_end parts are left code start end) =
     subst (λ ps. FaultIn 0 0 false ps fault) (cut_unique text parts are)
     (into_end 0 0 false parts fault left code (omega (arith, start, sizes)) (omega (arith, end, sizes)))
 
--- what comes before a part, as the scanner knows it
+-- the context of a part, as the scanner knows it
 record IsListedAs (before : List Part) (start n : ℕ) (c : Bool) : Type 0 where
   at_start : start ≡ size_of_all before
   open_lists : n ≡ open_after before
@@ -285,11 +285,11 @@ out_of text before (part ∷ parts) start n c fault are s (inr h) =
     out_of text (before ++ part ∷ []) parts (start + size part) (open_with n (form part)) (closed_with n c (form part)) fault
     (subst (AreParts text) (sym (append_assoc before (part ∷ []) parts)) are) (next before part start n c s) h
 
--- each fault that the scanner meets is one of the text
+-- each fault that the scanner meets is a fault of the text
 pub met_fault : (text : List ℕ) (fault : reported.Fault) → FaultIn 0 0 false (cut text) fault → IsFault text fault
 met_fault text fault h = out_of text [] (cut text) 0 0 false fault (cut_parts text) (record { at_start = refl; open_lists = refl; has_closed = λ e. absurd (false≢true e) }) h
 
--- the scanner's first fault is the one that is reported for the text
+-- the scanner's first fault is the one reported for the text
 pub first_is_reported : (text : List ℕ) (fault : reported.Fault) → length text ≤ longest_text → first_fault 0 0 false (cut text) ≡ Some fault → IsReported text fault
 first_is_reported text fault short is =
     comes_first short (met_fault text fault (found 0 0 false (cut text) fault is))

@@ -1,4 +1,4 @@
--- What a part that is at no fault says of the lists that are open.
+-- Which lists are open after a part without a fault.
 use Rattle.std.proofs.Common.{◌≡◌, ℕ, ◌<◌, ◌≤◌, Bool, List, None, subst, ⊎_elim, arith}
 use Rattle.std.proofs.lemmas.Bool.{cases_eq, eq-eqb}
 use Rattle.tokens.specs.Scanner.{fault_by}

@@ -48,7 +48,7 @@ module _ (text : List ℕ) where
 pub words_in_order : (text : List ℕ) (words : List Word) → ReadsAs text words → AreInOrder 0 text words
 words_in_order text words h = in_order text 0 0 h.parts words (omega arith) (omega arith) h.cut h.in_turn
 
--- faults that begin at one byte end at one
+-- faults that begin at the same byte end at the same byte
 same_end : (start n : ℕ) (c : Bool) (parts : List Part) (a b : reported.Fault) → FaultIn start n c parts a → FaultIn start n c parts b → a.span.start ≡ b.span.start → a.span.end ≡ b.span.end
 same_end start n c [] a b h g e = h.3 ∙ sym g.3
 same_end start n c (part ∷ parts) a b (inl h) (inl g) e = h.2 ∙ sym g.2

@@ -1,4 +1,4 @@
--- What the scanner reads of a list of parts, from what comes before them, and its steps.
+-- What the scanner reads from a list of parts, given their context, and its steps.
 use Rattle.std.proofs.Common.{◌≡◌, ℕ, ◌+◌, ◌-◌, Bool, true, cond, List, [], ◌∷◌, ◌++◌, length, get_or, take, drop, Option, Some, None, refl, sym, ap, ◌∙◌, nat_lt}
 use Rattle.std.specs.Option.{option_to_list}
 use Rattle.model.specs.Fault as reported
@@ -10,7 +10,7 @@ abbrev pub or_else : {A : Type 0} → Option A → Option A → Option A
 or_else None other = other
 or_else (Some x) other = Some x
 
--- the fault of an end at `start` where so many lists are open
+-- the fault of the text ending at `start` with this many lists open
 abbrev pub fault_of_end : ℕ → ℕ → Option reported.Fault
 fault_of_end start open_lists =
     cond (nat_lt 0 open_lists) (Some (record { code = 3; span = record { start = start; end = start } })) None
@@ -28,7 +28,7 @@ words_from start [] = []
 words_from start (part ∷ parts) =
     option_to_list (word_at start (bytes part) (kind_of_part part)) ++ words_from (start + size part) parts
 
--- once the first list has closed it stays so
+-- once the first list is closed it stays closed
 pub closed_stays : (n : ℕ) (f : Form) → closed_with n true f ≡ true
 closed_stays n blank = refl
 closed_stays n comment = refl

@@ -12,12 +12,12 @@ use Rattle.tokens.proofs.Reading.{first_fault, fault_of_end, words_from, fault_s
 use Rattle.tokens.proofs.Faults.{first_is_reported}
 use Rattle.tokens.proofs.Words.{reads_as, read_has_no_fault}
 
--- what the loop keeps
+-- the loop invariant
 pub record Scanned (text : List ℕ) (start n : ℕ) (c : Bool) (so_far : List Word) : Type 0 where
   pub faults : first_fault start n c (cut (drop start text)) ≡ first_fault 0 0 false (cut text)
   pub words : so_far ++ words_from start (cut (drop start text)) ≡ words_from 0 (cut text)
 
--- one part more
+-- one more part
 module _ (text : List ℕ) (start end n : ℕ) (c : Bool) (f : Form) (inside : start < length text)
     (f_is : f ≡ form_of (get_or text start 0))
     (longest : end ≡ start + 1 + prefix_len (goes_on f) (drop (start + 1) text)) where
@@ -40,7 +40,7 @@ module _ (text : List ℕ) (start end n : ℕ) (c : Bool) (f : Form) (inside : s
         ∙ s.words;
   }
 
--- a fault that is found
+-- a fault is found
 module _ (text : List ℕ) (start n : ℕ) (c : Bool) (short : length text ≤ longest_text)
     (faults : first_fault start n c (cut (drop start text)) ≡ first_fault 0 0 false (cut text)) where
   pub reported_here : (o : Option reported.Fault) → ((g : reported.Fault) → o ≡ Some g → first_fault start n c (cut (drop start text)) ≡ Some g) → IfSome o (IsReported text)

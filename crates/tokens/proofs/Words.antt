@@ -1,4 +1,4 @@
--- A text reads as the words that the scanner reads, and as no others, exactly where the scanner finds no fault.
+-- A text reads as the words that the scanner reads, and as no others, exactly if the scanner finds no fault.
 use Rattle.std.proofs.Common.{◌≡◌, ℕ, zero, suc, ◌+◌, ◌-◌, ◌<◌, ◌≤◌, ◌⊎◌, Bool, true, false, cond, IsTrue, List, [], ◌∷◌, ◌++◌, length, Option, Some, None, sym, refl, ap, ◌∙◌, subst, eqb, ltb, inl, inr, ⊎_elim, arith}
 use Rattle.std.specs.Option.{option_to_list}
 use Rattle.std.proofs.lemmas.Bool.{cases_eq, eq-eqb, ne_eqb, lt-ltb, le-ltb, cases_lt, cases_Bool, cond-true, cond-false}
@@ -8,7 +8,7 @@ use Rattle.tokens.specs.Scanner.{fault_by, fault_of_run, fault_of_word, fault_at
 use Rattle.tokens.proofs.Cut.{cut, cut_unique, cut_parts}
 use Rattle.tokens.proofs.Reading.{or_else, first_fault, fault_of_end, words_from, closed_stays}
 
--- a kind that is no parenthesis
+-- a kind other than the parentheses
 abbrev IsOfRun : Kind → Type 0
 IsOfRun opens = ⊥
 IsOfRun closes = ⊥
@@ -27,7 +27,7 @@ kind_of_run_is text =
     (by_test (is_only 45 text) dash _ tt
     (by_test (is_only 61 text) equals None tt (λ j e. absurd (cc)))))))
 
--- words of runs leave the lists as they are
+-- words that are runs leave the lists unchanged
 run_nested : (n : ℕ) (k : Kind) (kinds : List Kind) → IsOfRun k → AreNested n kinds → AreNested n (k ∷ kinds)
 run_nested n name kinds r h = h
 run_nested n variable kinds r h = h
@@ -86,9 +86,9 @@ reading_is text words h = words_are 0 h.parts words h.in_turn ∙ ap (words_from
 pub one_reading_lem : (text : List ℕ) (one other : List Word) → ReadsAs text one → ReadsAs text other → one ≡ other
 one_reading_lem text one other h g = reading_is text one h ∙ sym (reading_is text other g)
 
--- Where the scanner finds no fault, the text reads as the words that it reads.
+-- If the scanner finds no fault, the text reads as the words that it reads.
 
--- what a part at no fault is
+-- the properties of a part without a fault
 abbrev IsSound : Form → List ℕ → Type 0
 IsSound f text = (IsTrue (is_gap f) × (kind_by f text ≡ None)) ⊎ ((k : Kind) × (kind_by f text ≡ Some k) × (f ≡ run → length text ≤ 255))
 
@@ -127,7 +127,7 @@ gaps_and_words start n c (part ∷ parts) e =
     by_part (inr h) inner = subst (λ o. AreGapsAndWords start (part ∷ parts) (option_to_list (word_at start (bytes part) o) ++ words_from (start + size part) parts)) (sym h.1)
         (inr (record { kind = h.1; text = refl; start_at = refl; short = h.2 }, inner))
 
--- where the first list has closed, a part at no fault is no word
+-- after the first list is closed, a part without a fault is not a word
 closed_part : (n : ℕ) (f : Form) (text : List ℕ) → fault_by n true f text ≡ None → kind_by f text ≡ None
 closed_part n blank text e = refl
 closed_part n comment text e = refl
@@ -154,7 +154,7 @@ nothing_follows start n (part ∷ parts) e =
     ∙ nothing_follows (start + size part) (open_with n (form part)) parts
     (ap (λ c. first_fault (start + size part) (open_with n (form part)) c parts) (sym (closed_stays n (form part))) ∙ none.1)
 
--- a part at no fault leaves the lists well nested
+-- a part without a fault keeps the lists well nested
 nested_part : (n : ℕ) (f : Form) (text : List ℕ) (start : ℕ) (words : List Word) → n ≤ 64 → fault_by n false f text ≡ None
     → (closed_with n false f ≡ false → open_with n f ≤ 64 → AreNested (open_with n f) (kinds_of words))
     → (closed_with n false f ≡ true → words ≡ [])
@@ -187,7 +187,7 @@ nested start n c (part ∷ parts) is_open shallow e =
     (λ still less. nested (start + size part) (open_with n (form part)) (closed_with n false (form part)) parts still less none.1)
     (λ over. nothing_follows (start + size part) (open_with n (form part)) parts (subst (λ b. first_fault (start + size part) (open_with n (form part)) b parts ≡ None) over none.1))
 
--- what the scanner reads without a fault, the text reads as
+-- the text reads as what the scanner reads without a fault
 pub reads_as : (text : List ℕ) → length text ≤ longest_text → first_fault 0 0 false (cut text) ≡ None → ReadsAs text (words_from 0 (cut text))
 reads_as text short e = record {
   short = short;
@@ -197,7 +197,7 @@ reads_as text short e = record {
   nested = nested 0 0 false (cut text) refl (omega arith) e;
 }
 
--- Where a text reads as words, the scanner finds no fault.
+-- If a text reads as words, the scanner finds no fault.
 passes : (start n m : ℕ) (c d : Bool) (f : Form) (text : List ℕ) (parts : List Part) → fault_by n c f text ≡ None → open_with n f ≡ m → closed_with n c f ≡ d → first_fault (start + length text) m d parts ≡ None
     → or_else (fault_at start (length text) (fault_by n c f text)) (first_fault (start + length text) (open_with n f) (closed_with n c f) parts) ≡ None
 passes start n m c d f text parts sound opens_is closes_is inner =
@@ -228,7 +228,7 @@ no_words : (words : List Word) → kinds_of words ≡ [] → words ≡ []
 no_words [] h = refl
 no_words (word ∷ words) h = absurd (cc)
 
--- after a word: the lists go on well nested, or the first has closed and no word follows
+-- after a word: the lists stay well nested, or the first is closed and no word follows
 abbrev WordPasses : ℕ → Form → List ℕ → List Word → Type 0
 WordPasses n f text words =
     ((m : ℕ) × Passes n false f text m false × AreNested m (kinds_of words)) ⊎ (Passes n false f text 0 true × (words ≡ []))

@@ -6,11 +6,11 @@ use Rattle.model.specs.Words.{goes_on, Part, form}
 abbrev pub alone : ℕ → Part
 alone byte = record { first = byte; others = [] }
 
--- a part, and bytes that go on with it
+-- a part, and the bytes that continue it
 abbrev pub with_more : Part → List ℕ → Part
 with_more part more = record { first = part.first; others = part.others ++ more }
 
--- the parts of what follows, where a part has begun
+-- the parts of the rest, after a part has begun
 abbrev pub going : Part → List ℕ → List Part
 going part [] = part ∷ []
 going part (byte ∷ rest) =

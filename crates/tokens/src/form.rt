@@ -1,10 +1,10 @@
-//! What a text is cut into: parts, each a byte and the bytes that go on with it.
+//! The parts that a text is cut into: each is a byte and the bytes that continue it.
 ghost use Rattle.std.specs.Prelude.{◌≡◌, ◌+◌, ◌<◌, ◌≤◌, length, drop};
 ghost use Rattle.std.specs.List.{prefix_len};
 ghost use Rattle.tokens.specs.Form.{view};
 ghost use Rattle.model.specs.Words.{form_of, goes_on};
 
-/// What a part of a text is, by its first byte.
+/// The kind of a part, determined by its first byte.
 #[derive(Clone, Copy, Debug, PartialEq, Eq)]
 pub enum Form {
     /// A space, a tab, a line feed or a carriage return.
@@ -15,14 +15,14 @@ pub enum Form {
     Opening,
     /// `)`
     Closing,
-    /// A longest stretch of printable bytes other than `(`, `)` and `;`.
+    /// A maximal run of printable bytes other than `(`, `)` and `;`.
     Run,
-    /// A byte that stands for nothing outside comments.
+    /// A byte that is only allowed in comments.
     Stray,
 }
 
 impl Form {
-    /// What begins with this byte.
+    /// The kind of part that begins with this byte.
     pub fn of(byte: u8) -> Form
         ensures { view result ≡ form_of byte }
     {
@@ -36,7 +36,7 @@ impl Form {
         }
     }
 
-    /// Whether this byte goes on with a part of this form.
+    /// Whether the byte continues a lexeme of this kind.
     fn goes_on(self, byte: u8) -> bool
         ensures { result ≡ goes_on (view self) byte }
     {
@@ -48,7 +48,7 @@ impl Form {
     }
 }
 
-/// Where the part of this form that begins at `start` ends: the offset after its last byte.
+/// The end of the part that begins at `start`: the offset after its last byte.
 pub fn part_end(text: &[u8], start: usize, form: Form) -> usize
     requires { start < length text.now }
     ensures after_start { start < result }

@@ -1,4 +1,4 @@
-//! Splits a PDDL text into words with their places.
+//! Splits a PDDL text into words with their spans.
 #![tactic(auto)]
 
 mod form;

@@ -9,7 +9,7 @@ ghost use Rattle.model.specs.Words.{is_name, is_marked_name, is_number, is_only,
 use crate::word::Kind;
 use names::is_name;
 
-/// The kind of the word that a run is, if it is one.
+/// The kind of word that the run is, if it is a word.
 pub(crate) fn kind_of_run(run: &[u8]) -> Option<Kind>
     ensures { option_map kind_of result ≡ kind_of_run run.now }
 {
@@ -36,7 +36,7 @@ fn are_digits(bytes: &[u8]) -> bool
     bytes.iter().all(|byte| byte.is_ascii_digit())
 }
 
-/// Whether the bytes are this mark and a name.
+/// Whether the bytes are this mark followed by a name.
 fn is_marked_name(mark: u8, bytes: &[u8]) -> bool
     ensures { result ≡ is_marked_name mark bytes.now }
 {
@@ -56,7 +56,7 @@ fn is_number(bytes: &[u8]) -> bool
     }
 }
 
-/// Whether the bytes are this one alone.
+/// Whether the bytes are this single byte.
 fn is_only(byte: u8, bytes: &[u8]) -> bool
     ensures { result ≡ is_only byte bytes.now }
 {

@@ -1,4 +1,4 @@
-//! From a text to its words.
+//! The scanner: from a text to its words.
 ghost use Rattle.std.specs.Prelude.{◌≡◌, ◌+◌, ◌<◌, ◌≤◌, ◌^◌, false, length, map, IfOk, IfErr, IsErrAnd, IfSome, Some, None};
 ghost use Rattle.std.specs.Option.{option_map};
 ghost use Rattle.faults.specs.Fault.{number_of};
@@ -12,34 +12,33 @@ use crate::word::{Kind, Word};
 use faults::{Code, Fault, Span, TextRefusal};
 use std::alloc::Global;
 
-/// How many bytes a text may have.
+/// The maximum length of a text, in bytes.
 pub const LONGEST_TEXT: usize = 16_777_216;
 
-/// How many bytes a run may have.
+/// The maximum length of a run, in bytes.
 const LONGEST_RUN: usize = 255;
 
-/// How many lists may be open at once.
+/// The maximum number of lists open at once.
 const DEEPEST: usize = 64;
 
 /// The words of a text, in their order.
 ///
-/// Blanks (space, tab, LF, CR) and comments (from `;` to before the next LF, any bytes in them) part words and are passed
-/// over. A word is a parenthesis or a longest run of other printable ASCII bytes that is of one of the kinds. A text
-/// has at most 16,777,216 bytes, a run at most 255, at most 64 lists are open at once, and nothing follows the
-/// parenthesis that closes the first list.
+/// Blanks (space, tab, LF, CR) and comments (from `;` to before the next LF, any bytes in them) separate words and are skipped. A
+/// word is a parenthesis or a maximal run of other printable ASCII bytes that is of one of the kinds. A text has at most
+/// 16,777,216 bytes and a run at most 255; at most 64 lists are open at once; and no word follows the parenthesis that closes the
+/// first list.
 ///
 /// # Errors
-/// `At` reports the first fault: `TooLong` of the whole text, from its byte 16,777,216 to its end, before all others; else
-/// the fault that begins first, and of those that begin at one byte the one with the lowest number.
+/// `At` reports the first fault. `TooLong` for the whole text, from its byte 16,777,216 to its end, comes before all others;
+/// otherwise it is the fault that begins first, and among faults that begin at the same byte the one with the lowest number.
 /// - `BadByte`: a byte that is neither blank nor printable, outside comments.
-/// - `BadWord`: a run of no kind.
-/// - `Unbalanced`: a `)` that closes nothing, or the end of a text where a list is open.
-/// - `TooDeep`: a `(` where 64 lists are open.
+/// - `BadWord`: a run that is not a word of any kind.
+/// - `Unbalanced`: a `)` without a `(`, or the end of the text while a list is open.
+/// - `TooDeep`: a `(` inside 64 open lists.
 /// - `TooLong`: a run over 255 bytes.
 /// - `Trailing`: a word after the parenthesis that closed the first list.
 ///
-/// `NoMemory` is answered only where memory that was asked for was refused; a text over 16,777,216 bytes is refused before
-/// any is asked for.
+/// `NoMemory` means that an allocation failed; a text over 16,777,216 bytes is refused before anything is allocated.
 ///
 /// # Examples
 /// `(at ?x) ; here` has four words:
@@ -98,12 +97,12 @@ fn refusal(code: Code, start: usize, end: usize) -> Fault
     })
 }
 
-/// What comes before a part, as far as faults go.
+/// The context of a part: what came before it, as far as faults depend on it.
 #[derive(Clone, Copy, Debug)]
 struct Nesting {
     /// How many lists are open.
     open_lists: usize,
-    /// Whether the first list has closed.
+    /// Whether the first list is closed.
     has_closed: bool,
 }
 
@@ -115,7 +114,7 @@ impl Nesting {
     ghost use Rattle.tokens.specs.Word.{kind_of, word_of};
     ghost use Rattle.model.specs.Words.{opening, closing, open_with, kind_by};
 
-    /// Before the first part.
+    /// The context at the start of the text.
     fn outside() -> Nesting
         ensures open_lists { result.open_lists ≡ 0 }
         ensures has_closed { result.has_closed ≡ false }
@@ -126,7 +125,7 @@ impl Nesting {
         }
     }
 
-    /// The kind of the word that a part is, where it is one, or what the part is refused for.
+    /// The kind of the part if it is a word, `None` if it is skipped, or the code that refuses it.
     fn word_kind(self, form: Form, part: &[u8]) -> Result<Option<Kind>, Code>
         ensures sound { IfOk result (λ kind.
             fault_by self.open_lists self.has_closed (view form) part.now ≡ None) }
@@ -156,7 +155,7 @@ impl Nesting {
         }
     }
 
-    /// The word that a part is, where it is one.
+    /// The part as a word, if it is one.
     fn word<'a>(self, start: usize, form: Form, part: &'a [u8]) -> Result<Option<Word<'a>>, Fault>
         requires { start + length part.now < 2 ^ 64 }
         ensures sound { IfOk result (λ word.
@@ -178,7 +177,7 @@ impl Nesting {
         }
     }
 
-    /// What comes before the part that comes after one of this form.
+    /// The context after a part of this form.
     fn after(self, form: Form) -> Nesting
         requires opens { view form ≡ opening → self.open_lists < 64 }
         requires closes { view form ≡ closing → 0 < self.open_lists }

@@ -3,10 +3,10 @@ ghost use Rattle.std.specs.Prelude.{◌≡◌, ◌+◌, ◌<◌, ◌^◌, length
 
 use faults::Span;
 
-/// What a word is, by its form.
+/// The kind of a word.
 #[derive(Clone, Copy, Debug, PartialEq, Eq)]
 pub enum Kind {
-    /// A letter, and then letters, digits, `-` and `_`.
+    /// A letter, then letters, digits, `-` and `_`.
     Name,
     /// `?` and a name.
     Variable,
@@ -24,7 +24,7 @@ pub enum Kind {
     Close,
 }
 
-/// A word: its kind, its bytes as they are in the text, and where they are.
+/// A word: its kind, its bytes as written, and its span.
 #[derive(Clone, Copy, Debug)]
 pub struct Word<'a> {
     pub(crate) kind: Kind,
@@ -37,21 +37,21 @@ impl<'a> Word<'a> {
     ghost use Rattle.tokens.specs.Word.{word_of, kind_of};
     ghost use Rattle.model.specs.Words.{end_of};
 
-    /// What the word is, by its form.
+    /// The kind of the word.
     pub fn kind(&self) -> Kind
         ensures { kind_of result ≡ (word_of self.now).kind }
     {
         self.kind
     }
 
-    /// The word's bytes, the slice of its span: not folded to lower case.
+    /// The word's bytes as written, not folded to lower case: the slice at its span.
     pub fn text(&self) -> &'a [u8]
         ensures { result.now ≡ (word_of self.now).text }
     {
         self.text
     }
 
-    /// Where the word is in its text.
+    /// The span of the word in its text.
     pub fn span(&self) -> Span
         ensures start { result.start ≡ (word_of self.now).start }
         ensures end { result.end ≡ end_of (word_of self.now) }

@@ -1,4 +1,4 @@
--- How a chain of parents grows step by step, and how types and the faults of their chains go on by their numbers.
+-- How a chain of parents grows step by step, and how the types and the faults of their chains continue by number.
 use Rattle.std.proofs.Common.{◌≡◌, ℕ, ◌+◌, ◌-◌, ◌<◌, ◌≤◌, Bool, true, false, not, List, [], ◌∷◌, ◌++◌, map, length, get_or, drop, take, slice_index, Option, refl, ap, sym, ◌∙◌, arith, zero, suc, if◌then◌else◌}
 use Rattle.std.specs.Map.{keys_of}
 use Rattle.std.proofs.lemmas.List.{append_assoc, append-nil, drop_more, drop_all, length-map}
@@ -11,7 +11,7 @@ use Rattle.model.specs.Typing.{TypingFault, Declared, chain, comes_back, cycle_f
 use Rattle.task_parts.specs.Walk.{found}
 use Rattle.task_parts.proofs.Found.{found-append}
 
--- one type more, which is not `object`
+-- one more type, other than `object`
 pub one_type_more : (parents : List ℕ) (n i next after : ℕ) (so_far whole : List ℕ) → i < n → (next ≡ 0 → ⊥) → after ≡ slice_index parents next
     → so_far ++ chain parents (n - i) next ≡ whole → (so_far ++ next ∷ []) ++ chain parents (n - (i + 1)) after ≡ whole
 one_type_more parents n i zero after so_far whole l not_root is h = absurd (not_root refl)
@@ -36,12 +36,12 @@ steps_end parents n i next so_far whole l h =
     let none : n - i ≡ 0 = omega (arith, l) in
     sym (append-nil so_far) ∙ sym (ap (λ m. so_far ++ chain parents m next) none) ∙ h
 
--- the fault of a type whose chain comes back
+-- the fault of a type whose chain is cyclic
 pub back_fault : (b : Bool) (faults : List TypingFault) → (if not b then [] else faults) ≡ (if b then faults else [])
 back_fault true faults = refl
 back_fault false faults = refl
 
--- one type more is looked at
+-- one more type is examined
 pub cycle_step : {X : Type 0} (parents : List ℕ) (seen : X → Declared) (xs : List X) (i : ℕ) (d : X) → i < length xs
     → (least new whole : Option TypingFault)
     → new ≡ found least (if comes_back parents (i + 1) then refused_word (seen (get_or xs i d)).file 15 (seen (get_or xs i d)).name else [])
@@ -59,7 +59,7 @@ pub cycle_end : {X : Type 0} (parents : List ℕ) (seen : X → Declared) (xs : 
 cycle_end parents seen xs i l least whole h =
     sym (ap (λ ys. found least (cycle_faults_from parents (i + 1) (map seen ys))) (drop_all i xs l)) ∙ h
 
--- one type more gets the types that its objects are of
+-- one more type gets its supertypes
 pub one_filled : (parents : List ℕ) (start i : ℕ) (es : List (Vec ℕ × Vec TypeId)) (supertypes : Vec TypeId) → i < length es → map type_of supertypes.items ≡ whole_chain parents (start + i)
     → take i (map type_entry_of es) ≡ take i (types_from parents start (keys_in es))
     → take (suc i) (map type_entry_of (set_value_at es i supertypes)) ≡ take (suc i) (types_from parents start (keys_in es))

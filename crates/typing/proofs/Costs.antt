@@ -1,4 +1,4 @@
--- What the walks over functions, the metric and the costs at the start find.
+-- The faults found by the walks over functions, the metric and the initial costs.
 use Rattle.std.proofs.Common.{◌≡◌, ◌∙◌, Bool, true, false, ◌||◌, List, [], ◌∷◌, ◌++◌, map, fold, drop, is_some, Option, None, Some, refl, sym, ap, Bor, if◌then◌else◌}
 use Rattle.std.specs.Cmp.Lexicographic.{same_text}
 use Rattle.std.specs.List.{list_any}
@@ -14,7 +14,7 @@ use Rattle.model.specs.Typing.{Placed, TypingFault, folded, is_same, is_known, n
 use Rattle.task_parts.specs.Walk.{found}
 use Rattle.task_parts.proofs.Found.{map-map}
 
--- whether a name is among those that are declared, and with one more, and after some more
+-- whether a name is among the declared ones, with one more, and after some more
 any_with : (q : task.Name) (before : List task.Name) (name : tree.Name) → list_any (is_same q) (with_name before name) ≡ (list_any (is_same q) before || is_same q (folded name))
 any_with q before name = by (is_known before name) refl
   where
@@ -32,14 +32,14 @@ any_with_names q before (name ∷ names) =
     any_with_names q (with_name before name) names ∙ ap (λ b. b || list_any (is_same q) (map folded names)) (any_with q before name)
     ∙ or_assoc (list_any (is_same q) before) (is_same q (folded name)) (list_any (is_same q) (map folded names))
 
--- so the total cost is declared where it is among the names of the table
+-- so the total cost is declared if it is among the names of the table
 pub cost_declared : (types : List task.Name) (qs : List tree.Predicate)
     → list_any (is_same total_cost) (fold with_name [] (map (λ (q : tree.Predicate). q.name) qs)) ≡ list_any (is_same total_cost) (names_of_predicates (map (predicate_in types) qs))
 cost_declared types qs =
     any_with_names total_cost [] (map (λ (q : tree.Predicate). q.name) qs)
     ∙ ap (list_any (is_same total_cost)) (map-map folded (λ (q : tree.Predicate). q.name) qs ∙ sym (map-map (λ (p : task.Predicate). p.name) (predicate_in types) qs))
 
--- what is found of the metric
+-- the faults of the metric
 abbrev pub metric_faults : Bool → Option tree.Name → List TypingFault
 metric_faults has_cost metric = option_map_or (λ n. if has_cost then [] else refused_word problem_file 22 n) metric []
 
@@ -51,14 +51,14 @@ metric_reported has_cost lent metric is = by lent ∙ ap (λ o. metric_faults ha
     by None = refl
     by (Some n) = refl
 
--- one `=` more, which is refused where it is not the first
+-- one more `=`, which is refused unless it is the first
 pub equals_more : (none_yet : Bool) (file : TaskFile) (word : tree.Name) (rest : List Placed) (old new : Option TypingFault)
     → new ≡ found old (if none_yet then [] else refused_word file 23 word)
     → found new (refused 23 rest) ≡ found old (refused 23 (drop (if none_yet then 1 else 0) (placed file word ∷ rest)))
 equals_more true file word rest old new is = ap (λ o. found o (refused 23 rest)) is
 equals_more false file word rest old new is = ap (λ o. found o (refused 23 rest)) is
 
--- and no more
+-- and the end
 pub equals_end : (none_yet : Bool) (least : Option TypingFault) → found least (refused 23 (drop (if none_yet then 1 else 0) [])) ≡ least
 equals_end true least = refl
 equals_end false least = refl

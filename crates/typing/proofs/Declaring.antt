@@ -1,4 +1,4 @@
--- What variables and types are where none is declared twice, and where their types are known.
+-- Variables and types when none is declared twice and all types are known.
 use Rattle.std.proofs.Common.{◌≡◌, ℕ, ◌+◌, ◌-◌, ◌<◌, ◌≤◌, nat_le, cond, ◌||◌, Bool, true, false, List, [], ◌∷◌, ◌++◌, map, fold, length, slice_index, nat_lt, refl, ap, sym, ◌∙◌, arith, zero, suc, if◌then◌else◌}
 use Rattle.std.specs.List.{flat_map}
 use Rattle.std.proofs.lemmas.Bool.Decides.{nat_tests}
@@ -37,7 +37,7 @@ kept_variables types vs (x ∷ xs) e = by (is_known (names_of_variables vs) x.na
         ∙ ap (λ (b : Bool). (if b then vs else vs ++ variable_in types x ∷ []) ++ map (variable_in types) xs) t
         ∙ append_assoc vs (variable_in types x ∷ []) (map (variable_in types) xs)
 
--- words that are not repeated, and none of which is in scope, are not repeated after those in scope either
+-- distinct words that are not in scope are also distinct from those in scope
 repeated_apart : (scope before : List task.Name) (ws : List Placed) → repeated_after before ws ≡ [] → known_among scope ws ≡ [] → repeated_after (scope ++ before) ws ≡ []
 repeated_apart scope before [] e f = refl
 repeated_apart scope before (w ∷ rest) e f = by (is_known before w.word) refl (is_known scope w.word) refl e f (repeated_apart scope (with_name before w.word) rest)
@@ -56,7 +56,7 @@ repeated_apart scope before (w ∷ rest) e f = by (is_known before w.word) refl 
         ∙ ap (λ b. scope ++ (if b then before else before ++ folded w.word ∷ [])) (sym t) in
         (λ i. (if new i then w ∷ [] else []) ++ repeated_after (names i) rest) ∙ next e f
 
--- variables of a list without faults come after those in scope, each
+-- the variables of a list without faults come after those in scope
 pub variables_are : (types : List task.Name) (vs : List Variable) (xs : List Declared) → refused 16 (repeated (words_of xs)) ≡ [] → refused 20 (known_among (names_of_variables vs) (words_of xs)) ≡ []
     → map (λ (v : Variable). v.types) (variables_after types vs xs) ≡ map (λ (v : Variable). v.types) vs ++ unions_in types xs
 variables_are types vs xs once apart =
@@ -66,7 +66,7 @@ variables_are types vs xs once apart =
     ap (map (λ (v : Variable). v.types)) (kept_variables types vs xs new) ∙ map-append (λ (v : Variable). v.types) vs (map (variable_in types) xs)
     ∙ ap (λ us. map (λ (v : Variable). v.types) vs ++ us) (map-map (λ (v : Variable). v.types) (variable_in types) xs)
 
--- and no more of them than fit
+-- and they are within the limit
 pub few_variables : (count : ℕ) (words : List Placed) → count ≤ 16 → refused 25 (one_too_many count words) ≡ [] → count + length words ≤ 16
 few_variables count words low e = by (nat_le count 16) refl e
   where

@@ -1,4 +1,4 @@
--- The parts of effects as lists: what they are resolved to, and what is found in them.
+-- The parts of effects as lists: what they resolve to, and the faults found in them.
 use Rattle.std.proofs.Common.{◌≡◌, List, [], ◌∷◌, ◌++◌, map, Option, refl, sym, ap, ◌∙◌}
 use Rattle.std.specs.Global.{Vec}
 use Rattle.std.specs.List.{flat_map}
@@ -40,7 +40,7 @@ effects_faults-joined : (file : TaskFile) (known : Known) (parts : List read_eff
 effects_faults-joined file known [] = refl
 effects_faults-joined file known (part ∷ rest) = ap (λ faults. effect_faults file known (read.effect_of part) ++ faults) (effects_faults-joined file known rest)
 
--- several effects together are what they are resolved to, and what is found in each is found in all
+-- several effects resolve to the list of the resolved parts, and have the faults of each
 module _ (file : TaskFile) (known : Known) (whole : read_effect.Effect) (parts : Vec read_effect.Effect) (items : List read_effect.Effect) (same : items ≡ parts.items) (is : whole ≡ read_effect.And parts) where
   pub both_by_parts : (resolved : Vec Effect) → map effect_of resolved.items ≡ map (λ x. effect_in file known (read.effect_of x)) items
       → effect_of (effect.And resolved) ≡ effect_in file known (read.effect_of whole)
@@ -56,7 +56,7 @@ module _ (file : TaskFile) (known : Known) (whole : read_effect.Effect) (parts :
       ∙ ap (found before) (sym (effects_faults-joined file known parts.items))
       ∙ ap (λ e. found before (effect_faults file known e)) (sym (ap read.effect_of is ∙ rows.effect_of-And parts))
 
--- one `forall` more, inside the others
+-- one more `forall`, inside the others
 pub each_of-push : (us : List task.Union) (u : task.Union) (part : task.Effect) → each_of (us ++ u ∷ []) part ≡ each_of us (task.each u part)
 each_of-push [] u part = refl
 each_of-push (v ∷ us) u part = ap (task.each v) (each_of-push us u part)

@@ -1,5 +1,5 @@
--- Chains of parents: where no type comes back on the chain of its own parent, each chain ends in `object`, has just the
--- types that its first one descends from, and what is above a type is above all types below it.
+-- Chains of parents: if no type is on the chain of its own parent, each chain ends in `object`, consists exactly of the ancestors
+-- of its first type, and includes the chains of all its types.
 use Rattle.std.proofs.Common.{◌≡◌, ℕ, ◌+◌, ◌<◌, ◌≤◌, Bool, true, false, ◌||◌, ◌&&◌, List, [], ◌∷◌, length, slice_index, nat_eq, refl, ap, sym, subst, ◌∙◌, arith, zero, suc, true≢false, ◌⊎◌, inl, inr, Some, slice_get}
 use Rattle.std.specs.Prelude.{◌↔◌, Contains}
 use Rattle.std.specs.List.{list_all, IsDistinct}
@@ -15,13 +15,13 @@ use Rattle.model.proofs.TypeDescent.{among, same_true, distinct_none, distinct_m
 both : (a b : Bool) → a ≡ true → b ≡ true → (a && b) ≡ true
 both a b p q = grind (arith, nat_tests)
 
--- each element passes that is among them
+-- each element of those that pass
 all_among : (p : ℕ → Bool) (xs : List ℕ) → ((x : ℕ) → among x xs ≡ true → p x ≡ true) → list_all p xs ≡ true
 all_among p [] h = refl
 all_among p (x ∷ xs) h =
     both (p x) (list_all p xs) (h x (ap (λ b. b || among x xs) (same_true x))) (all_among p xs (λ y among_rest. h y (or_right (nat_eq y x) (among y xs) among_rest)))
 
--- a number that is among some is one of them
+-- a number among some is one of them
 pub among_Contains : (x : ℕ) (xs : List ℕ) → among x xs ≡ true → Contains xs x
 among_Contains x [] h = absurd (true≢false (sym h))
 among_Contains x (y ∷ ys) h = by (or_cases (nat_eq x y) (among x ys) h) (among_Contains x ys)
@@ -39,13 +39,13 @@ Contains_among x (y ∷ ys) at = by (Contains-cases y ys x at) (Contains_among x
     by (inr later) rest = or_right (nat_eq x y) (among x ys) (rest later)
 
 module _ (parents : List ℕ) where
-  -- the chain comes to `object` within so many steps
+  -- the chain reaches `object` within this many steps
   abbrev pub ends : ℕ → ℕ → Bool
   ends zero number = false
   ends (suc most) zero = true
   ends (suc most) (suc number) = ends most (slice_index parents (suc number))
 
-  -- then one step more changes nothing
+  -- then one more step changes nothing
   one_more : (most number : ℕ) → ends most number ≡ true → (ends (suc most) number ≡ true) × (chain parents (suc most) number ≡ chain parents most number)
   one_more zero number h = absurd (true≢false (sym h))
   one_more (suc most) zero h = (refl, refl)
@@ -53,7 +53,7 @@ module _ (parents : List ℕ) where
       let rest = one_more most (slice_index parents (suc number)) h in
       (rest.0, ap (λ xs. suc number ∷ xs) rest.1)
 
-  -- and no chain has more than one that ends
+  -- and no chain has more than one that has ended
   on_ended : (most steps number x : ℕ) → ends most number ≡ true → among x (chain parents steps number) ≡ true → among x (chain parents most number) ≡ true
   on_ended zero steps number x h on = absurd (true≢false (sym h))
   on_ended (suc most) zero number x h on = absurd (true≢false (sym on))
@@ -66,7 +66,7 @@ module _ (parents : List ℕ) where
       by (inl same) rest = ap (λ b. b || among x (chain parents most (slice_index parents (suc number)))) same
       by (inr later) rest = or_right (nat_eq x (suc number)) (among x (chain parents most (slice_index parents (suc number)))) (rest later)
 
-  -- what is on the chain has its chain within it
+  -- a type on the chain has its own chain within it
   pub within_chain : (most number above : ℕ) → ends most number ≡ true → among above (chain parents most number) ≡ true
       → (ends most above ≡ true) × ((higher : ℕ) → among higher (chain parents most above) ≡ true → among higher (chain parents most number) ≡ true)
   within_chain zero number above h on = absurd (true≢false (sym h))
@@ -100,7 +100,7 @@ module _ (parents : List ℕ) where
       by (inl same) next = ap (λ b. b || among x (chain parents further (slice_index parents (suc number)))) same
       by (inr later) next = or_right (nat_eq x (suc number)) (among x (chain parents further (slice_index parents (suc number)))) (next later)
 
-  -- a chain that does not end has as many types as steps, and none of them is `object`
+  -- a chain that does not end has as many types as steps, none of them `object`
   goes_on : (most number : ℕ) → ends most number ≡ false → (length (chain parents most number) ≡ most) × (among 0 (chain parents most number) ≡ false)
   goes_on zero number h = (refl, refl)
   goes_on (suc most) zero h = absurd (true≢false h)
@@ -125,7 +125,7 @@ module _ (parents : List ℕ) where
         by (inl same) next = omega (arith, eqb-true x (suc number) same, l)
         by (inr later) next = next later
 
-    -- and none is there twice
+    -- and none is repeated
     apart : (most number : ℕ) → most ≤ length parents → number < length parents → IsDistinct nat_eq (chain parents most number)
     apart zero number l n = distinct_none
     apart (suc most) zero l n = distinct_more 0 [] refl distinct_none
@@ -154,7 +154,7 @@ module _ (parents : List ℕ) where
             zero_or {q} (inl same) = omega (arith, eqb-true q 0 same, l)
             zero_or {q} (inr on) = below (length parents) number q l on
 
-    -- what is on a chain is what its first type descends from
+    -- the types on a chain are the ancestors of its first type
     descends : (most number above : ℕ) → number < length parents → among above (chain parents most number) ≡ true → Descends parents number above
     descends zero number above l on = absurd (true≢false (sym on))
     descends (suc most) zero above l on = by (or_cases (nat_eq above 0) false on)
@@ -186,7 +186,7 @@ module _ (parents : List ℕ) where
         let rest = type_at (start + 1) names k t e in
         (rest.0 ∙ ap (whole_chain parents) (omega arith), omega (arith, rest.1))
 
-    -- what is found above a number
+    -- what is found for a number
     found_above : (start : ℕ) (names : List task.Name) (k higher : ℕ) → among higher (supertypes_in (types_from parents start names) k) ≡ true → among higher (whole_chain parents (start + k)) ≡ true
     found_above start [] k higher h = absurd (true≢false (sym h))
     found_above start (name ∷ names) zero higher h = subst (λ n. among higher (whole_chain parents n) ≡ true) (omega arith) h
@@ -195,7 +195,7 @@ module _ (parents : List ℕ) where
     from_zero : (n : ℕ) → n ≡ 0 + n
     from_zero n = omega arith
 
-    -- what is above a type is above all types below it
+    -- the ancestors of a type include those of its ancestors
     whole_at : (names : List task.Name) (number : ℕ) → number < length parents
         → list_all (λ above. list_all (λ higher. among higher (whole_chain parents number)) (supertypes_in (types_from parents 0 names) above)) (whole_chain parents number) ≡ true
     whole_at names number l =

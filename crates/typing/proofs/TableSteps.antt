@@ -1,4 +1,4 @@
--- A table that is filled along a list, where no name is declared twice.
+-- A table filled along a list in which no name is declared twice.
 use Rattle.std.proofs.Common.{◌≤◌, ◌≡◌, ℕ, ◌+◌, Bool, true, false, List, [], ◌∷◌, ◌++◌, map, fold, length, refl, ap, sym, ◌∙◌, if◌then◌else◌, drop, get_or, ◌<◌}
 use Rattle.std.specs.Global.{Vec}
 use Rattle.std.proofs.lemmas.List.{append_assoc, append-nil, drop_more, drop_all, map-append}
@@ -8,7 +8,7 @@ use Rattle.model.specs.Typing.{Placed, folded, is_known, with_name, repeated_aft
 use Rattle.task_parts.specs.Scope.{keys_in, IsAdded}
 use Rattle.task_parts.proofs.Found.{got_twice}
 
--- a name that is not declared again: so are those after it, and it is new
+-- a name that is not declared again: it is new, and so are those after it
 pub not_again : (before : List task.Name) (w : Placed) (rest : List Placed) → repeated_after before (w ∷ rest) ≡ []
     → (is_known before w.word ≡ false) × (repeated_after (with_name before w.word) rest ≡ [])
 not_again before w rest e = by (is_known before w.word) e
@@ -17,7 +17,7 @@ not_again before w rest e = by (is_known before w.word) e
     by true f = absurd (cc)
     by false f = (refl, f)
 
--- one step of a table that is filled along a list
+-- one step of filling a table along a list
 pub table_step : {X V S : Type 0} (placed_as : X → Placed) (made : X → S) (shown : Vec ℕ × V → S) (xs : List X) (i : ℕ) (x : X) → i < length xs → x ≡ get_or xs i x
     → (old new : List (Vec ℕ × V)) (value : V) (whole : List S) → ((key : Vec ℕ) → key.items ≡ folded (placed_as x).word → shown (key, value) ≡ made x)
     → keys_in new ≡ with_name (keys_in old) (placed_as x).word
@@ -43,7 +43,7 @@ pub table_step_at : {X V S : Type 0} (placed_as : X → Placed) (made : X → S)
     → (repeated_after (keys_in new) (map placed_as (drop (i + 1) xs)) ≡ []) × (map shown new ++ map made (drop (i + 1) xs) ≡ whole)
 table_step_at placed_as made shown xs i d l = table_step placed_as made shown xs i (get_or xs i d) l (got_twice xs i d l)
 
--- the names of the table, whether or not one is declared twice
+-- the names of the table, whether or not some are declared twice
 pub names_step : {X : Type 0} (label : X → tree.Name) (xs : List X) (i : ℕ) (x : X) → i < length xs → x ≡ get_or xs i x
     → (old new whole : List task.Name) → new ≡ with_name old (label x)
     → fold with_name old (map label (drop i xs)) ≡ whole → fold with_name new (map label (drop (i + 1) xs)) ≡ whole

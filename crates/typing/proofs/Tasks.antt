@@ -1,4 +1,4 @@
--- The parts that the phases make are the task of the trees, where no phase has a fault.
+-- The parts that the phases produce are those of the trees' task, if no phase has a fault.
 use Rattle.std.proofs.Common.{◌≡◌, ℕ, ◌+◌, ◌≤◌, ◌<◌, Bool, true, false, is_some, drop, List, [], ◌∷◌, ◌++◌, codes, map, length, slice_get, slice_index, nat_le, refl, ap, sym, subst, ◌∙◌, arith, zero, suc, Some}
 use Rattle.std.specs.Prelude.{◌↔◌, Contains}
 use Rattle.std.specs.List.{flat_map, list_all}
@@ -62,7 +62,7 @@ narrow_is_all file known low (tree.initial_value v ∷ fs) e =
 
 -- ---- the faults of the phases, phase by phase
 
--- where the first list with a fault has none, no list has one
+-- if the first list with a fault is empty, all lists are
 pub none_filled : (faults : List TypingFault) (later : List (List TypingFault)) → first_filled (faults ∷ later) ≡ [] → (faults ≡ []) × (first_filled later ≡ [])
 none_filled [] later e = (refl, e)
 none_filled (f ∷ more) later e = absurd (cc)
@@ -76,7 +76,7 @@ first_filled-append [] later = refl
 first_filled-append ([] ∷ lists) later = first_filled-append lists later
 first_filled-append ((f ∷ more) ∷ lists) later = refl
 
--- the pair's faults: those of the types, and of what else is declared and stated
+-- the pair's faults: those of the types, and of the other declarations and statements
 faults_by_parts : (d : tree.Domain) (p : tree.Problem) → faults_of d p ≡ first_filled (type_faults_of d p ∷ contents_faults d p ∷ [])
 faults_by_parts d p =
     let types = (domain_name_faults d p ++ type_declaration_faults d) ∷ cycle_faults d ∷ [] in
@@ -133,7 +133,7 @@ module _ (d : tree.Domain) (p : tree.Problem) (no_type : type_faults_of d p ≡ 
   pub low_arguments : list_all (λ (q : task.Predicate). nat_le (length q.arguments) 8) (predicates_of d) ≡ true
   low_arguments = few_arguments d.predicates no_declaration
 
-  -- each parent is a type, and no type comes back
+  -- each parent is a type, and no chain is cyclic
   some_type : 0 < length (type_names d)
   some_type = omega (arith, count_types, length-map (declared_types d) (λ (x : Declared). type_in (type_names d) x.types))
 
@@ -150,7 +150,7 @@ module _ (d : tree.Domain) (p : tree.Problem) (no_type : type_faults_of d p ≡ 
       let xs = declared_types d in
       ap (comes_back (parents_of d)) (next k) ∙ none_comes_back (parents_of d) 1 xs no_cycle k (omega (arith, l, length-map xs (λ (x : Declared). type_in (type_names d) x.types)))
 
-  -- the supertypes of a type are those that it descends from
+  -- the supertypes of a type are its ancestors
   pub supertypes_above : (number : ℕ) (t : task.ObjectType) → slice_get (types_of d) number ≡ Some t → (above : ℕ) → Contains t.supertypes above ↔ Descends (parents_of d) number above
   supertypes_above number t at above =
       let parents = parents_of d in
@@ -179,15 +179,15 @@ module _ (d : tree.Domain) (p : tree.Problem) (no_type : type_faults_of d p ≡ 
       (facts_fit t [] problem_file known fits p.init no_init))
       (formula_fits t problem_file [] known fits (omega arith) p.goal no_goal)
 
--- ---- the task that the phases make
+-- ---- the task that the phases produce
 
--- what the phases made of the pair, and that none found a fault
+-- the products of the phases for the pair, which found no fault
 pub record IsMade (d : tree.Domain) (p : tree.Problem) (made : task.Task) : Type 0 where
   pub well_typed : ListsNoFault d p
   pub same : made ≡ task_of_trees d p
   pub typed : is_task made ≡ true
 
--- what the phases made, as the parts of a task
+-- the products of the phases, as the parts of a task
 abbrev pub parts_of : TypeTable → DeclaredObjects → Declarations → Start → Bool → TaskParts
 parts_of types objects names start has_metric = record {
   types = types.by_name;
@@ -202,12 +202,12 @@ parts_of types objects names start has_metric = record {
 }
 
 module _ (d : tree.Domain) (p : tree.Problem) where
-  -- the fault that is reported for the types is the pair's
+  -- the fault reported for the types is the pair's
   pub reported_of_types : (e : TaskFault) → ReportsLeastOf (type_faults_of d p) e → ReportsLeastFault d p e
   reported_of_types e h = subst (λ fs. ReportsLeastOf fs e) (sym (faults_by_parts d p)) (reports_here (type_faults_of d p) _ e h)
 
   module _ (no_type : type_faults_of d p ≡ []) where
-    -- and so is that of what else is declared and stated, where the types have none
+    -- and so is that of the other declarations and statements, if the types have none
     pub reported_of_contents : (e : TaskFault) → ReportsLeastOf (contents_faults d p) e → ReportsLeastFault d p e
     reported_of_contents e h =
         subst (λ fs. ReportsLeastOf fs e) (sym (faults_by_parts d p)) (reports_later (type_faults_of d p) _ no_type e (reports_here (contents_faults d p) [] e h))

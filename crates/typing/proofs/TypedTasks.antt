@@ -1,4 +1,4 @@
--- A task that files make is well-typed: a pair without faults resolves to one that is.
+-- Tasks read from files are well-typed: a pair without faults resolves to a well-typed task.
 use Rattle.std.proofs.Common.{◌≡◌, ◌∙◌, ℕ, zero, suc, true, List, [], ◌∷◌, Some, refl, sym, ap}
 use Rattle.std.specs.Prelude.{IsTrue, slice_get}
 use Rattle.model.specs.Task.{Task}
@@ -11,13 +11,13 @@ use Rattle.model.specs.Files.{IsTaskOf}
 use Rattle.model.proofs.TypingFaultsReported.{well_typed_listed}
 use Rattle.typing.proofs.Tasks.{none_filled, supertypes_above, typed}
 
--- where the first list with a fault has none, each list is empty
+-- if the first list with a fault is empty, all lists are
 each_empty : (lists : List (List TypingFault)) → first_filled lists ≡ [] → (k : ℕ) (faults : List TypingFault) → slice_get lists k ≡ Some faults → faults ≡ []
 each_empty [] none k faults at = absurd (cc)
 each_empty (first ∷ later) none zero faults at = let same : first ≡ faults = cc in sym same ∙ (none_filled first later none).0
 each_empty (first ∷ later) none (suc k) faults at = each_empty later (none_filled first later none).1 k faults at
 
--- the task of a pair that is well-typed
+-- the task of a well-typed pair
 pub trees_are_typed : (d : Domain) (p : Problem) → IsWellTyped d p → is_task (task_of_trees d p) ≡ true
 trees_are_typed d p well =
     let empty = each_empty (phases d p) (well_typed_listed d p well) in
@@ -35,6 +35,6 @@ supertypes_are_those_above d p well =
     (λ i. first_filled (empty 3 _ refl i ∷ empty 4 _ refl i ∷ empty 5 _ refl i ∷ []))
     (λ i. first_filled (empty 6 _ refl i ∷ empty 7 _ refl i ∷ []))
 
--- a task that files make
+-- a task read from files
 pub task_is_typed : (domain problem : List ℕ) (task : Task) → IsTaskOf domain problem task → IsTrue (is_task task)
 task_is_typed domain problem task is = ap is_task is.resolved ∙ trees_are_typed is.domain_tree is.problem_tree is.well_typed

@@ -1,4 +1,4 @@
--- What facts that give values to functions do to those that were given before, and what is wrong with them.
+-- How facts that give values to functions change the values given before, and their faults.
 use Rattle.std.proofs.Common.{◌≡◌, ◌∙◌, ℕ, ◌+◌, ◌<◌, ◌≤◌, ◌==◌, Bool, true, false, not, is_some, List, [], ◌∷◌, ◌++◌, map, length, drop, get_or, Option, None, Some, refl, sym, ap, if◌then◌else◌}
 use Rattle.std.specs.List.{list_any}
 use Rattle.std.specs.Option.{option_map_or}
@@ -13,7 +13,7 @@ use Rattle.model.proofs.TypingFaultsPhases.{values_after-append}
 use Rattle.task_parts.specs.Walk.{found}
 use Rattle.task_parts.proofs.Found.{found-append}
 
--- ---- one value more
+-- ---- one more value
 
 module _ (values : List task.FunctionValue) (v : task.FunctionValue) where
   -- a function of these objects has a value
@@ -51,7 +51,7 @@ reported_of_named known values v function named other = by (is_named (in_functio
         (λ i. if differing values (record { function = same i; value = v.value }) then other else [])
         ∙ ap (λ b. if b then other else []) (sym (or-false (differing values (record { function = atom_in (in_function known) v.function; value = v.value }))))
 
--- ---- one fact more of a list
+-- ---- one more fact of a list
 
 module _ {X : Type 0} (known : Known) (seen : X → tree.Fact) (xs : List X) (i : ℕ) where
   module _ (x : X) (below : i < length xs) (is : x ≡ get_or xs i x) (old new : List task.FunctionValue) (adds : new ≡ values_after known old (seen x ∷ [])) where
@@ -71,7 +71,7 @@ module _ {X : Type 0} (known : Known) (seen : X → tree.Fact) (xs : List X) (i 
         (λ j. found (finds j) (facts_faults file known (adds j) rest)) ∙ sym (found-append least own (facts_faults file known (values_after known old (seen x ∷ [])) rest))
         ∙ ap (λ ys. found least (facts_faults file known old (map seen ys))) (sym split) ∙ h
 
-  -- and none more
+  -- and the end
   module _ (past : length xs ≤ i) (values : List task.FunctionValue) where
     pub values_end : (whole : List task.FunctionValue) → values_after known values (map seen (drop i xs)) ≡ whole → values ≡ whole
     values_end whole h = sym (ap (λ ys. values_after known values (map seen ys)) (drop_all i xs past)) ∙ h

@@ -31,7 +31,7 @@ got_below [] n l = absurd (omega (arith, l))
 got_below (x ∷ xs) zero l = (x, refl)
 got_below (x ∷ xs) (suc n) l = got_below xs n (omega (arith, l))
 
--- the declaration that a predicate without fault has
+-- the declaration of a predicate without fault
 pub declared_count : (file : TaskFile) (known : Known) (name : tree.Name) (count : ℕ) → predicate_faults file known name count ≡ []
     → (p : task.Predicate) × (predicate_in_known known name ≡ Some p) × (count ≡ length p.arguments)
 declared_count file known name count e = by (predicate_in_known known name) refl e
@@ -51,7 +51,7 @@ right_word file word false e = absurd (cc)
 
 -- ---- resolved parts
 
--- what may be named is there in the task
+-- the visible names belong to the task
 pub record Fits (t : task.Task) (scope : List task.Union) (known : Known) : Type 0 where
   pub types : known.types ≡ t.types
   pub predicates : known.predicates ≡ t.predicates
@@ -103,7 +103,7 @@ module _ (t : task.Task) (scope : List task.Union) (file : TaskFile) (known : Kn
       and_true _ _ (term_fits wanted (tree.object x) (nil_left own misfit (nil_left (own ++ misfit) rest e)) (nil_right own misfit (nil_left (own ++ misfit) rest e)))
       (objects_fit arguments xs (omega (arith, same)) (nil_right (own ++ misfit) rest e))
 
-  -- what fits the arguments of a known predicate is with it
+  -- terms that fit the arguments of a known predicate are valid with it
   with_predicate : {X : Type 0} (may : task.Union → X → Bool) (name : tree.Name) (xs : List X) (p : task.Predicate) → predicate_in_known known name ≡ Some p → pointwise may p.arguments xs ≡ true
       → option_map_or (λ (q : task.Predicate). pointwise may q.arguments xs) (slice_get t.predicates (number_in (names_of_predicates known.predicates) name)) false ≡ true
   with_predicate may name xs p at each =
@@ -146,7 +146,7 @@ module _ (t : task.Task) (scope : List task.Union) (file : TaskFile) (known : Kn
   facts_fit (tree.initial_cost c ∷ fs) e = facts_fit fs (nil_right (initial_cost_faults file known c) (flat_map (fact_faults file known) fs) e)
   facts_fit (tree.initial_value v ∷ fs) e = facts_fit fs (nil_right (ground_atom_faults file (in_function known) v.function) (flat_map (fact_faults file known) fs) e)
 
--- the facts have no fault of their own where all together have none
+-- the facts have no fault of their own if there is none in total
 pub own_faults : (file : TaskFile) (known : Known) (given : List task.FunctionValue) (fs : List tree.Fact) → facts_faults file known given fs ≡ [] → flat_map (fact_faults file known) fs ≡ []
 own_faults file known given [] e = refl
 own_faults file known given (f ∷ fs) e =
@@ -155,7 +155,7 @@ own_faults file known given (f ∷ fs) e =
     let rest = facts_faults file known after fs in
     λ i. nil_left own other (nil_left (own ++ other) rest e) i ++ own_faults file known after fs (nil_right (own ++ other) rest e) i
 
--- what an increase is by, a function with the functions in the place of the predicates
+-- the amount of an increase: a function, with the functions in place of the predicates
 increase_fits : (t : task.Task) (scope : List task.Union) (file : TaskFile) (known : Known) → Fits t scope known → (amount : tree.Amount) → amount_faults file known amount ≡ []
     → is_increase t scope (increase_in known amount) ≡ true
 increase_fits t scope file known fits (tree.by_number n) e = refl
@@ -182,7 +182,7 @@ got_low [] n x e = absurd (cc)
 got_low (y ∷ xs) zero x e = omega arith
 got_low (y ∷ xs) (suc n) x e = omega (arith, got_low xs n x e)
 
--- one quantifier for each of some variables, where so many fit in scope
+-- one quantifier for each of some variables, if they fit in scope
 each_exists : (t : task.Task) (scope us : List task.Union) (part : task.Formula) → length scope + length us ≤ 16 → is_formula t (scope ++ us) part ≡ true → is_formula t scope (exists_each us part) ≡ true
 each_exists t scope [] part low typed = ap (λ s. is_formula t s part) (sym (append-nil scope)) ∙ typed
 each_exists t scope (u ∷ us) part low typed =

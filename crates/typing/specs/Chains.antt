@@ -7,11 +7,11 @@ use Rattle.task.specs.TaskParts.{type_entry_of}
 use Rattle.model.specs.Task as task
 use Rattle.model.specs.Typing.{Declared, TypingFault, parents_in, types_from, cycle_faults_from}
 
--- the faults of chains that come back, where the types have these names
+-- the faults of cyclic chains, if the types have these names
 abbrev pub cycles : List task.Name → List Declared → List TypingFault
 cycles names xs = cycle_faults_from (parents_in names xs) 1 xs
 
--- no chain comes back, and these are the types
+-- no chain is cyclic, and these are the types
 pub record AreTypes (names : List task.Name) (xs : List Declared) (entries : List (Vec ℕ × Vec TypeId)) : Type 0 where
   pub right : cycles names xs ≡ []
   pub names_are : keys_in entries ≡ names

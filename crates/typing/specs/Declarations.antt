@@ -1,4 +1,4 @@
--- What the declared names stand for, and the faults of declaring them and of what is stated of them, in the model's terms.
+-- The meaning of declared names, the faults of declarations, and the faults of the problem's statements, in the model's terms.
 use Rattle.std.specs.Prelude.{◌≡◌, ℕ, List, [], ◌∷◌, ◌++◌, map}
 use Rattle.std.specs.Global.{Vec}
 use Rattle.std.specs.List.{flat_map}
@@ -19,20 +19,20 @@ use Rattle.model.specs.Typing.{first_filled, init_faults, formula_faults, functi
 abbrev pub type_faults_of : tree.Domain → tree.Problem → List TypingFault
 type_faults_of d p = first_filled ((domain_name_faults d p ++ type_declaration_faults d) ∷ cycle_faults d ∷ [])
 
--- those of what the domain declares besides, and of the metric
+-- the faults of the domain's other declarations, and of the metric
 abbrev pub domain_faults : tree.Domain → tree.Problem → List TypingFault
 domain_faults d p =
     first_filled (declaration_faults (type_names d) d.predicates ∷ function_faults d p ∷ action_faults (known_in_domain d) d.actions ∷ [])
 
--- the faults of the initial state of a file, and else those of the goal
+-- the faults of the initial state of a file, or if it has none, those of the goal
 abbrev pub stated_faults_in : TaskFile → Known → tree.Problem → List TypingFault
 stated_faults_in file known p = first_filled (init_faults file known p.init ∷ formula_faults file known p.goal ∷ [])
 
--- those of all that is declared and stated but the types
+-- the faults of all declarations and statements except the types
 abbrev pub contents_faults : tree.Domain → tree.Problem → List TypingFault
 contents_faults d p = first_filled (object_faults d p ∷ domain_faults d p ∷ stated_faults_in problem_file (known_in_problem d p) p ∷ [])
 
--- what may be named where these are the types, the objects, the predicates and the functions
+-- the names visible with these types, objects, predicates and functions
 abbrev pub known_in : TypeTable → List (Vec ℕ × TypeId) → List (Vec ℕ × Predicate) → List (Vec ℕ × Predicate) → Known
 known_in t objects predicates functions = record {
   type_names = keys_in t.by_name.entries;
@@ -43,7 +43,7 @@ known_in t objects predicates functions = record {
   objects = map object_entry_of objects;
 }
 
--- what may be named in the problem
+-- the names visible in the problem
 abbrev pub known_by : TypeTable → DeclaredObjects → Declarations → Known
 known_by t o n = known_in t o.all.entries n.predicates.entries n.functions.entries
 
@@ -52,25 +52,25 @@ pub record AreTypesOf (d : tree.Domain) (t : TypeTable) : Type 0 where
   pub names : keys_in t.by_name.entries ≡ type_names d
   pub all : map type_entry_of t.by_name.entries ≡ types_of d
 
--- these are the names that the domain declares over its types
+-- these are the declarations of the domain over its types
 pub record AreDeclared (d : tree.Domain) (n : Declarations) : Type 0 where
   pub predicates : map predicate_of n.predicates.entries ≡ predicates_of d
   pub functions : map predicate_of n.functions.entries ≡ functions_of d
   pub schemas : map schema_of n.schemas.entries ≡ map (schema_in (known_in_domain d)) d.actions
 
--- these are the schemas of the domain, which has no fault there
+-- these are the schemas of the domain, which have no fault
 pub record AreSchemasOf (known : Known) (d : tree.Domain) (entries : List (Vec ℕ × Schema)) : Type 0 where
   pub right : action_faults known d.actions ≡ []
   pub schemas : map schema_of entries ≡ map (schema_in known) d.actions
 
--- the problem has no fault in what it states, and begins and ends so
+-- the problem's statements have no fault, and these are its initial state and goal
 pub record Starts (file : TaskFile) (known : Known) (p : tree.Problem) (s : Start) : Type 0 where
   pub right : stated_faults_in file known p ≡ []
   pub init : map atom_of s.init.items ≡ flat_map (narrow_atoms_in known) p.init
   pub values : map value_of s.values.entries ≡ values_after known [] p.init
   pub goal : formula_of s.goal ≡ formula_in file known p.goal
 
--- nothing but the types of the pair has a fault, and these are its objects, its names, and what it states
+-- nothing except the types may have a fault, and these are the pair's objects, declarations and statements
 pub record AreContents (d : tree.Domain) (p : tree.Problem) (o : DeclaredObjects) (n : Declarations) (s : Start) : Type 0 where
   pub no_object : object_faults d p ≡ []
   pub no_other : domain_faults d p ≡ []

@@ -6,18 +6,18 @@ use Rattle.model.specs.Task as task
 use Rattle.model.specs.Trees as tree
 use Rattle.model.specs.Typing.{Declared, constants_of, objects_of, declared_constants, declared_objects, object_in, objects_faults}
 
--- these are they
+-- these are the constants and objects of the pair
 pub record AreObjectsOf (d : tree.Domain) (p : tree.Problem) (o : DeclaredObjects) : Type 0 where
   pub constants : map object_entry_of o.constants.entries ≡ constants_of d
   pub all : map object_entry_of o.all.entries ≡ objects_of d p
 
--- there is no fault in their declarations, and these are they
+-- their declarations have no fault, and these are they
 pub record AreObjects (types : List task.Name) (d : tree.Domain) (p : tree.Problem) (o : DeclaredObjects) : Type 0 where
   pub right : objects_faults types (declared_objects d p) ≡ []
   pub constants : map object_entry_of o.constants.entries ≡ map (object_in types) (declared_constants d)
   pub all : map object_entry_of o.all.entries ≡ map (object_in types) (declared_objects d p)
 
--- there is no fault in the declarations of the objects, and these are they and the constants
+-- the declarations of the objects have no fault, and these are they, with the constants
 pub record AreMade (types : List task.Name) (constants objects : List Declared) (o : DeclaredObjects) : Type 0 where
   pub right : objects_faults types objects ≡ []
   pub constants_are : map object_entry_of o.constants.entries ≡ map (object_in types) constants

@@ -6,11 +6,11 @@ use Rattle.model.specs.Trees as tree
 use Rattle.model.specs.TypingFaults as typing_faults
 use Rattle.model.specs.Typing.{faults_of}
 
--- the least fault of the pair is reported; running out of memory says nothing of the pair
+-- the least fault of the pair is reported; nothing is stated for running out of memory
 abbrev pub ReportsLeastFault : tree.Domain → tree.Problem → TaskFault → Type 0
 ReportsLeastFault d p = ReportsLeastOf (faults_of d p)
 
--- the fault is reported for the pair that the table of faults says; running out of memory says nothing of the pair
+-- the fault of the pair according to the table of faults is reported; nothing is stated for running out of memory
 abbrev pub ReportsFault : tree.Domain → tree.Problem → TaskFault → Type 0
 ReportsFault d p NoMemory = Unit {0}
 ReportsFault d p (At r) = typing_faults.IsReported d p (refusal_of r)

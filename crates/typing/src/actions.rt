@@ -21,7 +21,7 @@ use task_parts::domain::{declare, put};
 use task_parts::formulas::{enter, formula};
 use task_parts::{Globals, Walk};
 
-/// What an action with these parameters declares, where these variables are in scope.
+/// The schema of an action with these parameters, given the variables in scope.
 fn body(
     alloc: Global,
     walk: &mut Walk,
@@ -49,7 +49,7 @@ fn body(
     })
 }
 
-/// What an action declares.
+/// The schema of an action.
 fn schema(
     alloc: Global,
     walk: &mut Walk,
@@ -71,7 +71,7 @@ fn schema(
     body(alloc, walk, &inner, &mut variables, parameters, action)
 }
 
-/// The actions that are declared before are refused.
+/// Refuses actions whose name was declared before.
 fn declare_actions(alloc: Global, walk: &mut Walk, actions: &[Action<'_>]) -> Result<(), NoMemory>
     ensures { OnOk result (Finds walk.old walk.new (typing.refused 16 (typing.repeated (map (λ a. typing.placed domain_file (read.name_of a.name)) actions.now)))) }
 {
@@ -82,7 +82,7 @@ fn declare_actions(alloc: Global, walk: &mut Walk, actions: &[Action<'_>]) -> Re
     Ok(())
 }
 
-/// The schemas of a list of actions. That one is declared again is not reported here.
+/// The schemas of a list of actions. Repeated declarations are not reported here.
 fn table(
     alloc: Global,
     walk: &mut Walk,
@@ -101,7 +101,7 @@ fn table(
     Ok(schemas)
 }
 
-/// The domain's actions, where this may be named in it.
+/// The domain's action schemas, given the names visible in it.
 pub(crate) fn schemas(
     alloc: Global,
     globals: &Globals<'_>,

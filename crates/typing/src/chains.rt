@@ -1,4 +1,4 @@
-//! The types of a domain, and their chains, from a type to its parent and on up to `object`.
+//! The types of a domain and their chains of parents, up to `object`.
 ghost use Rattle.std.specs.Prelude.{◌≡◌, ◌≤◌, ◌<◌, ◌+◌, [], if◌then◌else◌, length, map, slice_index, IfErr, IfOk, OnOk};
 ghost use Rattle.task.specs.TaskParts as parts;
 ghost use Rattle.task_parts.specs.TypedLists.{declared_of};
@@ -19,7 +19,7 @@ use task::TypeId;
 use task_parts::typed_lists::{Declared, collect};
 use task_parts::{TypeTable, Walk, domain};
 
-/// The parent of a type, and `object` where there is no such type.
+/// The parent of a type; `object` if there is no such type.
 fn parent(parents: &[TypeId], id: TypeId) -> TypeId
     ensures { result.0 ≡ slice_index (map parts.type_of parents.now) id.0 }
 {
@@ -29,7 +29,7 @@ fn parent(parents: &[TypeId], id: TypeId) -> TypeId
     }
 }
 
-/// A type and those above it, up to `object`; of a chain that comes back, as many as there are types.
+/// A type and its ancestors, up to `object`. A cyclic chain is cut off when its length is the number of types.
 fn chain(alloc: Global, parents: &[TypeId], id: TypeId) -> Result<Vec<TypeId>, NoMemory>
     ensures { IfOk result (λ v. map parts.type_of v.items ≡ typing.whole_chain (map parts.type_of parents.now) id.0) }
 {
@@ -53,7 +53,7 @@ fn comes_back(alloc: Global, parents: &[TypeId], id: TypeId) -> Result<bool, NoM
     Ok(chain.contains(&id))
 }
 
-/// A type whose chain of parents comes back to it is refused.
+/// Refuses a type that is its own ancestor.
 fn check_cycle(
     alloc: Global,
     walk: &mut Walk,
@@ -68,7 +68,7 @@ fn check_cycle(
     Ok(())
 }
 
-/// The types whose chains of parents come back to them are refused.
+/// Refuses the types that are their own ancestors.
 fn check_cycles(
     alloc: Global,
     walk: &mut Walk,
@@ -85,7 +85,7 @@ fn check_cycles(
     Ok(())
 }
 
-/// Finds for each type all types that its objects are of.
+/// Fills in the supertypes of each type.
 fn fill(
     alloc: Global,
     parents: &[TypeId],
@@ -103,7 +103,7 @@ fn fill(
     Ok(())
 }
 
-/// The types of these names, each with all types that its objects are of, where no chain comes back.
+/// The types with these names, each with its supertypes, if no chain is cyclic.
 fn filled(
     alloc: Global,
     names: TypeTable,
@@ -122,7 +122,7 @@ fn filled(
     walk.finish(TypeTable { by_name })
 }
 
-/// The types that a domain declares, where the problem is for it.
+/// The types that a domain declares, after checking that the problem is for this domain.
 pub fn types(
     alloc: Global,
     domain: &Domain<'_>,

@@ -1,4 +1,4 @@
-//! What a domain declares by names with arguments: its predicates, and its functions.
+//! The domain's declarations of names with arguments: predicates and functions.
 ghost use Rattle.std.specs.Prelude.{◌≡◌, [], fold, map, IfErr, IfOk, OnOk};
 ghost use Rattle.task.specs.TaskParts as parts;
 ghost use Rattle.task_parts.specs.Scope.{keys_in};
@@ -20,7 +20,7 @@ use task_parts::typed_lists::{collect, limit};
 use task_parts::types::check_all;
 use task_parts::{TypeTable, Walk};
 
-/// What each argument of a declaration has to be.
+/// The types of each argument of a declaration.
 fn arguments(
     alloc: Global,
     room: &mut Vec<u8>,
@@ -35,7 +35,7 @@ fn arguments(
     types.unions(alloc, room, declared)
 }
 
-/// The predicates, or functions, that a list declares.
+/// The predicates, or functions, declared in a list.
 fn table(
     alloc: Global,
     walk: &mut Walk,
@@ -57,7 +57,7 @@ fn table(
     Ok(predicates)
 }
 
-/// The types of a declaration's arguments that are not known, and the argument that is too many.
+/// Refuses the unknown types of a declaration's arguments, and the first argument beyond the limit.
 fn check_arguments(
     alloc: Global,
     walk: &mut Walk,
@@ -74,7 +74,7 @@ fn check_arguments(
     Ok(())
 }
 
-/// The same of all declarations.
+/// The same for all declarations.
 fn check_declarations(
     alloc: Global,
     walk: &mut Walk,
@@ -89,7 +89,7 @@ fn check_declarations(
     Ok(())
 }
 
-/// The predicates, or functions, that a list declares. What is wrong with the declarations is found on the walk.
+/// The predicates, or functions, declared in a list. Their faults are recorded in the walk.
 pub(crate) fn declared(
     alloc: Global,
     walk: &mut Walk,

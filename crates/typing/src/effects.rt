@@ -1,4 +1,4 @@
-//! Names of effects become numbers.
+//! Effects: from names to numbers.
 ghost use Rattle.std.specs.Prelude.{◌≡◌, ◌++◌, map, IfOk, OnOk};
 ghost use Rattle.std.specs.List.{flat_map};
 ghost use Rattle.task.specs.TaskParts as parts;
@@ -101,7 +101,7 @@ fn conditional(
     Ok(Effect::When(condition, literals))
 }
 
-/// One `forall` for each variable of these types, the first outermost.
+/// Nested `forall`, one for each variable of these types, the first outermost.
 fn each_of(alloc: Global, unions: Vec<TypeUnion>, part: Effect) -> Result<Effect, NoMemory>
     ensures { IfOk result (λ e. parts.effect_of e ≡ typing.each_of (map parts.union_of unions.items) (parts.effect_of part)) }
 {
@@ -113,14 +113,14 @@ fn each_of(alloc: Global, unions: Vec<TypeUnion>, part: Effect) -> Result<Effect
     Ok(effect)
 }
 
-/// What each variable of a `forall` has to be, and its part, in which they are in scope.
+/// The types of a `forall`'s variables, and its part, in which they are in scope.
 #[derive(Drop)]
 struct Universal {
     unions: Vec<TypeUnion>,
     part: Effect,
 }
 
-/// The variables and the part of a `forall`. The variables are in scope in the part alone.
+/// The variables and the part of a `forall`. The variables are in scope only in the part.
 #[cycle(effects)]
 fn each(
     alloc: Global,
@@ -169,7 +169,7 @@ fn several(
     Ok(resolved)
 }
 
-/// An effect, where these variables are in scope. They are in scope after it again, and no other.
+/// An effect under these variables. Afterwards exactly the same variables are in scope again.
 #[cycle(effects)]
 pub(crate) fn effect(
     alloc: Global,

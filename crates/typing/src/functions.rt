@@ -1,4 +1,4 @@
-//! The functions of a domain, the metric of a problem and what actions increase the total cost by.
+//! The domain's functions, the problem's metric, and the cost increases of actions.
 ghost use Rattle.std.specs.Prelude.{◌≡◌, [], ◌++◌, drop, if◌then◌else◌, map, slice_get, IfErr, IfOk, OnOk};
 ghost use Rattle.std.specs.List.{flat_map};
 ghost use Rattle.std.specs.Option.{option_map_or};
@@ -21,7 +21,7 @@ use syntax_tree::{Action, Amount, Domain, Name, Problem};
 use task::{Increase, Predicate, TypeUnion};
 use task_parts::{Globals, TypeTable, Walk, declares_cost};
 
-/// The metric is refused where the total cost is not declared.
+/// Refuses the metric if the total cost is not declared.
 fn check_metric(walk: &mut Walk, has_cost: bool, metric: Option<&Name<'_>>)
     ensures { Finds walk.old walk.new
         (option_map_or (λ n. if has_cost then [] else typing.refused_word problem_file 22 (read.name_of n.now)) metric.entry []) }
@@ -31,7 +31,7 @@ fn check_metric(walk: &mut Walk, has_cost: bool, metric: Option<&Name<'_>>)
     }
 }
 
-/// The domain's functions, where these are its types, and where the problem's metric is right.
+/// The domain's functions, given its types, if the problem's metric is valid.
 pub fn functions(
     alloc: Global,
     types: &TypeTable,
@@ -51,7 +51,7 @@ pub fn functions(
     walk.finish(functions)
 }
 
-/// Refuses each of some increases.
+/// Refuses each of the increases.
 fn refuse_increases(walk: &mut Walk, file: TaskFile, increases: &[tree::Increase<'_>])
     ensures { Finds walk.old walk.new (typing.refused 23 (map (λ i. typing.placed (file_of file) (read.name_of i.word)) increases.now)) }
 {
@@ -60,7 +60,7 @@ fn refuse_increases(walk: &mut Walk, file: TaskFile, increases: &[tree::Increase
     }
 }
 
-/// The increases of an action after the first are refused, and the first too where the total cost is not declared.
+/// Refuses all increases of an action after the first; also the first if the total cost is not declared.
 fn check_increases(walk: &mut Walk, file: TaskFile, has_cost: bool, action: &Action<'_>)
     ensures { Finds walk.old walk.new (typing.refused 23 (drop (if has_cost then 1 else 0) (typing.increase_words (file_of file) (read.action_of action.now)))) }
 {
@@ -72,7 +72,7 @@ fn check_increases(walk: &mut Walk, file: TaskFile, has_cost: bool, action: &Act
     }
 }
 
-/// What an increase is by.
+/// The amount of an increase.
 fn amount(
     alloc: Global,
     walk: &mut Walk,
@@ -93,7 +93,7 @@ fn amount(
     }
 }
 
-/// What is wrong with the functions that some increases are by.
+/// Reports the faults of the functions that increases use.
 fn check_amounts(
     alloc: Global,
     walk: &mut Walk,
@@ -109,7 +109,7 @@ fn check_amounts(
     Ok(())
 }
 
-/// What the first of some increases is by, and 0 where there is none.
+/// The amount of the first increase; 0 if there is none.
 fn first_amount(
     alloc: Global,
     walk: &mut Walk,
@@ -131,7 +131,7 @@ fn first_amount(
     }
 }
 
-/// What an action increases the total cost by: what its first increase is by, and 0 where it has none.
+/// The amount by which an action increases the total cost: that of its first increase, or 0.
 pub fn increase(
     alloc: Global,
     walk: &mut Walk,

@@ -1,13 +1,13 @@
-//! Laws of typing. They are proved; the calls do nothing.
+//! Laws of typing, proved. The functions do nothing.
 ghost use Rattle.model.specs.TypingExamples.{AreTyped};
 ghost use Rattle.model.specs.TypingFaults.{SupertypesAreThoseAbove};
 
-/// In a well-typed pair, the supertypes of a type are those that it descends from.
+/// In a well-typed pair, the supertypes of a type are exactly the type and its ancestors.
 pub fn supertypes_are_those_above()
     ensures { SupertypesAreThoseAbove }
 {}
 
-/// The worked examples of typing: small pairs of trees with their task, or with their faults.
+/// The worked examples of typing: small pairs of trees with their task or their faults.
 pub fn examples_are_typed()
     ensures { AreTyped }
 {}

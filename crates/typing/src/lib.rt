@@ -1,4 +1,4 @@
-//! Resolves names: a well-typed pair of trees is a task, and any other has a first fault.
+//! Resolves names: a well-typed pair of trees becomes a task, and any other pair has a first fault.
 #![tactic(auto)]
 
 mod actions;

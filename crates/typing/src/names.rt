@@ -1,4 +1,4 @@
-//! The names that a domain and a problem declare, and what the problem says in them.
+//! The names that a domain and a problem declare, and the problem's initial state and goal.
 ghost use Rattle.std.specs.Prelude.{◌≡◌, ◌≤◌, [], length, IfErr, IfOk};
 
 use crate::{TaskFault, TaskFile, actions, declarations, functions, statements};
@@ -8,7 +8,7 @@ use syntax_tree::{Domain, Problem};
 use task::{Atom, Formula, Predicate, Schema, TypeId};
 use task_parts::{Globals, TypeTable};
 
-/// The constants alone, and all objects, the constants first.
+/// The constants, and all objects with the constants first.
 #[derive(Drop)]
 pub struct DeclaredObjects {
     /// The constants by name, each with its type.
@@ -19,7 +19,7 @@ pub struct DeclaredObjects {
     ghost few: { length all.entries ≤ 65535 },
 }
 
-/// What a domain declares over its types and objects, by name: each in the place of its number.
+/// The domain's declarations over its types and objects, by name, each at the index of its number.
 #[derive(Drop)]
 pub(crate) struct Declarations {
     pub(crate) predicates: IndexMap<Vec<u8>, Predicate>,
@@ -27,7 +27,7 @@ pub(crate) struct Declarations {
     pub(crate) schemas: IndexMap<Vec<u8>, Schema>,
 }
 
-/// What a problem states: where it begins, and what is to be reached.
+/// The problem's initial state and goal.
 #[derive(Drop)]
 pub(crate) struct Start {
     pub(crate) init: Vec<Atom>,
@@ -43,7 +43,7 @@ impl Declarations {
     ghost use Rattle.model.specs.Trees.{problem_file};
     ghost use Rattle.model.specs.Typing.{action_faults};
 
-    /// The names that a domain declares, where these are its types and the pair's objects.
+    /// The declarations of a domain, given its types and the pair's objects.
     pub(crate) fn declared(
         alloc: Global,
         types: &TypeTable,
@@ -74,7 +74,7 @@ impl Declarations {
         })
     }
 
-    /// The actions that a domain declares, over its types, constants, predicates and functions.
+    /// The domain's actions, over its types, constants, predicates and functions.
     fn schemas(
         alloc: Global,
         types: &TypeTable,
@@ -96,7 +96,7 @@ impl Declarations {
         actions::schemas(alloc, &globals, domain)
     }
 
-    /// What the problem states, with numbers for the names.
+    /// The problem's initial state and goal, with numbers for names.
     pub(crate) fn stated(
         &self,
         alloc: Global,
@@ -124,7 +124,7 @@ impl Start {
     ghost use Rattle.typing.specs.Declarations.{stated_faults_in, Starts};
     ghost use Rattle.syntax_tree.specs.Tree.{problem_of};
 
-    /// What the problem states, where this may be named in it.
+    /// The problem's initial state and goal, given the names visible in it.
     fn stated_in(
         alloc: Global,
         globals: &Globals<'_>,

@@ -22,7 +22,7 @@ use task_parts::typed_lists::{Declared, add, limit};
 use task_parts::types::check_all;
 use task_parts::{TypeTable, Walk};
 
-/// The objects that are declared.
+/// The declared objects.
 fn table(
     alloc: Global,
     walk: &mut Walk,
@@ -41,7 +41,7 @@ fn table(
     Ok(objects)
 }
 
-/// All objects that are declared.
+/// All declared objects.
 fn all(
     alloc: Global,
     types: &TypeTable,
@@ -58,7 +58,7 @@ fn all(
     walk.finish(objects)
 }
 
-/// The objects that are declared, of which so many are constants: the first.
+/// The declared objects; the first `count` are the constants.
 fn made(
     alloc: Global,
     types: &TypeTable,
@@ -75,7 +75,7 @@ fn made(
     Ok(DeclaredObjects { constants, all })
 }
 
-/// The constants and the objects that these lists declare.
+/// The constants and objects declared in these lists.
 fn of_lists<'t>(
     alloc: Global,
     types: &TypeTable,

@@ -13,15 +13,15 @@ use std::alloc::Global;
 use syntax_tree::{Domain, Problem};
 use task::{Task, TaskParts};
 
-/// A task is made of trees.
+/// A task can be built from trees.
 pub trait FromTrees: Sized {
-    /// The task that it is.
+    /// The task, as the model has it.
     ghost task_in: { Self → task.Task };
 
-    /// The task of a domain and a problem: each name becomes its number.
+    /// Builds the task of a domain and a problem, with a number for each name.
     ///
     /// # Errors
-    /// The least fault of the pair, where it has one; [`TaskFault::NoMemory`] where memory is refused.
+    /// The least fault of the pair, if it has one; [`TaskFault::NoMemory`] if an allocation failed.
     ///
     /// # Examples
     /// A domain with `(:constants a)` and a problem for it with `(:objects b)` make a task of two objects, the constant
@@ -47,7 +47,7 @@ impl FromTrees for Task {
     }
 }
 
-/// The task of a domain and a problem, which are kept.
+/// The task of a domain and a problem, taken by reference.
 fn of_trees(alloc: Global, domain: &Domain<'_>, problem: &Problem<'_>) -> Result<Task, TaskFault>
     ensures well_typed { OnOk result (ListsNoFault (domain_of domain.now) (problem_of problem.now)) }
     ensures task { IfOk result (λ t. task_of t ≡ task_of_trees (domain_of domain.now) (problem_of problem.now)) }

@@ -1,4 +1,4 @@
-//! What a problem states: its initial state and its goal.
+//! The problem's statements: its initial state and its goal.
 ghost use Rattle.std.specs.Prelude.{◌≡◌, [], ◌∷◌, ◌++◌, drop, if◌then◌else◌, map, IfErr, IfOk, OnOk};
 ghost use Rattle.task.specs.TaskParts as parts;
 ghost use Rattle.typing.specs.Task.{file_of, ReportsLeastOf};
@@ -18,14 +18,14 @@ use task::{Atom, Formula, TypeUnion};
 use task_parts::formulas::formula;
 use task_parts::{Globals, Scope, Walk};
 
-/// What the initial state states: the atoms that are true in it, and the values of functions.
+/// The statements of `:init`: the atoms that are true, and the values of functions.
 #[derive(Drop)]
 pub(crate) struct Initial {
     pub(crate) atoms: Vec<Atom>,
     pub(crate) values: IndexMap<Atom, u32>,
 }
 
-/// The total cost at the start is refused where it is not declared, and where it is not 0.
+/// Refuses an initial total cost that is not declared or is not 0.
 fn check_initial_cost(walk: &mut Walk, scope: &Scope<'_>, cost: &InitialCost<'_>)
     ensures { Finds walk.old walk.new (typing.initial_cost_faults (file_of scope.now.file) (known_of scope.now) (read.initial_cost_of cost.now)) }
 {
@@ -33,7 +33,7 @@ fn check_initial_cost(walk: &mut Walk, scope: &Scope<'_>, cost: &InitialCost<'_>
     walk.refuse_unless(cost.amount == 0, scope.file, Code::BadCost, &cost.number);
 }
 
-/// Gives this value to a function of objects, unless it has one. Another than the first is refused.
+/// Gives this value to a function of objects, unless it has one. Refuses a second value that differs.
 fn put_value(
     walk: &mut Walk,
     file: TaskFile,
@@ -59,7 +59,7 @@ fn put_value(
     }
 }
 
-/// Adds the value of a function of objects, where each of its names is known. Another than was given before is refused.
+/// Adds the value of a function of objects, if all its names are known. Refuses a second value that differs.
 fn add_value(
     walk: &mut Walk,
     scope: &Scope<'_>,
@@ -79,7 +79,7 @@ fn add_value(
     }
 }
 
-/// Adds an atom of the initial state, or the value of a function. A negated atom is refused.
+/// Adds an atom of the initial state, or the value of a function. Refuses a negated atom.
 fn add_fact(
     walk: &mut Walk,
     scope: &Scope<'_>,
@@ -111,7 +111,7 @@ fn add_fact(
     }
 }
 
-/// What a list of facts states: its atoms as they are, and its values, each function of the same objects once.
+/// The statements of a list of facts: its atoms, possibly repeated, and its values, at most one for each function of objects.
 fn stated(
     alloc: Global,
     walk: &mut Walk,
@@ -130,7 +130,7 @@ fn stated(
     Ok(Initial { atoms, values })
 }
 
-/// Refuses a second `=`. It gives whether one is still to come that is the first.
+/// Refuses an initial total cost after the first. Returns whether the first is still to come.
 fn check_equals(walk: &mut Walk, file: TaskFile, none_yet: bool, fact: &Fact<'_>) -> bool
     ensures { (rest : _) → found (least_of walk.new) (typing.refused 23 (drop (if result then 1 else 0) (typing.equals_in (file_of file) rest)))
         ≡ found (least_of walk.old) (typing.refused 23 (drop (if none_yet then 1 else 0) (typing.equals_in (file_of file) (read.fact_of fact.now ∷ rest)))) }
@@ -146,7 +146,7 @@ fn check_equals(walk: &mut Walk, file: TaskFile, none_yet: bool, fact: &Fact<'_>
     }
 }
 
-/// The `=` after the first are refused.
+/// Refuses each initial total cost after the first.
 fn check_all_equals(walk: &mut Walk, file: TaskFile, facts: &[Fact<'_>])
     ensures { Finds walk.old walk.new (typing.refused 23 (drop 1 (typing.equals_in (file_of file) (map read.fact_of facts.now)))) }
 {
@@ -156,7 +156,7 @@ fn check_all_equals(walk: &mut Walk, file: TaskFile, facts: &[Fact<'_>])
     }
 }
 
-/// The atoms and the values of the initial state, where these variables are in scope.
+/// The atoms and values of the initial state, given the names in scope.
 pub(crate) fn init(
     alloc: Global,
     globals: &Globals<'_>,

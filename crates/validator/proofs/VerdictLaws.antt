@@ -1,4 +1,4 @@
--- Of each list of actions exactly one verdict is true.
+-- Exactly one verdict is true of each list of actions.
 use Rattle.std.specs.Prelude.{◌≡◌, ℕ, ◌+◌, ◌-◌, true, false, IsTrue, List, [], ◌∷◌, take, slice_get, None, Some, ◌⊎◌, refl}
 use Rattle.std.proofs.Common.{sym, ◌∙◌, ap, inl, inr, zero, suc, arith, true≢false}
 use Rattle.std.specs.Option.{option_and_then}
@@ -15,7 +15,7 @@ module _ {S A : Type 0} (t : System S A) where
     found_there : slice_get plan i ≡ Some next
     blocked : t.step before next ≡ None
 
-  -- a list runs, or one of its actions is not applicable in its turn
+  -- all actions of a list are applicable in order, or one of them is not
   runs_or_halts : (s : S) (plan : List A) → ((last : S) × (run t s plan ≡ Some last)) ⊎ ((i : ℕ) × Halts s plan i)
   runs_or_halts s [] = inl (s, refl)
   runs_or_halts s (a ∷ rest) =
@@ -36,7 +36,7 @@ module _ {S A : Type 0} (t : System S A) where
         ]
       ] refl
 
-  -- where the first action is not applicable, no list that begins with it runs
+  -- if the first action is not applicable, no list that begins with it runs
   nothing_after : (s last : S) (a : A) (rest : List A) → t.step s a ≡ None → run t s (a ∷ rest) ≡ Some last → ⊥
   nothing_after s last a rest e runs = none-some last (sym (ap (option_and_then (λ m. run t m rest)) e) ∙ runs)
 
@@ -44,7 +44,7 @@ module _ {S A : Type 0} (t : System S A) where
   blocked_at_once s a rest h =
       (λ i. t.step (same_Some s h.before h.runs i) (same_Some a h.next h.found_there i)) ∙ h.blocked
 
-  -- what is known after a first action that is applicable
+  -- what follows if the first action is applicable
   after_first : (s n : S) (a : A) (rest : List A) (i : ℕ) → t.step s a ≡ Some n → Halts s (a ∷ rest) (suc i) → Halts n rest i
   after_first s n a rest i e h = record {
     before = h.before;
@@ -77,7 +77,7 @@ module _ {S A : Type 0} (t : System S A) where
   halts_of : (plan : List A) (n : ℕ) → StopsAt t plan n → Halts t.initial plan (n - 1)
   halts_of plan n h = record { before = h.before; next = h.next; runs = h.runs; found_there = h.found_there; blocked = h.is_not_applicable }
 
-  -- a list that runs, to this state: the goal alone decides
+  -- a list that runs to this state: only the goal decides
   of_run : (plan : List A) (last : S) → run t t.initial plan ≡ Some last → (v : Verdict) × IsVerdict t plan v × ((w : Verdict) → IsVerdict t plan w → w ≡ v)
   of_run plan last runs =
       elim (t.meets_goal last) as (λ b. t.meets_goal last ≡ b → (v : Verdict) × IsVerdict t plan v × ((w : Verdict) → IsVerdict t plan w → w ≡ v)) [
@@ -98,7 +98,7 @@ module _ {S A : Type 0} (t : System S A) where
       only_missed missed (not_applicable n) is = absurd (never_both t.initial last plan (n - 1) runs (halts_of plan n is))
       only_missed missed goal_missed is = refl
 
-  -- a list that halts, at this place
+  -- a list that stops at this index
   of_halt : (plan : List A) (i : ℕ) → Halts t.initial plan i → (v : Verdict) × IsVerdict t plan v × ((w : Verdict) → IsVerdict t plan w → w ≡ v)
   of_halt plan i h = (not_applicable (i + 1), stops t plan i h.next h.found_there h.before h.runs h.blocked, only)
     where

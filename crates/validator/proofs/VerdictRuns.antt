@@ -10,7 +10,7 @@ use Rattle.formulas.specs.State.{instance_of}
 use Rattle.model.specs.Task as task
 use Rattle.model.specs.Runs.{System, run, StopsAt, cost_of_all}
 
--- the instance that is at a place of the code's list is there in the model's
+-- the instance at an index of the code's list is there in the model's
 pub occurs : (items : List Instance) (plan : List task.Instance) (i : ℕ) (item : Instance) → map instance_of items ≡ plan → i < length items → item ≡ get_or items i item
     → slice_get plan i ≡ Some (instance_of item)
 occurs items plan i item same lt at =
@@ -29,7 +29,7 @@ module _ {S A : Type 0} (t : System S A) where
         | Some n ↦ λ e. run_push n next last xs a e leads
       ] runs
 
-  -- those before the next instance, by its number from 1
+  -- the instances before the next one, by its number from 1
   pub run_before : (plan : List A) (i : ℕ) (before : S) → run t t.initial (take i plan) ≡ Some before → run t t.initial (take ((i + 1) - 1) plan) ≡ Some before
   run_before plan i before runs =
       let same : i ≡ (i + 1) - 1 = omega arith in
@@ -57,7 +57,7 @@ module _ {S A : Type 0} (t : System S A) where
           is_not_applicable = blocked;
         }
 
-    -- what it costs
+    -- its cost
     pub cost_more : (cost here : ℕ) → cost ≡ cost_of_all t (take i plan) → here ≡ t.cost a → cost + here ≡ cost_of_all t (take (i + 1) plan)
     cost_more cost here so is =
         (λ j. so j + is j) ∙ sym (ap (cost_of_all t) one_more ∙ sum_by-append t.cost (take i plan) (a ∷ []) ∙ ap (λ n. cost_of_all t (take i plan) + n) (sum_by-one t.cost a))

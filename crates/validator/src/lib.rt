@@ -1,4 +1,4 @@
-//! Runs a plan against the meaning of its task, and gives the verdict.
+//! Runs a plan against the semantics of its task, and gives the verdict.
 #![tactic(auto)]
 
 mod verdict;

@@ -1,4 +1,4 @@
-//! What is said of a plan.
+//! The verdict on a plan.
 ghost use Rattle.std.specs.Prelude.{IsTrue, IfOk};
 ghost use Rattle.std.specs.List.{list_all};
 ghost use Rattle.task.specs.Task.{task_of};
@@ -13,33 +13,33 @@ use formulas::{Plan, State, apply, cost, meets_goal};
 use std::alloc::Global;
 use task::Task;
 
-/// What is said of a plan.
+/// The verdict on a plan.
 #[derive(Clone, Copy, Debug, PartialEq, Eq)]
 pub enum Verdict {
-    /// It solves the task.
+    /// The plan solves the task.
     Valid {
         /// The sum of its instances' costs.
         cost: u64,
     },
-    /// One of its instances is not applicable in its turn.
+    /// One of its instances is not applicable when its turn comes.
     NotApplicable {
-        /// The first such instance's place, counted from 1.
+        /// The position of the first such instance, counted from 1.
         step: usize,
     },
-    /// It runs, and the goal does not hold at its end.
+    /// All instances are applicable, but the goal does not hold at the end.
     GoalMissed,
 }
 
-/// What is true of a plan, with the state that it leads to.
+/// The verdict on a plan, with the state it leads to.
 #[derive(Drop)]
 pub struct Run {
     /// The verdict.
     pub verdict: Verdict,
-    /// The state after the plan, or before its first instance that is not applicable.
+    /// The state after the plan, or before its first inapplicable instance.
     pub state: State,
 }
 
-/// What is true of the plan, each instance of which is one of the task's.
+/// The verdict on the plan, whose instances belong to the task.
 pub fn validate(alloc: Global, task: &Task, plan: &Plan) -> Result<Verdict, NoMemory>
     requires { IsTrue (list_all (is_instance (task_of task.now)) (plan_of plan.now)) }
     ensures { IfOk result (λ v. IsVerdict (system_of (task_of task.now)) (plan_of plan.now) (verdict_of v)) }
@@ -48,10 +48,10 @@ pub fn validate(alloc: Global, task: &Task, plan: &Plan) -> Result<Verdict, NoMe
     Ok(run.verdict)
 }
 
-/// The same, with the state that the plan leads to.
+/// The verdict, with the state that the plan leads to.
 ///
 /// # Errors
-/// Memory was refused, which says nothing of the plan.
+/// An allocation failed, which says nothing about the plan.
 pub fn run_plan(alloc: Global, task: &Task, plan: &Plan) -> Result<Run, NoMemory>
     requires { IsTrue (list_all (is_instance (task_of task.now)) (plan_of plan.now)) }
     ensures verdict { IfOk result (λ r. IsVerdict (system_of (task_of task.now)) (plan_of plan.now) (verdict_of r.verdict)) }
@@ -80,13 +80,13 @@ pub fn run_plan(alloc: Global, task: &Task, plan: &Plan) -> Result<Run, NoMemory
     }
 }
 
-/// Says that of each plan of each task exactly one verdict is true, so that `validate` has no choice.
+/// Exactly one verdict is true of each plan of each task, so that `validate` has no choice.
 pub fn exactly_one_verdict_is_true()
     ensures { ExactlyOneVerdict }
 {}
 
-/// Says that the definitions mean what they are to mean on small tasks, each chosen so that a wrong reading of
-/// states, effects, instances, runs or verdicts says otherwise.
+/// The definitions mean what they should on small tasks, each chosen to expose a wrong reading of states, effects, instances,
+/// runs or verdicts.
 pub fn worked_examples_are_true()
     ensures { WorkedExamples }
 {}

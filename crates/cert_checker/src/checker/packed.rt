@@ -16,7 +16,7 @@ use faults::NoMemory;
 use grounding::Ground;
 use packed_state::{Packed, StateStore};
 use std::alloc::Global;
-use tables::{Room, TableFunctions};
+use tables::{KnownState, TableFunctions};
 
 /// A certificate of a ground task in which the certificate's atoms have the first numbers, with its states packed as the ground
 /// task's are, its values with a weight for each numbered atom, and the representatives by its exchanges. The values of versions 1
@@ -34,12 +34,12 @@ pub(super) struct PackedListing<'a, 't> {
 }
 
 impl<'a, 't> PackedListing<'a, 't> {
-    ghost use Rattle.std.specs.Prelude.{◌≡◌, ℕ, ◌<◌, IfOk, MatchOption};
+    ghost use Rattle.std.specs.Prelude.{◌≡◌, ℕ, ◌<◌, ◌≤◌, ◌↔◌, IsTrue, IfOk, MatchOption};
     ghost use Rattle.model.specs.Claims.{Mark};
     ghost use Rattle.packed_state.specs.PooledView.{pooled_width};
     ghost use Rattle.cert_checker.specs.FluentAtoms.{AreFluent};
     ghost use Rattle.cert_checker.specs.CheckedLines.{HasCost, IsCheapestAt, IsLeastCost, IsListedAs};
-    ghost use Rattle.cert_checker.specs.PackedListing.{task_at, certificate_at, state_at, IsPacked, HasRoomIn};
+    ghost use Rattle.cert_checker.specs.PackedListing.{task_at, certificate_at, state_at, IsPacked, IsKnownIn};
     ghost use Rattle.model.specs.NumberedAtoms.{numbered_atoms};
     ghost use Rattle.certificate_definitions.specs.Certificates.{is_dead_end_of, lines_of, value_of, AreAlikeFor};
     ghost use Rattle.certificate_definitions.specs.CertificateRefusals.{IsListed};
@@ -106,30 +106,30 @@ impl<'a, 't> PackedListing<'a, 't> {
         }
     }
 
-    /// Room to be lent to the calls that ask for the value of a state.
-    pub(super) fn room(&self, alloc: Global) -> Result<Room, NoMemory>
-        ensures { IfOk result (HasRoomIn self.now) }
+    /// What is known of a state, to be lent to the calls that ask for the values of others.
+    pub(super) fn known_state(&self, alloc: Global) -> Result<KnownState, NoMemory>
+        ensures { IfOk result (IsKnownIn self.now) }
     {
-        self.values.room(alloc)
+        self.values.known_state(alloc)
     }
 
-    /// The state's value, which what is still to pay from it on does not fall short of.
-    pub(super) fn value(&self, state: &Packed, room: &mut Room) -> u64
+    /// Whether the state's value, which what is still to pay from it on does not fall short of, is at least this.
+    pub(super) fn is_worth(&self, least: u64, state: &Packed, known: &mut KnownState) -> bool
         requires state { IsPacked self.now state.now }
-        requires room { HasRoomIn self.now room.old }
-        ensures value { result ≡ value_of (task_at self.now) (certificate_at self.now) (state_at self.now state.now) }
-        ensures room { HasRoomIn self.now room.new }
+        requires known { IsKnownIn self.now known.old }
+        ensures worth { IsTrue result ↔ (least ≤ value_of (task_at self.now) (certificate_at self.now) (state_at self.now state.now)) }
+        ensures known { IsKnownIn self.now known.new }
     {
-        self.values.value(state, room)
+        self.values.is_worth(least, state, known)
     }
 
     /// Whether the certificate's value for dead ends says that the state is one.
-    pub(super) fn is_dead_end(&self, state: &Packed, room: &mut Room) -> bool
+    pub(super) fn is_dead_end(&self, state: &Packed, known: &mut KnownState) -> bool
         requires state { IsPacked self.now state.now }
-        requires room { HasRoomIn self.now room.old }
+        requires known { IsKnownIn self.now known.old }
         ensures dead { result ≡ is_dead_end_of (task_at self.now) (certificate_at self.now) (state_at self.now state.now) }
-        ensures room { HasRoomIn self.now room.new }
+        ensures known { IsKnownIn self.now known.new }
     {
-        self.values.is_dead_end(state, room)
+        self.values.is_dead_end(state, known)
     }
 }

@@ -12,7 +12,7 @@ ghost use Rattle.cert_checker.specs.CertChecker.{IsFirstRefusal, IsTrueRefusal};
 ghost use Rattle.cert_checker.specs.FluentAtoms.{AreFluent};
 ghost use Rattle.cert_checker.specs.CheckedLines.{AreSymmetries, CutsAreAllowed, IsCutClosed, IsFirstGrounded, IsLineClosed, IsOpenClosed, IsRightGrounded, IsRightUpTo, IsTrueAnyway, IsListedAs};
 ghost use Rattle.cert_checker.specs.Exchanged.{is_said};
-ghost use Rattle.cert_checker.specs.PackedListing.{task_at, atoms_at, certificate_at, state_at, IsPacked, HasRoomIn};
+ghost use Rattle.cert_checker.specs.PackedListing.{task_at, atoms_at, certificate_at, state_at, IsPacked, IsKnownIn};
 ghost use Rattle.model.specs.Task as model_task;
 ghost use Rattle.model.specs.Meaning as meaning;
 ghost use Rattle.model.specs.Claims as claims;
@@ -32,7 +32,7 @@ use certificate::{Cert, Claim, Mark};
 use grounding::{Ground, GroundFault};
 use packed_state::Packed;
 use std::alloc::Global;
-use tables::Room;
+use tables::KnownState;
 use task::Task;
 use task_certificates::{Refusal, RefusalCode};
 use task_symmetries::Exchange;
@@ -157,7 +157,7 @@ fn check_lines(alloc: Global, listing: &PackedListing) -> Result<(), Refusal>
     let mut state = Packed::empty(alloc, width)?;
     let mut next = Packed::empty(alloc, width)?;
     let mut numbers = Vec::new(alloc);
-    let mut room = listing.room(alloc)?;
+    let mut known = listing.known_state(alloc)?;
     for place in 0..listing.cert.marks().len() {
         check_line(
             listing,
@@ -165,28 +165,29 @@ fn check_lines(alloc: Global, listing: &PackedListing) -> Result<(), Refusal>
             &mut state,
             &mut next,
             &mut numbers,
-            &mut room,
+            &mut known,
         )?;
     }
     Ok(())
 }
 
-/// Checks the state line at this place. The state, the next one, the numbers and the room are lent to work with.
+/// Checks the state line at this place. The state, the next one, the numbers and what is known of the state of a line
+/// before are lent to work with.
 fn check_line(
     listing: &PackedListing,
     place: usize,
     state: &mut Packed,
     next: &mut Packed,
     numbers: &mut Vec<u32>,
-    room: &mut Room,
+    known: &mut KnownState,
 ) -> Result<(), Refusal>
     requires within { place < length (certificate_at listing.now).lines }
     requires state { IsPacked listing.now state.old }
     requires next { IsPacked listing.now next.old }
-    requires room { HasRoomIn listing.now room.old }
+    requires known { IsKnownIn listing.now known.old }
     ensures state { IsPacked listing.now state.new }
     ensures next { IsPacked listing.now next.new }
-    ensures room { HasRoomIn listing.now room.new }
+    ensures known { IsKnownIn listing.now known.new }
     ensures right { OnOk result ((line : claims.Line meaning.State) → slice_get (lines_of (task_at listing.now) (certificate_at listing.now)) place ≡ Some line
         → IsLineClosed (task_at listing.now) (certificate_at listing.now) line) }
     ensures wrong { IfErr result (IsTrueAnyway (task_at listing.now) (certificate_at listing.now)) }
@@ -197,8 +198,8 @@ fn check_line(
     listing.get(place, state);
     match listed.mark {
         Mark::Open => check_open(listing, place, listed.cost, state, next, numbers),
-        Mark::Cut { rest } => check_cut(listing, place, listed.cost, rest, state, room),
-        Mark::Dead => check_dead(listing, place, state, room),
+        Mark::Cut { rest } => check_cut(listing, place, listed.cost, rest, state, known),
+        Mark::Dead => check_dead(listing, place, state, known),
     }
 }
 
@@ -292,20 +293,20 @@ fn check_cut(
     cost: u64,
     rest: u64,
     state: &Packed,
-    room: &mut Room,
+    known: &mut KnownState,
 ) -> Result<(), Refusal>
     requires within { place < length (certificate_at listing.now).lines }
     requires state { IsPacked listing.now state.now }
-    requires room { HasRoomIn listing.now room.old }
+    requires known { IsKnownIn listing.now known.old }
     requires listed { IsListedAs (task_at listing.now) (certificate_at listing.now) place (state_at listing.now state.now) cost (cut rest) }
     requires small { (cost < 1152921504606846976) × (rest < 1152921504606846976) }
-    ensures room { HasRoomIn listing.now room.new }
+    ensures known { IsKnownIn listing.now known.new }
     ensures right { OnOk result (IsCutClosed (task_at listing.now) (certificate_at listing.now) (state_at listing.now state.now) cost rest) }
     ensures wrong { IfErr result (IsTrueAnyway (task_at listing.now) (certificate_at listing.now)) }
     ensures first { IfErr result (λ e. (plan : Option (List model_task.Instance)) (most : ℕ) → IsRightUpTo (task_at listing.now) (certificate_at listing.now) most place
         → IsFirstRefusal (task_at listing.now) (certificate_at listing.now) plan most e) }
 {
-    if rest <= listing.value(state, room) && allows(listing.cert.claim(), cost + rest) {
+    if listing.is_worth(rest, state, known) && allows(listing.cert.claim(), cost + rest) {
         Ok(())
     } else {
         Err(state_line(RefusalCode::CutWeak, listing.cert, place))
@@ -317,19 +318,19 @@ fn check_dead(
     listing: &PackedListing,
     place: usize,
     state: &Packed,
-    room: &mut Room,
+    known: &mut KnownState,
 ) -> Result<(), Refusal>
     requires within { place < length (certificate_at listing.now).lines }
     requires state { IsPacked listing.now state.now }
-    requires room { HasRoomIn listing.now room.old }
+    requires known { IsKnownIn listing.now known.old }
     requires listed { (cost : ℕ) × IsListedAs (task_at listing.now) (certificate_at listing.now) place (state_at listing.now state.now) cost dead }
-    ensures room { HasRoomIn listing.now room.new }
+    ensures known { IsKnownIn listing.now known.new }
     ensures right { OnOk result (IsTrue (is_dead_end_of (task_at listing.now) (certificate_at listing.now) (state_at listing.now state.now))) }
     ensures wrong { IfErr result (IsTrueAnyway (task_at listing.now) (certificate_at listing.now)) }
     ensures first { IfErr result (λ e. (plan : Option (List model_task.Instance)) (most : ℕ) → IsRightUpTo (task_at listing.now) (certificate_at listing.now) most place
         → IsFirstRefusal (task_at listing.now) (certificate_at listing.now) plan most e) }
 {
-    if listing.is_dead_end(state, room) {
+    if listing.is_dead_end(state, known) {
         Ok(())
     } else {
         Err(state_line(RefusalCode::NotDead, listing.cert, place))

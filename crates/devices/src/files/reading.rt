@@ -1,4 +1,4 @@
-//! The text of a file.
+//! Reading the text of a file.
 ghost use Rattle.std.specs.Prelude.{◌≡◌, ◌+◌, ℕ, Err, IfOk, IsErr, IsTrue, List, length, vec_len};
 ghost use Rattle.devices.specs.Texts.{AreKept, IsText};
 ghost use Rattle.devices.specs.declared.device.IoFault.TheVariants.{Device};
@@ -8,14 +8,14 @@ use crate::device::{IoFault, Source};
 use crate::files::Files;
 use std::alloc::{AllocError, Global};
 
-/// The most bytes that are read of a file: one more than a text may have.
+/// The maximum number of bytes read of a file: one more than a text may have.
 const MAX_READ: usize = 16_777_217;
 
-/// How many bytes are asked for at a read.
+/// The number of bytes requested at a time.
 const PIECE: usize = 65_536;
 
-/// The first 16,777,217 bytes of a file, or all that it has. It is a device's failure where the file cannot be opened, or a
-/// read of it fails.
+/// The first 16,777,217 bytes of a file, or all if it has fewer. It is a device failure if the file cannot be opened or a read of
+/// it fails.
 pub fn read_file<F: Files>(alloc: Global, files: &mut F, name: &str) -> Result<Vec<u8>, IoFault>
     ensures bytes { IfOk result (λ text. IsText (F.contents files.old) name.now text.items) }
     ensures kept { AreKept (F.contents files.old) (F.contents files.new) }
@@ -31,7 +31,7 @@ pub fn read_file<F: Files>(alloc: Global, files: &mut F, name: &str) -> Result<V
     text
 }
 
-/// The first 16,777,217 bytes of a source, or all that it has.
+/// The first 16,777,217 bytes of a source, or all if it has fewer.
 fn read_text<S: Source>(alloc: Global, source: &mut S) -> Result<Vec<u8>, IoFault>
     ensures ok { IfOk result (λ text. IsReading MAX_READ (S.remaining source.old) (S.remaining source.new) text.items) }
     ensures failing { IsTrue (S.is_failing source.old) → IsErr result }
@@ -49,7 +49,7 @@ fn read_text<S: Source>(alloc: Global, source: &mut S) -> Result<Vec<u8>, IoFaul
     Ok(text)
 }
 
-/// Reads once, to the end of the text, and says how many bytes came.
+/// Reads once, appending to the text, and returns how many bytes came.
 fn read_some<S: Source>(
     source: &mut S,
     room: &mut [u8],
@@ -65,7 +65,7 @@ fn read_some<S: Source>(
     Ok(count)
 }
 
-/// Room for bytes that are read.
+/// A buffer for reading.
 fn buffer(alloc: Global, length: usize) -> Result<Vec<u8>, AllocError>
     ensures { IfOk result (λ room. vec_len room ≡ length) }
 {

@@ -8,7 +8,7 @@ use crate::files::Files;
 use crate::system::Device;
 use std::{fs, io, rt};
 
-/// The files that a runtime reaches, with a count of the failures.
+/// The files that a runtime reaches, with a count of failures.
 #[derive(Drop)]
 pub struct SystemFiles<'a, R> {
     runtime: &'a R,
@@ -28,7 +28,7 @@ impl<'a, R: rt::Files> SystemFiles<'a, R> {
 }
 
 impl<R> SystemFiles<'_, R> {
-    /// What a call of the system gave, its failure counted.
+    /// The result of a system call, with a failure counted.
     fn counted<T: Drop>(&mut self, outcome: io::Result<T>) -> Result<T, IoFault>
         ensures { CountsDevice self.old.failures self.new.failures result }
     {
@@ -64,8 +64,8 @@ impl<'a, R: rt::Files> Files for SystemFiles<'a, R> {
         Ok(Device::new(self.counted(created)?))
     }
 
-    // std writes at once and closes a file where it is dropped; an error that the system reports only at that close is lost.
-    // So what is reported here is a write that failed before.
+    // std writes at once and closes a file when it is dropped; an error that the system reports only at that close is lost. So
+    // what is reported here is an earlier failed write.
     fn close(&mut self, output: Device<R::File>) -> Result<(), IoFault>
         ensures failures { CountsDevice (⟦<SystemFiles<'a, R> as Files>⟧.failures self.old) (⟦<SystemFiles<'a, R> as Files>⟧.failures self.new) result }
         ensures failed { 0 < ⟦<Device<R::File> as Sink>⟧.failures output → result ≡ Err IoFault.Device }

@@ -1,4 +1,4 @@
-//! The writing of a whole file.
+//! Writing a whole file.
 ghost use Rattle.std.specs.Prelude.{◌≡◌, ◌≢◌, ℕ, IsTrue, List, OnOk, Some};
 ghost use Rattle.std.specs.Io.KnownBytes.{Appends};
 ghost use Rattle.devices.specs.Written.{HoldsBeginning};
@@ -12,7 +12,7 @@ pub trait Document {
     /// Its bytes.
     ghost text: { Self → List ℕ };
 
-    /// Writes it. A sink that fails has taken some beginning of it.
+    /// Writes the text. If the sink fails, it has taken a prefix of it.
     fn write_to<S: Sink>(&self, sink: &mut S) -> Result<(), IoFault>
         ensures ok { OnOk result (Appends (S.taken sink.old) (S.taken sink.new) (text self.now)) }
         ensures beginning { AppendsBeginning (S.taken sink.old) (S.taken sink.new) (text self.now) }
@@ -20,7 +20,7 @@ pub trait Document {
         ensures name { S.name sink.new ≡ S.name sink.old };
 }
 
-/// A text that is in memory.
+/// A text in memory.
 #[derive(Clone, Copy)]
 pub struct Bytes<'a>(pub &'a [u8]);
 
@@ -32,8 +32,8 @@ impl Document for Bytes<'_> {
     }
 }
 
-/// Writes this document to the file of this name, in place of what it had. It is a device's failure where the file cannot
-/// be made, or a write of it fails: then the file is as it was, or holds a beginning of the document.
+/// Writes this document to the file with this name, replacing its contents. It is a device failure if the file cannot be created
+/// or a write of it fails: then the file is unchanged, or holds a prefix of the document.
 pub fn write_file<F: Files, D: Document>(
     files: &mut F,
     name: &str,
@@ -46,7 +46,7 @@ pub fn write_file<F: Files, D: Document>(
 {
     let mut output = files.create(name)?;
     let written = document.write_to(&mut output);
-    // It is closed first, since a closing counts a write that failed.
+    // Closed first, since closing counts a failed write.
     files.close(output)?;
     written
 }

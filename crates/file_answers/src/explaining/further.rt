@@ -1,4 +1,4 @@
-//! The faults of two files beside the first.
+//! Further faults of two files, after the first.
 ghost use Rattle.std.specs.Prelude.{◌≡◌, IfOk, OnOk};
 ghost use Rattle.std.specs.String.{string_bytes};
 ghost use Rattle.typing.specs.Task.{file_of, refusal_of};
@@ -16,10 +16,10 @@ use source_text::{File, NamedTexts};
 use std::alloc::Global;
 use typing::{TaskFile, TaskRefusal};
 
-/// The most faults that are told beside the first.
+/// The maximum number of further faults that are reported.
 const MOST: usize = 20;
 
-/// The explanation of a fault, and after its lines those of the other faults of the two files.
+/// The explanation of a fault, followed by the lines of the other faults of the two files.
 pub(super) fn with_further(
     alloc: Global,
     texts: &NamedTexts<'_>,
@@ -42,7 +42,7 @@ pub(super) fn with_further(
     })
 }
 
-/// The lines of the faults, an empty line before each; of the most that are told, a line that there may be more.
+/// The lines of the faults, with an empty line before each. If the limit is reached, a last line says that there may be more.
 fn further_text(alloc: Global, further: &[FurtherFault]) -> Result<String, NoMemory>
     ensures { IfOk result (λ text. string_bytes text ≡ further_text further.now) }
 {
@@ -57,7 +57,7 @@ fn further_text(alloc: Global, further: &[FurtherFault]) -> Result<String, NoMem
     joined(text, "\nthere may be more faults: mend these first\n")
 }
 
-/// The faults of the two files beside this one, where that is a fault of typing: each with its lines.
+/// The faults of the two files other than this one, if this is a typing fault, each with its lines.
 fn further_faults(
     alloc: Global,
     texts: &NamedTexts<'_>,
@@ -73,7 +73,7 @@ fn further_faults(
     Ok(further)
 }
 
-/// Adds a fault with its lines, unless it is told already or so many are.
+/// Adds a fault with its lines, unless already reported or the limit is reached.
 fn add_fault(
     alloc: Global,
     texts: &NamedTexts<'_>,
@@ -93,7 +93,7 @@ fn add_fault(
     Ok(())
 }
 
-/// A fault of a pair as one of a file.
+/// A typing fault as a fault of a file.
 fn in_file(refusal: TaskRefusal) -> FileRefusal
     ensures { IsReportedAt (refusal_of refusal) result }
 {
@@ -104,7 +104,7 @@ fn in_file(refusal: TaskRefusal) -> FileRefusal
     }
 }
 
-/// A file of a task as one of the files that are given.
+/// A file of a task as one of the input files.
 fn one_of_files(file: TaskFile) -> File
     ensures { file_view result ≡ of_task (file_of file) }
 {
@@ -122,7 +122,7 @@ fn text_of(alloc: Global, texts: &NamedTexts<'_>, fault: FileRefusal) -> Result<
     explained.text(alloc, texts)
 }
 
-/// Whether a fault is this one, or one of those that are told, or comes of the same mistake.
+/// Whether a fault is this one or one of those already reported, or comes from the same mistake.
 fn is_told(
     texts: &NamedTexts<'_>,
     first: FileRefusal,
@@ -135,8 +135,8 @@ fn is_told(
             .any(|other| comes_of(texts, fault, other.fault))
 }
 
-/// Whether a fault may come of the same mistake as another: it is the same, or the same word is refused by the same number, and if that
-/// is a variable, in the same action or in the problem.
+/// Whether a fault may come from the same mistake as another: they are equal, or the same word is refused with the same code, and
+/// if it is a variable, in the same action or in the problem.
 fn comes_of(texts: &NamedTexts<'_>, fault: FileRefusal, other: FileRefusal) -> bool {
     let (word, told) = (word_of(texts, fault), word_of(texts, other));
     let is_again = fault.code == other.code && word.eq_ignore_ascii_case(told);
@@ -149,7 +149,7 @@ fn word_of<'a>(texts: &NamedTexts<'a>, fault: FileRefusal) -> &'a [u8] {
     text.get(fault.span.start..fault.span.end).unwrap_or(b"")
 }
 
-/// Whether two faults are in the problem, or in the domain with no action that begins between them.
+/// Whether two faults are in the problem, or in the domain without a beginning of an action between them.
 fn are_in_one_scope(texts: &NamedTexts<'_>, fault: FileRefusal, other: FileRefusal) -> bool {
     let start = fault.span.start.min(other.span.start);
     let end = fault.span.start.max(other.span.start);
@@ -157,7 +157,7 @@ fn are_in_one_scope(texts: &NamedTexts<'_>, fault: FileRefusal, other: FileRefus
     fault.file == other.file && (fault.file == File::Problem || !has_action(between))
 }
 
-/// Whether an action begins in a piece of a domain.
+/// Whether an action begins in this piece of a domain.
 fn has_action(piece: &[u8]) -> bool {
     piece
         .windows(b":action".len())

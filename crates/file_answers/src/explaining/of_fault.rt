@@ -1,4 +1,4 @@
-//! What is said of a file that is refused.
+//! Explains a file that is refused.
 ghost use Rattle.std.specs.Prelude.{IfOk};
 ghost use Rattle.file_answers.specs.Explanations.{IsExplainedAlone, IsOfFault};
 
@@ -10,7 +10,7 @@ use faults::{Code, NoMemory, Span};
 use source_text::{File, NamedTexts};
 use std::alloc::Global;
 
-/// What is said of the fault of a file.
+/// Explains the fault of a file.
 pub(super) fn explain_refused(
     alloc: Global,
     texts: &NamedTexts<'_>,
@@ -28,7 +28,7 @@ pub(super) fn explain_refused(
     }
 }
 
-/// The same of the fault at this place alone.
+/// The same, for the fault at this place alone.
 fn explain_at(
     alloc: Global,
     texts: &NamedTexts<'_>,

@@ -1,4 +1,4 @@
-//! What is said of a plan file.
+//! Explains a plan file.
 ghost use Rattle.std.specs.Prelude.{◌≡◌, ◌++◌, ℕ, IfOk, IfSome, IsTrue, List, Some};
 ghost use Rattle.std.specs.List.{list_all};
 ghost use Rattle.std.specs.String.{string_bytes};
@@ -25,7 +25,7 @@ use std::alloc::{AllocError, Global};
 use task::Task;
 use validator::Verdict;
 
-/// What is said of the plan of these texts for the task of the others.
+/// Explains the plan in this text for the task of the other texts.
 pub(super) fn explain_plan_file(
     alloc: Global,
     named: &NamedTask<'_>,
@@ -42,7 +42,7 @@ pub(super) fn explain_plan_file(
     }
 }
 
-/// What is said of the steps of this file.
+/// Explains the steps of this file.
 fn explain_steps(
     alloc: Global,
     named: &NamedTask<'_>,
@@ -57,7 +57,7 @@ fn explain_steps(
     explain_verdict(alloc, &named.task, file, plan, &explained)
 }
 
-/// What is said of the verdict that is explained.
+/// Explains the verdict.
 fn explain_verdict(
     alloc: Global,
     task: &Task,
@@ -83,7 +83,7 @@ fn explain_verdict(
     })
 }
 
-/// The verdict that is explained.
+/// The verdict in an explanation.
 fn verdict_in(explained: &PlanExplanation<'_>) -> Verdict
     ensures { verdict_of result ≡ plans.verdict_of explained.now }
 {
@@ -94,7 +94,7 @@ fn verdict_in(explained: &PlanExplanation<'_>) -> Verdict
     }
 }
 
-/// Where the step that is not applicable is in the text, if there is one.
+/// The span of the inapplicable step in the text, if there is one.
 fn failed_step(text: &[u8], verdict: Verdict) -> Option<Span>
     requires { IsStepOf text.now (verdict_of verdict) }
     ensures { IsStepFound text.now (verdict_of verdict) result }
@@ -122,7 +122,7 @@ fn location_of(
     }
 }
 
-/// The line that the step at this span begins in, with the step marked.
+/// The line in which the step at this span begins, with the step marked.
 fn marks_of(alloc: Global, text: &[u8], failed: Option<Span>) -> Result<String, NoMemory> {
     match failed {
         Some(span) => marked(alloc, text, span),
@@ -130,7 +130,7 @@ fn marks_of(alloc: Global, text: &[u8], failed: Option<Span>) -> Result<String, 
     }
 }
 
-/// The lines that say it. A step that is not applicable is reported with its place in the file, and with its line and a mark.
+/// The lines of the explanation. An inapplicable step is shown with its place in the file, its line and marks.
 fn text_of(
     alloc: Global,
     task: &Task,
@@ -153,7 +153,7 @@ fn text_of(
     }
 }
 
-/// One text and then another.
+/// The concatenation of two texts.
 pub(super) fn joined(first: String, second: &str) -> Result<String, NoMemory>
     ensures { IfOk result (λ text. string_bytes text ≡ string_bytes first ++ second.now) }
 {
@@ -162,7 +162,7 @@ pub(super) fn joined(first: String, second: &str) -> Result<String, NoMemory>
     Ok(text)
 }
 
-/// The line of a step that is not applicable, with its place before it, and the lines after it.
+/// The line of an inapplicable step, preceded by its place, and the lines after it.
 fn step_text(
     alloc: Global,
     location: &Option<Location>,
@@ -177,7 +177,7 @@ fn step_text(
     Ok(text)
 }
 
-/// The file, the line and the column, as `plan:7:1: `.
+/// The file, the line and the column, such as `plan:7:1: `.
 fn place_text(alloc: Global, location: &Option<Location>) -> Result<String, AllocError>
     ensures { IfOk result (λ text. IfSome location.now (λ at. string_bytes text ≡ place_text at)) }
 {

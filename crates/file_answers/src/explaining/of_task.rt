@@ -1,4 +1,4 @@
-//! What is said of a task that no plan is given for.
+//! Explains a task without a plan.
 ghost use Rattle.std.specs.Prelude.{◌≡◌, ◌++◌, IfOk, map};
 ghost use Rattle.std.specs.String.{string_bytes};
 ghost use Rattle.task.specs.Task.{task_of};
@@ -14,14 +14,14 @@ use std::alloc::{AllocError, Global};
 use task::Task;
 use task_notes::{GroundNotes, TaskNotes};
 
-/// What grounding makes of a task, and what it shows to be wrong, a line each.
+/// The outcome of grounding a task, and the notes it leads to, a line each.
 #[derive(Drop)]
 struct Grounding {
     grounded: Grounded,
     notes: Vec<String>,
 }
 
-/// What the task holds, what grounding makes of it, where at most so many instances may be kept, and what is quietly wrong with it.
+/// A summary of the task, the outcome of grounding it with this limit of instances, and notes on what looks wrong.
 pub(super) fn explain_task(
     alloc: Global,
     task: &Task,
@@ -43,7 +43,7 @@ pub(super) fn explain_task(
     })
 }
 
-/// The notes, and behind them what the files show to be wrong.
+/// The notes, followed by those that the files themselves lead to.
 fn with_task_notes(
     alloc: Global,
     task: &Task,
@@ -54,7 +54,7 @@ fn with_task_notes(
     Ok(lines)
 }
 
-/// The lines that say it.
+/// The lines of the explanation.
 fn text_of(
     alloc: Global,
     holds: Summary,
@@ -81,7 +81,7 @@ fn add_lines(lines: &[String], text: &mut String) -> Result<(), NoMemory>
     Ok(())
 }
 
-/// How many instances are kept and atoms numbered, or the limit that is exceeded.
+/// The number of kept instances and numbered atoms, or the limit that is exceeded.
 fn ground(alloc: Global, task: &Task, max_instances: u32) -> Result<Grounding, NoMemory>
     ensures { IfOk result (λ g. IsGrounded (task_of task.now) max_instances g.grounded) }
 {
@@ -101,7 +101,7 @@ fn ground(alloc: Global, task: &Task, max_instances: u32) -> Result<Grounding, N
     }
 }
 
-/// What the instances show to be wrong, where of an action at most so many are looked at for a value that it lacks.
+/// The notes that the instances lead to; actions with more than `most` instances are not checked for missing values.
 fn notes_of(alloc: Global, numbering: &Numbering<'_>, most: u32) -> Result<Vec<String>, NoMemory> {
     let notes = GroundNotes::of(alloc, numbering, most)?;
     let mut lines = Vec::new(alloc);
@@ -109,7 +109,7 @@ fn notes_of(alloc: Global, numbering: &Numbering<'_>, most: u32) -> Result<Vec<S
     Ok(lines)
 }
 
-/// The line of what grounding makes of a task.
+/// The line for the outcome of grounding.
 fn grounded_line(alloc: Global, grounded: Grounded) -> Result<String, AllocError>
     ensures { IfOk result (λ line. string_bytes line ≡ grounded_line grounded) }
 {

@@ -24,7 +24,7 @@ use file_answers::{Checked, FileFault, check_files, check_files_and_say};
 use printed_answers::{Report, failure_of};
 use std::alloc::Global;
 
-/// The names of the files that are read.
+/// The names of the input files.
 #[derive(Clone, Copy)]
 pub(super) struct InputNames<'a> {
     /// The domain file.
@@ -37,12 +37,12 @@ pub(super) struct InputNames<'a> {
     pub(super) plan: Option<&'a str>,
 }
 
-/// How a certificate is to be checked.
+/// The options of `check`.
 #[derive(Clone, Copy)]
 pub(super) struct CheckAsked {
-    /// How many instances may be kept.
+    /// The maximum number of instances that may be kept.
     pub(super) instances: u32,
-    /// Whether it is said on the way how much of it is read.
+    /// Whether the progress of reading it is reported.
     pub(super) progress: bool,
 }
 
@@ -53,10 +53,10 @@ struct InputTexts {
     plan: Option<Vec<u8>>,
 }
 
-/// What the certificate of a file shows of the task of two files, and of the plan of a third, if it is named. The certificate is
-/// opened before the plan is read, and read last.
+/// What the certificate in a file shows about the task of two files, and about the plan in a third, if one is named. The
+/// certificate is opened before the plan is read, and is read last.
 ///
-/// Where progress is asked for, it says on the way how much of the certificate is read.
+/// If progress is asked for, it reports how much of the certificate has been read.
 pub(super) fn report_of_check<F: Files, E: Sink>(
     alloc: Global,
     names: InputNames<'_>,
@@ -86,7 +86,7 @@ pub(super) fn report_of_check<F: Files, E: Sink>(
     report
 }
 
-/// What the certificate that comes to a new reader shows.
+/// What the certificate shows, read by a new reader.
 fn check_texts<R: Source, E: Sink>(
     alloc: Global,
     texts: &InputTexts,
@@ -110,7 +110,7 @@ fn check_texts<R: Source, E: Sink>(
     }
 }
 
-/// What is reported for the certificate.
+/// The checker's answer to the certificate.
 fn checked<R: Source, E: Sink>(
     alloc: Global,
     texts: &InputTexts,

@@ -1,4 +1,4 @@
-//! The writing of a file with a count of its bytes.
+//! Writing a file and counting its bytes.
 ghost use Rattle.std.specs.Prelude.{◌≡◌, ◌≢◌, ◌++◌, ◌-◌, ◌^◌, ℕ, List, min, length, IfOk, IsTrue, OnOk, Some, []};
 ghost use Rattle.devices.specs.Devices.{CountsDevice};
 ghost use Rattle.devices.specs.Written.{HoldsBeginning};
@@ -9,7 +9,7 @@ mod history;
 use devices::{Document, Files, IoFault, Sink};
 use history::{History, Piece};
 
-/// How many bytes were written, and in proofs which. At 18446744073709551615 the count stays.
+/// The number of bytes written, and in proofs the bytes themselves. The count saturates at 18446744073709551615.
 #[derive(Drop)]
 struct Tally {
     history: History,
@@ -27,7 +27,7 @@ impl Tally {
         }
     }
 
-    /// The tally with these bytes after those before.
+    /// The tally after these further bytes.
     fn with(&self, bytes: &[u8]) -> Tally
         ensures { result.history.bytes ≡ self.now.history.bytes ++ bytes.now }
     {
@@ -39,8 +39,8 @@ impl Tally {
     }
 }
 
-/// A file that is written from its first byte on, with a tally of what it has taken. What a file of the machine has taken no clause
-/// knows, but that it is what was tallied; so what is written to this sink is known, of every file.
+/// A file written from its first byte, with a tally of what it has taken. No clause describes the content of a machine's file,
+/// except that it is what was tallied; so the content is known for every file written through this sink.
 #[derive(Drop)]
 struct Counted<F: Files> {
     output: F::Output,
@@ -68,8 +68,8 @@ impl<F: Files> Sink for Counted<F> {
     }
 }
 
-/// Writes the document to the file of this name as `write_file` of `devices` does, and says how many bytes it has. At
-/// 18446744073709551615 the count stays.
+/// Writes the document to the file with this name, as `write_file` of `devices` does, and returns its size in bytes. The count
+/// saturates at 18446744073709551615.
 pub(super) fn write_counted<F: Files, D: Document>(
     files: &mut F,
     name: &str,
@@ -88,7 +88,7 @@ pub(super) fn write_counted<F: Files, D: Document>(
     };
     let written = document.write_to(&mut counted);
     let Counted { output, tally, .. } = counted;
-    // It is closed first, since a closing counts a write that failed.
+    // Closed first, since closing counts a failed write.
     files.close(output)?;
     match written {
         Ok(()) => Ok(tally.count),

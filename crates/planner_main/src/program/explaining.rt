@@ -1,4 +1,4 @@
-//! `explain`: what is said of files for people.
+//! `explain`: explanations of files for people.
 ghost use Rattle.std.specs.Prelude.{◌≡◌, ℕ, IfErr, IfOk, IsTrue, List, None, ◌∷◌};
 ghost use Rattle.planner_main.specs.Program.{CountsFailure, IsExplanationOn, IsOneOf, IsUnread, fault_in, if_named};
 ghost use Rattle.file_answers.specs.Files.{text_in};
@@ -14,7 +14,7 @@ use file_answers::{NamedText, explain_files};
 use printed_answers::Report;
 use std::alloc::Global;
 
-/// What is said of the files of a task, and of that of a plan, if it is named.
+/// The explanation of the files of a task, and of a plan file if one is named.
 pub(super) fn report_of_explain<F: Files>(
     alloc: Global,
     domain: &str,
@@ -24,7 +24,7 @@ pub(super) fn report_of_explain<F: Files>(
     files: &mut F,
 ) -> Result<Report, Failure>
     ensures report { IfOk result (IsExplanationOn (F.contents files.old) domain.now problem.now (text_in plan.entry) instances) }
-    // A fault of a text is what is explained, and no failure.
+    // A fault of a text is explained; it is not a failure.
     ensures no_text { IfErr result (λ failure. fault_in failure ≡ None) }
     ensures kept { AreKept (F.contents files.old) (F.contents files.new) }
     ensures unfailed { IfOk result (λ _. F.failures files.new ≡ F.failures files.old) }
@@ -46,7 +46,7 @@ pub(super) fn report_of_explain<F: Files>(
     Ok(Report::Explain(explanation))
 }
 
-/// The text of a plan with the name of its file, if there is one.
+/// The text of a plan with its file's name, if there is one.
 fn named<'a>(name: Option<&'a str>, text: &'a Option<Vec<u8>>) -> Option<NamedText<'a>>
     ensures text { explanations.text_in result ≡ items_in text.now }
     ensures named { option_map named_of result ≡ named_as (text_in name.entry) (items_in text.now) }

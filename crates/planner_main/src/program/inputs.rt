@@ -1,4 +1,4 @@
-//! The texts of the files that are read.
+//! The texts of the input files.
 ghost use Rattle.std.specs.Prelude.{◌≡◌, ℕ, Err, IfOk, IsErr, IsTrue, List};
 ghost use Rattle.devices.specs.Texts.{AreKept, IsText, items_in};
 ghost use Rattle.file_answers.specs.Files.{text_in};

@@ -1,4 +1,4 @@
-//! How a report is reported, and which files are written of it.
+//! Where a result is printed and written.
 ghost use Rattle.std.specs.Prelude.{◌≡◌, None, false};
 ghost use Rattle.command_line.specs.View.{wanted_of};
 ghost use Rattle.planner_main.specs.Asked.{outputs_in, outputs_of};
@@ -7,20 +7,20 @@ ghost use Rattle.printed_answers.specs.Reported.{is_json};
 use command_line::Order;
 use printed_answers::Format;
 
-/// How a report is reported, and where beside the standard output.
+/// The format of a result, and the files written besides standard output.
 #[derive(Clone, Copy)]
 pub(super) struct Outputs<'a> {
-    /// What the standard output takes.
+    /// The format of the standard output.
     pub(super) format: Format,
-    /// The file that the certificate is written to, if any.
+    /// The file to write the certificate to, if any.
     pub(super) cert: Option<&'a str>,
-    /// The file that the plan is written to, if any.
+    /// The file to write the plan to, if any.
     pub(super) plan: Option<&'a str>,
-    /// Whether it is said which file fails.
+    /// Whether it is reported which file fails.
     pub(super) progress: bool,
 }
 
-/// How the order wants its report reported.
+/// Output options of the command.
 pub(super) fn outputs_of(order: Order<'_>) -> Outputs<'_>
     ensures { outputs_in result ≡ outputs_of (wanted_of order.entry) }
 {
@@ -42,7 +42,7 @@ pub(super) fn outputs_of(order: Order<'_>) -> Outputs<'_>
     }
 }
 
-/// A report of which no file is written.
+/// The outputs of a command that writes no files.
 fn only_reported<'a>(format: Format) -> Outputs<'a>
     ensures { outputs_in result ≡ record { json = is_json format; cert = None; plan = None; progress = false } }
 {

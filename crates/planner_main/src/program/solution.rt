@@ -1,4 +1,4 @@
-//! `solve`: a cheapest plan, from files.
+//! `solve`: an optimal plan, from files.
 ghost use Rattle.std.specs.Prelude.{◌≡◌, ℕ, IfErr, IfOk, IfSome, IsTrue, List, [], ◌∷◌};
 ghost use Rattle.planner_main.specs.Program.{CountsFailure, IsOneOf, IsSolutionOn, IsUnread, OnTwo, fault_in};
 ghost use Rattle.devices.specs.Texts.{AreKept};
@@ -26,8 +26,8 @@ pub(super) struct PairNames<'a> {
     pub(super) problem: &'a str,
 }
 
-/// A cheapest plan for the task of two files, that there is none, or the limit that is exceeded. Where progress is asked for, it says on the
-/// way how far it is.
+/// An optimal plan for the task of two files, that there is none, or the limit that is exceeded. If progress is asked for, the
+/// progress of the search is reported.
 pub(super) fn report_of_solve<F: Files, E: Sink>(
     alloc: Global,
     names: PairNames<'_>,

@@ -11,7 +11,7 @@ use file_answers::validate_files;
 use printed_answers::Report;
 use std::alloc::Global;
 
-/// Whether the plan of a file solves the task of two files.
+/// The verdict on the plan in a file, for the task of two files.
 pub(super) fn report_of_validate<F: Files>(
     alloc: Global,
     domain: &str,

@@ -1,4 +1,4 @@
-//! The one way out: what is found out goes to the files that are wanted of it, and then to the standard output.
+//! The single output path: results go to the files asked for, and then to standard output.
 ghost use Rattle.std.specs.Prelude.{◌≡◌, IfErr, IfOk, IfSome, IsErr, IsTrue, None, OnOk, Some};
 ghost use Rattle.std.specs.Option.{option_map};
 ghost use Rattle.planner_main.specs.Asked.{outputs_in};
@@ -26,10 +26,10 @@ use solver::{Answer, Exceeded};
 use std::alloc::{AllocError, Global};
 use task::Task;
 
-/// Writes the files that are wanted of a report, first that of the certificate, and then what it is reported as to the standard output:
-/// the status. What is reported is made before any file is written.
+/// Writes the files asked for, the certificate first, and then the result to standard output. Returns the exit status. The
+/// printed text is computed before any file is written.
 ///
-/// Where progress is asked for, it is said how many bytes the certificate has that is written, and of a file that fails which one it is.
+/// If progress is asked for, the size of the written certificate is reported, and the name of a file that fails.
 pub(super) fn write_report<F: Files, O: Sink, E: Sink>(
     alloc: Global,
     report: &Report,
@@ -60,8 +60,8 @@ pub(super) fn write_report<F: Files, O: Sink, E: Sink>(
     Ok(status_of(report))
 }
 
-/// Writes the certificate as `save_or_say` does, and where progress is asked for, it then says how many bytes were written. Where memory
-/// for that line is refused, the file is written, and what comes after it is not.
+/// Writes the certificate as `save_or_say` does, and if progress is asked for, reports its size. If an allocation for that line
+/// fails, the file is written, but nothing after it.
 fn save_cert<F: Files, D: Document, E: Sink>(
     alloc: Global,
     name: Option<&str>,
@@ -87,7 +87,7 @@ fn save_cert<F: Files, D: Document, E: Sink>(
     }
 }
 
-/// Says how many bytes a certificate has that is written, if progress is asked for. The only error is running out of memory.
+/// Reports the size of the written certificate, if progress is asked for. The only error is running out of memory.
 fn say_size<E: Sink>(alloc: Global, size: u64, progress: bool, err: &mut E) -> Result<(), IoFault>
     ensures said { OnOk result (SaysIf (line_if progress (Some size)) E.wants_memory (stream (E.failures err.old) (E.taken err.old)) (stream (E.failures err.new) (E.taken err.new))) }
     ensures quiet { IsErr result → stream (E.failures err.new) (E.taken err.new) ≡ stream (E.failures err.old) (E.taken err.old) }
@@ -101,14 +101,14 @@ fn say_size<E: Sink>(alloc: Global, size: u64, progress: bool, err: &mut E) -> R
     Ok(())
 }
 
-/// The line of a certificate of this many bytes.
+/// The line for a certificate of this size.
 fn size_line(alloc: Global, size: u64) -> Result<String, AllocError>
     ensures { IfOk result (λ line. string_bytes line ≡ size_line size) }
 {
     format!(in alloc; "progress=certificate bytes={size}\n")
 }
 
-/// Writes the document as `save` does. Where that fails and progress is asked for, it says so of this name.
+/// Writes the document as `save` does. If that fails and progress is asked for, reports the file's name.
 fn save_or_say<F: Files, D: Document, E: Sink>(
     alloc: Global,
     name: Option<&str>,
@@ -133,7 +133,8 @@ fn save_or_say<F: Files, D: Document, E: Sink>(
     }
 }
 
-/// Says that the file of this name fails, if progress is asked for. Where memory for the line is refused, nothing is said.
+/// Reports that the file with this name failed, if progress is asked for. If an allocation for the line fails, nothing is
+/// reported.
 fn say_failed<E: Sink>(alloc: Global, name: Option<&str>, progress: bool, err: &mut E)
     ensures { AreSaid (IsFailedLineOf progress (text_in name.entry)) E.wants_memory (stream (E.failures err.old) (E.taken err.old)) (stream (E.failures err.new) (E.taken err.new)) }
 {
@@ -146,14 +147,15 @@ fn say_failed<E: Sink>(alloc: Global, name: Option<&str>, progress: bool, err: &
     }
 }
 
-/// The line of a file that fails.
+/// The line for a file that failed.
 fn failed_line(alloc: Global, name: &str) -> Result<String, AllocError>
     ensures { IfOk result (λ line. string_bytes line ≡ failed_line name.now) }
 {
     format!(in alloc; "progress=failed file={name}\n")
 }
 
-/// Writes the document, if there is one, to the file of this name, if one is named: how many bytes were written, if so.
+/// Writes the document, if there is one, to the file with this name, if one is given. Returns the number of bytes written, if
+/// any.
 fn save<F: Files, D: Document>(
     files: &mut F,
     name: Option<&str>,
@@ -163,7 +165,7 @@ fn save<F: Files, D: Document>(
         → AreWritten (F.contents files.old) (F.contents files.new) (in_file (text_in name.entry) (option_map D.text document.now))) }
     ensures partly { IsErr result → IsBegun F.is_known (F.contents files.old) (F.contents files.new) (in_file (text_in name.entry) (option_map D.text document.now)) }
     ensures failures { CountsDevice (F.failures files.old) (F.failures files.new) result }
-    // It is begun where a size is given, too.
+    // The file is also created if a size is returned.
     ensures begun { IfOk result (λ size. IfSome size (λ _. IsBegun F.is_known (F.contents files.old) (F.contents files.new) (in_file (text_in name.entry) (option_map D.text document.now)))) }
     ensures counted { IfOk result (λ size. size ≡ size_in (text_in name.entry) (option_map D.text document.now)) }
 {
@@ -175,7 +177,7 @@ fn save<F: Files, D: Document>(
     Ok(Some(size))
 }
 
-/// The text of the certificate of what is reported, if it has one.
+/// The text of the result's certificate, if it has one.
 fn cert_text(alloc: Global, report: &Report) -> Option<CertText<'_>>
     ensures { option_map (λ it. certificate_text (task_of it.task.now) (certificate_of it.cert.now)) result ≡ cert_text report.now }
 {
@@ -203,7 +205,7 @@ fn cert_of(answer: &Answer) -> Option<&Cert>
     }
 }
 
-/// The text of what is reported, if it is a plan.
+/// The printed text, if it is a plan.
 fn plan_text<'a>(report: &Report, text: &'a [u8]) -> Option<Bytes<'a>>
     requires { text.now ≡ reported.text_of report.now }
     ensures { option_map (λ bytes. bytes.0.now) result ≡ plan_text report.now }
@@ -217,7 +219,7 @@ fn plan_text<'a>(report: &Report, text: &'a [u8]) -> Option<Bytes<'a>>
     }
 }
 
-/// The text of a certificate of a task, which goes to its device a line at a time.
+/// The text of a certificate of a task, written line by line.
 #[derive(Clone, Copy)]
 struct CertText<'a> {
     alloc: Global,

@@ -4,7 +4,7 @@ use Rattle.certificate_definitions.specs.Certificates.{are_potentials, is_weight
 use Rattle.certificate.specs.CertificateParts.{potential_of}
 use Rattle.certificate.proofs.limits.are_values.Given as goal
 
--- the values that are left decide
+-- the remaining values decide
 abbrev pub invariant-loop-value : goal.invariant-loop-value
 invariant-loop-value l =
     list_all (are_potentials is_weight l.atom_count) (map potential_of l.values) ≡ list_all (are_potentials is_weight l.atom_count) (map potential_of (drop l.value-index l.values))

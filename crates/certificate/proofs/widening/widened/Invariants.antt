@@ -1,4 +1,4 @@
--- the sets so far are there under the width, and each is as wide as the store
+-- the sets so far are there with the new width, and each is as wide as the store
 use Rattle.std.proofs.Common.{◌≡◌, map, take, length}
 use Rattle.std.specs.Prelude.{All, Bool, List}
 use Rattle.packed_state.specs.Packed.{bits_of}

@@ -25,7 +25,7 @@ add_atom-requires g c =
       dead_ends = omega (arith, within, weight_count (length cert.atoms) (potential_of c.bounds-bounds.result.now.dead_ends) c.bounds-bounds.ensures.dead_ends);
     }
 
--- what is written so far is a beginning
+-- what is written so far is a prefix
 pub returns-in_err-add_atom-clause-beginning : goal.returns-in_err-add_atom-clause-beginning
 returns-in_err-add_atom-clause-beginning g c =
     so_far_begun atom_line (atoms_weighed (task_of c.args.task.now) (certificate_of c.args.cert.now)) _ _ _ _ c.loop-place.place c.loop-place.invariant.passed

@@ -5,7 +5,7 @@ use Rattle.certificate.specs.Gathering.{IsPassedOn, atom_line, atoms_weighed}
 use Rattle.certificate.specs.Certificate.{certificate_of}
 use Rattle.certificate.proofs.writer.write_atoms.Given as goal
 
--- the lines so far are passed on, and no call has failed
+-- the lines so far are written out or buffered, and no call has failed
 abbrev pub invariant-loop-place : goal.invariant-loop-place
 invariant-loop-place g l =
     record {

@@ -16,14 +16,14 @@ use Rattle.certificate.proofs.writer.write_cert.Goals as goal
 use Rattle.certificate.proofs.writer.write_cert.Goals.{After-write_exchanges, In_ok-add_head, In_ok-write_exchanges, In_ok-write_atoms, After-write_tables, In_ok-write_tables, In_ok-write_states, In_ok-add_last}
 use Rattle.certificate.proofs.writer.write_cert.Given.{Over}
 
--- what is passed on, or held, once the beginning, the exchanges, the atoms, the tables, the states and the last line were added
+-- what is written out or buffered after the first lines, the exchanges, the atoms, the tables, the states and the last line
 first : (g : Over) (c : In_ok-add_head g) → IsPassedOn (g.W.Sink.taken c.args.out.now) (g.W.Sink.taken c.args.out.now) [] c.add_head.new.text.items
     (head_of (certificate_of c.args.cert.now))
 first g c =
     head_held (g.W.Sink.taken c.args.out.now) c.new-held.result.items _ (head_of (certificate_of c.args.cert.now)) c.new-held.ensures.items
     (c.in_ok-add_head.ensures ∙ (λ i. c.new-held.result.items ++ head (c.version.ensures i) (c.claim.ensures i) (constants_in (c.version.ensures i) (c.bounds.ensures.bounds i))))
 
--- the exchanges that are written are the certificate's
+-- the written exchanges are the certificate's
 exchanges_are : (g : Over) (c : After-write_exchanges g)
     → flat_map (swap_line (task_of c.args.task.now)) (map exchange_in c.exchanges.result.now) ≡ exchanges_text (task_of c.args.task.now) (certificate_of c.args.cert.now)
 exchanges_are g c = ap (flat_map (swap_line (task_of c.args.task.now))) c.exchanges.ensures.exchanges
@@ -45,7 +45,7 @@ second : (g : Over) (c : In_ok-write_atoms g) → IsPassedOn (g.W.Sink.taken c.a
 second g c first =
     part_held _ _ _ (to_exchanges (task_of c.args.task.now) (certificate_of c.args.cert.now)) first (g.W.Sink.taken c.write_atoms.new.out) _ (atoms_text (task_of c.args.task.now) (certificate_of c.args.cert.now)) c.in_ok-write_atoms.ensures.text
 
--- the tables that are written are the certificate's
+-- the written tables are the certificate's
 tables_are : (g : Over) (c : After-write_tables g) → flat_map table_text (map table_of c.deref.result.now) ≡ tables_text (certificate_of c.args.cert.now)
 tables_are g c = ap (λ tables. flat_map table_text (map table_of tables)) c.deref.ensures.value ∙ ap (λ (s : SeveralValues). flat_map table_text s.tables) c.bounds-2.ensures.bounds
 

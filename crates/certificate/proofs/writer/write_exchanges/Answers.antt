@@ -12,7 +12,7 @@ use Rattle.certificate.proofs.writer.write_exchanges.Goals as goal
 use Rattle.certificate.proofs.writer.write_exchanges.Goals.{In_ok-add_exchange}
 use Rattle.certificate.proofs.writer.write_exchanges.Given.{Over}
 
--- what is written so far is a beginning
+-- what is written so far is a prefix
 pub returns-in_err-add_exchange-clause-beginning : goal.returns-in_err-add_exchange-clause-beginning
 returns-in_err-add_exchange-clause-beginning g c =
     so_far_begun (swap_line (task_of c.args.task.now)) (map exchange_in c.args.exchanges.now) _ _ _ _ c.loop-exchange.exchange-index c.loop-exchange.invariant.passed

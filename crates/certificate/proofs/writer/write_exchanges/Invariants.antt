@@ -5,7 +5,7 @@ use Rattle.certificate.specs.CertificateParts.{exchange_in}
 use Rattle.certificate.specs.Gathering.{IsPassedOn, swap_line}
 use Rattle.certificate.proofs.writer.write_exchanges.Given as goal
 
--- the lines so far are passed on, and no call has failed
+-- the lines so far are written out or buffered, and no call has failed
 abbrev pub invariant-loop-exchange : goal.invariant-loop-exchange
 invariant-loop-exchange g l =
     record {

@@ -18,7 +18,7 @@ loop-row-init g c = record {
   name = refl;
 }
 
--- what is written so far is a beginning
+-- what is written so far is a prefix
 pub returns-in_default-list_atoms-clause-beginning : goal.returns-in_default-list_atoms-clause-beginning
 returns-in_default-list_atoms-clause-beginning g c = so_far_begun row_line (table_of c.args.table.now).rows _ _ _ _ c.loop-row.row c.loop-row.invariant.passed
 

@@ -5,7 +5,7 @@ use Rattle.table_rows.specs.Tables.{table_of}
 use Rattle.certificate.specs.Gathering.{IsPassedOn, row_line}
 use Rattle.certificate.proofs.writer.write_rows.Given as goal
 
--- the set is as wide as the scope, the rows so far are passed on, and no call has failed
+-- the set is as wide as the scope, the rows so far are written out or buffered, and no call has failed
 abbrev pub invariant-loop-row : goal.invariant-loop-row
 invariant-loop-row g l =
     record {

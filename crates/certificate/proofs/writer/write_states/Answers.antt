@@ -15,7 +15,7 @@ loop-place-init g c = record {
   name = refl;
 }
 
--- what is written so far is a beginning
+-- what is written so far is a prefix
 pub returns-in_default-read_line-clause-beginning : goal.returns-in_default-read_line-clause-beginning
 returns-in_default-read_line-clause-beginning g c = so_far_begun state_line (certificate_of c.args.cert.now).lines _ _ _ _ c.loop-place.place c.loop-place.invariant.passed
 

@@ -6,7 +6,7 @@ use Rattle.certificate.specs.Certificate.{certificate_of, store_in}
 use Rattle.packed_state.specs.PooledView.{pooled_width}
 use Rattle.certificate.proofs.writer.write_states.Given as goal
 
--- the set is as wide as the lines need, the lines so far are passed on, and no call has failed
+-- the set is as wide as the lines need, the lines so far are written out or buffered, and no call has failed
 abbrev pub invariant-loop-place : goal.invariant-loop-place
 invariant-loop-place g l =
     record {

@@ -7,7 +7,7 @@ use Rattle.certificate.proofs.writer.write_table.Goals as goal
 use Rattle.certificate.proofs.writer.write_table.Goals.{In_ok-add_scope, In_ok-pass_on}
 use Rattle.certificate.proofs.writer.write_table.Given.{Over}
 
--- the scope's line is held, and then passed on or not
+-- the scope's line is buffered, and then written out or not
 added : (g : Over) (c : In_ok-add_scope g) → c.add_scope.new.text.items ≡ c.args.held.now.items ++ scope_line (table_of c.args.table.now).scope
 added g c = c.in_ok-add_scope.ensures ∙ ap (λ numbers. c.args.held.now.items ++ scope_line numbers) c.scope.ensures
 

@@ -4,7 +4,7 @@ use Rattle.table_rows.specs.Tables.{table_of}
 use Rattle.certificate.specs.Gathering.{IsPassedOn, table_text}
 use Rattle.certificate.proofs.writer.write_tables.Given as goal
 
--- the tables so far are passed on, and no call has failed
+-- the tables so far are written out or buffered, and no call has failed
 abbrev pub invariant-loop-table : goal.invariant-loop-table
 invariant-loop-table g l =
     record {

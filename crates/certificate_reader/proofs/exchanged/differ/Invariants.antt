@@ -3,7 +3,7 @@ use Rattle.certificate_definitions.specs.CertificateText.{differ}
 use Rattle.certificate_reader.specs.Lines.{name_of}
 use Rattle.certificate_reader.proofs.exchanged.differ.Given as goal
 
--- the names so far are there, and different
+-- the set has the names so far, which are different
 abbrev pub invariant-loop-name : goal.invariant-loop-name
 invariant-loop-name l = record {
   seen : map name_of l.seen.keys ≡ map name_of (take l.name-index l.names);

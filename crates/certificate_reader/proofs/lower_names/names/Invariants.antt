@@ -1,4 +1,4 @@
--- What was there is the names so far and then what is left.
+-- The bytes are the names so far followed by the rest.
 use Rattle.std.proofs.Common.{◌≡◌, map}
 use Rattle.std.specs.Prelude.{IsTrue}
 use Rattle.std.specs.List.{list_all}

@@ -1,4 +1,4 @@
--- The digits so far and then those that are left write what the whole word does.
+-- The digits so far followed by the remaining ones denote what the whole word does.
 use Rattle.std.proofs.Common.{◌≡◌, ◌<◌, drop}
 use Rattle.std.specs.Str.Parse.{AllDigits, digits_value, digits_value_after}
 use Rattle.certificate_reader.proofs.number.number.Given as goal

@@ -1,4 +1,4 @@
--- What was there is the weights so far and then what is left.
+-- The bytes are the weights so far followed by the rest.
 use Rattle.std.proofs.Common.{◌≡◌, ◌≤◌, length}
 use Rattle.std.specs.Prelude.{IsTrue}
 use Rattle.std.specs.List.{list_all}

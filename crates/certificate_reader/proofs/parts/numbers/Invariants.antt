@@ -1,4 +1,4 @@
--- What was there is the numbers so far and then what is left, and a list that goes on from them rises where all of it does.
+-- The bytes are the numbers so far followed by the rest, and a continuation of them ascends if the whole list does.
 use Rattle.std.proofs.Common.{◌≡◌, ℕ, List, ◌++◌, map}
 use Rattle.std.specs.Fmt.{decimal}
 use Rattle.certificate_definitions.specs.Certificates.{rise}

@@ -1,4 +1,4 @@
--- What waits grew by what came, and no call has failed; where something waited at the start, nothing was read.
+-- The buffer grew by what was read, and no call has failed; if something was buffered before, nothing was read.
 use Rattle.std.proofs.Common.{◌≡◌, ◌-◌, ◌+◌, length}
 use Rattle.std.specs.Prelude.{IsTrue}
 use Rattle.certificate_definitions.specs.CertificateText.{longest_line}

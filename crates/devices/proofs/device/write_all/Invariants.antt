@@ -1,4 +1,4 @@
--- What is gone from the rest was taken, no call has failed, and the sink writes the same file.
+-- What is no longer in the rest was taken, no call has failed, and the sink still writes the same file.
 use Rattle.std.proofs.Common.{◌≡◌, List, ℕ, ◌++◌, length}
 use Rattle.std.specs.Io.KnownBytes.{Appends}
 use Rattle.devices.proofs.device.write_all.Given as goal

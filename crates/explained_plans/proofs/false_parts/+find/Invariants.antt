@@ -14,7 +14,7 @@ use Rattle.task.specs.declared.schemas.Formula.{Formula}
 use Rattle.explained_plans.specs.Parts.{Finds}
 use Rattle.explained_plans.proofs.false_parts.+find.Given as goal
 
--- where those of the formulas that are left are found next, all are
+-- together with those of the remaining formulas, all are found
 abbrev pub invariant-find_in_each-loop-part : goal.invariant-find_in_each-loop-part
 invariant-find_in_each-loop-part l =
     let gives : List Formula → List Name → List Part = λ parts names.
@@ -22,7 +22,7 @@ invariant-find_in_each-loop-part l =
     (last : Found) → Finds (task_of l.task) (state_of l.state) (gives (drop l.part-index l.parts) (names_in l.left)) l.found last
     → Finds (task_of l.task) (state_of l.state) (gives l.parts (names_in l.names)) l.initial.found last
 
--- where those for the objects that are left are found next, all are
+-- together with those for the remaining objects, all are found
 abbrev pub invariant-find_for_each-loop-object : goal.invariant-find_for_each-loop-object
 invariant-find_for_each-loop-object l =
     let gives : ℕ → List Part = λ one. false_parts (task_of l.task) (formula_of l.part) (map object_of l.objects.items ++ one ∷ []) (drop 1 (names_in l.names)) (state_of l.state) in

@@ -6,7 +6,7 @@ use Rattle.explained_plans.specs.ScopeView.{scope_of}
 use Rattle.explained_plans.specs.VariableNames.{formulas}
 use Rattle.explained_plans.proofs.formula_text.+formula.Given as goal
 
--- with the texts of the parts that are left, those of all are added
+-- together with the texts of the remaining parts, those of all are added
 abbrev pub invariant-add_parts-loop-part : goal.invariant-add_parts-loop-part
 invariant-add_parts-loop-part l =
     l.text.items ++ parts_text (task_of l.task) (scope_of l.current) (formulas (map formula_of (drop l.part-index l.parts)))

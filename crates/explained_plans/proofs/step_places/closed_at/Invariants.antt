@@ -4,7 +4,7 @@ use Rattle.explained_plans.specs.StepPlaces.{place_from}
 use Rattle.model.specs.PlanText.{placed_from}
 use Rattle.explained_plans.proofs.step_places.closed_at.Given as goal
 
--- what is left to read gives what the whole does
+-- the rest of the text gives the same as the whole
 abbrev pub invariant-parts : goal.invariant-parts
 invariant-parts l = record {
   within : l.start ≤ length l.text;

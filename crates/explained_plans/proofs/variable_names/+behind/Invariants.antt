@@ -4,7 +4,7 @@ use Rattle.explained_plans.specs.NamesView.{names_in}
 use Rattle.explained_plans.specs.VariableNames.{behind_all, formulas}
 use Rattle.explained_plans.proofs.variable_names.+behind.Given as goal
 
--- what is behind the formulas that are left is behind all
+-- the names after the remaining formulas are those after all
 abbrev pub invariant-names_behind_each-loop-part : goal.invariant-names_behind_each-loop-part
 invariant-names_behind_each-loop-part l =
     behind_all (formulas (map formula_of (drop l.part-index l.parts))) (names_in l.left) ≡ behind_all (formulas (map formula_of l.parts)) (names_in l.names)

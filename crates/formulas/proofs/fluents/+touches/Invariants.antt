@@ -7,6 +7,6 @@ use Rattle.formulas.proofs.fluents.+touches.Given as goal
 abbrev pub decreases-touches : goal.decreases-touches
 decreases-touches l = goal.size-touches l
 
--- no part so far does
+-- no part so far touches it
 abbrev pub invariant-loop-part : goal.invariant-loop-part
 invariant-loop-part l = list_any (λ part. touches l.predicate.0 (effect_of part)) (take l.part-index l.part-items) ≡ false

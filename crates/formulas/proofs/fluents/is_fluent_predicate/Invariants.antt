@@ -5,7 +5,7 @@ use Rattle.model.specs.Task.{Schema}
 use Rattle.model.specs.Fluents as defined
 use Rattle.formulas.proofs.fluents.is_fluent_predicate.Given as goal
 
--- the schemas that are left decide
+-- the remaining schemas decide
 abbrev pub invariant-loop-number : goal.invariant-loop-number
 invariant-loop-number l =
     defined.is_fluent (task_of l.task) l.predicate.0

@@ -4,7 +4,7 @@ use Rattle.task.specs.Task.{task_of}
 use Rattle.formulas.proofs.Pointwise.{code_is_of}
 use Rattle.formulas.proofs.instance.are_of.Given as goal
 
--- the pairs that are left decide
+-- the remaining pairs decide
 abbrev pub invariant-loop-types : goal.invariant-loop-types
 invariant-loop-types l =
     pointwise (code_is_of (task_of l.task)) (drop (length l.yielded) l.unions) (drop (length l.yielded) l.objects)

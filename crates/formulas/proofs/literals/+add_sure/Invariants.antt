@@ -14,7 +14,7 @@ invariant-loop-part l =
     map literal_of l.found.items
     ≡ map literal_of l.initial.found.items ++ flat_map (λ part. literals.sure (task_of l.task) (formula_of part) (map object_of l.binding.items)) (take l.part-index l.part-items)
 
--- with those for the objects that are left, all are added
+-- together with those for the remaining objects, all are added
 abbrev pub invariant-loop-object : goal.invariant-loop-object
 invariant-loop-object l =
     let gives : ℕ → List literals.Literal = λ one. literals.sure (task_of l.task) (formula_of l.part.value) (map object_of l.binding.items ++ one ∷ []) in

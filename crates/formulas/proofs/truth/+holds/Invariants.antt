@@ -12,12 +12,12 @@ abbrev pub invariant-all_hold-loop-part : goal.invariant-all_hold-loop-part
 invariant-all_hold-loop-part g l =
     list_all (λ part. meaning.holds (task_of l.task) (formula_of part) (map object_of l.binding.items) (g.V.Valuation.facts l.state)) (take l.part-index l.parts) ≡ true
 
--- none of them holds
+-- none of the parts so far holds
 abbrev pub invariant-some_holds-loop-part : goal.invariant-some_holds-loop-part
 invariant-some_holds-loop-part g l =
     list_any (λ part. meaning.holds (task_of l.task) (formula_of part) (map object_of l.binding.items) (g.V.Valuation.facts l.state)) (take l.part-index l.parts) ≡ false
 
--- the formula holds for the objects so far: those that are left decide
+-- the formula holds for the objects so far: the remaining ones decide
 abbrev pub invariant-holds_for_all-loop-object : goal.invariant-holds_for_all-loop-object
 invariant-holds_for_all-loop-object g l =
     let test : ℕ → Bool = λ one. meaning.holds (task_of l.task) (formula_of l.part) (map object_of l.binding.items ++ one ∷ []) (g.V.Valuation.facts l.state) in

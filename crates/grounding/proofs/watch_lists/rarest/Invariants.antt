@@ -5,4 +5,4 @@ use Rattle.grounding.specs.Watched.{IsWatchable}
 use Rattle.grounding.proofs.watch_lists.rarest.Given as goal
 
 abbrev pub invariant-loop-literal : goal.invariant-loop-literal
-invariant-loop-literal l = IfSome l.watched (IsWatchable (length l.counts) (map numbered_of l.literals))
+invariant-loop-literal l = IfSome l.watched (IsWatchable (length l.ranks) (map numbered_of l.literals))

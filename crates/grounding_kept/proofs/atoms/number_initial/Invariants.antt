@@ -6,7 +6,7 @@ use Rattle.model.specs.NumberedAtoms.{with_atoms, initial_fluent_atoms}
 use Rattle.grounding_kept.proofs.NumberLists.{if_fluent}
 use Rattle.grounding_kept.proofs.atoms.number_initial.Given as goal
 
--- the atoms so far, and then those of what is left, are all
+-- the atoms so far, followed by the remaining ones, are all
 abbrev pub invariant-loop-atom : goal.invariant-loop-atom
 invariant-loop-atom l = record {
   all : with_atoms (map atom_of l.atoms.keys) (flat_map (if_fluent (task_of l.statics.task.now)) (drop l.atom-index l.atom-items)) ≡ with_atoms (map atom_of l.fn.atoms.keys) (initial_fluent_atoms (task_of l.statics.task.now));

@@ -8,7 +8,7 @@ use Rattle.formulas.specs.declared.instance.Instance.{Instance}
 use Rattle.grounding_kept.specs.KeptChanges.{IsEmpty, AreKept}
 use Rattle.grounding_kept.proofs.atoms.number_touched.Given as goal
 
--- the atoms so far, and then those of what is left, are all, and the changes so far are kept
+-- the atoms so far, followed by the remaining ones, are all, and the changes so far are kept
 abbrev pub invariant-loop-instance : goal.invariant-loop-instance
 invariant-loop-instance l = record {
   all : with_atoms (map atom_of l.atoms.keys) (flat_map (λ (i : Instance). touched_by (task_of l.statics.task.now) (instance_of i)) (drop l.instance-index l.instances)) ≡ with_atoms (map atom_of l.fn.atoms.keys) (flat_map (touched_by (task_of l.statics.task.now)) (map instance_of l.instances));

@@ -11,7 +11,7 @@ use Rattle.grounding_kept.specs.KeptChanges.{AddsEffects}
 use Rattle.grounding_kept.proofs.NumberLists.{if_counting}
 use Rattle.grounding_kept.proofs.changes.number_counting.Given as goal
 
--- the atoms so far, and then those of what is left, are all, and those that count of the changes so far were added
+-- the atoms so far, followed by the remaining ones, are all, and the counting ones of the changes so far were added
 abbrev pub invariant-loop-change : goal.invariant-loop-change
 invariant-loop-change l = record {
   all : with_atoms (map atom_of l.atoms.keys) (flat_map (if_counting (task_of l.statics.task.now)) (drop l.change-index l.changes)) ≡ with_atoms (map atom_of l.fn.atoms.keys) (atoms_changed (filter (counts (task_of l.statics.task.now)) (map change_of l.changes)));

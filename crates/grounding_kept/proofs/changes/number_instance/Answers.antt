@@ -20,7 +20,7 @@ number_counting-requires-clause-fit c =
     all-fit (task_of c.args.statics.now.task.now) c.args.statics.now.task.now.well_typed (instance_of c.args.instance.now) c.requires.instance (map change_of c.as_slice.result.now)
     (ap (map change_of) c.as_slice.ensures.value ∙ c.in_ok-changes.ensures)
 
--- there are no fewer changes than before
+-- there are at least as many changes as before
 pub end_instance-requires : goal.end_instance-requires
 end_instance-requires c =
     omega (

@@ -6,6 +6,6 @@ use Rattle.task.specs.TaskParts.{union_of}
 use Rattle.model.specs.Meaning.{is_of}
 use Rattle.grounding_kept.proofs.joins.objects_in.Given as goal
 
--- those of the objects so far that are of the types
+-- the objects so far that are of the types
 abbrev pub invariant-loop-object : goal.invariant-loop-object
 invariant-loop-object l = l.found.items ≡ filter (λ (o : ObjectId). is_of (task_of l.task) (union_of l.types) o.0) (map deref l.yielded)

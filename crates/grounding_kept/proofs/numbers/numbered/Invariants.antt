@@ -6,7 +6,7 @@ use Rattle.model.specs.NumberedLiterals.{numbered_literal}
 use Rattle.grounding_kept.specs.Numbers.{numbered_of}
 use Rattle.grounding_kept.proofs.numbers.numbered.Given as goal
 
--- those of the literals so far
+-- what the literals so far give
 abbrev pub invariant-loop-literal : goal.invariant-loop-literal
 invariant-loop-literal l =
     map numbered_of l.found.items ≡ filter_map (numbered_literal (map atom_of l.atoms.keys)) (map literal_of (take l.literal-index l.literals))

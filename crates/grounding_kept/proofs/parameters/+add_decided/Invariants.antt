@@ -5,7 +5,7 @@ use Rattle.grounding_kept.specs.Literals.{decided_literals}
 use Rattle.grounding_kept.specs.Parameters.{lent_formula}
 use Rattle.grounding_kept.proofs.parameters.+add_decided.Given as goal
 
--- those of the parts so far are added
+-- what the parts so far give is added
 abbrev pub invariant-loop-part : goal.invariant-loop-part
 invariant-loop-part l =
     map lent_formula l.found.items ≡ map lent_formula l.initial.found.items ++ flat_map (λ part. decided_literals l.count (formula_of part)) (take l.part-index l.part-items)

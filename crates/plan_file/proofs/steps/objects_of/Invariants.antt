@@ -7,7 +7,7 @@ use Rattle.model.specs.PlanText.{AreNumbersOf, object_names}
 use Rattle.plan_file.specs.PlanFile.{name_of}
 use Rattle.plan_file.proofs.steps.objects_of.Given as goal
 
--- the objects so far are those of the names so far, and of the types in their places
+-- the objects so far are those of the names so far, and of the types at their indices
 abbrev pub invariant-loop-types : goal.invariant-loop-types
 invariant-loop-types l =
     let task = task_of l.task in

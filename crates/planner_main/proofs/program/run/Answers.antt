@@ -41,7 +41,7 @@ pub returns-in-Err-clause-memory : goal.returns-in-Err-clause-memory
 returns-in-Err-clause-memory g c =
     λ same. (nothing refl (λ name. refl), (stream (g.E.Sink.failures c.args.err.now) (g.E.Sink.taken c.args.err.now), none_yet, words_memory c.in-Err.fault (IsWritten g.E.Sink.wants_memory (g.E.Sink.failures c.args.err.now) (g.E.Sink.failures c.report_words.new.err) (g.E.Sink.taken c.args.err.now) (g.E.Sink.taken c.report_words.new.err)) _ c.report_words.ensures same))
 
--- words that name a file are a command, so that memory was refused
+-- words that name a file are a command, so the failure is one of memory
 pub returns-in-Err-clause-unread : goal.returns-in-Err-clause-unread
 returns-in-Err-clause-unread g c =
     λ name named missing. unread_words c.in-Err.fault (IsWritten g.E.Sink.wants_memory (g.E.Sink.failures c.args.err.now) (g.E.Sink.failures c.report_words.new.err) (g.E.Sink.taken c.args.err.now) (g.E.Sink.taken c.report_words.new.err)) _ (texts c.args.words.now) c.report_words.ensures c.in-Err.ensures.refused (named.0, named.1)

@@ -1,4 +1,4 @@
-//! What was written, which exists only in proofs: it takes no memory, and its methods do nothing when they run.
+//! The bytes written, as a ghost value: it takes no memory, and its methods do nothing at run time.
 ghost use Rattle.std.specs.Prelude.{◌≡◌, ◌++◌, ℕ, List, []};
 ghost use Rattle.std.specs.Borrow.{ftrue};
 
@@ -21,14 +21,14 @@ pub(super) struct Piece<'a> {
 }
 
 impl History {
-    /// Nothing was written.
+    /// Nothing written yet.
     pub(super) fn new() -> History
         ensures { result.bytes ≡ [] }
     {
         History {}
     }
 
-    /// What was written before, and then this piece.
+    /// What was written before, followed by this piece.
     pub(super) fn with(&self, _piece: &Piece<'_>) -> History
         ensures { result.bytes ≡ self.now.bytes ++ _piece.now.bytes.now }
     {

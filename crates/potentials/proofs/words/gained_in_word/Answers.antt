@@ -11,7 +11,7 @@ use Rattle.potentials.proofs.words.gained_in_word.Goals as goal
 pub rest-smaller : goal.rest-smaller
 rest-smaller c = without_lowest_smaller c.rest.rest (omega (arith, c.rest-test.true)) (Fits-lt-pow c.rest.auto.rest-fits)
 
--- between which numbers the total is after the next bit, and what that bit gains
+-- the range of the total after the next bit, and the gain of that bit
 next_in : (c : After-gained_by-total) → (neg_ℤ (pos 277025390463) ≤ℤ (to_z w64 c.rest.total-bits +ℤ c.gained_by-total.result))
     × ((to_z w64 c.rest.total-bits +ℤ c.gained_by-total.result) ≤ℤ pos 277025390463) × (neg_ℤ (pos 2147483647) ≤ℤ c.gained_by-total.result) × (c.gained_by-total.result ≤ℤ pos 2147483647)
 next_in c =

@@ -1,5 +1,5 @@
 use Rattle.std.proofs.Common.{List, Bool, ◌≡◌, ℕ, length, ap, sym, ◌∙◌, subst, arith, Some, get_or, true, false}
-use Rattle.std.specs.Prelude.{slice_get}
+use Rattle.std.specs.Prelude.{slice_get, All}
 use Rattle.search.specs.OpenList.{waiting_in}
 use Rattle.std.proofs.lemmas.Option.{same_Some, get_or_from_slice_get, slice_get_within}
 use Rattle.packed_state.specs.Packed.{bits_of}
@@ -8,11 +8,12 @@ use Rattle.model.specs.Runs.{System}
 use Rattle.search.specs.Estimates.{IsAdmissible}
 use Rattle.search.specs.DeadEnds.{ReportsDeadEnds}
 use Rattle.search.specs.Outcome.{AreFound, AreExpandedWithin}
-use Rattle.search.specs.Nodes.{found_of, IsEntryOf}
+use Rattle.search.specs.Nodes.{found_of, IsEntry, IsEntryOf}
 use Rattle.search.proofs.Closed.{reached_in, optimal, unsolvable}
 use Rattle.search.proofs.OpenList.{All-among}
 use Rattle.search.proofs.Steps.{entries_of, at_turn, none_waits}
-use Rattle.search.proofs.Stopped.{entries_stopped, at_limit}
+use Rattle.search.proofs.Noted.{are_estimates, none_estimated}
+use Rattle.search.proofs.Stopped.{entries_stopped, turn_within, estimates_stopped, at_limit}
 use Rattle.search.proofs.under_way.go_on.Given.{Over}
 use Rattle.search.proofs.under_way.go_on.Goals.{In-Some}
 use Rattle.search.proofs.under_way.go_on.Goals as goal
@@ -41,11 +42,29 @@ index-requires g c =
     let next = at_turn _ _ _ _ _ _ _ search.one_each search.nodes _ c.in-Some.turn c.in-Some.ensures.some in
     omega (arith, slice_get_within c.turns.progress.nodes.items _ next.found.node next.node, ap length c.in-Some.ensures.nodes, c.next_waiting.new.self.nodes.ok.0)
 
-pub into_plan-requires : goal.into_plan-requires
-into_plan-requires g c =
+-- the entries that are left in the open list
+left_entries : (g : Over) (c : In-Some g) → All (IsEntryOf (g.G.Guide.estimate_of c.args.guide.now) (g.G.Guide.is_dead c.args.guide.now) (found_of (g.L.StateListing.states c.turns.progress.store) c.turns.progress.nodes.items))
+    (waiting_in c.next_waiting.new.self.open_list)
+left_entries g c =
+    All-among (IsEntryOf (g.G.Guide.estimate_of c.args.guide.now) (g.G.Guide.is_dead c.args.guide.now) (found_of (g.L.StateListing.states c.turns.progress.store) c.turns.progress.nodes.items)) _ _ c.in-Some.ensures.kept
+    c.turns.invariant.search.nodes.entries
+
+pub into_plan-requires-clause-reached : goal.into_plan-requires-clause-reached
+into_plan-requires-clause-reached g c =
     let search = c.turns.invariant.search in
     let next = at_turn _ _ _ _ _ _ _ search.one_each search.nodes _ c.in-Some.turn c.in-Some.ensures.some in
     rw c.in-Some.ensures.nodes (reached_in _ _ _ _ _ _ search.one_each _ search.nodes _ next.found next.occurs)
+
+pub into_plan-requires-clause-turn : goal.into_plan-requires-clause-turn
+into_plan-requires-clause-turn g c =
+    let search = c.turns.invariant.search in
+    let next = at_turn _ _ _ _ _ _ _ search.one_each search.nodes _ c.in-Some.turn c.in-Some.ensures.some in
+    rw c.in-Some.ensures.nodes (slice_get_within c.turns.progress.nodes.items _ next.found.node next.node)
+
+pub into_plan-requires-clause-entries : goal.into_plan-requires-clause-entries
+into_plan-requires-clause-entries g c =
+    let search = c.turns.invariant.search in
+    rw c.in-Some.ensures.nodes (All-among (IsEntry (length c.turns.progress.nodes.items)) _ _ c.in-Some.ensures.kept (entries_of _ _ _ _ _ _ _ search.one_each search.nodes))
 
 pub returns-then-meets_goal : goal.returns-then-meets_goal
 returns-then-meets_goal g c =
@@ -68,14 +87,20 @@ returns-then-meets_goal g c =
     let admissible = subst (λ (u : System (List Bool) ℕ). IsAdmissible u value) c.requires.made_for (g.met.G.Guide.is_admissible c.args.guide.now) in
     let reports = subst (λ (u : System (List Bool) ℕ). ReportsDeadEnds u is_dead) c.requires.made_for (g.met.G.Guide.reports_dead_ends c.args.guide.now) in
     let best = optimal _ _ _ _ _ _ search.one_each _ search.nodes c.requires.classes admissible reports id next.found c.in_ok-steps.steps.items c.args.max_states
-    c.turns.invariant.are_open next.occurs next.least meets path short c.turns.invariant.within in (
-      best.0,
-      best.1 ∙ same_cost,
+    c.turns.invariant.are_open next.occurs next.least meets path short c.turns.invariant.within in
+    let noted = rw c.in-Some.ensures.nodes at c.in_ok-steps.ensures.estimates in (
+      (
+        best.0,
+        best.1 ∙ same_cost,
+        rw (c.in_ok-steps.ensures.store, c.in-Some.ensures.store, c.in_ok-steps.ensures.nodes, c.in-Some.ensures.nodes)
+            (subst (λ (n : ℕ). AreFound t (g.L.StateListing.class_of c.args.search.progress.store) value is_dead (bound n) c.args.max_states states all) same_cost best.2),
+        best.3,
+        rw (c.in_ok-steps.ensures.store, c.in-Some.ensures.store, c.in_ok-steps.ensures.nodes, c.in-Some.ensures.nodes)
+            (subst (λ (n : ℕ). AreExpandedWithin value n states all) same_cost best.4),
+      ),
       rw (c.in_ok-steps.ensures.store, c.in-Some.ensures.store, c.in_ok-steps.ensures.nodes, c.in-Some.ensures.nodes)
-          (subst (λ (n : ℕ). AreFound t (g.L.StateListing.class_of c.args.search.progress.store) value is_dead (bound n) c.args.max_states states all) same_cost best.2),
-      best.3,
-      rw (c.in_ok-steps.ensures.store, c.in-Some.ensures.store, c.in_ok-steps.ensures.nodes, c.in-Some.ensures.nodes)
-          (subst (λ (n : ℕ). AreExpandedWithin value n states all) same_cost best.4),
+          (are_estimates value is_dead states all c.in-Some.turn next.found next.occurs next.estimate (waiting_in c.next_waiting.new.self.open_list) next.rest
+          (left_entries g (goal.at.returns-then-meets_goal g c).In-Some) c.in_ok-steps.states.estimates.items noted),
     )
 
 -- the classes are those of the search
@@ -98,18 +123,12 @@ expand-requires-clause-turn g c =
       occurs = rw (c.in-Some.ensures.store, c.in-Some.ensures.nodes) next.occurs;
       waits = next.waits;
       sum = next.sum;
+      estimate = next.estimate;
       least = rw (c.in-Some.ensures.store, c.in-Some.ensures.nodes) next.least;
       rest = rw (c.in-Some.ensures.store, c.in-Some.ensures.nodes) next.rest;
       entries = rw (c.in-Some.ensures.store, c.in-Some.ensures.nodes)
           (All-among (IsEntryOf (g.G.Guide.estimate_of c.args.guide.now) (g.G.Guide.is_dead c.args.guide.now) (found_of (g.L.StateListing.states c.turns.progress.store) c.turns.progress.nodes.items)) _ _ c.in-Some.ensures.kept search.nodes.entries);
     })
-
-pub expand-requires-clause-value : goal.expand-requires-clause-value
-expand-requires-clause-value g c =
-    let search = c.turns.invariant.search in
-    let next = at_turn _ _ _ _ _ _ _ search.one_each search.nodes _ c.in-Some.turn c.in-Some.ensures.some in
-    let got : slice_get (g.L.StateListing.states c.turns.progress.store) c.in-Some.turn.id.0 ≡ Some (bits_of c.get.new.into) = rw c.in-Some.ensures.store at c.get.ensures.state in
-    next.estimate ∙ ap (g.G.Guide.estimate_of c.args.guide.now) (sym (same_Some (bits_of c.get.new.into) next.found.state (sym got ∙ next.state)))
 
 pub expand-requires-clause-no_goal : goal.expand-requires-clause-no_goal
 expand-requires-clause-no_goal g c = sym c.meets_goal.ensures ∙ c.if-meets_goal.false
@@ -123,13 +142,19 @@ expand-requires-clause-within g c =
     rw c.in-Some.ensures.store c.turns.invariant.within
 
 -- what the search needs where it stopped at the limit
-pub least_with-bound-requires-clause-heap : goal.least_with-bound-requires-clause-heap
-least_with-bound-requires-clause-heap g c =
+pub into_bound-requires-clause-heap : goal.into_bound-requires-clause-heap
+into_bound-requires-clause-heap g c =
     let not_listed : c.in_ok-expand.field-0 ≡ false = c.if-not-branch.true in
     (rw not_listed at c.in_ok-expand.ensures.listed).heap
 
-pub least_with-bound-requires-clause-entries : goal.least_with-bound-requires-clause-entries
-least_with-bound-requires-clause-entries g c =
+pub into_bound-requires-clause-turn : goal.into_bound-requires-clause-turn
+into_bound-requires-clause-turn g c =
+    let not_listed : c.in_ok-expand.field-0 ≡ false = c.if-not-branch.true in
+    turn_within (g.T.TransitionSystem.means c.args.system.now) _ (g.G.Guide.estimate_of c.args.guide.now) (g.G.Guide.is_dead c.args.guide.now) g.L.StateListing.states
+    c.expand.new.self c.in-Some.turn c.args.max_states (rw not_listed at c.in_ok-expand.ensures.listed)
+
+pub into_bound-requires-clause-entries : goal.into_bound-requires-clause-entries
+into_bound-requires-clause-entries g c =
     let not_listed : c.in_ok-expand.field-0 ≡ false = c.if-not-branch.true in
     entries_stopped (g.T.TransitionSystem.means c.args.system.now) _ (g.G.Guide.estimate_of c.args.guide.now) (g.G.Guide.is_dead c.args.guide.now) g.L.StateListing.states
     c.expand.new.self c.in-Some.turn c.args.max_states (rw not_listed at c.in_ok-expand.ensures.listed)
@@ -145,7 +170,7 @@ turns-preserved g c =
     let listed : c.in_ok-expand.field-0 ≡ true = c.if-not-branch.false in
     let same = same_classes g (goal.at.turns-preserved g c).In-Some in
     let expands = rw (same, listed) at c.in_ok-expand.ensures.listed in
-    record { search = expands.search; are_open = expands.are_open; within = expands.within; store_classes = c.in_ok-expand.ensures.class ∙ same; store_width = c.in_ok-expand.ensures.width; buffers = c.in_ok-expand.ensures.buffers; room = c.in_ok-expand.ensures.room }
+    record { search = expands.search; are_open = expands.are_open; within = expands.within; store_classes = c.in_ok-expand.ensures.class ∙ same; store_width = c.in_ok-expand.ensures.width; buffers = c.in_ok-expand.ensures.buffers; scratch = c.in_ok-expand.ensures.scratch }
 
 pub returns-then-not-branch : goal.returns-then-not-branch
 returns-then-not-branch g c =
@@ -155,9 +180,15 @@ returns-then-not-branch g c =
     let is_dead = g.G.Guide.is_dead c.args.guide.now in
     let admissible = subst (λ (u : System (List Bool) ℕ). IsAdmissible u value) c.requires.made_for (g.met.G.Guide.is_admissible c.args.guide.now) in
     let reports = subst (λ (u : System (List Bool) ℕ). ReportsDeadEnds u is_dead) c.requires.made_for (g.met.G.Guide.reports_dead_ends c.args.guide.now) in
-    rw (c.into_states-then-not-branch.ensures.store, c.into_states-then-not-branch.ensures.nodes, c.least_with-bound.ensures.store, c.least_with-bound.ensures.nodes) (
-      stopped.more,
-      at_limit (g.T.TransitionSystem.means c.args.system.now) (g.L.StateListing.class_of c.args.search.progress.store) value is_dead g.L.StateListing.states c.expand.new.self c.in-Some.turn c.args.max_states stopped c.requires.classes admissible reports c.least_with-bound.result c.least_with-bound.ensures.least,
+    let t = g.T.TransitionSystem.means c.args.system.now in
+    let class_of = g.L.StateListing.class_of c.args.search.progress.store in
+    let states_of = g.L.StateListing.states in
+    rw (c.in_ok-bound.ensures.store, c.in_ok-bound.ensures.nodes) (
+      (
+        stopped.more,
+        at_limit t class_of value is_dead states_of c.expand.new.self c.in-Some.turn c.args.max_states stopped c.requires.classes admissible reports c.in_ok-bound.bound c.in_ok-bound.ensures.least,
+      ),
+      estimates_stopped t class_of value is_dead states_of c.expand.new.self c.in-Some.turn c.args.max_states stopped c.in_ok-bound.states.estimates.items c.in_ok-bound.ensures.estimates,
     )
 
 pub returns-in_default : goal.returns-in_default
@@ -167,9 +198,15 @@ returns-in_default g c =
     let is_dead = g.G.Guide.is_dead c.args.guide.now in
     let admissible = subst (λ (u : System (List Bool) ℕ). IsAdmissible u value) c.requires.made_for (g.met.G.Guide.is_admissible c.args.guide.now) in
     let reports = subst (λ (u : System (List Bool) ℕ). ReportsDeadEnds u is_dead) c.requires.made_for (g.met.G.Guide.reports_dead_ends c.args.guide.now) in
-    let result = unsolvable _ _ _ _ _ _ search.one_each _ search.nodes c.requires.classes admissible reports c.args.max_states c.turns.invariant.are_open
-    (none_waits _ _ _ _ _ _ _ search.one_each search.nodes c.in_default.ensures.none) c.turns.invariant.within in
-    (result.0, rw (c.into_states.ensures.store, c.in_default.ensures.store, c.into_states.ensures.nodes, c.in_default.ensures.nodes) result.1)
+    let none = none_waits _ _ _ _ _ _ _ search.one_each search.nodes c.in_default.ensures.none in
+    let result = unsolvable _ _ _ _ _ _ search.one_each _ search.nodes c.requires.classes admissible reports c.args.max_states c.turns.invariant.are_open none c.turns.invariant.within in
+    let states = g.L.StateListing.states c.turns.progress.store in
+    let all = c.turns.progress.nodes.items in
+    let long = rw c.in_default.ensures.nodes at c.in_ok-states.ensures.estimates in (
+      (result.0, rw (c.in_ok-states.ensures.store, c.in_default.ensures.store, c.in_ok-states.ensures.nodes, c.in_default.ensures.nodes) result.1),
+      rw (c.in_ok-states.ensures.store, c.in_default.ensures.store, c.in_ok-states.ensures.nodes, c.in_default.ensures.nodes)
+          (none_estimated value is_dead states all none c.in_ok-states.states.estimates.items long),
+    )
 
 pub returns : goal.returns
 returns g c = (c.turns.invariant, omega (arith, c.turns-test.false, c.len.ensures))

@@ -14,31 +14,31 @@ use Rattle.solver.specs.Guided.{IsSearched}
 use Rattle.ground_listings.specs.SearchSpace.{ground_in}
 use Rattle.solver.proofs.by_tables.search_if_fair.Goals as goal
 
-pub new-requires-clause-numbered : goal.new-requires-clause-numbered
-new-requires-clause-numbered g c =
+pub new-guide-requires-clause-numbered : goal.new-guide-requires-clause-numbered
+new-guide-requires-clause-numbered g c =
     subst (λ (k : Ground). AreAllNumbered (task_in k) (atoms_in k)) (sym c.ground-ground.ensures) (all_numbered (ground_in c.args.space) [] c.requires.space.atoms)
 
-pub new-requires-clause-fair : goal.new-requires-clause-fair
-new-requires-clause-fair g c = subst (ReportsValues (task_in c.ground-ground.result.now) (atoms_in c.ground-ground.result.now) (several_of c.args.functions)) c.in-Fair.is c.in_ok-fairness.ensures
+pub new-guide-requires-clause-fair : goal.new-guide-requires-clause-fair
+new-guide-requires-clause-fair g c = subst (ReportsValues (task_in c.ground-ground.result.now) (atoms_in c.ground-ground.result.now) (several_of c.args.functions)) c.in-Fair.is c.in_ok-fairness.ensures
 
 pub returns-in-Fair-clause-fair : goal.returns-in-Fair-clause-fair
 returns-in-Fair-clause-fair g c =
-    let guide = c.in_ok-guide-in-Fair.guide in
+    let guide = c.new-guide.result in
     let known = ground_in c.args.space in
-    subst (AreFair (task_in known) (atoms_in known)) c.in_ok-guide-in-Fair.ensures.functions
-    (subst (λ (g : Ground). AreFair (task_in g) (atoms_in g) (functions_in guide)) (c.in_ok-guide-in-Fair.ensures.ground ∙ c.ground-ground.ensures) guide.fair)
+    subst (AreFair (task_in known) (atoms_in known)) c.new-guide.ensures.functions
+    (subst (λ (g : Ground). AreFair (task_in g) (atoms_in g) (functions_in guide)) (c.new-guide.ensures.ground ∙ c.ground-ground.ensures) guide.fair)
 
 pub returns-in-Fair-clause-searched : goal.returns-in-Fair-clause-searched
 returns-in-Fair-clause-searched g c =
     let searched = c.in_ok-searched-in-Fair.searched in
     subst (λ (s : SeveralValues). IsSearched c.args.space (estimate_by (by_tables s)) (reports_dead (by_tables s)) c.args.limits.states searched.outcome searched.marks.items)
-    c.in_ok-guide-in-Fair.ensures.functions c.in_ok-searched-in-Fair.ensures.searched
+    c.new-guide.ensures.functions c.in_ok-searched-in-Fair.ensures.searched
 
 abbrev means : Ground → System (List Bool) ℕ
 means k = ground_system (task_in k) (atoms_in k)
 
 pub search_by-requires-clause-system : goal.search_by-requires-clause-system
-search_by-requires-clause-system g c = ap means (c.in_ok-guide-in-Fair.ensures.ground ∙ c.ground-ground.ensures)
+search_by-requires-clause-system g c = ap means (c.new-guide.ensures.ground ∙ c.ground-ground.ensures)
 
 pub search_by-requires-clause-width : goal.search_by-requires-clause-width
-search_by-requires-clause-width g c = ap (λ k. length (atoms_in k)) (c.in_ok-guide-in-Fair.ensures.ground ∙ c.ground-ground.ensures)
+search_by-requires-clause-width g c = ap (λ k. length (atoms_in k)) (c.new-guide.ensures.ground ∙ c.ground-ground.ensures)

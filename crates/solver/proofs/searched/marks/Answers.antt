@@ -1,37 +1,39 @@
-use Rattle.std.proofs.Common.{◌∙◌, ◌<◌, refl, ap, map, length, arith}
-use Rattle.std.proofs.lemmas.Option.{slice_get_read}
-use Rattle.std.proofs.lemmas.List.FromFn.{length-map-range_with_len}
-use Rattle.packed_state.specs.Packed.{bits_of}
+use Rattle.std.proofs.Common.{◌≡◌, ◌∙◌, ◌<◌, ◌≤◌, [], Some, refl, sym, ap, map, take, length, get_or, arith}
+use Rattle.std.specs.Prelude.{slice_get}
+use Rattle.std.proofs.lemmas.List.{take_all}
+use Rattle.std.proofs.lemmas.Option.{same_Some, slice_get_read, slice_get-get_or}
 use Rattle.ground_listings.specs.GroundListing.{listed_states}
 use Rattle.certificate.specs.CertificateParts.{listed_of}
-use Rattle.solver.proofs.LoopLemmas.{width_at}
+use Rattle.search.specs.Outcome as search
+use Rattle.solver.specs.Listing.{mark_of_line}
 use Rattle.solver.proofs.FoundLines.{marks_next}
 use Rattle.solver.proofs.searched.marks.Goals as goal
 
 pub loop-place-init : goal.loop-place-init
-loop-place-init g c = (ap length c.in_ok-state.ensures ∙ length-map-range_with_len _ 0 c.width.result ∙ c.width.ensures, c.in_ok-room.ensures, ap (map listed_of) c.in_ok-marks.ensures.items)
-
-pub overflow_cast-place : goal.overflow_cast-place
-overflow_cast-place g c =
-    let below : c.loop-place.place < length (listed_states c.args.found.now.store) = omega (arith, c.loop-place-test.true, c.len-place-end.ensures, c.requires.one_for_each) in
-    omega (arith, below, c.requires.few)
-
-pub listed-requires-clause-width : goal.listed-requires-clause-width
-listed-requires-clause-width g c = width_at _ (listed_states c.args.found.now.store) c.requires.width c.loop-place.place (bits_of c.get.new.into) c.get.ensures.state
-
-pub listed-requires-clause-room : goal.listed-requires-clause-room
-listed-requires-clause-room g c = c.loop-place.invariant.1
-
-pub listed-requires-clause-marked : goal.listed-requires-clause-marked
-listed-requires-clause-marked g c =
-    c.requires.marked c.loop-place.place (bits_of c.get.new.into) c.index.result.now c.get.ensures.state
-    (slice_get_read c.args.found.now.nodes.items _ c.loop-place.place c.index.result.now refl (omega (arith, c.loop-place-test.true, c.len-place-end.ensures)) c.index.ensures)
+loop-place-init c = λ estimate is_dead can. ap (map listed_of) c.in_ok-marks.ensures.items
 
 pub loop-place-preserved : goal.loop-place-preserved
-loop-place-preserved g c = (
-  c.get.ensures.width,
-  c.listed.ensures.room,
-  marks_next (g.G.Guide.estimate_of c.args.guide.now) (g.G.Guide.is_dead c.args.guide.now) c.loop-place.marks.items c.push.new.self.items c.listed.result (listed_states c.args.found.now.store)
-      c.args.found.now.nodes.items c.loop-place.place (bits_of c.get.new.into) c.index.result.now c.loop-place.invariant.2
-      c.in_ok-push.ensures.items c.listed.ensures.listed c.get.ensures.state (slice_get_read c.args.found.now.nodes.items _ c.loop-place.place c.index.result.now refl (omega (arith, c.loop-place-test.true, c.len-place-end.ensures)) c.index.ensures),
-)
+loop-place-preserved c = λ estimate is_dead can.
+    let found = c.args.found.now in
+    let states = listed_states found.store in
+    let place = c.loop-place.place in
+    let below : place < length found.nodes.items = omega (arith, c.loop-place-test.true, c.len-place-end.ensures) in
+    let s = get_or states place [] in
+    let node = c.index.result.now in
+    let at_s : slice_get states place ≡ Some s = slice_get-get_or states place [] (omega (arith, below, can.one_for_each)) in
+    let at_node : slice_get found.nodes.items place ≡ Some node = slice_get_read found.nodes.items _ place node refl below c.index.ensures in
+    let read : slice_get found.estimates.items place ≡ Some c.index-in-loop-place.result.now = slice_get_read found.estimates.items _ place c.index-in-loop-place.result.now refl (omega (arith, below, c.requires)) c.index-in-loop-place.ensures in
+    let is = c.listed.ensures estimate is_dead s (can.marked place s node at_s at_node)
+    (λ cut. same_Some c.index-in-loop-place.result.now (estimate s) (sym read ∙ can.estimates.1 place s node at_s at_node cut)) in
+    marks_next estimate is_dead c.loop-place.marks.items c.push.new.self.items c.listed.result states found.nodes.items place s node (c.loop-place.invariant estimate is_dead can) c.in_ok-push.ensures.items is at_s at_node
+
+pub returns : goal.returns
+returns c = λ estimate is_dead can.
+    let found = c.args.found.now in
+    let states = listed_states found.store in
+    let nodes = found.nodes.items in
+    let place = c.loop-place.place in
+    let past : length nodes ≤ place = omega (arith, c.loop-place-test.false, c.len-place-end.ensures) in
+    let all_states : take place states ≡ states = take_all place states (omega (arith, past, can.one_for_each)) in
+    let all_nodes : take place nodes ≡ nodes = take_all place nodes past in
+    c.loop-place.invariant estimate is_dead can ∙ (λ i. map mark_of_line (search.lines_of estimate is_dead (all_states i) (all_nodes i)))

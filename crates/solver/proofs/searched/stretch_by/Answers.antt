@@ -1,4 +1,4 @@
-use Rattle.std.proofs.Common.{◌∙◌, ℕ, Bool, List, sym, ap, subst, length, arith}
+use Rattle.std.proofs.Common.{◌≡◌, ◌∙◌, ℕ, Bool, List, sym, ap, subst, length, arith}
 use Rattle.grounding.specs.declared.ground.Ground.{Ground}
 use Rattle.grounding.specs.Ground.{task_in, atoms_in}
 use Rattle.model.specs.Grounding.{ground_system}
@@ -72,8 +72,7 @@ marks-requires g c =
     let is =
     subst (IsTrueHalt (system_of space) (class_in space) estimate is_dead (g.G.Guide.fits guide) listed_states listed_class listed_width (length (atoms_in (ground_in space))) c.args.pause c.args.limits.states) c.in-Ended.is
     (halts g (goal.at.marks-requires g c).In_ok-outcome) in
-    subst (CanBeMarked (g.G.Guide.width_of guide) is_dead) (sym c.found_in.ensures)
-    (subst (λ (n : ℕ). CanBeMarked n is_dead (found_in outcome)) (sym c.requires.width) (can_be_marked space c.requires.space estimate is_dead c.args.limits outcome is))
+    subst (λ (f : FoundStates GroundListing). length f.estimates.items ≡ length f.nodes.items) (sym c.found_in.ensures) (can_be_marked space estimate is_dead c.args.limits outcome is.0 is.1).estimates.0
 
 pub returns-in_ok-marks-in-Ended : goal.returns-in_ok-marks-in-Ended
 returns-in_ok-marks-in-Ended g c =
@@ -86,8 +85,9 @@ returns-in_ok-marks-in-Ended g c =
     subst (IsTrueHalt (system_of space) (class_in space) estimate is_dead (g.G.Guide.fits guide) listed_states listed_class listed_width (length (atoms_in (ground_in space))) c.args.pause c.args.limits.states) c.in-Ended.is
     (halts g (goal.at.returns-in_ok-marks-in-Ended g c).In_ok-outcome) in
     let marks = c.in_ok-marks-in-Ended.marks.items in
-    searched space c.requires.space estimate is_dead c.args.limits outcome is (g.G.Guide.system_of guide) c.requires.system (g.met.G.Guide.is_admissible guide) (g.met.G.Guide.reports_dead_ends guide) marks
-    (subst (λ (f : FoundStates GroundListing). AreMarksOf estimate is_dead f marks) c.found_in.ensures c.in_ok-marks-in-Ended.ensures)
+    searched space estimate is_dead c.args.limits outcome is.0 (g.G.Guide.system_of guide) c.requires.system (g.met.G.Guide.is_admissible guide) (g.met.G.Guide.reports_dead_ends guide) marks
+    ((subst (λ (f : FoundStates GroundListing). CanBeMarked estimate is_dead f → AreMarksOf estimate is_dead f marks) c.found_in.ensures (c.in_ok-marks-in-Ended.ensures estimate is_dead))
+    (can_be_marked space estimate is_dead c.args.limits outcome is.0 is.1))
 
 pub returns-in-Paused : goal.returns-in-Paused
 returns-in-Paused g c =

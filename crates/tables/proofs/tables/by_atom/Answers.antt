@@ -1,10 +1,7 @@
-use Rattle.std.proofs.Common.{◌≡◌, ◌∙◌, ◌<◌, ◌+◌, length, map, Some, sym, ap, subst, arith}
+use Rattle.std.proofs.Common.{◌∙◌, ◌<◌, map, Some, sym, ap, subst}
 use Rattle.std.specs.Prelude.{All}
-use Rattle.std.proofs.lemmas.List.{length-map}
 use Rattle.std.proofs.lemmas.Option.{slice_get-get_or}
-use Rattle.table_functions.specs.TableFunctions.{Table}
 use Rattle.table_losses.specs.Lists.{IsFiledAt}
-use Rattle.tables.specs.ByAtom.{IsByAtom}
 use Rattle.table_losses.specs.Losses.{indexed_of}
 use Rattle.table_rows.specs.Tables.{table_of}
 use Rattle.tables.proofs.TablesLemmas.{by-atom-none, by-atom-more, mapped-at, scope-below}

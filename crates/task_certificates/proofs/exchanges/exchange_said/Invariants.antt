@@ -5,7 +5,7 @@ use Rattle.certificate_reader.specs.Lines.{name_of}
 use Rattle.certificate_definitions.specs.CertificateNames.{exchange_said}
 use Rattle.task_certificates.proofs.exchanges.exchange_said.Given as goal
 
--- the pairs so far, and then those of the names that are left
+-- the pairs so far, followed by those of the remaining names
 abbrev pub invariant-loop-left : goal.invariant-loop-left
 invariant-loop-left l =
     pairs_in l.pairs.items ++ exchange_said (task_of l.task) (map name_of l.left) ≡ exchange_said (task_of l.task) (map name_of l.objects)

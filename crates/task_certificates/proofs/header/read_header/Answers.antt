@@ -13,7 +13,7 @@ use Rattle.task_certificates.proofs.header.read_header.Given.{Over}
 use Rattle.task_certificates.proofs.header.read_header.Goals.{In-Some}
 use Rattle.task_certificates.proofs.header.read_header.Goals as goal
 
--- the line that was given out, and where the reader then is
+-- the line that was returned, and the state of the reader after it
 handed : (g : Over) (c : In-Some g) → IsYielded g.R.Source.remaining c.lines.reader c.next_line.new.self c.lines.invariant.lines (text_line_of c.in-Some.line)
 handed g c =
     let so_far = c.lines.invariant in

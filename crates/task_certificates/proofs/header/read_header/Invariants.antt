@@ -1,4 +1,4 @@
--- some lines were read, and have reported what is kept of them, and no state
+-- some lines were read, and have given what is stored, and no state
 use Rattle.std.proofs.Common.{◌≡◌, ◌-◌, List, []}
 use Rattle.task.specs.Task.{task_of}
 use Rattle.certificate_definitions.specs.CertificateText.{TextLine}

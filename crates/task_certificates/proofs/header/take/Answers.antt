@@ -29,7 +29,7 @@ returns-in-Claim-clause-taken c =
     → IsTaken task before (text_line_of line) (record { version = header.version; claim = c.in-Claim.claim; exchanges = header.exchanges; atoms = header.atoms; bounds = header.bounds }) None)
     (sym c.in-Claim.is) (λ before begun reported. (reported_claim task before (heading_of header) reported (claim_of c.in-Claim.claim) begun, refl))
 
--- with the constants the lines have given these bounds
+-- together with the constants the lines have given these bounds
 constants_taken : (task : Task) (header : Header) (constants given : List ℤ) (after : Bounds) → given ≡ constants → bounds_of after ≡ begun_with (version_of header.version) given (bounds_of header.bounds)
     → (before : List TextLine) → BeginCertificate (before ++ constant constants ∷ []) → HasTaken task before header
     → HasTaken task (before ++ constant constants ∷ []) (record { version = header.version; claim = header.claim; exchanges = header.exchanges; atoms = header.atoms; bounds = after })

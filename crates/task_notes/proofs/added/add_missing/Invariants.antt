@@ -6,7 +6,7 @@ use Rattle.grounding_kept.specs.Numbering.{task_in}
 use Rattle.task_notes.specs.Goals.{atom_asked_for, with_missing}
 use Rattle.task_notes.proofs.added.add_missing.Given as goal
 
--- those of the literals so far
+-- what the literals so far give
 abbrev pub invariant-loop-literal : goal.invariant-loop-literal
 invariant-loop-literal l =
     map atom_of l.found.items

@@ -5,7 +5,7 @@ use Rattle.model.specs.Task.{Schema}
 use Rattle.task_notes.specs.Costs.{is_costly}
 use Rattle.task_notes.proofs.costs.some_is_costly.Given as goal
 
--- the actions that are left decide
+-- the remaining actions decide
 abbrev pub invariant-loop-number : goal.invariant-loop-number
 invariant-loop-number l =
     list_any (λ (s : Schema). is_costly s.increase) (task_of l.task).schemas

@@ -5,7 +5,7 @@ use Rattle.task_notes.specs.Mentions.{mentions}
 use Rattle.task_notes.specs.Views.{Come}
 use Rattle.task_notes.proofs.mentions.+add_formula.Given as goal
 
--- those of the parts so far are added
+-- what the parts so far give is added
 abbrev pub invariant-loop-part : goal.invariant-loop-part
 invariant-loop-part l = Come (flat_map (λ part. mentions (formula_of part)) (take l.part-index l.part-items)) l.initial.found.items l.found.items
 

@@ -5,6 +5,6 @@ use Rattle.task_notes.specs.Mentions.{fact_mentions}
 use Rattle.task_notes.specs.Views.{Come}
 use Rattle.task_notes.proofs.mentions.add_facts.Given as goal
 
--- those of the facts so far are added
+-- what the facts so far give is added
 abbrev pub invariant-loop-fact : goal.invariant-loop-fact
 invariant-loop-fact l = Come (flat_map (λ fact. fact_mentions (atom_of fact)) (take l.fact-index l.facts)) l.initial.found.items l.found.items

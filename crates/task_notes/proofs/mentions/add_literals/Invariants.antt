@@ -5,6 +5,6 @@ use Rattle.task_notes.specs.Mentions.{literal_mentions}
 use Rattle.task_notes.specs.Views.{Come}
 use Rattle.task_notes.proofs.mentions.add_literals.Given as goal
 
--- those of the literals so far are added
+-- what the literals so far give is added
 abbrev pub invariant-loop-literal : goal.invariant-loop-literal
 invariant-loop-literal l = Come (flat_map (λ one. literal_mentions (effect_literal_of one)) (take l.literal-index l.literals)) l.initial.found.items l.found.items

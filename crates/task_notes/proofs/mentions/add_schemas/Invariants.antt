@@ -5,6 +5,6 @@ use Rattle.task_notes.specs.Mentions.{schema_mentions}
 use Rattle.task_notes.specs.Views.{Come}
 use Rattle.task_notes.proofs.mentions.add_schemas.Given as goal
 
--- those of the actions so far are added
+-- what the actions so far give is added
 abbrev pub invariant-loop-number : goal.invariant-loop-number
 invariant-loop-number l = Come (flat_map schema_mentions (take l.number (task_of l.task).schemas)) l.initial.found.items l.found.items

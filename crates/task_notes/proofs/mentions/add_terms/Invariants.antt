@@ -5,6 +5,6 @@ use Rattle.task_notes.specs.Mentions.{term_mentions}
 use Rattle.task_notes.specs.Views.{Come}
 use Rattle.task_notes.proofs.mentions.add_terms.Given as goal
 
--- those of the terms so far are added
+-- what the terms so far give is added
 abbrev pub invariant-loop-term : goal.invariant-loop-term
 invariant-loop-term l = Come (flat_map (λ one. term_mentions (term_of one)) (take l.term-index l.terms)) l.initial.found.items l.found.items

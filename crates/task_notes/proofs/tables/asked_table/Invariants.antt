@@ -5,6 +5,6 @@ use Rattle.task_notes.specs.Mentions.{is_asking}
 use Rattle.task_notes.specs.Views.{mention_of}
 use Rattle.task_notes.proofs.tables.asked_table.Given as goal
 
--- those so far are marked
+-- the predicates so far are marked
 abbrev pub invariant-loop-mention : goal.invariant-loop-mention
 invariant-loop-mention l = Marks (λ n. list_any (λ one. is_asking n (mention_of one)) (take l.mention-index l.mentions)) [] l.table.items

@@ -5,6 +5,6 @@ use Rattle.formulas.specs.State.{instance_of}
 use Rattle.task_notes.specs.Unused.{is_of_schema}
 use Rattle.task_notes.proofs.tables.schema_table.Given as goal
 
--- those of the instances so far are marked
+-- what the instances so far give is marked
 abbrev pub invariant-loop-instance : goal.invariant-loop-instance
 invariant-loop-instance l = Marks (λ n. list_any (λ one. is_of_schema n (instance_of one)) (take l.instance-index l.instances)) [] l.table.items

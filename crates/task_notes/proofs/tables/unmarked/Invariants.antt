@@ -3,6 +3,6 @@ use Rattle.formulas.specs.FluentTable.{is_marked}
 use Rattle.task_notes.specs.Unused.{without}
 use Rattle.task_notes.proofs.tables.unmarked.Given as goal
 
--- those so far that are not marked
+-- the unmarked numbers so far
 abbrev pub invariant-loop-number : goal.invariant-loop-number
 invariant-loop-number l = l.found.items ≡ without (is_marked l.table) l.number

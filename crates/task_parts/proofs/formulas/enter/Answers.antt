@@ -8,7 +8,7 @@ use Rattle.model.specs.Typing as typing
 use Rattle.task_parts.proofs.formulas.enter.Goals.{After-as_slice-declared}
 use Rattle.task_parts.proofs.formulas.enter.Goals as goal
 
--- what is declared
+-- the declarations
 same : (c : After-as_slice-declared) → map declared_of c.as_slice-declared.result.now ≡ typing.declared (file_of c.args.globals.now.file) (read.groups_of c.args.groups.now)
 same c =
     ap (map declared_of) c.as_slice-declared.ensures.value ∙ c.in_ok-list.ensures

@@ -7,7 +7,7 @@ use Rattle.task_parts.proofs.Tables as tables
 use Rattle.task_parts.proofs.variables.add_variable.Goals.{After-contains_key}
 use Rattle.task_parts.proofs.variables.add_variable.Goals as goal
 
--- what the look-up says of the name
+-- the look-up's result for the name
 known : (c : After-contains_key) → c.contains_key.result ≡ typing.is_known (typing.names_of_variables (map variable_entry_of c.args.variables.now.entries)) (declared_of c.args.declared.now).name
 known c =
     let entries = c.args.variables.now.entries in let q = c.as_slice.result.now in

@@ -5,7 +5,7 @@ use Rattle.symmetries.specs.Symmetries.{conjuncts}
 use Rattle.task_symmetries.specs.Lent.{formulas_lent}
 use Rattle.task_symmetries.proofs.conjuncts.+add_conjuncts.Given as goal
 
--- those of the parts so far are added
+-- what the parts so far give is added
 abbrev pub invariant-loop-part : goal.invariant-loop-part
 invariant-loop-part l =
     formulas_lent l.found.items ≡ formulas_lent l.initial.found.items ++ flat_map (λ part. conjuncts (formula_of part)) (take l.part-index l.part-items)

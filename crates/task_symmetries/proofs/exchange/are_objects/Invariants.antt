@@ -5,6 +5,6 @@ use Rattle.task.specs.TaskParts.{object_of}
 use Rattle.task_symmetries.specs.Pairs.{is_object}
 use Rattle.task_symmetries.proofs.exchange.are_objects.Given as goal
 
--- the objects so far are the task's
+-- the objects so far belong to the task
 abbrev pub invariant-loop-object : goal.invariant-loop-object
 invariant-loop-object l = list_all (λ o. is_object (task_of l.task) (object_of o)) (take l.object-index l.objects) ≡ true

@@ -4,7 +4,7 @@ use Rattle.task.specs.TaskParts.{object_of}
 use Rattle.task_symmetries.specs.Pairs.{pairs_in, two_by_two}
 use Rattle.task_symmetries.proofs.exchange.pairs_of.Given as goal
 
--- the pairs so far, and then those of the objects that are left
+-- the pairs so far, followed by those of the remaining objects
 abbrev pub invariant-loop-left : goal.invariant-loop-left
 invariant-loop-left l =
     option_map (λ later. pairs_in l.pairs.items ++ later) (two_by_two (map object_of l.left)) ≡ two_by_two (map object_of l.objects)

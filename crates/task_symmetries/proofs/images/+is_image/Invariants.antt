@@ -5,7 +5,7 @@ use Rattle.task_symmetries.specs.Exchange.{image}
 use Rattle.task_symmetries.proofs.ImageLemmas.{image_is}
 use Rattle.task_symmetries.proofs.images.+is_image.Given as goal
 
--- the formulas that are left decide
+-- the remaining formulas decide
 abbrev pub invariant-are_images-loop-place : goal.invariant-are_images-loop-place
 invariant-are_images-loop-place l =
     pointwise (λ f g. image_is (image l.exchange) (formula_of f) (formula_of g)) (drop l.place l.formulas) (drop l.place l.others)

@@ -6,7 +6,7 @@ use Rattle.symmetries.specs.SameFormula.{is_same_term}
 use Rattle.task_symmetries.specs.Exchange.{image}
 use Rattle.task_symmetries.proofs.images.are_images_of_terms.Given as goal
 
--- the terms that are left decide
+-- the remaining terms decide
 abbrev pub invariant-loop-place : goal.invariant-loop-place
 invariant-loop-place l =
     pointwise (λ t u. is_same_term (image_of_term (image l.exchange) (term_of t)) (term_of u)) (drop l.place l.terms) (drop l.place l.others)

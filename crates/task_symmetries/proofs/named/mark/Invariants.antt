@@ -2,7 +2,7 @@ use Rattle.std.proofs.Common.{◌≡◌, ℕ, ◌+◌, ◌-◌, length}
 use Rattle.formulas.specs.FluentTable.{is_marked}
 use Rattle.task_symmetries.proofs.named.mark.Given as goal
 
--- only numbers come to the table that are not marked
+-- only unmarked numbers are added to the table
 abbrev pub invariant-loop-table : goal.invariant-loop-table
 invariant-loop-table l = (n : ℕ) → is_marked l.table.items n ≡ is_marked l.initial.table.items n
 

@@ -6,7 +6,7 @@ use Rattle.task_symmetries.specs.Numbers.{exchanged_below}
 use Rattle.task_symmetries.proofs.NumberLemmas.{is_kept}
 use Rattle.task_symmetries.proofs.numbers.exchanged_numbers.Given as goal
 
--- the pairs of the numbers so far are there, and the images of their atoms have numbers
+-- the pairs of the numbers so far are there, and the images of their atoms are numbered
 abbrev pub invariant-loop-number : goal.invariant-loop-number
 invariant-loop-number l =
     (l.pairs.items ≡ exchanged_below (map atom_of l.atoms.keys) (image l.exchange) l.number)

@@ -11,7 +11,7 @@ use Rattle.task_parts.proofs.Reports.{on_ok_weaker}
 use Rattle.typing.proofs.actions.schema.Goals.{In_ok-parameters}
 use Rattle.typing.proofs.actions.schema.Goals as goal
 
--- what may be named in the action
+-- the names visible in the action
 same : (c : In_ok-parameters)
     → (record (known_outside c.args.globals.now) { variables = map variable_entry_of c.enter.new.variables.entries })
     ≡ typing.known_in_action (known_outside c.args.globals.now) (read.action_of c.args.action.now)

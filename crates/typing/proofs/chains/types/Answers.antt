@@ -19,7 +19,7 @@ use Rattle.typing.proofs.chains.types.Goals as goal
 same : (c : In_ok-names) → map declared_of c.as_slice-declared.result.now ≡ typing.declared_types (domain_of c.args.domain.now)
 same c = ap (map declared_of) c.as_slice-declared.ensures.value ∙ c.in_ok-list.ensures ∙ ap (λ gs. typing.declared domain_file (map group_of gs)) c.as_slice-groups.ensures.value
 
--- the types are not repeated, and few
+-- the types are not repeated, and within the limit
 once_of : (d : tree.Domain) (p : tree.Problem) → typing.domain_name_faults d p ++ typing.type_declaration_faults d ≡ []
     → (typing.repeated_after (codes "object" ∷ []) (typing.words_of (typing.declared_types d)) ≡ []) × (length (typing.declared_types d) ≤ 4095)
 once_of d p none =

@@ -15,14 +15,14 @@ use Rattle.model.specs.Trees as tree
 use Rattle.std.proofs.lemmas.List.Folds.{flat_map-map}
 use Rattle.typing.proofs.declarations.declared.Goals as goal
 
--- the faults of declaring them, one declaration after another
+-- the faults of the declarations, one after another
 twice : List Predicate → List typing.TypingFault
 twice qs = typing.refused 16 (typing.repeated (map (λ (q : Predicate). typing.placed domain_file (read.name_of q.name)) qs))
 
 inner : List task.Name → List Predicate → List typing.TypingFault
 inner names qs = flat_map (λ (q : Predicate). typing.argument_faults names (read.predicate_of q)) qs
 
--- are those of all
+-- are the faults of all
 all_faults : (names : List task.Name) (qs : List Predicate) → twice qs ++ inner names qs ≡ typing.declaration_faults names (map read.predicate_of qs)
 unfolding twice inner
 all_faults names qs =

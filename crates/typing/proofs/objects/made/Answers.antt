@@ -8,14 +8,14 @@ use Rattle.task_parts.proofs.Empty as empty
 use Rattle.typing.proofs.objects.made.Goals.{In_ok-constants}
 use Rattle.typing.proofs.objects.made.Goals as goal
 
--- what is declared of constants
+-- the declarations of constants
 abbrev constants : In_ok-constants → List typing.Declared
 constants c = take c.args.count (map declared_of c.args.declared.now)
 
 same : (c : In_ok-constants) → map declared_of c.split_at.result.0.now ≡ constants c
 same c = ap (map declared_of) c.split_at.ensures.front ∙ sym (take-map declared_of c.args.count c.args.declared.now)
 
--- the constants are not repeated either, and are no more than all
+-- the constants are not repeated either, and no more than all objects
 once : (c : In_ok-constants) → (typing.repeated (typing.words_of (constants c)) ≡ []) × (length (constants c) ≤ 65535)
 once c =
     let names = keys_in c.args.types.now.by_name.entries in
@@ -32,7 +32,7 @@ once c =
       omega (arith, low, length-map ys word, length-take c.args.count ys),
     )
 
--- and so they are the table's
+-- and so they are those of the table
 table : (c : In_ok-constants) → map object_entry_of c.in_ok-constants.constants.entries ≡ map (typing.object_in (keys_in c.args.types.now.by_name.entries)) (constants c)
 table c =
     c.in_ok-constants.ensures.table (ap (λ xs. typing.repeated (typing.words_of xs)) (same c) ∙ (once c).0)

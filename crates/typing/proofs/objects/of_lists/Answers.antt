@@ -11,7 +11,7 @@ use Rattle.model.specs.Typing as typing
 use Rattle.typing.proofs.objects.of_lists.Goals.{After-as_slice}
 use Rattle.typing.proofs.objects.of_lists.Goals as goal
 
--- what is declared of constants
+-- the declarations of constants
 abbrev front : After-as_slice → List typing.Declared
 front c = typing.declared domain_file (map read.group_of c.args.constants.now)
 

@@ -26,7 +26,7 @@ objects_named {d = d} {p = p} are same = record {
   all = are.all ∙ ap (λ ns. map (object_in ns) (declared_objects d p)) same;
 }
 
--- what may be named in the problem
+-- the names visible in the problem
 known : {d : Domain} {p : Problem} {t : TypeTable} {o : DeclaredObjects} {n : Declarations} → AreTypesOf d t → AreObjectsOf d p o → AreDeclared d n → known_by t o n ≡ known_in_problem d p
 known types objects names = λ i. record {
   type_names = types.names i;

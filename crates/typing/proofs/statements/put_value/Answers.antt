@@ -12,11 +12,11 @@ use Rattle.typing.proofs.Values.{kept_before, reported_by_first, put_last, not_r
 use Rattle.typing.proofs.statements.put_value.Goals.{After-copied}
 use Rattle.typing.proofs.statements.put_value.Goals as goal
 
--- the value that the function of these objects has
+-- the value of the function of these objects
 looked : (c : After-copied) → value_in (map parts.value_of c.args.values.now.entries) (parts.atom_of c.args.function) ≡ c.copied.result
 looked c = sym (c.copied.ensures ∙ c.get.ensures.value ∙ value-alike c.args.function c.args.values.now.entries)
 
--- the value that is given
+-- the value given
 value : After-copied → task.FunctionValue
 value c = record { function = parts.atom_of c.args.function; value = c.args.given.now.value }
 

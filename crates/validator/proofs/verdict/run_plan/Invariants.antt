@@ -5,7 +5,7 @@ use Rattle.model.specs.Runs.{run, cost_of_all}
 use Rattle.model.specs.Meaning.{system_of}
 use Rattle.validator.proofs.verdict.run_plan.Given as goal
 
--- the instances so far run, to this state, and this is what they cost: each no more than a u32 can be
+-- the instances so far lead to this state, and this is their cost: each is at most what a u32 can be
 abbrev pub invariant-loop-index : goal.invariant-loop-index
 invariant-loop-index l =
     let system = system_of (task_of l.task) in

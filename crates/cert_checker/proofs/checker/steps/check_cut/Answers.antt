@@ -1,4 +1,7 @@
-use Rattle.std.proofs.Common.{◌+◌, inl, inr, refl, arith}
+use Rattle.std.proofs.Common.{◌≡◌, ◌∙◌, ◌+◌, ◌<◌, ◌≤◌, ℕ, Bool, false, true≢false, inl, inr, refl, sym, arith}
+use Rattle.std.specs.Prelude.{◌↔◌, IsTrue}
+use Rattle.std.proofs.lemmas.Bool.{cases_lt}
+use Rattle.certificate_definitions.specs.Certificates.{value_of}
 use Rattle.certificate_reader.specs.Lines.{claim_of}
 use Rattle.cert_checker.specs.PackedListing.{task_at, certificate_at, state_at}
 use Rattle.task_certificates.specs.declared.refusal.RefusalCode.TheVariants.{CutWeak}
@@ -7,22 +10,29 @@ use Rattle.cert_checker.proofs.OrderLemmas.{first_in_line}
 use Rattle.cert_checker.proofs.FirstLemmas.{reported_first}
 use Rattle.cert_checker.proofs.RefusalsLemmas.{reported, wrong_cut, not_allowed}
 use Rattle.cert_checker.proofs.checker.steps.check_cut.Goals as goal
-use Rattle.cert_checker.proofs.checker.steps.check_cut.Goals.{else-rest-value-via-then-rest-value+else-allows, else-rest-value-via-else-rest-value}
+use Rattle.cert_checker.proofs.checker.steps.check_cut.Goals.{else-is_worth-via-then-is_worth+else-allows, else-is_worth-via-else-is_worth}
 
-pub returns-else-rest-value-clause-wrong : goal.returns-else-rest-value-clause-wrong
-returns-else-rest-value-clause-wrong c =
+-- less than what was told
+not-worth : (rest value : ℕ) (b : Bool) → IsTrue b ↔ (rest ≤ value) → b ≡ false → value < rest
+not-worth rest value b worth fails = elim (cases_lt value rest) [
+  | inl less ↦ less
+  | inr enough ↦ absurd (true≢false (sym (worth.1 enough) ∙ fails))
+]
+
+pub returns-else-is_worth-clause-wrong : goal.returns-else-is_worth-clause-wrong
+returns-else-is_worth-clause-wrong c =
     let listing = c.args.listing.now in
     let cert = certificate_at listing in
     reported (task_at listing) cert c.state_line.result CutWeak (state_line cert c.args.place) c.state_line.ensures
     (wrong_cut (task_at listing) cert c.args.place (state_at listing c.args.state.now) c.args.cost c.args.rest c.requires.listed
-    (elim c.else-rest-value.branch [
-      | else-rest-value-via-then-rest-value+else-allows w ↦
+    (elim c.else-is_worth.branch [
+      | else-is_worth-via-then-is_worth+else-allows w ↦
           inr (not_allowed (claim_of w.claim.result) cert.claim (c.args.cost + c.args.rest) w.allows.result w.claim.ensures w.allows.ensures w.if-allows.false)
-      | else-rest-value-via-else-rest-value w ↦ inl (omega (arith, c.value.ensures.value, w.if-rest-value.false))
+      | else-is_worth-via-else-is_worth w ↦ inl (not-worth c.args.rest (value_of (task_at listing) cert (state_at listing c.args.state.now)) c.is_worth.result c.is_worth.ensures.worth w.if-is_worth.false)
     ]))
 
-pub returns-else-rest-value-clause-first : goal.returns-else-rest-value-clause-first
-returns-else-rest-value-clause-first c =
+pub returns-else-is_worth-clause-first : goal.returns-else-is_worth-clause-first
+returns-else-is_worth-clause-first c =
     λ plan most right.
     let listing = c.args.listing.now in
     let cert = certificate_at listing in

@@ -17,7 +17,7 @@ pub loop-place-init : goal.loop-place-init
 loop-place-init c = record {
   state = ap length c.in_ok-state.ensures ∙ length-set_of c.width-width.result [] ∙ c.width-width.ensures;
   next = ap length c.in_ok-next.ensures ∙ length-set_of c.width-width.result [] ∙ c.width-width.ensures;
-  room = c.in_ok-room.ensures;
+  known = c.in_ok-known.ensures;
   closed = λ k line lt at. absurd (omega arith);
 }
 
@@ -30,7 +30,7 @@ pub loop-place-preserved : goal.loop-place-preserved
 loop-place-preserved c = record {
   state = c.in_ok-check_line.ensures.state;
   next = c.in_ok-check_line.ensures.next;
-  room = c.in_ok-check_line.ensures.room;
+  known = c.in_ok-check_line.ensures.known;
   closed = λ k line lt at.
       elim (cases_eq k c.loop-place.place) [
         | inl is ↦ c.in_ok-check_line.ensures.right line (subst (λ j. slice_get (lines_of (task_at c.args.listing.now) (certificate_at c.args.listing.now)) j ≡ Some line) is at)

@@ -1,7 +1,7 @@
 use Rattle.std.proofs.Common.{◌≡◌, ℕ, ◌<◌, Some}
 use Rattle.std.specs.Prelude.{slice_get}
 use Rattle.cert_checker.specs.CheckedLines.{IsLineClosed}
-use Rattle.cert_checker.specs.PackedListing.{task_at, certificate_at, HasRoomIn, IsPacked}
+use Rattle.cert_checker.specs.PackedListing.{task_at, certificate_at, IsKnownIn, IsPacked}
 use Rattle.model.specs.Meaning.{State}
 use Rattle.model.specs.Claims.{Line}
 use Rattle.certificate_definitions.specs.Certificates.{lines_of}
@@ -12,7 +12,7 @@ abbrev pub invariant-loop-place : goal.invariant-loop-place
 invariant-loop-place l = record {
   state : IsPacked l.listing l.state;
   next : IsPacked l.listing l.next;
-  room : HasRoomIn l.listing l.room;
+  known : IsKnownIn l.listing l.known;
   closed : (k : ℕ) (line : Line State) → k < l.place → slice_get (lines_of (task_at l.listing) (certificate_at l.listing)) k ≡ Some line
       → IsLineClosed (task_at l.listing) (certificate_at l.listing) line;
 }

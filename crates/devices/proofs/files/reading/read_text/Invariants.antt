@@ -1,4 +1,4 @@
--- What is in the text was read, and no call has failed; where the first is to fail, none was made.
+-- The text so far was read, and no call has failed; if the first call is to fail, none was made.
 use Rattle.std.proofs.Common.{◌≡◌, ◌≤◌, ◌-◌, vec_len}
 use Rattle.std.specs.Prelude.{IsTrue}
 use Rattle.std.specs.Io.KnownBytes.{Consumes}

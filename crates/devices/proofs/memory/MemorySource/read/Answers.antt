@@ -2,7 +2,7 @@ use Rattle.std.proofs.Common.{◌≡◌, ℕ, ◌+◌, ◌<◌, List, [], ◌++�
 use Rattle.devices.proofs.Filling.{from_place, past, rest_of}
 use Rattle.devices.proofs.memory.MemorySource.read.Goals as goal
 
--- none comes into some room only where none is left
+-- nothing comes into a non-empty buffer only if nothing is left
 at_end : (bytes into new : List ℕ) (next count : ℕ) → count ≡ min (length into) (length (drop next bytes)) → length new ≡ length into
     → count ≡ 0 → 0 < length new → drop (next + count) bytes ≡ []
 at_end bytes into new next count counted long none room =

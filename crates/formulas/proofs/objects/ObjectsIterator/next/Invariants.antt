@@ -6,7 +6,7 @@ use Rattle.formulas.proofs.ObjectWalk.{from_on}
 use Rattle.model.specs.Meaning.{is_of}
 use Rattle.formulas.proofs.objects.ObjectsIterator.next.Given as goal
 
--- no number so far is one of those to come
+-- no number so far is one of the remaining ones
 abbrev pub invariant-loop-number : goal.invariant-loop-number
 invariant-loop-number l =
     (l.self ≡ l.initial.self)

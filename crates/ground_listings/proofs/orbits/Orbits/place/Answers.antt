@@ -13,17 +13,17 @@ not_there : (c : In-None) → Contains (states_in c.args.self.now) (bits_of c.ar
 not_there c =
     let old = c.args.self.now in
     lacks old (bits_of c.args.state.now) c.requires.linked
-    (subst (λ (keys : List (List Bool)). Contains keys (key_by old.representatives.now (bits_of c.args.state.now)) → ⊥) (ap pooled_states c.represent.ensures.keys)
-    (subst (λ (key : List Bool). Contains (pooled_states c.represent.new.self.keys) key → ⊥) c.represent.ensures.key c.in-None.ensures))
+    (subst (λ (keys : List (List Bool)). Contains keys (key_by old.representatives.now (bits_of c.args.state.now)) → ⊥) (ap pooled_states c.class_of.ensures.keys)
+    (subst (λ (key : List Bool). Contains (pooled_states c.class_of.new.self.keys) key → ⊥) c.in-None.ensures.class.0 c.in-None.ensures.class.1))
 
 pub returns-in-Some-clause-placed : goal.returns-in-Some-clause-placed
 returns-in-Some-clause-placed c =
-    placed_by c.args.self.now c.represent.new.self (bits_of c.args.state.now) c.args.max_states c.place_in_class.result c.represent.ensures.representatives c.represent.ensures.states c.place_in_class.ensures
+    placed_by c.args.self.now c.class_of.new.self (bits_of c.args.state.now) c.args.max_states c.place_in_class.result c.class_of.ensures.representatives c.class_of.ensures.states c.place_in_class.ensures
 
 pub returns-in_ok-place-in-None-clause-placed : goal.returns-in_ok-place-in-None-clause-placed
 returns-in_ok-place-in-None-clause-placed c =
     let old = c.args.self.now in
-    let same : states_in c.represent.new.self ≡ states_in old = ap states_of c.represent.ensures.states in
+    let same : states_in c.class_of.new.self ≡ states_in old = ap states_of c.class_of.ensures.states in
     let less = c.if-len-max_states.true in (
       not_there (goal.at.returns-in_ok-place-in-None-clause-placed c).In-None,
       omega (arith, less, c.len.ensures, ap length same),
@@ -33,7 +33,7 @@ returns-in_ok-place-in-None-clause-placed c =
 
 pub returns-in-None-2-clause-placed : goal.returns-in-None-2-clause-placed
 returns-in-None-2-clause-placed c =
-    let same : states_in c.represent.new.self ≡ states_in c.args.self.now = ap states_of c.represent.ensures.states in (
+    let same : states_in c.class_of.new.self ≡ states_in c.args.self.now = ap states_of c.class_of.ensures.states in (
       not_there (goal.at.returns-in-None-2-clause-placed c).In-None,
       omega (arith, c.if-len-max_states.false, c.requires.within, c.len.ensures, ap length same),
       same,

@@ -15,7 +15,7 @@ pub returns-clause-linked : goal.returns-clause-linked
 returns-clause-linked c =
     let old = c.args.self.now in
     let current = c.requires.current in
-    linked_replaced old _ (record { representatives = refl; key_width = c.requires.linked.key_width; rows_width = c.set.ensures.width; keys_width = refl; superseded_width = refl }) c.requires.linked
+    linked_replaced old _ (record { representatives = refl; key_width = c.requires.linked.key_width; rows_width = c.set.ensures.width; keys_width = refl; superseded_width = refl; noted_width = refl; noted = c.requires.linked.noted }) c.requires.linked
     old.keys.pooled.stored.distinct current.0 c.args.place (bits_of c.args.state.now) current.1 c.requires.alike c.requires.new c.requires.width c.set.ensures.states refl refl refl refl
 
 pub returns-clause-states : goal.returns-clause-states

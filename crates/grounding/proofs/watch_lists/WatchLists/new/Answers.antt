@@ -20,7 +20,7 @@ rarest-requires c =
     let conditions = c.args.conditions.now in
     let number = c.loop-number.number in
     let condition = c.index-conditions-number.result in
-    let many : length c.deref.result.now ≡ c.args.width = ap length c.deref.ensures.value ∙ c.in_ok-wanted.ensures in
+    let many : length c.deref.result.now ≡ c.args.width = ap length c.deref.ensures.value ∙ c.in_ok-ranks.ensures in
     subst (λ w. All (λ (l : NumberedLiteral). l.atom < w) (map numbered_of c.literals.result.now)) (sym many)
     (subst (λ ls. All (λ (l : NumberedLiteral). l.atom < c.args.width) ls) (sym c.literals.ensures) (c.requires.within number condition (got conditions number condition c.loop-number-test.true c.index-conditions-number.is)))
 
@@ -33,7 +33,7 @@ loop-number-preserved c =
     let may = ap (λ o. option_map_or can_hold_in o false) at ∙ sym c.can_hold.ensures in
     elim c.if-can_hold.branch [
       | then-can_hold+in_ok-file w ↦
-          let many : length w.deref.result.now ≡ c.args.width = ap length w.deref.ensures.value ∙ c.in_ok-wanted.ensures in
+          let many : length w.deref.result.now ≡ c.args.width = ap length w.deref.ensures.value ∙ c.in_ok-ranks.ensures in
           subst (AreWatched c.args.width conditions (number + 1)) (sym w.lists-is)
           (watched-more c.args.width conditions number w.rarest.result c.loop-number.lists w.file.new.self condition c.loop-number.invariant w.in_ok-file.ensures c.loop-number-test.true at
           (subst (λ v. IfSome w.rarest.result (IsWatchable v (literals_in condition))) many

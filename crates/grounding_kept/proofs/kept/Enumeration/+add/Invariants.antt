@@ -12,7 +12,7 @@ use Rattle.grounding_kept.proofs.kept.Enumeration.+add.Given as goal
 abbrev pub decreases-add : goal.decreases-add
 decreases-add l = length l.left.now
 
--- what was found, with the kept ones of those whose next object is still to be tried, is all
+-- what was found, together with the kept instances for the remaining next objects, is all
 abbrev pub invariant-loop-object : goal.invariant-loop-object
 invariant-loop-object l = record {
   all : map instance_of l.found.items

@@ -12,7 +12,7 @@ abbrev pub invariant-some_is_statically_false-loop-part : goal.invariant-some_is
 invariant-some_is_statically_false-loop-part l =
     list_any (λ part. statically_false.is_statically_false (task_of l.self.task.now) (formula_of part) (map object_of l.binding.items)) (take l.part-index l.parts) ≡ false
 
--- and for none of the objects so far the formula: those that are left decide
+-- and the formula for none of the objects so far: the remaining ones decide
 abbrev pub invariant-is_statically_false_for_some-loop-object : goal.invariant-is_statically_false_for_some-loop-object
 invariant-is_statically_false_for_some-loop-object l =
     let test : ℕ → Bool = λ one. statically_false.is_statically_false (task_of l.self.task.now) (formula_of l.part) (map object_of l.binding.items ++ one ∷ []) in

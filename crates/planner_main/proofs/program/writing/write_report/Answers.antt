@@ -49,7 +49,7 @@ returns-clause-said g c =
           _ _ c.cert_text-cert.ensures c.plan_text-plan.ensures c.in_ok-save_cert.ensures.written c.in_ok-save_or_say.ensures.written,
     )
 
--- what is said of the certificate's file, and then of the plan's
+-- the lines about the certificate's file, and then about the plan's
 pub returns-in_err-save_cert-clause-progress : goal.returns-in_err-save_cert-clause-progress
 returns-in_err-save_cert-clause-progress g c =
     said_of_cert c.args.report.now (outputs_in c.args.outputs) _ c.cert_text-cert.ensures g.E.Sink.wants_memory _ _ (stream (g.E.Sink.failures c.save_cert.new.err) (g.E.Sink.taken c.save_cert.new.err))
@@ -66,7 +66,7 @@ returns-in_err-text-clause-progress g c = nothing
 pub returns-in_err-json-clause-progress : goal.returns-in_err-json-clause-progress
 returns-in_err-json-clause-progress g c = nothing
 
--- nothing more is said where both files are written
+-- no further line if both files are written
 pub returns-in_err-write_all-clause-progress : goal.returns-in_err-write_all-clause-progress
 returns-in_err-write_all-clause-progress g c =
     said_of_files c.args.report.now (outputs_in c.args.outputs) _ c.cert_text-cert.ensures g.E.Sink.wants_memory (stream (g.E.Sink.failures c.args.err.now) (g.E.Sink.taken c.args.err.now))

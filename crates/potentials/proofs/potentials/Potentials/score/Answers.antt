@@ -8,7 +8,7 @@ use Rattle.potentials.proofs.WordLemmas.{word-given, word-range, given-past, so_
 use Rattle.potentials.proofs.potentials.Potentials.score.Goals as goal
 use Rattle.potentials.proofs.potentials.Potentials.score.Goals.{After-gained_in_word-total}
 
--- the total after the next word, and between which numbers it is
+-- the total after the next word, and its range
 abbrev next : After-gained_in_word-total → ℤ
 next c = c.args.self.now.constant +ℤ sum_below (64 * (c.words.place + 1)) (given c.args.self.now.weights.items (bits_of c.args.state.now))
 

@@ -10,7 +10,7 @@ use Rattle.potentials.proofs.WordLemmas.{word-gained, word-range, given-past, wo
 use Rattle.potentials.proofs.potentials.Potentials.score_after.Goals.{After-gained_in_word-total}
 use Rattle.potentials.proofs.potentials.Potentials.score_after.Goals as goal
 
--- the total after the next word, and between which numbers it is
+-- the total after the next word, and its range
 abbrev next : After-gained_in_word-total → ℤ
 next c =
     let before = given c.args.self.now.weights.items (bits_of c.args.before.now) in

@@ -8,7 +8,8 @@ use Rattle.task_symmetries.specs.declared.exchange.Exchange.{Exchange}
 use Rattle.task_symmetries.specs.Exchange.{exchange_of}
 use Rattle.representatives.specs.Pairs.{swap_in, swaps_in}
 use Rattle.representatives.specs.Runs.{swap_in_runs, swaps_in_runs}
-use Rattle.representatives.specs.Apart.{AreAllWithin, AreApartBelow}
+use Rattle.representatives.specs.Apart.{AreAllWithin}
+use Rattle.representatives.specs.Lowest.{AreAllNeighbours}
 use Rattle.representatives.proofs.Kept.{made_whole, made_within}
 use Rattle.representatives.proofs.representatives.Representatives.new.Goals as goal
 
@@ -20,8 +21,8 @@ returns-in-None-clause-kept c =
     passes_not (λ (x : Exchange). keeps_atoms atoms (exchange_of x)) c.args.exchanges.now c.loop-exchange.exchange-index e c.loop-exchange-test.true c.exchange-item.is (sym fails)
     ∙ sym (passes_map (keeps_atoms atoms) exchange_of c.args.exchanges.now)
 
-pub first_neighbours-requires : goal.first_neighbours-requires
-first_neighbours-requires c =
+pub neighbours-requires : goal.neighbours-requires
+neighbours-requires c =
     let g = c.args.ground.now in
     let exchanges = c.args.exchanges.now in
     let kept : list_all (keeps_atoms (atoms_in g)) (map exchange_of exchanges) ≡ true =
@@ -37,7 +38,7 @@ invariant_of-result c =
     let exchanges = c.args.exchanges.now in
     let swaps = c.loop-exchange.swaps.items in
     let runs = c.in_ok-runs.runs.items in
-    let firsts = c.in_ok-first_neighbours.first_neighbours.items in
+    let found = c.in_ok-neighbours.neighbours.items in
     let same : swaps_in_runs runs ≡ swaps_in swaps = c.in_ok-runs.ensures ∙ ap swaps_in c.as_slice-2.ensures.value in
     record {
       kept =
@@ -45,9 +46,9 @@ invariant_of-result c =
           ∙ sym (passes_whole (λ (x : Exchange). keeps_atoms atoms (exchange_of x)) exchanges c.loop-exchange.exchange-index c.loop-exchange-test.false c.loop-exchange.invariant.kept);
       made = same ∙ made_whole atoms exchanges c.loop-exchange.exchange-index swaps c.loop-exchange-test.false c.loop-exchange.invariant.made;
       apart =
-          subst (λ l. AreApartBelow l firsts) (sym same)
-          (subst (λ l. AreApartBelow (swaps_in l) firsts) c.as_slice.ensures.value c.in_ok-first_neighbours.ensures.apart);
+          subst (λ l. AreAllNeighbours l found) (sym same)
+          (subst (λ l. AreAllNeighbours (swaps_in l) found) c.as_slice.ensures.value c.in_ok-neighbours.ensures.all);
       each =
-          c.in_ok-first_neighbours.ensures.each ∙ ap length c.as_slice.ensures.value
+          c.in_ok-neighbours.ensures.each ∙ ap length c.as_slice.ensures.value
           ∙ sym (length-map swaps swap_in) ∙ ap length (sym same) ∙ length-map runs swap_in_runs;
     }

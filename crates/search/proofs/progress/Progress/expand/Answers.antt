@@ -68,7 +68,7 @@ loop-action-init g c =
       class = refl;
       width = rw c.mark.ensures.store c.requires.width;
       state = c.requires.buffers.state;
-      room = c.move_to.ensures;
+      scratch = c.move_to.ensures;
       next = c.requires.buffers.next;
       occurs = rw c.mark.ensures.store c.requires.state;
       left = rw c.deref-action-items.ensures.value
@@ -117,7 +117,7 @@ loop-action-preserved g c =
       class = c.in_ok-reach.ensures.class ∙ inv.class;
       width = c.in_ok-reach.ensures.width ∙ inv.width;
       state = inv.state;
-      room = c.in_ok-reach.ensures.room;
+      scratch = c.in_ok-reach.ensures.scratch;
       next = c.successor.ensures.width;
       occurs = occurs_still class_of states states' c.loop-action.self.nodes.items c.reach.new.self.nodes.items c.args.turn.id.0 e.turn.found s e.turn.occurs reaches.continues inv.occurs;
       left = left_more t class_of nodes c.args.turn.id.0 e.turn.found e.turn.occurs after a next (drop (c.loop-action.action-index + 1) numbers) left leads reaches.continues reaches.listed;
@@ -125,6 +125,12 @@ loop-action-preserved g c =
 
 pub reach-requires-clause-expanding : goal.reach-requires-clause-expanding
 reach-requires-clause-expanding g c = rw c.loop-action.invariant.class c.loop-action.invariant.expanding
+
+pub reach-requires-clause-leads : goal.reach-requires-clause-leads
+reach-requires-clause-leads g c =
+    let t = g.T.TransitionSystem.means c.args.system.now in
+    let a = get_or c.deref-action-items.result.now c.loop-action.action-index 0 in
+    λ s at. subst (λ x. t.step x a ≡ Some (bits_of c.successor.new.into)) (same_Some (bits_of c.loop-action.buffers.1.0) s (sym c.loop-action.invariant.occurs ∙ at)) c.successor.ensures.step
 
 pub returns-then-not-branch-clause-listed : goal.returns-then-not-branch-clause-listed
 returns-then-not-branch-clause-listed g c =
@@ -165,6 +171,7 @@ returns-then-not-branch-clause-listed g c =
       occurs = occurs;
       waits = (refl, e.search.nodes.alive i e.turn.found e.turn.occurs e.turn.expanded);
       sum = sum;
+      estimate = c.requires.turn.estimate ∙ ap (λ (x : Found (List Bool)). value x.state) same;
       nodes = rw (c.mark-then-not-branch.ensures.open_list, full.open_list) (nodes_unmarked t class_of value is_dead nodes after i e.turn occurs others (waiting_in c.loop-action.self.open_list) (rw same_classes at e.search.nodes) long);
       are_open = open_unmarked t class_of value is_dead nodes after i e.turn occurs others (rw same_classes at e.others_open);
       heap = rw (c.mark-then-not-branch.ensures.open_list, full.open_list) e.search.heap;

@@ -15,9 +15,9 @@ use Rattle.search.specs.Progress.{IsReachedWithin, IsReachedCheaper, IsListed, I
 use Rattle.search.proofs.Limit.{more_reachable}
 use Rattle.search.proofs.Linked.{found_of-get, length-found_of}
 use Rattle.search.proofs.Reached.{IsChild, place_among, placed_within, placed_nowhere, free_for, match_each, reached_before, taken}
-use Rattle.search.proofs.Steps.{turn_limits, value_fits, marked_by, leads_from}
+use Rattle.search.proofs.Steps.{turn_limits, value_fits, marked_by}
 use Rattle.search.proofs.progress.Progress.reach.Given.{Over}
-use Rattle.search.proofs.progress.Progress.reach.Goals.{After-from, In-Some, After-child-node}
+use Rattle.search.proofs.progress.Progress.reach.Goals.{After-from, In-Some, After-node-node}
 use Rattle.search.proofs.progress.Progress.reach.Goals as goal
 
 -- the node of the parent was read
@@ -25,7 +25,7 @@ read_parent : (g : Over) (c : After-from g) → c.index-before.result.now ≡ c.
 read_parent g c =
     let turn = c.requires.expanding.turn in
     let all = c.args.self.now.nodes.items in
-    let i = c.args.parent.now.id.0 in
+    let i = c.args.to.parent.0 in
     let read : c.index-before.result.now ≡ get_or all i c.index-before.result.now = c.index-before.ensures in
     read ∙ get_or_from_slice_get all i turn.found.node c.index-before.result.now
     (found_of-get (g.L.StateListing.states c.args.self.now.store) all i turn.found turn.occurs).1
@@ -38,15 +38,14 @@ limits g c =
     let all = c.args.self.now.nodes.items in
     subst (λ (n : Node). n.cost + 4294967295 ≤ 72057598316118015) (sym (read_parent g c))
     (turn_limits (g.T.TransitionSystem.means c.args.system.now) (g.L.StateListing.class_of c.args.self.now.store) (g.G.Guide.estimate_of c.args.guide.now) (g.G.Guide.is_dead c.args.guide.now) (found_of states all) (waiting_in c.args.self.now.open_list) e.search.nodes
-    c.args.parent.now.id.0 c.args.max_states e.turn (omega (arith, length-found_of states all e.search.one_each, c.requires.within)) c.requires.limit)
+    c.args.to.parent.0 c.args.max_states e.turn (omega (arith, length-found_of states all e.search.one_each, c.requires.within)) c.requires.limit)
 
 -- the action leads from the state whose turn it is to the successor
 leads : (g : Over) (c : After-from g) → (g.T.TransitionSystem.means c.args.system.now).step c.requires.expanding.turn.found.state c.args.to.action ≡ Some (bits_of c.args.to.state.now)
 leads g c =
     let turn = c.requires.expanding.turn in
     let states = g.L.StateListing.states c.args.self.now.store in
-    leads_from (g.T.TransitionSystem.means c.args.system.now) states _ turn.found.state _ c.args.parent.now.id.0 c.args.to.action c.requires.parent
-    (found_of-get states c.args.self.now.nodes.items c.args.parent.now.id.0 turn.found turn.occurs).0 c.requires.leads
+    c.requires.leads turn.found.state (found_of-get states c.args.self.now.nodes.items c.args.to.parent.0 turn.found turn.occurs).0
 
 -- and a consistent estimate falls there by no more than what it costs
 falls : (g : Over) (c : After-from g) → (action : ℕ) → action ≡ c.args.to.action → IsConsistent (g.T.TransitionSystem.means c.args.system.now) (g.G.Guide.estimate_of c.args.guide.now)
@@ -57,12 +56,12 @@ falls g c action is consistent =
     consistent.falls_by_no_more c.requires.expanding.turn.found.state (bits_of c.args.to.state.now) action (ap (t.step c.requires.expanding.turn.found.state) is ∙ leads g c)
 
 -- the place of the state whose turn it is is below the limit
-parent_within : (g : Over) (c : After-from g) → c.args.parent.now.id.0 < 16777216
+parent_within : (g : Over) (c : After-from g) → c.args.to.parent.0 < 16777216
 parent_within g c =
     let e = c.requires.expanding in
     let states = g.L.StateListing.states c.args.self.now.store in
-    let parts = found_of-get states c.args.self.now.nodes.items c.args.parent.now.id.0 e.turn.found e.turn.occurs in
-    omega (arith, slice_get_within states c.args.parent.now.id.0 e.turn.found.state parts.0, c.requires.within, c.requires.limit)
+    let parts = found_of-get states c.args.self.now.nodes.items c.args.to.parent.0 e.turn.found e.turn.occurs in
+    omega (arith, slice_get_within states c.args.to.parent.0 e.turn.found.state parts.0, c.requires.within, c.requires.limit)
 
 -- the state's place
 placed : (g : Over) (c : In-Some g) → IsPlacedBy (g.L.StateListing.class_of c.args.self.now.store) (g.L.StateListing.is_current c.place.new.self) (g.L.StateListing.states c.args.self.now.store)
@@ -70,24 +69,24 @@ placed : (g : Over) (c : In-Some g) → IsPlacedBy (g.L.StateListing.class_of c.
 placed g c = rw c.in-Some.is at c.in_ok-place.ensures.placed
 
 -- the node is that of the successor
-child : (g : Over) (c : After-child-node g) → IsChild (g.T.TransitionSystem.means c.args.system.now) (g.G.Guide.estimate_of c.args.guide.now) (g.G.Guide.is_dead c.args.guide.now) c.requires.expanding.turn.found
-    c.args.parent.now.id.0 (bits_of c.args.to.state.now) c.child-node.result
+child : (g : Over) (c : After-node-node g) → IsChild (g.T.TransitionSystem.means c.args.system.now) (g.G.Guide.estimate_of c.args.guide.now) (g.G.Guide.is_dead c.args.guide.now) c.requires.expanding.turn.found
+    c.args.to.parent.0 (bits_of c.args.to.state.now) c.node-node.result
 child g c =
     let t = g.T.TransitionSystem.means c.args.system.now in
     let one = c.requires.expanding.turn.found in
-    let node = c.child-node.result in
-    let here = (goal.at.After-child-node g c).After-from in
+    let node = c.node-node.result in
+    let here = (goal.at.After-node-node g c).After-from in
     let same : c.index-before.result.now.cost ≡ one.node.cost = ap (λ (n : Node). n.cost) (read_parent g here) in
-    let marks = marked_by (g.G.Guide.estimate_of c.args.guide.now) (g.G.Guide.is_dead c.args.guide.now) (bits_of c.args.to.state.now) c.value_after-estimate.result c.value_after-estimate.ensures.value in
-    let status = c.child-node.ensures.status ∙ c.of_reached.ensures in
-    let paid = ap t.cost c.child-node.ensures.action in
+    let marks = marked_by (g.G.Guide.estimate_of c.args.guide.now) (g.G.Guide.is_dead c.args.guide.now) (bits_of c.args.to.state.now) c.value-estimate.result c.value-estimate.ensures.value in
+    let status = c.node-node.ensures.status ∙ c.of_reached.ensures in
+    let paid = ap t.cost c.node-node.ensures.action in
     record {
       waits = ap is_expanded_status status ∙ marks.0;
-      parent = c.child-node.ensures.parent;
-      cost = omega (arith, c.child-node.ensures.cost, same, c.from.ensures, c.cost.ensures, paid);
+      parent = c.node-node.ensures.parent;
+      cost = omega (arith, c.node-node.ensures.cost, same, c.from.ensures, c.cost.ensures, paid);
       affordable = omega (arith, c.cost.ensures, paid);
-      step = ap (t.step one.state) c.child-node.ensures.action ∙ leads g here;
-      falls = falls g here node.action c.child-node.ensures.action;
+      step = ap (t.step one.state) c.node-node.ensures.action ∙ leads g here;
+      falls = falls g here node.action c.node-node.ensures.action;
       reported = ap is_dead_status status ∙ marks.1;
     }
 
@@ -95,8 +94,8 @@ pub index-before-requires : goal.index-before-requires
 index-before-requires g c =
     let e = c.requires.expanding in
     let states = g.L.StateListing.states c.args.self.now.store in
-    let parts = found_of-get states c.args.self.now.nodes.items c.args.parent.now.id.0 e.turn.found e.turn.occurs in
-    omega (arith, slice_get_within c.args.self.now.nodes.items c.args.parent.now.id.0 e.turn.found.node parts.1, c.args.self.now.nodes.ok.0)
+    let parts = found_of-get states c.args.self.now.nodes.items c.args.to.parent.0 e.turn.found e.turn.occurs in
+    omega (arith, slice_get_within c.args.self.now.nodes.items c.args.to.parent.0 e.turn.found.node parts.1, c.args.self.now.nodes.ok.0)
 
 pub overflow_add-cost : goal.overflow_add-cost
 overflow_add-cost g c =
@@ -106,8 +105,8 @@ pub is_reached_within-requires : goal.is_reached_within-requires
 is_reached_within-requires g c =
     place_among _ _ _ _ _ _ (length c.args.self.now.nodes.items) c.requires.expanding.search.one_each c.requires.within c.requires.limit c.in-Some.place (placed g (goal.at.is_reached_within-requires g c).In-Some)
 
-pub child-node-requires : goal.child-node-requires
-child-node-requires g c = parent_within g (goal.at.child-node-requires g c).After-from
+pub node-node-requires : goal.node-node-requires
+node-node-requires g c = parent_within g (goal.at.node-node-requires g c).After-from
 
 pub take_place-requires-clause-place : goal.take_place-requires-clause-place
 take_place-requires-clause-place g c =
@@ -125,8 +124,8 @@ take_place-requires-clause-within g c =
 pub take_place-requires-clause-sum : goal.take_place-requires-clause-sum
 take_place-requires-clause-sum g c =
     value_fits (g.G.Guide.estimate_of c.args.guide.now) (g.G.Guide.is_dead c.args.guide.now) (bits_of c.args.to.state.now)
-    c.value_after-estimate.result c.child-node.result.cost c.value_after-estimate.ensures.value
-    (omega (arith, c.child-node.ensures.cost, limits g (goal.at.take_place-requires-clause-sum g c).After-from, c.from.ensures, c.cost.ensures))
+    c.value-estimate.result c.node-node.result.cost c.value-estimate.ensures.value
+    (omega (arith, c.node-node.ensures.cost, limits g (goal.at.take_place-requires-clause-sum g c).After-from, c.from.ensures, c.cost.ensures))
 
 pub returns-in_default-clause-listed : goal.returns-in_default-clause-listed
 returns-in_default-clause-listed g c =
@@ -137,7 +136,7 @@ returns-in_default-clause-listed g c =
     let full : (¬ Contains states s) × (length states ≡ c.args.max_states) × (g.L.StateListing.states c.place.new.self ≡ states) = rw c.in_default.is at c.in_ok-place.ensures.placed in
     record {
       more = more_reachable (g.T.TransitionSystem.means c.args.system.now) class_of (g.G.Guide.estimate_of c.args.guide.now) (g.G.Guide.is_dead c.args.guide.now) states
-          c.args.self.now.nodes.items (waiting_in c.args.self.now.open_list) e.search.one_each e.search.nodes c.args.parent.now.id.0 e.turn c.args.to.action s
+          c.args.self.now.nodes.items (waiting_in c.args.self.now.open_list) e.search.one_each e.search.nodes c.args.to.parent.0 e.turn c.args.to.action s
           (leads g (goal.at.returns-in_default-clause-listed g c).After-from) full.0 c.args.max_states full.1;
       full = full.1;
       store = full.2;
@@ -159,7 +158,7 @@ returns-then-is_reached_within-clause-listed g c =
     let cost = c.index-before.result.now.cost + c.from.result in
     let within : IsReachedWithin all cost c.in-Some.place = rw c.if-is_reached_within.true at c.is_reached_within.ensures in
     let placed_at = placed g (goal.at.returns-then-is_reached_within-clause-listed g c).In-Some in
-    let step = reached_before t class_of (g.G.Guide.estimate_of c.args.guide.now) (g.G.Guide.is_dead c.args.guide.now) states all (waiting_in c.args.self.now.open_list) c.args.parent.now.id.0
+    let step = reached_before t class_of (g.G.Guide.estimate_of c.args.guide.now) (g.G.Guide.is_dead c.args.guide.now) states all (waiting_in c.args.self.now.open_list) c.args.to.parent.0
     e.search.one_each e.search.nodes e.turn e.others_open s (g.L.StateListing.is_current c.place.new.self) after c.args.max_states
     c.args.to.action cost (omega (arith, same, c.from.ensures, c.cost.ensures)) c.in-Some.place placed_at within in
     record {
@@ -185,21 +184,21 @@ returns-clause-listed g c =
     let states = states_of c.args.self.now.store in
     let all = c.args.self.now.nodes.items in
     let s = bits_of c.args.to.state.now in
-    let i = c.args.parent.now.id.0 in
+    let i = c.args.to.parent.0 in
     let max_states = c.args.max_states in
     let place = c.in-Some.place in
     let at = goal.at.returns-clause-listed g c in
-    let node = c.child-node.result in
+    let node = c.node-node.result in
     let old : Progress _ = record { store = c.place.new.self; nodes = c.args.self.now.nodes; open_list = c.args.self.now.open_list } in
     let new = c.take_place.new.self in
     let placed_at = placed g at.In-Some in
-    let cheaper : IsReachedCheaper all node.cost place = rw (← c.child-node.ensures.cost, c.if-is_reached_within.false) at c.is_reached_within.ensures in
+    let cheaper : IsReachedCheaper all node.cost place = rw (← c.node-node.ensures.cost, c.if-is_reached_within.false) at c.is_reached_within.ensures in
     if_ok {Q = λ is_listed. MatchBool is_listed (Reaches t class_of value is_dead states_of c.args.self.now new i max_states c.args.to.action s) (IsFull t value is_dead states_of c.args.self.now new max_states)}
     c.take_place.result
     (λ is_taken. match_each {B = IsLeftOut states_of old new s max_states} is_taken
     (λ takes.
     let is = taken t class_of value is_dead states_of states old new i max_states
-    e.search.one_each e.search.nodes e.turn e.others_open is_current s node (child g at.After-child-node) c.value_after-estimate.result c.value_after-estimate.ensures.value
+    e.search.one_each e.search.nodes e.turn e.others_open is_current s node (child g at.After-node-node) c.value-estimate.result c.value-estimate.ensures.value
     c.requires.within place placed_at cheaper takes in
     record {
       expanding = record {
@@ -209,7 +208,7 @@ returns-clause-listed g c =
       };
       within = is.within;
       continues = is.stepped.continues;
-      listed = subst (λ a. IsListed t class_of (found_of (states_of new.store) new.nodes.items) i a s) c.child-node.ensures.action is.stepped.listed;
+      listed = subst (λ a. IsListed t class_of (found_of (states_of new.store) new.nodes.items) i a s) c.node-node.ensures.action is.stepped.listed;
     })
     (λ left.
     let stored : states_of c.place.new.self ≡ states = placed_nowhere _ _ _ _ _ _ left.not_listed place placed_at in

@@ -15,8 +15,8 @@ returns-clause-search g c =
     let same : states c.add.new.self.store ≡ stored = rw c.in_ok-add.ensures.store refl in
     let value = g.G.Guide.estimate_of c.args.guide.now in
     let is_dead = g.G.Guide.is_dead c.args.guide.now in
-    let joined = joined_by value is_dead s c.value_in-value.result c.new-2.result c.add.new.self.open_list 0 0 c.value_in-value.ensures.value c.in_ok-add.ensures.open_list in
-    let marks = marked_by value is_dead s c.value_in-value.result c.value_in-value.ensures.value in
+    let joined = joined_by value is_dead s c.value-value.result c.new-2.result c.add.new.self.open_list 0 0 c.value-value.ensures.value c.in_ok-add.ensures.open_list in
+    let marks = marked_by value is_dead s c.value-value.result c.value-value.ensures.value in
     let nodes = nodes_start (g.T.TransitionSystem.means c.args.system.now) (g.L.StateListing.class_of c.args.store) value is_dead (states c.add.new.self.store) c.add.new.self.nodes.items
     (waiting_in c.new-2.result) (waiting_in c.add.new.self.open_list) s 0 _ _ _
     (ap is_expanded_status c.of_reached.ensures ∙ marks.0) (ap is_dead_status c.of_reached.ensures ∙ marks.1) (same ∙ placed)
@@ -27,4 +27,4 @@ returns-clause-search g c =
 pub add-requires-clause-sum : goal.add-requires-clause-sum
 add-requires-clause-sum g c =
     value_fits (g.G.Guide.estimate_of c.args.guide.now) (g.G.Guide.is_dead c.args.guide.now) (bits_of c.in_ok-initial.initial)
-    c.value_in-value.result 0 c.value_in-value.ensures.value (omega arith)
+    c.value-value.result 0 c.value-value.ensures.value (omega arith)

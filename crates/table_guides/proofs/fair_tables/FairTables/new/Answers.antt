@@ -12,6 +12,4 @@ invariant_of-result c =
       width = c.requires.width;
       fair = c.requires.fair;
       guides = fair_ones_guide task atoms (several_of c.args.functions) c.requires.numbered (are_over_width c.args.functions (length atoms) c.requires.width) c.requires.fair;
-      named_by = c.in_ok-named.ensures;
-      numbered = c.requires.numbered;
     }

@@ -1,8 +1,5 @@
 use Rattle.std.proofs.Common.{◌∙◌, sym}
 use Rattle.table_guides.proofs.fair_tables.FairTablesGuide.move_to.Goals as goal
 
-pub find_rows-requires-clause-width : goal.find_rows-requires-clause-width
-find_rows-requires-clause-width c = c.requires.width ∙ sym c.args.self.now.width
-
-pub returns : goal.returns
-returns c = (c.find_rows.ensures.room, c.find_rows.ensures.rows)
+pub move_to-requires-clause-width : goal.move_to-requires-clause-width
+move_to-requires-clause-width c = c.requires.width ∙ sym c.args.self.now.width

@@ -1,10 +1,8 @@
-use Rattle.std.proofs.Common.{◌≡◌, ◌∙◌, ◌<◌, true, length, take, get_or, sym, ap, subst, arith}
+use Rattle.std.proofs.Common.{◌≡◌, ◌∙◌, ◌<◌, true, length, get_or, sym, ap, subst, arith}
 use Rattle.std.proofs.lemmas.List.{take_all}
-use Rattle.model.proofs.ListLemmas.{Contains-got}
 use Rattle.packed_state.specs.Packed.{bits_of}
 use Rattle.packed_state.specs.Sets.{has}
 use Rattle.table_functions.specs.TableFunctions.{is_among}
-use Rattle.table_losses.proofs.FateLemmas.{Contains-among, item-at}
 use Rattle.table_losses.proofs.ListsLemmas.{number-within, inserted-kept, inserted-more, length-inserted}
 use Rattle.table_losses.proofs.lists.Lists.mark.Goals as goal
 

@@ -1,4 +1,4 @@
-use Rattle.std.proofs.Common.{rules, ◌≡◌, ◌∙◌, length, map, sym, ap, subst, arith, to_z, of_z, w64}
+use Rattle.std.proofs.Common.{◌∙◌, length, map, sym, ap, arith}
 use Rattle.std.proofs.lemmas.Int.{ints}
 use Rattle.std.proofs.lemmas.List.{length-map}
 use Rattle.grounding.specs.Ground.{task_in, atoms_in}

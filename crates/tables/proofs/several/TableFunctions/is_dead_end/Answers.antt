@@ -1,21 +1,18 @@
-use Rattle.std.proofs.Common.{◌∙◌, sym, subst}
-use Rattle.std.specs.Prelude.{IsTrue}
+use Rattle.std.proofs.Common.{◌≡◌, ◌∙◌, false, sym, ap, subst}
 use Rattle.packed_state.specs.Packed.{bits_of}
-use Rattle.table_functions.specs.Laws.{are_over}
-use Rattle.table_functions.specs.TableFunctions.{dead_ends_of}
-use Rattle.tables.specs.AllTables.{tables_of}
+use Rattle.table_functions.specs.TableFunctions.{dead_ends_of, is_dead_by, has_rows}
+use Rattle.tables.specs.AllTables.{tables_of, count_of}
 use Rattle.tables.specs.Several.{several_of}
 use Rattle.tables.proofs.ValueLemmas.{none-dead}
 use Rattle.tables.proofs.several.TableFunctions.is_dead_end.Goals as goal
 
-pub add_up-requires-clause-scopes : goal.add_up-requires-clause-scopes
-add_up-requires-clause-scopes c = subst (λ n. IsTrue (are_over n (tables_of c.args.self.now.tables))) (sym c.requires.width) c.args.self.now.together.scopes
-
-pub returns-then-not-add_up-clause-dead : goal.returns-then-not-add_up-clause-dead
-returns-then-not-add_up-clause-dead c = none-dead (dead_ends_of (several_of c.args.self.now)) (bits_of c.args.state.now) (sym c.add_up.ensures.has ∙ c.if-not-add_up.true)
+pub returns-then-not-are_all-clause-dead : goal.returns-then-not-are_all-clause-dead
+returns-then-not-are_all-clause-dead c =
+    none-dead (dead_ends_of (several_of c.args.self.now)) (bits_of c.args.state.now)
+    (subst (λ bits. has_rows (tables_of c.args.self.now.tables) bits ≡ false) c.move_to.ensures.state (sym (c.are_all.ensures (tables_of c.args.self.now.tables) (count_of c.args.self.now.tables) c.move_to.ensures.known.rows) ∙ c.if-not-are_all.true))
 
 pub is_dead_with_rows-requires-clause-rows : goal.is_dead_with_rows-requires-clause-rows
-is_dead_with_rows-requires-clause-rows c = sym c.add_up.ensures.has ∙ c.if-not-add_up.false
+is_dead_with_rows-requires-clause-rows c = sym (c.are_all.ensures (tables_of c.args.self.now.tables) (count_of c.args.self.now.tables) c.move_to.ensures.known.rows) ∙ c.if-not-are_all.false
 
-pub is_dead_with_rows-requires-clause-totals : goal.is_dead_with_rows-requires-clause-totals
-is_dead_with_rows-requires-clause-totals c = c.add_up.ensures.totals c.if-not-add_up.false
+pub returns-clause-dead : goal.returns-clause-dead
+returns-clause-dead c = c.is_dead_with_rows.ensures ∙ ap (is_dead_by (dead_ends_of (several_of c.args.self.now))) c.move_to.ensures.state

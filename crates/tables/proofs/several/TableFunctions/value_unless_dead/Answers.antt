@@ -1,30 +1,27 @@
-use Rattle.std.proofs.Common.{◌∙◌, map, arith, sym, subst}
-use Rattle.std.specs.Prelude.{IsTrue}
+use Rattle.std.proofs.Common.{◌≡◌, ◌∙◌, ◌<◌, ◌^◌, map, false, arith, sym, subst}
+use Rattle.std.specs.Prelude.{IsTrue, MatchOption}
 use Rattle.packed_state.specs.Packed.{bits_of}
 use Rattle.potentials.specs.Potentials.{potentials_of}
-use Rattle.table_functions.specs.Laws.{are_over}
-use Rattle.table_functions.specs.TableFunctions.{dead_ends_of}
-use Rattle.tables.specs.AllTables.{tables_of}
+use Rattle.table_functions.specs.TableFunctions.{functions_of, dead_ends_of, greatest_value, is_dead_by, has_rows}
+use Rattle.tables.specs.AllTables.{tables_of, count_of}
 use Rattle.tables.specs.Several.{several_of}
 use Rattle.tables.proofs.ValueLemmas.{none-dead, none-greatest}
 use Rattle.tables.proofs.several.TableFunctions.value_unless_dead.Goals as goal
 
-pub add_up-requires-clause-scopes : goal.add_up-requires-clause-scopes
-add_up-requires-clause-scopes c = subst (λ n. IsTrue (are_over n (tables_of c.args.self.now.tables))) (sym c.requires.width) c.args.self.now.together.scopes
-
-pub returns-then-not-add_up-clause-value : goal.returns-then-not-add_up-clause-value
-returns-then-not-add_up-clause-value c =
-    let none = sym c.add_up.ensures.has ∙ c.if-not-add_up.true in (
+pub returns-then-not-are_all-clause-value : goal.returns-then-not-are_all-clause-value
+returns-then-not-are_all-clause-value c =
+    let tables = tables_of c.args.self.now.tables in
+    let none = subst (λ bits. has_rows tables bits ≡ false) c.move_to.ensures.state (sym (c.are_all.ensures (tables_of c.args.self.now.tables) (count_of c.args.self.now.tables) c.move_to.ensures.known.rows) ∙ c.if-not-are_all.true) in (
       sym (none-dead (dead_ends_of (several_of c.args.self.now)) (bits_of c.args.state.now) none),
-      sym (none-greatest (tables_of c.args.self.now.tables) 0 (map potentials_of c.args.self.now.values.items) (bits_of c.args.state.now) none),
+      sym (none-greatest tables 0 (map potentials_of c.args.self.now.values.items) (bits_of c.args.state.now) none),
       omega arith,
     )
 
 pub value_with_rows-requires-clause-rows : goal.value_with_rows-requires-clause-rows
-value_with_rows-requires-clause-rows c = sym c.add_up.ensures.has ∙ c.if-not-add_up.false
-
-pub value_with_rows-requires-clause-totals : goal.value_with_rows-requires-clause-totals
-value_with_rows-requires-clause-totals c = c.add_up.ensures.totals c.if-not-add_up.false
+value_with_rows-requires-clause-rows c = sym (c.are_all.ensures (tables_of c.args.self.now.tables) (count_of c.args.self.now.tables) c.move_to.ensures.known.rows) ∙ c.if-not-are_all.false
 
 pub returns-clause-value : goal.returns-clause-value
-returns-clause-value c = c.value_with_rows.ensures
+returns-clause-value c =
+    let s = several_of c.args.self.now in
+    subst (λ bits. MatchOption c.value_with_rows.result (IsTrue (is_dead_by (dead_ends_of s) bits)) (λ value. (is_dead_by (dead_ends_of s) bits ≡ false) × (value ≡ greatest_value (functions_of s) bits) × (value < 2 ^ 63)))
+    c.move_to.ensures.state c.value_with_rows.ensures

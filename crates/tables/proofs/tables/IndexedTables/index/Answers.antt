@@ -1,5 +1,5 @@
 use Rattle.std.proofs.Common.{◌≡◌, ◌∙◌, ◌++◌, ◌∷◌, [], map, Some, sym, ap, subst}
-use Rattle.std.specs.Prelude.{All, slice_get}
+use Rattle.std.specs.Prelude.{All}
 use Rattle.std.proofs.lemmas.List.{map_push}
 use Rattle.std.proofs.lemmas.List.Elements.{All-append, All-cons, All-nil}
 use Rattle.std.proofs.lemmas.Option.{slice_get-get_or}
@@ -10,7 +10,7 @@ use Rattle.table_rows.specs.declared.table.Table.{Table}
 use Rattle.table_losses.specs.Losses.{indexed_of, indexed_count_of}
 use Rattle.table_losses.specs.declared.indexed.IndexedTable.{IndexedTable}
 use Rattle.table_losses.proofs.FateLemmas.{taken-more}
-use Rattle.tables.proofs.RoomLemmas.{each-at}
+use Rattle.tables.proofs.TablesLemmas.{each-at}
 use Rattle.tables.proofs.tables.IndexedTables.index.Goals as goal
 
 pub new-requires : goal.new-requires

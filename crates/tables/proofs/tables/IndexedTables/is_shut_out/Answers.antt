@@ -1,4 +1,4 @@
-use Rattle.std.proofs.Common.{◌≡◌, ◌∙◌, not, length, map, sym, ap, arith}
+use Rattle.std.proofs.Common.{◌∙◌, not, map, sym, ap, arith}
 use Rattle.std.specs.List.{list_any}
 use Rattle.std.proofs.lemmas.List.{length-map, take_all}
 use Rattle.grounding.specs.Views.{numbered_of}

@@ -13,7 +13,7 @@ use Rattle.task_notes.proofs.lacking.LackingSearch.+add.Given as goal
 abbrev pub decreases-add : goal.decreases-add
 decreases-add l = length l.left.now
 
--- with those of the objects that are left, all are looked at
+-- together with those of the remaining objects, all are examined
 abbrev pub invariant-loop-object : goal.invariant-loop-object
 invariant-loop-object l =
     let t = task_in l.self.numbering.now in

@@ -5,7 +5,7 @@ use Rattle.grounding_kept.specs.Numbering.{task_in}
 use Rattle.task_notes.specs.Costs.{lacking_among, looked_at}
 use Rattle.task_notes.proofs.lacking.LackingSearch.all.Given as goal
 
--- those of the actions so far
+-- what the actions so far give
 abbrev pub invariant-loop-number : goal.invariant-loop-number
 invariant-loop-number l =
     map instance_of l.found.items

@@ -12,7 +12,7 @@ use Rattle.task_parts.proofs.Tables.{reported_of_entry, number_in-le, keys_in-na
 use Rattle.task_parts.proofs.scope.Scope.object.Goals.{After-number-number}
 use Rattle.task_parts.proofs.scope.Scope.object.Goals as goal
 
--- what the look-up says of the number and of whether the name is known
+-- the look-up's result: the number, and whether the name is known
 reported : (c : After-number-number) → (option_map_or (λ n. n) c.get_index_of-place.result c.len.result ≡ number_in (names_of_objects (map object_entry_of c.args.self.now.objects.now.entries)) (name_of c.args.name.now))
     × (is_some c.get_index_of-place.result ≡ is_known (names_of_objects (map object_entry_of c.args.self.now.objects.now.entries)) (name_of c.args.name.now))
 reported c =

@@ -12,11 +12,11 @@ use Rattle.task_parts.proofs.Tables.{found_predicate, missing_predicate, other_c
 use Rattle.task_parts.proofs.scope.Scope.predicate.Goals.{In-Some}
 use Rattle.task_parts.proofs.scope.Scope.predicate.Goals as goal
 
--- the faults, by whether the count is that of the declaration
+-- the faults, depending on whether the number of terms is that of the declaration
 reported : In-Some → Bool → List TypingFault
 reported c fits = if fits then [] else refused_word (file_of c.args.self.now.file) 18 (name_of c.args.name.now)
 
--- what the look-up says of the number and of the faults
+-- the look-up's result: the number and the faults
 there : (c : In-Some) → (c.in-Some.number ≡ number_in (names_of_predicates (map predicate_of c.args.self.now.predicates.now.entries)) (name_of c.args.name.now))
     × (predicate_faults (file_of c.args.self.now.file) (known_of c.args.self.now) (name_of c.args.name.now) c.args.count ≡ reported c (c.args.count == length (map union_of c.in-Some.predicate.now.arguments.items)))
 unfolding reported

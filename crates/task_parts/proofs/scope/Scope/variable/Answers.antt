@@ -10,7 +10,7 @@ use Rattle.task_parts.proofs.Tables.{reported_of_entry}
 use Rattle.task_parts.proofs.scope.Scope.variable.Goals.{After-number-number}
 use Rattle.task_parts.proofs.scope.Scope.variable.Goals as goal
 
--- what the look-up says of the number and of whether the name is known
+-- the look-up's result: the number, and whether the name is known
 reported : (c : After-number-number) → (option_map_or (λ n. n) c.get_index_of-place.result c.len.result ≡ number_in (names_of_variables (map variable_entry_of c.args.self.now.variables.now.entries)) (name_of c.args.name.now))
     × (is_some c.get_index_of-place.result ≡ is_known (names_of_variables (map variable_entry_of c.args.self.now.variables.now.entries)) (name_of c.args.name.now))
 reported c =

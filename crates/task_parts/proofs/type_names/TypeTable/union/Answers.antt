@@ -6,7 +6,7 @@ use Rattle.model.specs.Task as task
 use Rattle.model.specs.Typing as typing
 use Rattle.task_parts.proofs.type_names.TypeTable.union.Goals as goal
 
--- where some are written, they are the union
+-- if there are any, they are the union
 some_written : (names : List task.Name) (ns : List Name) → (length ns == 0) ≡ false → map (λ n. typing.number_in names (read.name_of n)) ns ≡ typing.union_in names (map read.name_of ns)
 some_written names [] e = absurd (true≢false e)
 some_written names (n ∷ ns) e = each (n ∷ ns)

@@ -2,7 +2,7 @@ use Rattle.std.proofs.Common.{◌≡◌, ℕ, ◌+◌, ◌-◌, length}
 use Rattle.task_symmetries.specs.Places.{row_of}
 use Rattle.task_symmetries.proofs.places.PlacesByObject.grow.Given as goal
 
--- only empty rows come
+-- only empty rows are added
 abbrev pub invariant-rows : goal.invariant-rows
 invariant-rows l = (o : ℕ) → row_of l.self o ≡ row_of l.initial.self o
 

@@ -7,7 +7,7 @@ use Rattle.task_symmetries.specs.Kept.{keeps_atom}
 use Rattle.task_symmetries.specs.SymmetryTest.{task_tested}
 use Rattle.task_symmetries.proofs.symmetry_test.SymmetryTest.keeps_atoms_of.Given as goal
 
--- what is at the places so far passes
+-- what is at the indices so far passes
 abbrev pub invariant-loop-place : goal.invariant-loop-place
 invariant-loop-place l =
     list_all (λ place. option_map_or (keeps_atom (task_tested l.self) (image l.exchange)) (slice_get (task_tested l.self).init place) true) (take l.place-index l.place-items) ≡ true

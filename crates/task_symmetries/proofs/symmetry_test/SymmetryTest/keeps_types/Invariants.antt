@@ -6,7 +6,7 @@ use Rattle.task_symmetries.specs.Pairs.{pair_of}
 use Rattle.task_symmetries.specs.SymmetryTest.{task_tested}
 use Rattle.task_symmetries.proofs.symmetry_test.SymmetryTest.keeps_types.Given as goal
 
--- the pairs so far are of one type each
+-- the objects of each pair so far have the same type
 abbrev pub invariant-loop-pair : goal.invariant-loop-pair
 invariant-loop-pair l =
     let test : ℕ × ℕ → Bool = λ pair. option_eq nat_eq (declared_type (task_tested l.self) pair.0) (declared_type (task_tested l.self) pair.1) in

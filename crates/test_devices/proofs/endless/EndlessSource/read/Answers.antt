@@ -20,7 +20,7 @@ drop_of_both (suc n) (x ∷ front) rest =
     let less : n - length front ≡ suc n - length (x ∷ front) = omega arith in
     drop_of_both n front rest ∙ ap (λ k. drop n front ++ drop k rest) less
 
--- what two calls put into some room, one after the other, is what one puts there of both lists
+-- what two calls write into a buffer, one after the other, is what one call writes for both lists
 filled : (into text again first second : List ℕ) (of_text : ℕ) → of_text ≡ min (length into) (length text)
     → first ≡ take (length into) text ++ drop (length text) into
     → second ≡ take (length (drop of_text first)) again ++ drop (length again) (drop of_text first)
@@ -43,7 +43,7 @@ or_anew_of_some : (rest bytes : List ℕ) → 0 < length rest → rest ≡ or_an
 or_anew_of_some [] bytes some = absurd (omega (arith, some))
 or_anew_of_some (byte ∷ rest) bytes some = refl
 
--- the place in the bytes that come again, once some of what was left of them are gone
+-- the position in the repeating bytes after some of the rest is consumed
 turned : (bytes : List ℕ) (front : List ℕ) (place gone : ℕ) → place + gone ≤ length bytes
     → (place + gone ≡ length bytes → front ≡ []) → 0 < length bytes
     → front ++ drop ((place + gone) % length bytes) bytes ≡ or_anew (front ++ drop (place + gone) bytes) bytes
@@ -61,7 +61,7 @@ turned bytes front place gone within used some =
           ap (λ l. l ++ drop ((place + gone) % length bytes) bytes) (used all) ∙ ap (λ k. drop k bytes) begun ∙ ap (λ l. or_anew l bytes) (sym gone_all)
     ]
 
--- what is left of the text and of the bytes that come again
+-- the rest of the text and of the repeating bytes
 left_over : (text bytes : List ℕ) (text_read place of_text gone room : ℕ) → place < length bytes
     → of_text ≡ min room (length (drop text_read text))
     → gone ≡ min (room - length (drop text_read text)) (length (drop place bytes))

@@ -12,7 +12,7 @@ use Rattle.typing.proofs.names.Declarations.declared.Goals as goal
 predicates : (c : In_ok-functions) → map parts.predicate_of c.in_ok-predicates.predicates.entries ≡ predicates_of (domain_of c.args.domain.now)
 predicates c = c.in_ok-predicates.ensures.ok.1 ∙ ap (λ ns. map (predicate_in ns) (domain_of c.args.domain.now).predicates) c.requires.types.names
 
--- what may be named in the domain
+-- the names visible in the domain
 same : (c : In_ok-functions) → known_in c.args.types.now c.args.objects.now.constants.entries c.in_ok-predicates.predicates.entries c.in_ok-functions.functions.entries ≡ known_in_domain (domain_of c.args.domain.now)
 same c = λ i. record {
   type_names = c.requires.types.names i;
