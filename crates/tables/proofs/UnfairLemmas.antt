@@ -4,7 +4,7 @@ use Rattle.std.specs.Prelude.{◌↔◌, All, IsTrue, slice_get, nat_lt, if◌th
 use Rattle.std.proofs.lemmas.Bool.{lt-ltb, ltb-true, ltb-false}
 use Rattle.std.proofs.lemmas.List.{get_or_past, take_all}
 use Rattle.std.proofs.lemmas.List.Elements.{All-nil}
-use Rattle.std.proofs.lemmas.Option.{slice_get-get_or}
+use Rattle.std.proofs.lemmas.Option.{slice_get-get_or, slice_get_within}
 use Rattle.model.specs.Task.{Atom, Task, Instance}
 use Rattle.model.specs.Meaning.{cost_of}
 use Rattle.model.specs.StaticallyFalse.{kept_instances}
@@ -89,6 +89,13 @@ module _ (task : Task) (atoms : List Atom) (s : SeveralValues) where
                       unfair = λ v same. subst (λ (w : Unfair). (w.place < places_in s) × IsUnfairAt w) (let e : u ≡ v = cc in e) (known.unfair u refl);
                     }
                   ] refl
+
+  -- past the last instance
+  pub first-past : (number later : ℕ) (first : Option Unfair) → length (kept_instances task) ≤ number → IsFirstSoFar number first → IsFirstSoFar later first
+  first-past number later first past so = record {
+    fair = λ k within n i below at. so.fair k within n i (let there = slice_get_within (kept_instances task) n i at in omega (arith, there, past)) at;
+    unfair = so.unfair;
+  }
 
   -- all instances, or no value is left
   pub first-is : (number : ℕ) (first : Option Unfair) → IsFirstSoFar number first → ((k : ℕ) → k < places_before (places_in s) first → length (kept_instances task) ≤ number) → IsFirstUnfairValue task atoms s first

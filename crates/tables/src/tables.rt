@@ -7,7 +7,6 @@ ghost use Rattle.table_losses.specs.Losses.{indexed_of, indexed_count_of};
 ghost use Rattle.tables.specs.ByAtom.{IsByAtom};
 ghost use Rattle.tables.specs.ScopePlaces.{scopes_of, AreScopePlaces};
 
-use crate::losses::{Losses, add_up, clear};
 use crate::scope_places::{ScopePlace, ScopePlaces};
 use faults::NoMemory;
 use grounding::{CountingChange, NumberedLiteral};
@@ -44,7 +43,6 @@ impl<'a> IndexedTables<'a> {
     ghost use Rattle.table_functions.specs.FairTables as model;
     ghost use Rattle.tables.specs.AllTables.{tables_of, count_of};
     ghost use Rattle.tables.specs.ByAtom.{AreMarked};
-    ghost use Rattle.tables.specs.TotalLosses.{HasLosses, IsSmall, AddsLosses, LosesByEachOfAll};
     ghost use Rattle.tables.specs.ScopePlaces.{places_of};
 
     /// These tables over so many atoms, whose rows have so many weights.
@@ -170,62 +168,6 @@ impl<'a> IndexedTables<'a> {
         self.tables[table].some_agrees(alloc, literals)
     }
 
-    /// Whether an instance of these literals and changes leads from rows that agree to rows only, of each table. If so, the total
-    /// at each place is the most that it may lose by all tables, by the weights there.
-    ///
-    /// # Errors
-    /// Where memory is refused.
-    pub(crate) fn lose(
-        &self,
-        alloc: Global,
-        literals: &[NumberedLiteral],
-        changes: &[CountingChange<'_>],
-        losses: &mut Losses,
-    ) -> Result<bool, NoMemory>
-        requires { HasLosses (count_of self.now) losses.old }
-        ensures lost { IfOk result (LosesByEachOfAll (count_of self.now) (map numbered_of literals.now) (map conditional_of changes.now) (tables_of self.now) losses.new.total.items) }
-        ensures room { OnOk result (HasLosses (count_of self.now) losses.new) }
-    {
-        let named = self.named_by_changes(alloc, changes)?;
-        clear(&mut losses.total);
-        for table in 0..self.tables.len() {
-            if !self.add_lost(alloc, table, &named, literals, changes, losses)? {
-                return Ok(false);
-            }
-        }
-        Ok(true)
-    }
-
-    /// Whether it leads from rows that agree to rows only, of the table at this place, where these tables may have atoms of the
-    /// changes in their scope. If so, what it may lose by this table is added to the totals.
-    fn add_lost(
-        &self,
-        alloc: Global,
-        table: usize,
-        named: &Packed,
-        literals: &[NumberedLiteral],
-        changes: &[CountingChange<'_>],
-        losses: &mut Losses,
-    ) -> Result<bool, NoMemory>
-        requires there { table < length (tables_of self.now) }
-        requires named { AreMarked self.now.by_atom (length (tables_of self.now)) (map (λ (c : numbered.NumberedChange). c.atom) (map counting_of changes.now)) (bits_of named.now) }
-        requires room { HasLosses (count_of self.now) losses.old }
-        requires small { All IsSmall losses.old.total.items }
-        ensures added { (t : functions.Table) → slice_get (tables_of self.now) table ≡ Some t
-            → IfOk result (AddsLosses (count_of self.now) (map numbered_of literals.now) (map conditional_of changes.now) t losses.old.total.items losses.new.total.items) }
-        ensures room { OnOk result (HasLosses (count_of self.now) losses.new) }
-    {
-        if !named.has(table as u32) {
-            return Ok(true);
-        }
-        let indexed = &self.tables[table];
-        if !indexed.loses_by_each(alloc, literals, changes, &mut losses.by_table)? {
-            return Ok(false);
-        }
-        add_up(&mut losses.total, &losses.by_table);
-        Ok(true)
-    }
-
     /// The most that rows that agree with the literals give, one of each table, by the weights at this place.
     ///
     /// # Errors
@@ -264,7 +206,7 @@ impl<'a> IndexedTables<'a> {
     }
 
     /// The tables that have an atom of one of the changes in their scope.
-    fn named_by_changes(
+    pub(crate) fn named_by_changes(
         &self,
         alloc: Global,
         changes: &[CountingChange<'_>],
