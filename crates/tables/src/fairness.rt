@@ -16,7 +16,7 @@ use grounding::Ground;
 use potentials::{Potentials, goal_gives_at_most, loses_at_most};
 use std::alloc::Global;
 
-/// One of several values: potentials, of tables the weights at this place, and what instances are allowed to lose.
+/// One of several values: potentials, the weights at one place of the tables' rows, and the allowance of instances.
 #[derive(Clone, Copy)]
 pub(crate) struct TableValue<'a, 't> {
     /// The constant and the weights of atoms.
@@ -25,22 +25,22 @@ pub(crate) struct TableValue<'a, 't> {
     pub(crate) tables: &'a IndexedTables<'t>,
     /// The place, from 0, of its weights in their rows.
     pub(crate) place: u32,
-    /// How much of it an instance may lose.
+    /// The amount of it that an instance may lose.
     pub(crate) allowance: Allowance,
 }
 
-/// What an instance is allowed to lose.
+/// The amount that an instance may lose.
 #[derive(Clone, Copy, Debug)]
 pub(crate) enum Allowance {
-    /// What it costs.
+    /// Its cost.
     Cost,
-    /// Nothing at all.
+    /// Nothing.
     Nothing,
 }
 
 impl TableValue<'_, '_> {
-    /// Whether the instance of this number, which leads from rows to rows, is fair: whether it loses no more than it is allowed
-    /// to, where it loses so much at most by the tables.
+    /// Whether the instance with this number, which leads from rows to rows, is fair, given the upper bound of its loss by the
+    /// tables: it may lose no more than its allowance.
     pub(crate) fn is_fair_with(&self, ground: &Ground<'_>, number: u32, by_tables: i64) -> bool
         requires fits { FitsGround ground.now self.now }
         requires within { number < length (kept_instances (task_in ground.now)) }
@@ -54,7 +54,10 @@ impl TableValue<'_, '_> {
         is_at_most(by_atoms + by_tables, self.allowance.of(ground, number))
     }
 
-    /// Whether it is fair at goals: it is at most 0, or some table has no row that agrees with the goal's literals.
+    /// Whether it is fair at goals: it is at most 0 there, or a table has no row that agrees with the goal's literals.
+    ///
+    /// # Errors
+    /// An allocation failed.
     pub(crate) fn is_fair_at_goals(
         &self,
         alloc: Global,
@@ -73,11 +76,11 @@ impl TableValue<'_, '_> {
     }
 }
 
-/// Whether the instance of this number is shut out: its precondition wants an atom that has no number, or some table has no row
+/// Whether the instance with this number is shut out: its precondition wants an atom without a number, or a table has no row
 /// that agrees with its sure literals.
 ///
 /// # Errors
-/// Where memory is refused.
+/// An allocation failed.
 pub fn is_instance_shut_out(
     alloc: Global,
     ground: &Ground<'_>,
@@ -95,7 +98,7 @@ pub fn is_instance_shut_out(
 }
 
 impl Allowance {
-    /// How much is allowed to the instance of this number.
+    /// The allowance of the instance with this number.
     fn of(self, ground: &Ground<'_>, number: u32) -> u32
         requires { number < length (kept_instances (task_in ground.now)) }
         ensures { (i : Instance) → slice_get (kept_instances (task_in ground.now)) number ≡ Some i → result ≡ allowed_by self (task_in ground.now) i }
@@ -107,7 +110,7 @@ impl Allowance {
     }
 }
 
-/// Whether the number is at most what is allowed.
+/// Whether the number is at most the allowance.
 fn is_at_most(number: i64, allowed: u32) -> bool
     ensures { IsTrue result ↔ (number ≤ℤ pos allowed) }
 {

@@ -1,4 +1,4 @@
-//! The first of several values that is not fair for an instance, in one walk over the instances.
+//! The first of several values that is not fair for an instance.
 ghost use Rattle.std.specs.Prelude.{◌≡◌, ◌<◌, IfOk, Some, length, slice_get};
 ghost use Rattle.grounding.specs.Ground.{task_in, atoms_in};
 ghost use Rattle.model.specs.NumberedLiterals.{literals_of_number};
@@ -19,20 +19,23 @@ use grounding::Ground;
 use potentials::instance_count;
 use std::alloc::Global;
 
-/// The first of several values that is not fair for an instance, and the first instance for which it is not.
+/// The first of several values that is not fair for an instance, and the first such instance.
 #[derive(Clone, Copy)]
 pub(crate) struct Unfair {
-    /// The value's place, from 0. That for dead ends comes after the others.
+    /// The value's place, from 0. That for dead ends is the last.
     pub(crate) place: u32,
     /// The instance's number.
     pub(crate) number: u32,
 }
 
-/// The number of instances for which a table is looked at before the next table is.
+/// The number of instances that a table is applied to before the next table is.
 const BLOCK: u32 = 512;
 
 impl TableFunctions<'_> {
-    /// The first value that is not fair for some kept instance, and the first such instance, if there is one.
+    /// The first value that is not fair for a kept instance, and the first such instance, if there is one.
+    ///
+    /// # Errors
+    /// An allocation failed.
     pub(crate) fn first_unfair(
         &self,
         alloc: Global,
@@ -59,7 +62,7 @@ impl TableFunctions<'_> {
         Ok(first)
     }
 
-    /// How many values are before that, or how many there are with that for dead ends.
+    /// The number of values before this one; of all values, with that for dead ends, if there is none.
     pub(crate) fn places_before(&self, first: Option<Unfair>) -> u32
         ensures { result ≡ model.places_before (places_in (several_of self.now)) first }
     {
@@ -69,7 +72,7 @@ impl TableFunctions<'_> {
         }
     }
 
-    /// The place of the first value that is not fair for the instance that loses this by all tables, if there is one.
+    /// The place of the first value that is not fair for the instance with these losses by all tables, if there is one.
     fn first_place(&self, ground: &Ground<'_>, losses: &Losses) -> Option<u32>
         requires fits { width_of self.now ≡ length (atoms_in ground.now) }
         requires known { IsKnownAfter self.now.tables (task_in ground.now) (atoms_in ground.now) (length (tables_of self.now.tables)) losses.now }
@@ -83,8 +86,7 @@ impl TableFunctions<'_> {
         }
     }
 
-    /// The place of the first value that is not fair for the instance of this number, which loses by the tables so much at each
-    /// place.
+    /// The same for an instance that stays on rows, by its number and its greatest losses.
     fn first_place_with(&self, ground: &Ground<'_>, number: u32, total: &[i64]) -> Option<u32>
         requires fits { width_of self.now ≡ length (atoms_in ground.now) }
         requires within { number < length (kept_instances (task_in ground.now)) }
@@ -103,7 +105,7 @@ impl TableFunctions<'_> {
     }
 }
 
-/// The first value so far, or that at this place, which is not fair for the next instance, if it comes before.
+/// The first value so far, or that at this place, which is not fair for the next instance, if its place is lesser.
 fn earlier(first: Option<Unfair>, place: Option<u32>, number: u32) -> Option<Unfair>
     ensures { result ≡ earlier_of first place number }
 {
@@ -113,7 +115,7 @@ fn earlier(first: Option<Unfair>, place: Option<u32>, number: u32) -> Option<Unf
     }
 }
 
-/// The one whose value comes before, the first one where it is the same.
+/// The one whose value has the lesser place; `first`, if it is the same.
 fn least_of(first: Option<Unfair>, next: Unfair) -> Unfair
     ensures { result ≡ model.least_of first next }
 {
