@@ -11,12 +11,9 @@ use Rattle.table_losses.specs.Fates.{IsLoss}
 use Rattle.table_losses.specs.Losses.{LosesByEach}
 use Rattle.table_losses.proofs.LossLemmas.{loses-nothing}
 use Rattle.tables.specs.ByAtom.{LosesByAll}
-use Rattle.tables.specs.TotalLosses.{IsSmall, AreCleared, AreAddedUp, AreLossesAdded, AreLossesByAll}
+use Rattle.tables.specs.RowSums.{AreAdded, IsSmall}
+use Rattle.tables.specs.TotalLosses.{AreCleared, AreLossesAdded, AreLossesByAll}
 use Rattle.tables.proofs.TablesLemmas.{all-more, loses-more}
-
--- what is lost at the place is added
-abbrev pub IsAdded : List ℤ → ℕ → ℤ → ℤ → Type 0
-IsAdded lost place old new = new ≡ (old +ℤ get_or lost place (pos 0))
 
 module _ (count : ℕ) (literals : List NumberedLiteral) (changes : List ConditionalChange) where
   -- ---- one table
@@ -28,10 +25,10 @@ module _ (count : ℕ) (literals : List NumberedLiteral) (changes : List Conditi
     each = λ place _. record { lost = pos 0; loses = loses-nothing place literals changes t none; is = omega (arith, ints) };
   }
 
-  pub losses-added : (t : Table) (lost old new : List ℤ) → length old ≡ count → LosesByEach count literals changes t lost → AreAddedUp lost old new → AreLossesAdded count literals changes t old new
-  losses-added t lost old new long loses added = record {
+  pub losses-added : (t : Table) (lost old new : List ℤ) → LosesByEach count literals changes t lost → AreAdded old lost new → AreLossesAdded count literals changes t old new
+  losses-added t lost old new loses added = record {
     closed = loses.closed;
-    each = λ place below. record { lost = get_or lost place (pos 0); loses = loses.each place below; is = added.each place (omega (arith, below, long)) };
+    each = λ place below. record { lost = get_or lost place (pos 0); loses = loses.each place below; is = added.each place };
   }
 
   pub losses-range : (t : Table) (lost : List ℤ) → LosesByEach count literals changes t lost → All IsLoss lost

@@ -1,5 +1,5 @@
 -- What an instance loses by tables, added up at each place.
-use Rattle.std.specs.Prelude.{◌≡◌, ℕ, ◌<◌, Bool, true, false, ℤ, pos, neg_ℤ, ◌+ℤ◌, ◌≤ℤ◌, List, length, get_or}
+use Rattle.std.specs.Prelude.{◌≡◌, ℕ, ◌<◌, Bool, true, false, ℤ, pos, ◌+ℤ◌, List, length, get_or}
 use Rattle.std.specs.List.{list_all}
 use Rattle.model.specs.NumberedLiterals.{NumberedLiteral}
 use Rattle.table_functions.specs.TableFunctions.{Table}
@@ -13,19 +13,9 @@ pub record HasLosses (count : ℕ) (l : Losses) : Type 0 where
   pub total : length l.total.items ≡ count
   pub by_table : length l.by_table.items ≡ count
 
--- a loss is added to it without an overflow
-pub record IsSmall (z : ℤ) : Type 0 where
-  pub least : neg_ℤ (pos 4611686018427387904) ≤ℤ z
-  pub most : z ≤ℤ pos 4611686018427387904
-
 pub record AreCleared (old new : List ℤ) : Type 0 where
   pub long : length new ≡ length old
   pub each : (place : ℕ) → place < length old → get_or new place (pos 0) ≡ pos 0
-
--- each is what it was and what is lost at its place
-pub record AreAddedUp (lost old new : List ℤ) : Type 0 where
-  pub long : length new ≡ length old
-  pub each : (place : ℕ) → place < length old → get_or new place (pos 0) ≡ (get_or old place (pos 0) +ℤ get_or lost place (pos 0))
 
 -- ---- one table
 

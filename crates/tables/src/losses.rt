@@ -1,22 +1,21 @@
-//! What an instance loses, added up over tables.
-ghost use Rattle.std.specs.Prelude.{◌≡◌, ◌<◌, pos, All, IfOk, length};
-ghost use Rattle.table_losses.specs.Fates.{IsLoss};
-ghost use Rattle.tables.specs.TotalLosses.{HasLosses, IsSmall, AreCleared, AreAddedUp};
+//! The losses of an instance, added up over tables.
+ghost use Rattle.std.specs.Prelude.{IfOk};
+ghost use Rattle.tables.specs.TotalLosses.{HasLosses, AreCleared};
 
 use faults::NoMemory;
 use std::alloc::Global;
 
-/// What an instance loses at most, by the weights at each place.
+/// The most that an instance loses, for each value.
 #[derive(Drop)]
 pub(crate) struct Losses {
-    /// By several tables, added up.
+    /// By the tables so far.
     pub(crate) total: Vec<i64>,
-    /// By one of them.
+    /// By one table.
     pub(crate) by_table: Vec<i64>,
 }
 
 impl Losses {
-    /// Nothing, at so many places.
+    /// No losses, for `count` values.
     pub(crate) fn new(alloc: Global, count: u32) -> Result<Losses, NoMemory>
         ensures { IfOk result (HasLosses count) }
     {
@@ -26,23 +25,11 @@ impl Losses {
     }
 }
 
-/// Makes each total 0.
+/// Sets each total to 0.
 pub(crate) fn clear(total: &mut [i64])
     ensures { AreCleared total.old total.new }
 {
     for place in 0..total.len() {
         total[place] = 0;
-    }
-}
-
-/// Adds to each total what is lost at its place.
-pub(crate) fn add_up(total: &mut [i64], lost: &[i64])
-    requires long { length lost.now ≡ length total.old }
-    requires range { All IsLoss lost.now }
-    requires small { All IsSmall total.old }
-    ensures { AreAddedUp lost.now total.old total.new }
-{
-    for place in 0..total.len() {
-        total[place] += lost[place];
     }
 }

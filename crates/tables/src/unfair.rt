@@ -1,4 +1,4 @@
-//! The first of several values that is not fair for an instance, in one walk over the instances.
+//! The first unfair value, found in one pass over the instances.
 ghost use Rattle.std.specs.Prelude.{◌≡◌, ◌<◌, IfOk, OnOk, Some, length, slice_get};
 ghost use Rattle.grounding.specs.Ground.{task_in, atoms_in};
 ghost use Rattle.model.specs.NumberedLiterals.{literals_of_number};
@@ -20,17 +20,17 @@ use grounding::Ground;
 use potentials::instance_count;
 use std::alloc::Global;
 
-/// The first of several values that is not fair for an instance, and the first instance for which it is not.
+/// The first value that is unfair for an instance, and the first such instance.
 #[derive(Clone, Copy)]
 pub(crate) struct Unfair {
-    /// The value's place, from 0. That for dead ends comes after the others.
+    /// The value's place, from 0; that for dead ends is last.
     pub(crate) place: u32,
     /// The instance's number.
     pub(crate) number: u32,
 }
 
 impl TableFunctions<'_> {
-    /// The first value that is not fair for some kept instance, and the first such instance, if there is one.
+    /// The first value that is unfair for a kept instance, and the first such instance, if there is one.
     pub(crate) fn first_unfair(
         &self,
         alloc: Global,
@@ -51,7 +51,7 @@ impl TableFunctions<'_> {
         Ok(first)
     }
 
-    /// How many values are before that, or how many there are with that for dead ends.
+    /// The number of values before that one, or of all with that for dead ends.
     pub(crate) fn places_before(&self, first: Option<Unfair>) -> u32
         ensures { result ≡ model.places_before (places_in (several_of self.now)) first }
     {
@@ -61,7 +61,7 @@ impl TableFunctions<'_> {
         }
     }
 
-    /// The place of the first value that is not fair for the instance of this number, if it is not shut out and there is one.
+    /// The place of the first value that is unfair for this instance, if there is one. None is if the instance is shut out.
     fn first_place(
         &self,
         alloc: Global,
@@ -87,8 +87,7 @@ impl TableFunctions<'_> {
         Ok(self.first_place_with(ground, number, &losses.total))
     }
 
-    /// The place of the first value that is not fair for the instance of this number, which loses by the tables so much at each
-    /// place.
+    /// The same, where the instance loses at most `total` by the tables, for each value.
     fn first_place_with(&self, ground: &Ground<'_>, number: u32, total: &[i64]) -> Option<u32>
         requires fits { width_of self.now ≡ length (atoms_in ground.now) }
         requires within { number < length (kept_instances (task_in ground.now)) }
@@ -107,7 +106,7 @@ impl TableFunctions<'_> {
     }
 }
 
-/// The first value so far, or that at this place, which is not fair for the next instance, if it comes before.
+/// The first unfair value so far, or that at `place`, unfair for the next instance, if it comes before.
 fn earlier(first: Option<Unfair>, place: Option<u32>, number: u32) -> Option<Unfair>
     ensures { result ≡ earlier_of first place number }
 {
@@ -117,7 +116,7 @@ fn earlier(first: Option<Unfair>, place: Option<u32>, number: u32) -> Option<Unf
     }
 }
 
-/// The one whose value comes before, the first one where it is the same.
+/// The one whose value comes first, `first` for equal ones.
 fn least_of(first: Option<Unfair>, next: Unfair) -> Unfair
     ensures { result ≡ model.least_of first next }
 {

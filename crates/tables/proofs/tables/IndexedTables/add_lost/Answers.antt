@@ -16,7 +16,6 @@ use Rattle.table_losses.proofs.FateLemmas.{row-there}
 use Rattle.table_losses.proofs.PlacingLemmas.{changes-in}
 use Rattle.tables.specs.AllTables.{tables_of, count_of}
 use Rattle.tables.specs.ByAtom.{AreMarked}
-use Rattle.tables.specs.TotalLosses.{AreAddedUp, AreLossesAdded}
 use Rattle.tables.proofs.TablesLemmas.{not-touched, read-at, by-all}
 use Rattle.tables.proofs.TotalLemmas.{nothing-added, losses-added, losses-range}
 use Rattle.tables.proofs.tables.IndexedTables.add_lost.Goals.{After-deref}
@@ -62,20 +61,14 @@ returns-then-not-branch-clause-added c = λ t at.
     subst (λ (u : Table). is_closed literals changes u ≡ false) (read-at s.tables.items c.args.table indexed t read at)
     (subst (AreLossesByTable (indexed_count_of indexed) literals changes (indexed_of indexed) c.loses_by_each.new.most) c.if-not-branch.true c.in_ok-loses_by_each.ensures)
 
-pub add_up-requires-clause-range : goal.add_up-requires-clause-range
-add_up-requires-clause-range c =
+pub add_each-requires-clause-range : goal.add_each-requires-clause-range
+add_each-requires-clause-range c =
     let s = c.args.self.now in
     let it = row-there (tables_of s) c.args.table c.requires.there in
-    losses-range (count_of s) (map numbered_of c.args.literals.now) (map conditional_of c.args.changes.now) it.0 c.deref.result.now (by-each (goal.at.add_up-requires-clause-range c).After-deref it.0 it.1)
+    losses-range (count_of s) (map numbered_of c.args.literals.now) (map conditional_of c.args.changes.now) it.0 c.deref.result.now (by-each (goal.at.add_each-requires-clause-range c).After-deref it.0 it.1)
 
 pub returns-clause-added : goal.returns-clause-added
 returns-clause-added c = λ t at.
     let s = c.args.self.now in
-    let literals = map numbered_of c.args.literals.now in
-    let changes = map conditional_of c.args.changes.now in
-    let old = c.args.losses.now.total in
-    let new = c.add_up.new.total in
-    let long : old.len ≡ length new = omega (arith, old.ok.0, c.add_up.auto.total, ap length c.deref_mut-2.ensures.value) in
-    let added : AreAddedUp c.deref.result.now old.items new = subst (λ (l : List ℤ). AreAddedUp c.deref.result.now l new) c.deref_mut-2.ensures.value c.add_up.ensures in
-    subst (AreLossesAdded (count_of s) literals changes t old.items) (sym (written new old.items old.len long))
-    (losses-added (count_of s) literals changes t c.deref.result.now old.items new c.requires.room.total (by-each (goal.at.returns-clause-added c).After-deref t at) added)
+    losses-added (count_of s) (map numbered_of c.args.literals.now) (map conditional_of c.args.changes.now) t c.deref.result.now c.args.losses.now.total.items c.add_each.new.totals.items
+    (by-each (goal.at.returns-clause-added c).After-deref t at) c.add_each.ensures
