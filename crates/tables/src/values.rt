@@ -1,6 +1,7 @@
 //! The values of states, found by what is known of another.
 ghost use Rattle.std.specs.Prelude.{◌≡◌, ◌⊎◌, ◌<◌, ◌≤◌, ◌-◌, ◌^◌, ◌+ℤ◌, ◌≤ℤ◌, pos, IsTrue, MatchOption, Some, false, true, length, max, nat_le, slice_get, slice_index_or};
 ghost use Rattle.packed_state.specs.Packed.{bits_of};
+ghost use Rattle.potential_functions.specs.PotentialFunctions.{score};
 ghost use Rattle.table_functions.specs.TableFunctions.{TableFunction, functions_of, dead_ends_of, greatest_value, is_dead_by, has_rows, row_in, given_by, sum_over, value};
 ghost use Rattle.tables.specs.AllTables.{tables_of, count_of};
 ghost use Rattle.tables.specs.Given.{AreGiven};
@@ -81,9 +82,21 @@ impl TableFunctions<'_> {
         ensures value { result ≡ value (function_in (several_of self.now) place) (bits_of state.now) }
         ensures small { result < 2 ^ 63 }
     {
+        or_zero(self.total_by(place, given, state, known))
+    }
+
+    /// The score of the state's atoms for the value at this place plus this sum.
+    fn total_by(&self, place: u32, given: i64, state: &Packed, known: &KnownState) -> i64
+        requires width { length (bits_of state.now) ≡ width_of self.now }
+        requires known { Knows self.now known.now }
+        requires place { place < count_of self.now.tables }
+        requires small { IsSmall given }
+        ensures total { result ≡ (score (function_in (several_of self.now) place).potentials (bits_of state.now) +ℤ given) }
+        ensures most { result ≤ℤ pos 9223372036854775807 }
+    {
         let potentials = self.value_at(place).potentials;
         let score = known.scores[place as usize];
-        or_zero(potentials.score_after(score, &known.home, state) + given)
+        potentials.score_after(score, &known.home, state) + given
     }
 
     /// Whether some value of the state is at least this. Brings `known` to the state. No memory is taken.

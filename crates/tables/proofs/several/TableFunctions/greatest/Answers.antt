@@ -10,8 +10,8 @@ use Rattle.tables.proofs.SeveralLemmas.{length-over}
 use Rattle.tables.proofs.ValueLemmas.{greatest-more}
 use Rattle.tables.proofs.several.TableFunctions.greatest.Goals as goal
 
-pub value_with_all-requires-clause-place : goal.value_with_all-requires-clause-place
-value_with_all-requires-clause-place c = omega (arith, c.loop-place-test.true, c.len-place-end.ensures)
+pub value_with_all-value-requires-clause-place : goal.value_with_all-value-requires-clause-place
+value_with_all-value-requires-clause-place c = omega (arith, c.loop-place-test.true, c.len-place-end.ensures)
 
 pub loop-place-preserved : goal.loop-place-preserved
 loop-place-preserved c =
@@ -21,8 +21,8 @@ loop-place-preserved c =
     let within : k < length items = omega (arith, c.loop-place-test.true, c.len-place-end.ensures) in
     let it = row-there functions k (omega (arith, within, length-over (tables_of c.args.self.now.tables) 0 (map potentials_of items), length-map items potentials_of)) in
     record {
-      value = greatest-more functions k it.0 (state_of c.args.known.now) c.loop-place.best.value c.better-best.result.value c.value_with_all.result it.1 c.loop-place.invariant.value (c.value_with_all.ensures.value it.0 it.1) c.better-best.ensures.value;
-      small = omega (arith, c.value_with_all.ensures.small, c.better-best.ensures.value, c.loop-place.invariant.small);
+      value = greatest-more functions k it.0 (state_of c.args.known.now) c.loop-place.best.value c.better-best.result.value c.value_with_all-value.result it.1 c.loop-place.invariant.value (c.value_with_all-value.ensures.value it.0 it.1) c.better-best.ensures.value;
+      small = omega (arith, c.value_with_all-value.ensures.small, c.better-best.ensures.value, c.loop-place.invariant.small);
       place = elim c.better-best.ensures.which [
         | inl same ↦ subst (λ (b : Best). b.place < count_of c.args.self.now.tables) (sym same) c.loop-place.invariant.place
         | inr same ↦ subst (λ (b : Best). b.place < count_of c.args.self.now.tables) (sym same) (omega (arith, within, c.args.self.now.together.counts))

@@ -14,7 +14,7 @@ use Rattle.tables.proofs.SeveralLemmas.{knows}
 use Rattle.tables.proofs.TablesLemmas.{each-at}
 use Rattle.tables.proofs.ValueLemmas.{scores-unmoved, scores-moved, scores-all-moved}
 use Rattle.tables.proofs.several.TableFunctions.move_to.Goals as goal
-use Rattle.tables.proofs.several.TableFunctions.move_to.Goals.{After-index, Before-copy_from}
+use Rattle.tables.proofs.several.TableFunctions.move_to.Goals.{After-index, After-score_after-2}
 
 -- the potentials that are read
 read : (c : After-index) → slice_get c.args.self.now.values.items c.loop-place.place ≡ Some c.index.result.now
@@ -69,22 +69,22 @@ score_after-requires-2-clause-score c =
     ∙ ap (λ (s : Packed). score (potentials_of c.args.self.now.dead_ends) (bits_of s)) (sym c.loop-place.invariant.home)
 
 -- the state at which it stands
-home-is : (c : Before-copy_from) → c.score_after-2.new.self.home ≡ c.args.known.now.home
+home-is : (c : After-score_after-2) → c.score_after-2.new.self.home ≡ c.args.known.now.home
 home-is c = c.score_after-2.ensures.others.1 ∙ c.loop-place.invariant.home
 
-rows-are : (c : Before-copy_from) → c.score_after-2.new.self.rows ≡ c.args.known.now.rows
+rows-are : (c : After-score_after-2) → c.score_after-2.new.self.rows ≡ c.args.known.now.rows
 rows-are c = c.score_after-2.ensures.others.0 ∙ c.loop-place.invariant.rows
 
 pub copy_from-requires : goal.copy_from-requires
-copy_from-requires c = ap (λ (s : Packed). length (bits_of s)) (home-is (goal.at.copy_from-requires c).Before-copy_from) ∙ c.requires.known.width ∙ sym c.requires.width
+copy_from-requires c = ap (λ (s : Packed). length (bits_of s)) (home-is (goal.at.copy_from-requires c).After-score_after-2) ∙ c.requires.known.width ∙ sym c.requires.width
 
 pub move_to-requires-clause-kept : goal.move_to-requires-clause-kept
 move_to-requires-clause-kept c =
-    subst (IsKept (tables_of c.args.self.now.tables) (count_of c.args.self.now.tables)) (sym (rows-are (goal.at.move_to-requires-clause-kept c).Before-copy_from)) c.requires.known.rows
+    subst (IsKept (tables_of c.args.self.now.tables) (count_of c.args.self.now.tables)) (sym (rows-are (goal.at.move_to-requires-clause-kept c).After-score_after-2)) c.requires.known.rows
 
 pub move_to-requires-clause-width : goal.move_to-requires-clause-width
 move_to-requires-clause-width c =
-    c.requires.width ∙ sym (ap (λ (k : KnownRows). length (bits_of k.projections.state)) (rows-are (goal.at.move_to-requires-clause-width c).Before-copy_from) ∙ c.requires.known.looked_at)
+    c.requires.width ∙ sym (ap (λ (k : KnownRows). length (bits_of k.projections.state)) (rows-are (goal.at.move_to-requires-clause-width c).After-score_after-2) ∙ c.requires.known.looked_at)
 
 pub returns-clause-all : goal.returns-clause-all
 returns-clause-all c =

@@ -9,7 +9,7 @@ pub returns-then-is_dead_with_rows-clause-known : goal.returns-then-is_dead_with
 returns-then-is_dead_with_rows-clause-known c = knows c.args.self.now c.args.known.now c.requires.known
 
 pub returns-clause-value : goal.returns-clause-value
-returns-clause-value c = (sym c.is_dead_with_rows.ensures ∙ c.if-is_dead_with_rows.false, c.greatest.ensures.value, c.greatest.ensures.small)
+returns-clause-value c = (sym c.is_dead_with_rows.ensures ∙ c.if-is_dead_with_rows.false, c.greatest-best.ensures.value, c.greatest-best.ensures.small)
 
 pub returns-clause-known : goal.returns-clause-known
 returns-clause-known c = knows c.args.self.now _ (record {
@@ -17,5 +17,5 @@ returns-clause-known c = knows c.args.self.now _ (record {
   home = c.requires.known.home;
   rows = c.requires.known.rows;
   scores = c.requires.known.scores;
-  best = c.greatest.ensures.place;
+  best = c.greatest-best.ensures.place;
 })
