@@ -18,16 +18,13 @@ use Rattle.table_losses.specs.Losses.{LosesByEach}
 use Rattle.table_losses.proofs.LossLemmas.{loses-nothing}
 use Rattle.tables.specs.AllTables.{tables_of, count_of}
 use Rattle.tables.specs.ByAtom.{AreMarked, LosesByAll}
-use Rattle.tables.specs.TotalLosses.{IsSmall, AreAddedUp, AreTotals, AreLossesByAll, BeginsAs, StandsAfter, IsKnownAfter, AreKnownAfter, AreFrom, numbers_of}
+use Rattle.tables.specs.RowSums.{AreAdded, IsSmall}
+use Rattle.tables.specs.TotalLosses.{AreTotals, AreLossesByAll, BeginsAs, StandsAfter, IsKnownAfter, AreKnownAfter, AreFrom, numbers_of}
 use Rattle.tables.specs.declared.losses.Losses.{Losses}
 use Rattle.tables.specs.declared.losses.Standing.{Standing}
 use Rattle.tables.specs.declared.losses.Standing.TheVariants.{ShutOut, LeadsOut, Stays}
 use Rattle.tables.specs.declared.tables.IndexedTables.{IndexedTables}
 use Rattle.tables.proofs.TablesLemmas.{all-more, loses-more, mapped-at}
-
--- what is lost at the place is added
-abbrev pub IsAdded : List ℤ → ℕ → ℤ → ℤ → Type 0
-IsAdded lost place old new = new ≡ (old +ℤ get_or lost place (pos 0))
 
 module _ (count : ℕ) (literals : List NumberedLiteral) (changes : List ConditionalChange) where
   pub losses-range : (t : Table) (lost : List ℤ) → LosesByEach count literals changes t lost → All IsLoss lost
@@ -62,12 +59,12 @@ module _ (count : ℕ) (literals : List NumberedLiteral) (changes : List Conditi
             record { is = more.1; least = more.2; most = more.3 };
       }
 
-      pub totals-more : (lost old new : List ℤ) → length old ≡ count → AreTotals count literals changes tables k old → LosesByEach count literals changes t lost → AreAddedUp lost old new → AreTotals count literals changes tables (k + 1) new
-      totals-more lost old new long so loses added = record {
+      pub totals-more : (lost old new : List ℤ) → AreTotals count literals changes tables k old → LosesByEach count literals changes t lost → AreAdded old lost new → AreTotals count literals changes tables (k + 1) new
+      totals-more lost old new so loses added = record {
         closed = all-more (is_closed literals changes) tables k t at so.closed loses.closed;
         each = λ place below.
             let before = so.each place below in
-            let more = loses-more place literals changes tables k t (get_or old place (pos 0)) (get_or lost place (pos 0)) (get_or new place (pos 0)) at so.closed before.is before.least before.most (loses.each place below) (added.each place (omega (arith, below, long))) in
+            let more = loses-more place literals changes tables k t (get_or old place (pos 0)) (get_or lost place (pos 0)) (get_or new place (pos 0)) at so.closed before.is before.least before.most (loses.each place below) (added.each place) in
             record { is = more.1; least = more.2; most = more.3 };
       }
 

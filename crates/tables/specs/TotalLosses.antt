@@ -16,16 +16,6 @@ use Rattle.tables.specs.declared.losses.Standing.{Standing}
 use Rattle.tables.specs.declared.losses.Standing.TheVariants.{ShutOut, LeadsOut, Stays}
 use Rattle.tables.specs.declared.tables.IndexedTables.{IndexedTables}
 
--- a loss is added to it without an overflow
-pub record IsSmall (z : ℤ) : Type 0 where
-  pub least : neg_ℤ (pos 4611686018427387904) ≤ℤ z
-  pub most : z ≤ℤ pos 4611686018427387904
-
--- each is what it was and what is lost at its place
-pub record AreAddedUp (lost old new : List ℤ) : Type 0 where
-  pub long : length new ≡ length old
-  pub each : (place : ℕ) → place < length old → get_or new place (pos 0) ≡ (get_or old place (pos 0) +ℤ get_or lost place (pos 0))
-
 -- ---- tables, of which k are looked at
 
 -- what an instance loses by them

@@ -1,13 +1,13 @@
 //! Upper bounds of what instances lose by all tables, one table after another: its rows stay in the cache while instances go by.
-ghost use Rattle.std.specs.Prelude.{◌≡◌, ◌+◌, ◌<◌, ◌≤◌, ◌^◌, All, IfOk, OnOk, length};
+ghost use Rattle.std.specs.Prelude.{◌≡◌, ◌+◌, ◌<◌, ◌≤◌, ◌^◌, IfOk, OnOk, length};
 ghost use Rattle.grounding.specs.Ground.{task_in, atoms_in};
 ghost use Rattle.model.specs.StaticallyFalse.{kept_instances};
-ghost use Rattle.table_losses.specs.Fates.{IsLoss};
 ghost use Rattle.tables.specs.AllTables.{tables_of, count_of};
-ghost use Rattle.tables.specs.TotalLosses.{IsSmall, AreAddedUp, BeginsAs, IsKnownAfter, AreKnownAfter, AreFrom, numbers_of};
+ghost use Rattle.tables.specs.TotalLosses.{BeginsAs, IsKnownAfter, AreKnownAfter, AreFrom, numbers_of};
 ghost use Rattle.tables.specs.declared.losses.Standing.TheVariants.{Stays};
 
 use crate::fairness::is_instance_shut_out;
+use crate::row_sums::add_each;
 use crate::tables::IndexedTables;
 use faults::NoMemory;
 use grounding::Ground;
@@ -170,19 +170,7 @@ impl IndexedTables<'_> {
             losses.standing = Standing::LeadsOut;
             return Ok(());
         }
-        add_up(&mut losses.total, &losses.by_table);
+        add_each(&mut losses.total, &losses.by_table);
         Ok(())
-    }
-}
-
-/// Adds to each total what is lost at its place.
-fn add_up(total: &mut [i64], lost: &[i64])
-    requires long { length lost.now ≡ length total.old }
-    requires range { All IsLoss lost.now }
-    requires small { All IsSmall total.old }
-    ensures { AreAddedUp lost.now total.old total.new }
-{
-    for place in 0..total.len() {
-        total[place] += lost[place];
     }
 }

@@ -1,12 +1,14 @@
-//! All tables of a value, each looked at only where its scope is named.
+//! Tables with indexes of their scopes and rows.
 ghost use Rattle.std.specs.Prelude.{◌≡◌, ◌<◌, ◌^◌, IsTrue, All, IfOk, length, map};
 ghost use Rattle.std.proofs.Props.{props};
 ghost use Rattle.table_functions.specs.Laws.{are_over};
 ghost use Rattle.table_losses.specs.declared.indexed.IndexedTable as declared;
 ghost use Rattle.table_losses.specs.Losses.{indexed_of, indexed_count_of};
+ghost use Rattle.tables.specs.RowIndex.{indexed_in};
 ghost use Rattle.tables.specs.ByAtom.{IsByAtom};
 ghost use Rattle.tables.specs.ScopePlaces.{scopes_of, AreScopePlaces};
 
+use crate::row_index::RowIndex;
 use crate::scope_places::{ScopePlace, ScopePlaces};
 use faults::NoMemory;
 use grounding::{CountingChange, NumberedLiteral};
@@ -15,15 +17,17 @@ use std::alloc::Global;
 use table_losses::{IndexedTable, Lists};
 use table_rows::Table;
 
-/// Tables whose rows have as many weights, and for each atom those that have it in their scope.
+/// Tables whose rows have a weight for each value. Tables and indices in scopes are listed by atom, rows by key.
 #[derive(Drop)]
 pub struct IndexedTables<'a> {
     tables: Vec<IndexedTable<'a>>,
     count: u32,
+    rows: Vec<RowIndex<'a>>,
     by_atom: Lists,
     scope_places: ScopePlaces,
     ghost few: { length tables.items < 2 ^ 24 },
     ghost counts: { All (λ (t : declared.IndexedTable). indexed_count_of t ≡ count) tables.items } by { Prim.hlevel props },
+    ghost rows_of_each: { map indexed_in rows.items ≡ map indexed_of tables.items } by { Prim.hlevel props },
     ghost named: { IsByAtom (map indexed_of tables.items) (length tables.items) by_atom } by { Prim.hlevel props },
     ghost placed: { AreScopePlaces (scopes_of (map indexed_of tables.items)) scope_places } by { Prim.hlevel props },
 }
@@ -45,7 +49,7 @@ impl<'a> IndexedTables<'a> {
     ghost use Rattle.tables.specs.ByAtom.{AreMarked};
     ghost use Rattle.tables.specs.ScopePlaces.{places_of};
 
-    /// These tables over so many atoms, whose rows have so many weights.
+    /// Indexes these tables over `width` atoms, whose rows have `count` weights.
     ///
     /// # Errors
     /// Where memory is refused.
@@ -63,15 +67,17 @@ impl<'a> IndexedTables<'a> {
     {
         let by_atom = by_atom(alloc, width, &tables)?;
         let scope_places = ScopePlaces::new(alloc, width, &tables)?;
+        let rows = row_indexes(alloc, &tables)?;
         Ok(IndexedTables {
             tables,
             count,
+            rows,
             by_atom,
             scope_places,
         })
     }
 
-    /// An index of each of these tables over so many atoms, whose rows have so many weights, from -2147483647 to 2147483647.
+    /// Indexes these tables over `width` atoms, whose rows have `count` weights from -2147483647 to 2147483647.
     ///
     /// # Errors
     /// Where memory is refused.
@@ -102,7 +108,7 @@ impl<'a> IndexedTables<'a> {
         &self.tables
     }
 
-    /// The table at this place, from 0.
+    /// The table with this number, from 0.
     pub(crate) fn table(&self, place: usize) -> &'a Table
         requires { place < length (tables_of self.now) }
         ensures table { slice_get (tables_of self.now) place ≡ Some (table_of result.now) }
@@ -112,21 +118,29 @@ impl<'a> IndexedTables<'a> {
         self.tables[place].table()
     }
 
-    /// The places of the atom of this number in the scopes of tables.
+    /// The rows of the table with this number, from 0.
+    pub(crate) fn rows(&self, place: usize) -> &RowIndex<'a>
+        requires { place < length (tables_of self.now) }
+        ensures { slice_get (tables_of self.now) place ≡ Some (indexed_in result.now) }
+    {
+        &self.rows[place]
+    }
+
+    /// Where the atom occurs in scopes.
     pub(crate) fn places_of(&self, number: u32) -> &[ScopePlace]
         ensures { result.now ≡ places_of self.now.scope_places number }
     {
         self.scope_places.of(number)
     }
 
-    /// How many tables there are.
+    /// The number of tables.
     pub fn len(&self) -> usize
         ensures { result ≡ length (tables_of self.now) }
     {
         self.tables.len()
     }
 
-    /// How many weights each row has.
+    /// The number of weights of each row.
     pub fn weight_count(&self) -> u32
         ensures { result ≡ count_of self.now }
     {
@@ -149,7 +163,7 @@ impl<'a> IndexedTables<'a> {
         Ok(false)
     }
 
-    /// Whether some row of the table at this place agrees with the literals, of which these tables may have atoms.
+    /// Whether a row of this table agrees with the literals, whose atoms are in the scopes of the `named` tables only.
     fn agrees_in(
         &self,
         alloc: Global,
@@ -168,7 +182,7 @@ impl<'a> IndexedTables<'a> {
         self.tables[table].some_agrees(alloc, literals)
     }
 
-    /// The most that rows that agree with the literals give, one of each table, by the weights at this place.
+    /// The greatest sum of weights for the value at `place` of rows that agree with the literals, one from each table.
     ///
     /// # Errors
     /// Where memory is refused.
@@ -190,7 +204,7 @@ impl<'a> IndexedTables<'a> {
         Ok(total)
     }
 
-    /// The tables that have an atom of one of the literals in their scope.
+    /// The tables with an atom of a literal in their scope.
     fn named_by_literals(
         &self,
         alloc: Global,
@@ -205,7 +219,7 @@ impl<'a> IndexedTables<'a> {
         Ok(named)
     }
 
-    /// The tables that have an atom of one of the changes in their scope.
+    /// The tables with an atom of a change in their scope.
     pub(crate) fn named_by_changes(
         &self,
         alloc: Global,
@@ -221,7 +235,7 @@ impl<'a> IndexedTables<'a> {
     }
 }
 
-/// For each of so many atoms the tables that have it in their scope.
+/// The tables by the atoms of their scopes.
 fn by_atom(alloc: Global, width: u32, tables: &[IndexedTable<'_>]) -> Result<Lists, NoMemory>
     requires few { length tables.now < 2 ^ 24 }
     requires scopes { IsTrue (are_over width (map indexed_of tables.now)) }
@@ -232,4 +246,18 @@ fn by_atom(alloc: Global, width: u32, tables: &[IndexedTable<'_>]) -> Result<Lis
         lists.file_at_all(tables[number].table().scope(), number as u32)?;
     }
     Ok(lists)
+}
+
+/// The rows of each table by their keys.
+fn row_indexes<'a>(
+    alloc: Global,
+    tables: &[IndexedTable<'a>],
+) -> Result<Vec<RowIndex<'a>>, NoMemory>
+    ensures { IfOk result (λ rows. map indexed_in rows.items ≡ map indexed_of tables.now) }
+{
+    let mut rows = Vec::new(alloc);
+    for indexed in tables {
+        rows.push(RowIndex::new(alloc, indexed.table())?)?;
+    }
+    Ok(rows)
 }

@@ -19,7 +19,8 @@ use Rattle.table_losses.specs.Losses.{indexed_of, indexed_count_of, AreLossesByT
 use Rattle.table_losses.specs.declared.indexed.IndexedTable.{IndexedTable}
 use Rattle.table_losses.proofs.FateLemmas.{row-there}
 use Rattle.tables.specs.AllTables.{tables_of, count_of}
-use Rattle.tables.specs.TotalLosses.{IsShutOut, IsSmall, AreAddedUp, AreTotals, StandsAfter}
+use Rattle.tables.specs.RowSums.{AreAdded}
+use Rattle.tables.specs.TotalLosses.{IsShutOut, AreTotals, StandsAfter}
 use Rattle.tables.specs.declared.losses.Standing.TheVariants.{Stays}
 use Rattle.tables.proofs.TablesLemmas.{not-all, not-touched, read-at, by-all}
 use Rattle.tables.proofs.TotalLemmas.{losses-range, totals-more, totals-small, totals-untouched}
@@ -115,8 +116,8 @@ returns-then-not-branch-clause-known c =
       standing = (now.0, not-all (is_closed literals changes) (tables_of s) c.args.table t.0 t.1 leaves);
     }
 
-pub add_up-requires-clause-range : goal.add_up-requires-clause-range
-add_up-requires-clause-range c =
+pub add_each-requires-clause-range : goal.add_each-requires-clause-range
+add_each-requires-clause-range c =
     let task = task_in c.args.ground.now in
     let atoms = atoms_in c.args.ground.now in
     let s = c.args.self.now in
@@ -124,19 +125,18 @@ add_up-requires-clause-range c =
     let t = row-there (tables_of s) c.args.table c.requires.table in
     let indexed = c.index-tables-table.result in
     let loses = subst (AreLossesByTable (indexed_count_of indexed) (map numbered_of c.literals-literals.result.now) (map conditional_of c.counting-changes.result.now) (indexed_of indexed) c.loses_by_each.new.most) c.if-not-branch.false c.in_ok-loses_by_each.ensures in
-    subst (All IsLoss) (sym (lost (goal.at.add_up-requires-clause-range c).After-deref)) (losses-range (count_of s) (literals_of_number task atoms n) (conditional_of_number task atoms n) t.0 c.loses_by_each.new.most
-    (by-table (goal.at.add_up-requires-clause-range c).After-loses_by_each true loses t.0 t.1))
+    subst (All IsLoss) (sym (lost (goal.at.add_each-requires-clause-range c).After-deref)) (losses-range (count_of s) (literals_of_number task atoms n) (conditional_of_number task atoms n) t.0 c.loses_by_each.new.most
+    (by-table (goal.at.add_each-requires-clause-range c).After-loses_by_each true loses t.0 t.1))
 
-pub add_up-requires-clause-small : goal.add_up-requires-clause-small
-add_up-requires-clause-small c =
+pub add_each-requires-clause-small : goal.add_each-requires-clause-small
+add_each-requires-clause-small c =
     let task = task_in c.args.ground.now in
     let atoms = atoms_in c.args.ground.now in
     let s = c.args.self.now in
     let l = c.args.losses.now in
     let few : c.args.table < 2 ^ 24 = omega (arith, c.requires.table, s.few, length-map s.tables.items indexed_of) in
-    let now = before (goal.at.add_up-requires-clause-small c).Start in
-    subst (All IsSmall) (sym c.deref_mut-2.ensures.value)
-    (totals-small (count_of s) (literals_of_number task atoms l.number) (conditional_of_number task atoms l.number) (tables_of s) c.args.table l.total.items few c.requires.known.total now.1)
+    let now = before (goal.at.add_each-requires-clause-small c).Start in
+    totals-small (count_of s) (literals_of_number task atoms l.number) (conditional_of_number task atoms l.number) (tables_of s) c.args.table l.total.items few c.requires.known.total now.1
 
 pub returns-clause-known : goal.returns-clause-known
 returns-clause-known c =
@@ -155,21 +155,15 @@ returns-clause-known c =
     let room = l.by_table in
     let old = l.total in
     let most = c.loses_by_each.new.most in
-    let new = c.add_up.new.total in
+    let new = c.add_each.new.totals.items in
     let room_long : room.len ≡ length most = omega (arith, room.ok.0, c.loses_by_each.auto.most, ap length c.deref_mut.ensures.value) in
     let room_many : length most ≡ count_of s = omega (arith, c.loses_by_each.auto.most, ap length c.deref_mut.ensures.value, known.by_table) in
-    let long : old.len ≡ length new = omega (arith, old.ok.0, c.add_up.auto.total, ap length c.deref_mut-2.ensures.value) in
-    let many : length new ≡ count_of s = omega (arith, c.add_up.auto.total, ap length c.deref_mut-2.ensures.value, known.total) in
-    let added : AreAddedUp most old.items new =
-    subst (λ (q : (ls : List ℤ) × List ℤ). AreAddedUp q.0 q.1 new) (λ k. (lost (goal.at.returns-clause-known c).After-deref k, c.deref_mut-2.ensures.value k)) c.add_up.ensures in
+    let added : AreAdded old.items most new = subst (λ (q : List ℤ). AreAdded old.items q new) (lost (goal.at.returns-clause-known c).After-deref) c.add_each.ensures in
     record {
       within = known.within;
-      total = ap length (written new old.items old.len long) ∙ many;
+      total = c.add_each.ensures.long ∙ known.total;
       by_table = ap length (written most room.items room.len room_long) ∙ room_many;
       named = known.named;
-      standing = subst (StandsAfter task atoms (tables_of s) (count_of s) (c.args.table + 1) l.number (take old.len (new ++ drop (length new) old.items))) (sym c.requires.stays) (
-        now.0,
-        subst (AreTotals (count_of s) literals changes (tables_of s) (c.args.table + 1)) (sym (written new old.items old.len long))
-            (totals-more (count_of s) literals changes (tables_of s) c.args.table t.0 t.1 most old.items new known.total now.1 by_this added),
-      );
+      standing = subst (StandsAfter task atoms (tables_of s) (count_of s) (c.args.table + 1) l.number new) (sym c.requires.stays)
+          (now.0, totals-more (count_of s) literals changes (tables_of s) c.args.table t.0 t.1 most old.items new now.1 by_this added);
     }
