@@ -1,6 +1,6 @@
 -- The sets that an instance may make of a row, over the places of the scope's atoms. Unconditional changes make one set of it. Each
 -- change under a `when` may turn one place of that set, or not, unless the row contradicts its condition.
-use Rattle.std.specs.Prelude.{ℕ, ◌==◌, Bool, true, false, not, ◌&&◌, ◌||◌, if◌then◌else◌, ℤ, ◌+ℤ◌, neg_ℤ, List, [], ◌∷◌, ◌++◌, length, map, filter, fold, slice_set, Option, None, Some}
+use Rattle.std.specs.Prelude.{◌≡◌, ◌≤◌, ◌⊎◌, ℕ, ◌==◌, Bool, true, false, not, ◌&&◌, ◌||◌, if◌then◌else◌, ℤ, ◌+ℤ◌, neg_ℤ, List, [], ◌∷◌, ◌++◌, length, map, filter, fold, slice_set, Option, None, Some}
 use Rattle.std.specs.Bool.{beq}
 use Rattle.std.specs.Int.{int_max}
 use Rattle.std.specs.List.{list_any, list_all, filter_map}
@@ -69,6 +69,10 @@ freed row left found w = if is_among found w.place then found else if turns row 
 
 abbrev pub free_places : List When → List Bool → List Bool → List ℕ
 free_places whens row left = fold (freed row left) [] whens
+
+-- all of these places, or so many of them that their ways are more than the rows that a table can have
+abbrev pub AreListed : (all found : List ℕ) → Type 0
+AreListed all found = (found ≡ all) ⊎ ((25 ≤ length found) × (length found ≤ length all))
 
 abbrev pub turned : List Bool → ℕ → List Bool
 turned set place = slice_set set place (not (has set place))

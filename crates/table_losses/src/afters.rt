@@ -1,8 +1,8 @@
 //! The sets that an instance may make of a row.
-ghost use Rattle.std.specs.Prelude.{◌≡◌, IfOk, OnOk, length, map};
+ghost use Rattle.std.specs.Prelude.{◌≡◌, IfOk, OnOk, length, map, nat_le};
 ghost use Rattle.packed_state.specs.Packed.{bits_of};
 ghost use Rattle.table_losses.specs.Afters as model;
-ghost use Rattle.table_losses.specs.Afters.{left_of, free_places};
+ghost use Rattle.table_losses.specs.Afters.{left_of, free_places, AreListed};
 ghost use Rattle.table_losses.specs.FitsTable.{HasWidth};
 ghost use Rattle.table_losses.specs.PlacedChanges.{when_of, changes_of, FitsWhen, FitsWidth};
 
@@ -33,6 +33,9 @@ pub(crate) struct PlacedChanges {
     pub(crate) whens: Vec<When>,
 }
 
+/// Free places enough for more ways than a table can have rows, 2^24.
+const ENOUGH: usize = 25;
+
 /// Scratch for one row: the row, what unconditional changes make of it, and its free places: those that changes under a
 /// `when` may still turn.
 #[derive(Drop)]
@@ -53,13 +56,13 @@ impl Room {
         Ok(Room { row, left, free })
     }
 
-    /// Finds what the changes make of the row, and the row's free places.
+    /// Finds what the changes make of the row, and the row's free places, or enough of them.
     pub(crate) fn find(&mut self, changes: &PlacedChanges) -> Result<(), NoMemory>
         requires fits { FitsWidth (length (bits_of self.old.row)) (changes_of changes.now) }
         requires left { length (bits_of self.old.left) ≡ length (bits_of self.old.row) }
         ensures row { OnOk result (bits_of self.new.row ≡ bits_of self.old.row) }
         ensures left { OnOk result (bits_of self.new.left ≡ left_of (changes_of changes.now) (bits_of self.old.row)) }
-        ensures free { OnOk result (self.new.free.items ≡ free_places (changes_of changes.now).whens (bits_of self.old.row) (left_of (changes_of changes.now) (bits_of self.old.row))) }
+        ensures free { OnOk result (AreListed (free_places (changes_of changes.now).whens (bits_of self.old.row) (left_of (changes_of changes.now) (bits_of self.old.row))) self.new.free.items) }
     {
         self.left.copy_from(&self.row);
         changes.leave(&mut self.left);
@@ -78,7 +81,7 @@ impl PlacedChanges {
     }
 
     /// Replaces `free` by the row's free places: those that a change under a `when` would turn whose condition the row does not
-    /// contradict.
+    /// contradict. Stops at [`ENOUGH`].
     pub(crate) fn list_free(
         &self,
         row: &Packed,
@@ -87,10 +90,13 @@ impl PlacedChanges {
     ) -> Result<(), NoMemory>
         requires row { FitsWidth (length (bits_of row.now)) (changes_of self.now) }
         requires left { length (bits_of left.now) ≡ length (bits_of row.now) }
-        ensures { OnOk result (free.new.items ≡ free_places (changes_of self.now).whens (bits_of row.now) (bits_of left.now)) }
+        ensures { OnOk result (AreListed (free_places (changes_of self.now).whens (bits_of row.now) (bits_of left.now)) free.new.items) }
     {
         free.clear();
         for when in &self.whens {
+            if are_enough(free.len()) {
+                return Ok(());
+            }
             when.add_free(row, left, free)?;
         }
         Ok(())
@@ -122,4 +128,11 @@ impl When {
     {
         left.has(self.place) != self.value && all_are_so(row, &self.condition)
     }
+}
+
+/// Whether free places that are this many give more ways than a table can have rows.
+fn are_enough(places: usize) -> bool
+    ensures { result ≡ nat_le 25 places }
+{
+    places >= ENOUGH
 }
