@@ -1,4 +1,4 @@
--- What is said while a certificate is checked.
+-- Progress lines of a check.
 use Rattle.std.specs.Prelude.{◌≡◌, ℕ, ◌⊎◌, List, ◌++◌, length, codes, Option, IfSome}
 use Rattle.std.specs.Fmt.{decimal}
 use Rattle.model.specs.Task.{Task}
@@ -6,11 +6,11 @@ use Rattle.certificate_definitions.specs.Certificates.{Certificate}
 use Rattle.certificate_definitions.specs.CertificateNames.{IsTextOf}
 use Rattle.task_certificates.specs.SaidRead.{IsReadLine}
 
--- once all lines are read, how many atoms and states the certificate lists
+-- after the last line: the numbers of the certificate's atoms and listed states
 abbrev pub whole_line : (atoms listed : ℕ) → List ℕ
 whole_line atoms listed = codes "progress=judge atoms=" ++ (decimal atoms ++ (codes " listed=" ++ (decimal listed ++ codes "\n")))
 
--- The text, where it is known, is that of a certificate that lists so many.
+-- the text, if known, is that of a certificate with these numbers
 abbrev pub IsWholeLine : Task → (known : Option (List ℕ)) → List ℕ → Type 0
 IsWholeLine task known line =
     (text : List ℕ) × (c : Certificate) × IfSome known (λ bytes. bytes ≡ text) × IsTextOf task text c × (line ≡ whole_line (length c.atoms) (length c.lines))

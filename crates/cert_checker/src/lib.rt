@@ -1,4 +1,4 @@
-//! Checks certificates: exactly those are accepted that are closed for the task, so their claim holds of every plan.
+//! Checks certificates: it accepts exactly those that are closed for the task, so their claims hold for every plan.
 #![tactic(auto)]
 
 mod checker;

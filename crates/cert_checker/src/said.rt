@@ -1,4 +1,4 @@
-//! What is said once a certificate is read.
+//! The progress line of a certificate that has been read.
 ghost use Rattle.std.specs.Prelude.{◌≡◌, IfOk, length};
 ghost use Rattle.std.specs.String.{string_bytes};
 ghost use Rattle.certificate.specs.Certificate.{certificate_of};
@@ -10,7 +10,7 @@ use devices::Sink;
 use progress_lines::say_line;
 use std::alloc::{AllocError, Global};
 
-/// Says how many atoms and states a certificate lists that is read. Where memory for the line is refused, nothing is said.
+/// Says the certificate's numbers of atoms and listed states. If memory for the line is refused, says nothing.
 pub(crate) fn say_whole<E: Sink>(alloc: Global, cert: &Cert, err: &mut E)
     ensures { AreSaid (λ line. line ≡ whole_line (length (certificate_of cert.now).atoms) (length (certificate_of cert.now).lines)) E.wants_memory (stream (E.failures err.old) (E.taken err.old)) (stream (E.failures err.new) (E.taken err.new)) }
 {

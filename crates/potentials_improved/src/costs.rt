@@ -1,4 +1,4 @@
-//! What an instance costs, as an allowance: fair potentials are an estimate by which a search chooses.
+//! Costs as an allowance: fair potentials are an estimate for a search.
 ghost use Rattle.std.specs.Prelude.{◌≡◌, ◌≤◌, ℕ, Bool, List, Some, IsTrue, length};
 ghost use Rattle.packed_state.specs.Packed.{bits_of};
 ghost use Rattle.grounding.specs.Ground.{task_in, atoms_in};
@@ -20,7 +20,7 @@ use potentials_drafted::drafted_weights;
 use search::Estimate;
 use std::alloc::Global;
 
-/// To each instance is allowed what it costs. Potentials that are fair so give lower bounds.
+/// Each instance may lose its cost. The values of fair potentials are lower bounds.
 #[derive(Clone, Copy, Debug)]
 pub struct Costs;
 
@@ -62,8 +62,8 @@ impl Drafts for Costs {
 }
 
 impl FairAt<'_, '_, Costs> {
-    /// The value of the state, which every list of instances that runs from it to a state that meets the goal costs at
-    /// least. No memory is taken.
+    /// The state's value, a lower bound on the cost of every list of instances from it to a state that meets the goal. Allocates
+    /// nothing.
     pub fn estimate(&self, state: &Packed) -> u64
         requires { length (bits_of state.now) ≡ length (atoms_in (ground_in self.now)) }
         ensures value { result ≡ potential.value (potentials_in self.now) (bits_of state.now) }
@@ -76,8 +76,7 @@ impl FairAt<'_, '_, Costs> {
     }
 }
 
-/// The score of a state is that of the potentials. From the score of another state it takes a look at the atoms that differ, and at no
-/// other.
+/// Scores by the potentials. A state's score is found from another state's by the atoms in which they differ.
 impl Estimate for FairAt<'_, '_, Costs> {
     ghost use Rattle.std.specs.Prelude.{length};
     ghost use Rattle.std.proofs.Common.{le_refl};

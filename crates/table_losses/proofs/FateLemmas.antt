@@ -6,7 +6,8 @@ use Rattle.std.specs.List.{list_all, flat_map, filter_map, range_with_len}
 use Rattle.std.specs.Option.{option_map_or}
 use Rattle.std.proofs.lemmas.Int.{ints}
 use Rattle.std.proofs.lemmas.Bool.{and_parts, and_from, eqb-true, eq-eqb, false_from_ne_true}
-use Rattle.std.proofs.lemmas.List.{take_more, take_all, map_push, append-nil}
+use Rattle.std.proofs.lemmas.List.{length_push, take_more, take_all, take-append-drop, map-append, map_push, append-nil}
+use Rattle.std.proofs.lemmas.List.Sums.{fold-append}
 use Rattle.std.proofs.lemmas.List.FromFn.{get_or-range_with_len, length-range_with_len}
 use Rattle.std.proofs.lemmas.List.Folds.{list_all-append}
 use Rattle.std.proofs.lemmas.Grind.{flat_map-append}
@@ -53,6 +54,28 @@ pub freed-more : (row left : List Bool) (items : List code_of_when.When) (i : �
     → free ≡ fold (freed row left) [] (map when_of (take i items)) → new ≡ freed row left free (when_of w) → new ≡ fold (freed row left) [] (map when_of (take (i + 1) items))
 freed-more row left items i w free new at so_far is =
     is ∙ ap (λ f. freed row left f (when_of w)) so_far ∙ sym (ap (fold (freed row left) []) (taken-more when_of items i w at) ∙ fold-push (freed row left) [] (map when_of (take i items)) (when_of w))
+
+-- no place is left out again
+freed-longer : (row left : List Bool) (found : List ℕ) (w : When) → length found ≤ length (freed row left found w)
+freed-longer row left found w =
+    elim (is_among found w.place) as (λ b. length found ≤ length (if b then found else if turns row left w then found ++ w.place ∷ [] else found)) [
+      | true ↦ omega arith
+      | false ↦ elim (turns row left w) as (λ b. length found ≤ length (if b then found ++ w.place ∷ [] else found)) [
+        | true ↦ let more = length_push found w.place in omega (arith, more)
+        | false ↦ omega arith
+      ]
+    ]
+
+freed-grow : (row left : List Bool) (found : List ℕ) (ws : List When) → length found ≤ length (fold (freed row left) found ws)
+freed-grow row left found [] = omega arith
+freed-grow row left found (w ∷ ws) = let here = freed-longer row left found w in let rest = freed-grow row left (freed row left found w) ws in omega (arith, here, rest)
+
+pub freed-before : (row left : List Bool) (items : List code_of_when.When) (i : ℕ) → length (fold (freed row left) [] (map when_of (take i items))) ≤ length (fold (freed row left) [] (map when_of items))
+freed-before row left items i =
+    let whole : fold (freed row left) (fold (freed row left) [] (map when_of (take i items))) (map when_of (drop i items)) ≡ fold (freed row left) [] (map when_of items) =
+    sym (fold-append (freed row left) [] (map when_of (take i items)) (map when_of (drop i items))) ∙ ap (fold (freed row left) []) (sym (map-append when_of (take i items) (drop i items)) ∙ ap (map when_of) (take-append-drop i items)) in
+    let grown = freed-grow row left (fold (freed row left) [] (map when_of (take i items))) (map when_of (drop i items)) in
+    subst (λ (l : List ℕ). length (fold (freed row left) [] (map when_of (take i items))) ≤ length l) whole grown
 
 pub fits-at : (width : ℕ) (whens items : List code_of_when.When) (i : ℕ) (w : code_of_when.When) → items ≡ whens → slice_get items i ≡ Some w → All (FitsWhen width) (map when_of whens) → FitsWhen width (when_of w)
 fits-at width whens items i w are at all =

@@ -1,5 +1,5 @@
 -- Turning k different places of a set, or not, gives 2^k different sets. So where there are fewer rows, one of these sets is no row.
-use Rattle.std.proofs.Common.{◌≡◌, ◌∙◌, ℕ, ◌/◌, ◌*◌, ◌^◌, ◌<◌, ◌≤◌, Bool, true, false, true≢false, not, ◌&&◌, ◌||◌, List, [], ◌∷◌, ◌++◌, length, take, drop, Some, refl, sym, ap, subst, arith, ℤ}
+use Rattle.std.proofs.Common.{◌≡◌, ◌∙◌, ℕ, ◌/◌, ◌*◌, ◌^◌, ◌<◌, ◌≤◌, inl, inr, Bool, true, false, true≢false, not, ◌&&◌, ◌||◌, List, [], ◌∷◌, ◌++◌, length, take, drop, Some, refl, sym, ap, subst, arith, ℤ}
 use Rattle.std.specs.Prelude.{IsTrue, Contains, All, ◌==◌, cond, fold, filter, nat_eq, nat_lt, is_some, if◌then◌else◌}
 use Rattle.std.specs.Bool.{beq}
 use Rattle.std.specs.List.{list_all, find}
@@ -16,7 +16,7 @@ use Rattle.table_functions.proofs.Lists.{all-at, same-numbers}
 use Rattle.table_functions.proofs.Rows.{same-itself}
 use Rattle.table_rows.specs.Rows.{are_rising, atoms_at, rows_from}
 use Rattle.table_rows.proofs.RowLemmas.{length-rows, same-set}
-use Rattle.table_losses.specs.Afters.{When, turns, freed, free_places, turned, ways}
+use Rattle.table_losses.specs.Afters.{AreListed, When, turns, freed, free_places, turned, ways}
 use Rattle.table_losses.proofs.AfterLemmas.{turned-here, length-turned, way-kept, way-long}
 use Rattle.table_losses.proofs.FateLemmas.{among-more}
 
@@ -127,6 +127,19 @@ pub outnumbered-at-once : (rows places : ℕ) → rows ≤ 16777216 → 32 ≤ p
 outnumbered-at-once rows places few many =
     let power = pow-le-pow_right {n = 2} (omega arith) many in
     lt-ltb rows (2 ^ places) (omega (arith, few, power))
+
+-- places that are listed are enough, or all of them
+pub outnumbered-listed : (rows : ℕ) (all found : List ℕ) → AreListed all found → nat_lt rows (2 ^ length found) ≡ true → nat_lt rows (2 ^ length all) ≡ true
+outnumbered-listed rows all found are fewer = elim are [
+  | inl same ↦ subst (λ (l : List ℕ). nat_lt rows (2 ^ length l) ≡ true) same fewer
+  | inr many ↦ let power = pow-le-pow_right {n = 2} (omega arith) many.1 in lt-ltb rows (2 ^ length all) (omega (arith, ltb-true rows (2 ^ length found) fewer, power))
+]
+
+pub listed-whole : (rows : ℕ) (all found : List ℕ) → rows ≤ 16777216 → AreListed all found → nat_lt rows (2 ^ length found) ≡ false → found ≡ all
+listed-whole rows all found few are enough = elim are [
+  | inl same ↦ same
+  | inr many ↦ let power = pow-le-pow_right {n = 2} (omega arith) many.0 in absurd (omega (arith, few, power, ltb-false rows (2 ^ length found) enough))
+]
 
 -- nothing is left of what is below the power
 pub outnumbered-by-shift : (rows places : ℕ) → nat_eq (rows / 2 ^ places) 0 ≡ nat_lt rows (2 ^ places)

@@ -10,7 +10,7 @@ abbrev pub candidates_of : Candidates → List ℕ
 candidates_of (code.All count) = range_with_len 0 count
 candidates_of (code.These rows) = rows.now
 
--- the rows are of these sets, and each that agrees with the literals is one of them
+-- the numbers are of these sets, and include those of all sets that agree with the literals
 pub record AreCandidates (sets : List (List Bool)) (literals : List PlacedLiteral) (rows : List ℕ) : Type 0 where
   pub covers : (row : ℕ) (set : List Bool) → slice_get sets row ≡ Some set → list_all (is_so set) literals ≡ true → is_among rows row ≡ true
   pub within : (row : ℕ) → is_among rows row ≡ true → row < length sets

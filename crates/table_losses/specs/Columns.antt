@@ -1,4 +1,4 @@
--- The most that is lost, in a column: by the weights at each place, as it grows.
+-- Columns of greatest losses, one for the weights at each place, as they are raised row by row.
 use Rattle.std.specs.Prelude.{◌≡◌, ℕ, ◌<◌, Bool, true, false, ℤ, pos, neg_ℤ, ◌+ℤ◌, ◌≤ℤ◌, List, length, fold, All, get_or}
 use Rattle.std.specs.Int.{int_max}
 use Rattle.std.specs.List.{list_all}
@@ -6,28 +6,28 @@ use Rattle.table_functions.specs.TableFunctions.{Table}
 use Rattle.table_losses.specs.Afters.{losses_to}
 use Rattle.table_losses.specs.Fates.{Question, are_rows, closed_at, lost_at, rows_of, LosesInAll}
 
--- what stands where nothing has been lost yet: any loss is greater
+-- stands where no loss is known yet; any loss is greater
 abbrev pub nothing_yet : ℤ
 nothing_yet = neg_ℤ (pos 9223372036854775808)
 
--- that, or a loss
+-- it, or a loss
 pub record IsMost (z : ℤ) : Type 0 where
   pub least : nothing_yet ≤ℤ z
   pub most : z ≤ℤ pos 4294967294
 
 -- ---- one step
 
--- the number stands at each place
+-- each entry is this number
 pub record AreAll (number : ℤ) (old new : List ℤ) : Type 0 where
   pub long : length new ≡ length old
   pub each : (place : ℕ) → place < length old → get_or new place (pos 0) ≡ number
 
--- each is the greater of what it was and what is lost from one weight to the other
+-- each is raised to the difference of the two weights at its place
 pub record AreRaisedBy (from to old new : List ℤ) : Type 0 where
   pub long : length new ≡ length old
   pub each : (place : ℕ) → place < length old → get_or new place (pos 0) ≡ int_max (get_or old place (pos 0)) (get_or from place (pos 0) +ℤ neg_ℤ (get_or to place (pos 0)))
 
--- 0 where nothing was lost, and else what it was
+-- the entry, and 0 for none
 pub record IsSettled (old new : ℤ) : Type 0 where
   pub none : old ≡ nothing_yet → new ≡ pos 0
   pub some : neg_ℤ (pos 4294967294) ≤ℤ old → new ≡ old
@@ -38,7 +38,7 @@ pub record AreSettled (old new : List ℤ) : Type 0 where
 
 -- ---- sets
 
--- all are rows, and each number is the greatest of what it was and what is lost to them
+-- all are rows, and each entry is raised to the losses to them
 pub record AreRaisedTo (table : Table) (from : List ℤ) (sets : List (List Bool)) (old new : List ℤ) : Type 0 where
   pub rows : are_rows table sets ≡ true
   pub long : length new ≡ length old
@@ -52,7 +52,7 @@ RaisesTo table from sets old new true = AreRaisedTo table from sets old new
 
 -- ---- rows
 
--- the row leads to rows, if it agrees, and each number is the greatest of what it was and what is lost from the row
+-- the row, if it agrees, leads to rows, and each entry is raised to the losses from it
 pub record AreRaisedFrom (q : Question) (row : ℕ) (old new : List ℤ) : Type 0 where
   pub closed : closed_at q row ≡ true
   pub long : length new ≡ length old
@@ -65,7 +65,7 @@ RaisesFrom q row old new true = AreRaisedFrom q row old new
 
 -- ---- all rows
 
--- each leads to rows, and at each place stands the most that is lost from one
+-- each row that agrees leads to rows, and each entry is the greatest loss from one
 pub record AreMostLost (q : Question) (lost : List ℤ) : Type 0 where
   pub closed : list_all (closed_at q) (rows_of q) ≡ true
   pub each : (place : ℕ) → place < length lost → LosesInAll q place (get_or lost place (pos 0))

@@ -1,10 +1,10 @@
--- The greatest weight of rows that agree, one after another.
+-- The greatest weight of rows that agree, row by row.
 use Rattle.std.specs.Prelude.{ℕ, Bool, ℤ, List, Option, Some, if◌then◌else◌}
 use Rattle.std.specs.List.{list_all}
 use Rattle.table_functions.specs.TableFunctions.{Row, weight_at}
 use Rattle.table_losses.specs.Placed.{PlacedLiteral, is_so}
 use Rattle.table_losses.specs.Afters.{raised}
 
--- the greater of that and the weight of the row of this set, if the literals are true of it
+-- raised to the weight of the row of this set, if the literals are true of it
 abbrev pub given_by : List PlacedLiteral → ℕ → Row → List Bool → Option ℤ → Option ℤ
 given_by literals place row set most = if list_all (is_so set) literals then Some (raised most (weight_at place row)) else most

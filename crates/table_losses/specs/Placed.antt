@@ -1,4 +1,4 @@
--- Literals by the places of their atoms in a scope.
+-- Literals of a scope's atoms, by place.
 use Rattle.std.specs.Prelude.{ℕ, Bool, List, Option}
 use Rattle.std.specs.Bool.{beq}
 use Rattle.std.specs.Option.{option_map}
@@ -15,7 +15,7 @@ pub record PlacedLiteral : Type 0 where
 abbrev pub placed_of : code.PlacedLiteral → PlacedLiteral
 placed_of l = record { place = l.place; value = l.value }
 
--- the literal by its atom's place, if it is of an atom of the scope
+-- the literal by place, if its atom is in the scope
 abbrev pub placed_in : List ℕ → NumberedLiteral → Option PlacedLiteral
 placed_in scope l = option_map (λ (k : ℕ). record { place = k; value = l.value }) (place_in scope l.atom)
 

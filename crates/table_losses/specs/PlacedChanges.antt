@@ -1,4 +1,4 @@
--- An instance's changes within a scope, as the code keeps them.
+-- An instance's changes of a scope's atoms, as the code keeps them.
 use Rattle.std.specs.Prelude.{◌≡◌, ℕ, ◌<◌, All, length, map}
 use Rattle.packed_state.specs.Packed.{mask_bits_of}
 use Rattle.table_losses.specs.declared.afters.When as code_of_when

@@ -1,8 +1,8 @@
-//! What may come after a row.
-ghost use Rattle.std.specs.Prelude.{◌≡◌, IfOk, OnOk, length, map};
+//! The sets that an instance may make of a row.
+ghost use Rattle.std.specs.Prelude.{◌≡◌, IfOk, OnOk, length, map, nat_le};
 ghost use Rattle.packed_state.specs.Packed.{bits_of};
 ghost use Rattle.table_losses.specs.Afters as model;
-ghost use Rattle.table_losses.specs.Afters.{left_of, free_places};
+ghost use Rattle.table_losses.specs.Afters.{left_of, free_places, AreListed};
 ghost use Rattle.table_losses.specs.FitsTable.{HasWidth};
 ghost use Rattle.table_losses.specs.PlacedChanges.{when_of, changes_of, FitsWhen, FitsWidth};
 
@@ -11,29 +11,33 @@ use faults::NoMemory;
 use packed_state::{Mask, Packed};
 use std::alloc::Global;
 
-/// A change under a `when`, of an atom of a scope.
+/// A change under a `when` of one of a scope's atoms.
 #[derive(Drop)]
 pub(crate) struct When {
     /// The atom's place in the scope, from 0.
     pub(crate) place: u32,
     /// Whether it becomes true.
     pub(crate) value: bool,
-    /// The literals of its condition that are of atoms of the scope.
+    /// The condition's literals of the scope's atoms.
     pub(crate) condition: Vec<PlacedLiteral>,
 }
 
-/// The changes of an instance that are of atoms of a scope.
+/// An instance's changes of a scope's atoms.
 #[derive(Drop)]
 pub(crate) struct PlacedChanges {
-    /// The places of unconditional deletes.
+    /// The places that are deleted unconditionally.
     pub(crate) deletes: Mask,
-    /// Those of unconditional adds.
+    /// The places that are added unconditionally.
     pub(crate) adds: Mask,
-    /// The others, of places that no unconditional change adds.
+    /// The changes under a `when` of places that are not added unconditionally.
     pub(crate) whens: Vec<When>,
 }
 
-/// Room for a row, for what unconditional changes leave of it, and for the places that it leaves free.
+/// Free places enough for more ways than a table can have rows, 2^24.
+const ENOUGH: usize = 25;
+
+/// Scratch for one row: the row, what unconditional changes make of it, and its free places: those that changes under a
+/// `when` may still turn.
 #[derive(Drop)]
 pub(crate) struct Room {
     pub(crate) row: Packed,
@@ -42,7 +46,7 @@ pub(crate) struct Room {
 }
 
 impl Room {
-    /// Room for rows of this width.
+    /// Scratch for rows of this width.
     pub(crate) fn new(alloc: Global, width: u32) -> Result<Room, NoMemory>
         ensures { IfOk result (HasWidth width) }
     {
@@ -52,13 +56,13 @@ impl Room {
         Ok(Room { row, left, free })
     }
 
-    /// Finds what these changes leave of the row, and the places that the row leaves free.
+    /// Finds what the changes make of the row, and the row's free places, or enough of them.
     pub(crate) fn find(&mut self, changes: &PlacedChanges) -> Result<(), NoMemory>
         requires fits { FitsWidth (length (bits_of self.old.row)) (changes_of changes.now) }
         requires left { length (bits_of self.old.left) ≡ length (bits_of self.old.row) }
         ensures row { OnOk result (bits_of self.new.row ≡ bits_of self.old.row) }
         ensures left { OnOk result (bits_of self.new.left ≡ left_of (changes_of changes.now) (bits_of self.old.row)) }
-        ensures free { OnOk result (self.new.free.items ≡ free_places (changes_of changes.now).whens (bits_of self.old.row) (left_of (changes_of changes.now) (bits_of self.old.row))) }
+        ensures free { OnOk result (AreListed (free_places (changes_of changes.now).whens (bits_of self.old.row) (left_of (changes_of changes.now) (bits_of self.old.row))) self.new.free.items) }
     {
         self.left.copy_from(&self.row);
         changes.leave(&mut self.left);
@@ -68,7 +72,7 @@ impl Room {
 }
 
 impl PlacedChanges {
-    /// Makes the row what unconditional changes leave of it.
+    /// Applies the unconditional changes to the row.
     pub(crate) fn leave(&self, row: &mut Packed)
         requires { FitsWidth (length (bits_of row.old)) (changes_of self.now) }
         ensures { bits_of row.new ≡ left_of (changes_of self.now) (bits_of row.old) }
@@ -76,8 +80,8 @@ impl PlacedChanges {
         row.change(&self.deletes, &self.adds);
     }
 
-    /// Puts the places that the row leaves free in the place of what `free` has: those that a change under a `when` which it
-    /// does not contradict would turn.
+    /// Replaces `free` by the row's free places: those that a change under a `when` would turn whose condition the row does not
+    /// contradict. Stops at [`ENOUGH`].
     pub(crate) fn list_free(
         &self,
         row: &Packed,
@@ -86,10 +90,13 @@ impl PlacedChanges {
     ) -> Result<(), NoMemory>
         requires row { FitsWidth (length (bits_of row.now)) (changes_of self.now) }
         requires left { length (bits_of left.now) ≡ length (bits_of row.now) }
-        ensures { OnOk result (free.new.items ≡ free_places (changes_of self.now).whens (bits_of row.now) (bits_of left.now)) }
+        ensures { OnOk result (AreListed (free_places (changes_of self.now).whens (bits_of row.now) (bits_of left.now)) free.new.items) }
     {
         free.clear();
         for when in &self.whens {
+            if are_enough(free.len()) {
+                return Ok(());
+            }
             when.add_free(row, left, free)?;
         }
         Ok(())
@@ -97,7 +104,7 @@ impl PlacedChanges {
 }
 
 impl When {
-    /// Adds its place, if the row leaves that free by it and it is not there yet.
+    /// Adds its place, if that is free by it and not there yet.
     fn add_free(&self, row: &Packed, left: &Packed, free: &mut Vec<u32>) -> Result<(), NoMemory>
         requires fits { FitsWhen (length (bits_of row.now)) (when_of self.now) }
         requires left { length (bits_of left.now) ≡ length (bits_of row.now) }
@@ -113,7 +120,7 @@ impl When {
         Ok(())
     }
 
-    /// Whether the row leaves it open, and it would change what is left.
+    /// Whether the row does not contradict its condition, and it would change what is left.
     fn turns(&self, row: &Packed, left: &Packed) -> bool
         requires fits { FitsWhen (length (bits_of row.now)) (when_of self.now) }
         requires left { length (bits_of left.now) ≡ length (bits_of row.now) }
@@ -121,4 +128,11 @@ impl When {
     {
         left.has(self.place) != self.value && all_are_so(row, &self.condition)
     }
+}
+
+/// Whether free places that are this many give more ways than a table can have rows.
+fn are_enough(places: usize) -> bool
+    ensures { result ≡ nat_le 25 places }
+{
+    places >= ENOUGH
 }

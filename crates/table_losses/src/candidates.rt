@@ -1,19 +1,19 @@
-//! Which rows may agree with literals.
+//! Rows that may agree with literals.
 ghost use Rattle.std.specs.Prelude.{◌≡◌, ◌<◌, Some, length, slice_get};
 
-/// Rows of a table, by their places.
+/// Rows of a table, by number.
 #[derive(Clone, Copy)]
 pub(crate) enum Candidates<'a> {
-    /// All, of which there are so many.
+    /// All rows of a table that has this many.
     All(u32),
-    /// These.
+    /// The rows with these numbers.
     These(&'a [u32]),
 }
 
 impl Candidates<'_> {
     ghost use Rattle.table_losses.specs.Candidates.{candidates_of};
 
-    /// How many there are.
+    /// The number of candidates.
     pub(crate) fn len(self) -> usize
         ensures { result ≡ length (candidates_of self.entry) }
     {
@@ -23,7 +23,7 @@ impl Candidates<'_> {
         }
     }
 
-    /// That at this place among them, from 0.
+    /// The candidate with this index.
     pub(crate) fn at(self, place: usize) -> u32
         requires { place < length (candidates_of self) }
         ensures { slice_get (candidates_of self.entry) place ≡ Some result }

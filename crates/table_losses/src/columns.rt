@@ -1,13 +1,13 @@
-//! The most that is lost, in a column: by the weights at each place, as it grows.
+//! Columns of greatest losses: one for each weight of a row, raised row by row.
 ghost use Rattle.std.specs.Prelude.{◌≡◌, All, length};
 ghost use Rattle.std.specs.Int.{int_max};
 ghost use Rattle.potential_functions.specs.PotentialFunctions.{IsInRange};
 ghost use Rattle.table_losses.specs.Columns.{IsMost, AreAll, AreRaisedBy, AreSettled, IsSettled};
 
-/// What stands where nothing has been lost yet. Any loss is greater.
+/// Stands where no loss is known yet. Any loss is greater.
 pub(crate) const NOTHING_YET: i64 = i64::MIN;
 
-/// Puts the number at each place.
+/// Sets each entry to this number.
 pub(crate) fn fill(most: &mut [i64], number: i64)
     ensures { AreAll number most.old most.new }
 {
@@ -16,7 +16,7 @@ pub(crate) fn fill(most: &mut [i64], number: i64)
     }
 }
 
-/// Raises each number to what is lost from one weight to the other, if that is greater.
+/// Raises each entry to the difference of the two weights at its place, if that is greater.
 pub(crate) fn raise(most: &mut [i64], from: &[i64], to: &[i64])
     requires from { length from.now ≡ length most.old }
     requires to { length to.now ≡ length most.old }
@@ -31,7 +31,7 @@ pub(crate) fn raise(most: &mut [i64], from: &[i64], to: &[i64])
     }
 }
 
-/// Puts 0 where nothing has been lost.
+/// Sets the entries without a loss to 0.
 pub(crate) fn settle(most: &mut [i64])
     requires { All IsMost most.old }
     ensures { AreSettled most.old most.new }
@@ -41,7 +41,7 @@ pub(crate) fn settle(most: &mut [i64])
     }
 }
 
-/// The number, or 0 where nothing has been lost.
+/// The entry; 0 if it has no loss.
 fn settled(most: i64) -> i64
     ensures { IsSettled most result }
 {

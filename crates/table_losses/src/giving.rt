@@ -1,4 +1,4 @@
-//! What a table gives where literals hold, and whether one of its rows agrees with them.
+//! The greatest weight of a table's rows that agree with literals, and whether one agrees.
 ghost use Rattle.std.specs.Prelude.{◌≡◌, ℤ, pos, ◌<◌, All, IfOk, Some, length, map, slice_get};
 ghost use Rattle.std.specs.Option.{option_map_or};
 ghost use Rattle.std.specs.List.{list_any, list_all};
@@ -24,10 +24,10 @@ use packed_state::Packed;
 use std::alloc::Global;
 
 impl IndexedTable<'_> {
-    /// Whether some row of the table agrees with the literals.
+    /// Whether a row of the table agrees with the literals.
     ///
     /// # Errors
-    /// Where memory is refused.
+    /// An allocation failed.
     pub fn some_agrees(&self, alloc: Global, literals: &[NumberedLiteral]) -> Result<bool, NoMemory>
         ensures { IfOk result (λ some. some ≡ list_any (λ (r : Row). model.agrees (map numbered_of literals.now) (indexed_of self.now).scope r.atoms) (indexed_of self.now).rows) }
     {
@@ -36,7 +36,7 @@ impl IndexedTable<'_> {
         Ok(self.some_are_so(placed.as_slice(), &mut set))
     }
 
-    /// Whether the literals are true of some row, each of which is copied to `set`.
+    /// Whether the literals are true of a row. `set` is scratch.
     fn some_are_so(&self, literals: &[PlacedLiteral], set: &mut Packed) -> bool
         requires width { length (bits_of set.old) ≡ length (indexed_of self.now).scope }
         requires below { All (λ (l : by_places.PlacedLiteral). l.place < length (indexed_of self.now).scope) (map placed_of literals.now) }
@@ -52,10 +52,10 @@ impl IndexedTable<'_> {
         false
     }
 
-    /// The greatest weight at this place of a row that agrees with the literals, 0 where none does.
+    /// The greatest weight at this place of the rows that agree with the literals; 0 if none agrees.
     ///
     /// # Errors
-    /// Where memory is refused.
+    /// An allocation failed.
     pub fn gives(
         &self,
         alloc: Global,
@@ -75,7 +75,7 @@ impl IndexedTable<'_> {
         Ok(or_nothing(most))
     }
 
-    /// The greater of that and the weight of the row, if it agrees.
+    /// The maximum of `most` and the row's weight, if the row agrees; else `most`. `set` is scratch.
     fn raised_by(
         &self,
         row: u32,
@@ -101,7 +101,7 @@ impl IndexedTable<'_> {
     }
 }
 
-/// The greater of the number and the other one, if there is one.
+/// The maximum of the two numbers; `number` if there is no other.
 fn greater_of(most: Option<i64>, number: i64) -> i64
     ensures { result ≡ raised most number }
 {
@@ -111,7 +111,7 @@ fn greater_of(most: Option<i64>, number: i64) -> i64
     }
 }
 
-/// The number, or 0 where there is none.
+/// The number; 0 if there is none.
 fn or_nothing(number: Option<i64>) -> i64
     ensures { result ≡ option_map_or (λ (z : ℤ). z) number (pos 0) }
 {

@@ -1,4 +1,4 @@
-//! Tables with an index of their rows.
+//! Tables with an index of their rows by atom.
 ghost use Rattle.std.specs.Prelude.{◌≡◌, ℕ, ◌<◌, ◌⊎◌, true, All, IfOk, length, map, slice_get, Some};
 ghost use Rattle.std.proofs.Props.{props};
 ghost use Rattle.packed_state.specs.Packed.{bits_of};
@@ -15,7 +15,7 @@ use packed_state::Packed;
 use std::alloc::Global;
 use table_rows::Table;
 
-/// A table, and for each atom of its scope the rows in which it is true.
+/// A table and, for each atom of its scope, the rows in which the atom is true.
 #[derive(Drop)]
 pub struct IndexedTable<'a> {
     pub(crate) table: &'a Table,
@@ -31,10 +31,10 @@ impl<'a> IndexedTable<'a> {
     ghost use Rattle.table_losses.specs.Placed as by_places;
     ghost use Rattle.table_losses.specs.Placed.{placed_of};
 
-    /// The table, whose weights are from -2147483647 to 2147483647.
+    /// Indexes the table. Its weights are from -2147483647 to 2147483647.
     ///
     /// # Errors
-    /// Where memory is refused.
+    /// An allocation failed.
     pub fn new(alloc: Global, table: &'a Table) -> Result<IndexedTable<'a>, NoMemory>
         requires { All (λ (r : Row). All IsInRange r.weights) (table_of table.now).rows }
         ensures table { IfOk result (λ t. indexed_of t ≡ table_of table.now) }
@@ -51,7 +51,7 @@ impl<'a> IndexedTable<'a> {
         self.table
     }
 
-    /// The rows with the rarest of the atoms that are to be true, or all where none is.
+    /// The rows of the rarest atom that a literal wants to be true; all rows if no literal does.
     pub(crate) fn candidates(&self, literals: &[PlacedLiteral]) -> Candidates<'_>
         ensures { AreCandidates (sets_of self.now.table.now) (map placed_of literals.now) (candidates_of result) }
     {
@@ -62,7 +62,7 @@ impl<'a> IndexedTable<'a> {
         best
     }
 
-    /// The rows with the atom of the literal, if it is to be true and these are fewer.
+    /// The rows of the literal's atom, if it is to be true and has fewer rows than `best`; else `best`.
     fn narrowed<'b>(&'b self, best: Candidates<'b>, literal: &PlacedLiteral) -> Candidates<'b>
         ensures { (candidates_of result ≡ candidates_of best.entry) ⊎ ((candidates_of result ≡ list_at self.now.index literal.now.place) × (literal.now.value ≡ true)) }
     {
@@ -77,7 +77,7 @@ impl<'a> IndexedTable<'a> {
     }
 }
 
-/// For each atom of the table's scope the rows in which it is true.
+/// For each atom of the table's scope, by its place there, the rows in which it is true.
 fn index_of(alloc: Global, table: &Table) -> Result<Lists, NoMemory>
     ensures { IfOk result (IsIndexOf (sets_of table.now) (length (sets_of table.now))) }
 {

@@ -1,4 +1,4 @@
-//! Indexes a table by atoms: which rows agree with literals, and what an instance loses by the table.
+//! Tables indexed by atom: whether rows agree with literals, and what an instance loses by a table.
 #![tactic(auto)]
 
 mod afters;

@@ -1,4 +1,4 @@
-//! Lists of numbers by places.
+//! Lists of numbers by place.
 ghost use Rattle.std.specs.Prelude.{◌≡◌, ℕ, ◌<◌, ◌++◌, ◌∷◌, [], ◌==◌, ◌&&◌, true, All, if◌then◌else◌, IfOk, OnOk, length};
 ghost use Rattle.packed_state.specs.Sets.{has};
 ghost use Rattle.packed_state.specs.Packed.{bits_of};
@@ -9,17 +9,17 @@ use faults::NoMemory;
 use packed_state::Packed;
 use std::alloc::Global;
 
-/// A list of numbers for each place.
+/// A list of numbers for each place below a width.
 #[derive(Drop)]
 pub struct Lists {
     pub(crate) lists: Vec<Vec<u32>>,
 }
 
 impl Lists {
-    /// As many empty ones.
+    /// Empty lists for the places below `width`.
     ///
     /// # Errors
-    /// Where memory is refused.
+    /// An allocation failed.
     pub fn empty(alloc: Global, width: u32) -> Result<Lists, NoMemory>
         ensures width { IfOk result (λ l. length l.lists.items ≡ width) }
         ensures empty { IfOk result (λ l. (place : ℕ) → list_at l place ≡ []) }
@@ -31,7 +31,7 @@ impl Lists {
         Ok(Lists { lists })
     }
 
-    /// Puts the number at the end of the list at this place.
+    /// Appends the number to the list of this place.
     pub(crate) fn push(&mut self, place: u32, number: u32) -> Result<(), NoMemory>
         requires { place < length self.old.lists.items }
         ensures width { OnOk result (length self.new.lists.items ≡ length self.old.lists.items) }
@@ -41,7 +41,7 @@ impl Lists {
         Ok(())
     }
 
-    /// Puts the number at the end of the list of each place of the set.
+    /// Appends the number to the list of each place in the set.
     pub(crate) fn file(&mut self, set: &Packed, number: u32) -> Result<(), NoMemory>
         requires { length self.old.lists.items ≡ length (bits_of set.now) }
         ensures { OnOk result (IsFiled (bits_of set.now) number self.old self.new) }
@@ -52,7 +52,7 @@ impl Lists {
         Ok(())
     }
 
-    /// Puts the number at the end of the list of this place, if it is in the set.
+    /// Appends the number to the list of this place, if the set has the place.
     fn file_at(&mut self, set: &Packed, place: u32, number: u32) -> Result<(), NoMemory>
         requires width { length self.old.lists.items ≡ length (bits_of set.now) }
         requires within { place < length (bits_of set.now) }
@@ -66,10 +66,10 @@ impl Lists {
         Ok(())
     }
 
-    /// Puts the number at the end of the list of each of these places.
+    /// Appends the number to the list of each of these places.
     ///
     /// # Errors
-    /// Where memory is refused.
+    /// An allocation failed.
     pub fn file_at_all(&mut self, places: &[u32], number: u32) -> Result<(), NoMemory>
         requires { All (λ place. place < length self.old.lists.items) places.now }
         ensures { OnOk result (IsFiledAt places.now number self.old self.new) }
@@ -80,7 +80,7 @@ impl Lists {
         Ok(())
     }
 
-    /// Puts the numbers of the list at this place into the set.
+    /// Inserts the numbers listed at this place into the set. A place past the width has none.
     pub fn mark(&self, place: u32, set: &mut Packed)
         requires { (k : ℕ) → is_among (list_at self.now place) k ≡ true → k < length (bits_of set.old) }
         ensures width { length (bits_of set.new) ≡ length (bits_of set.old) }
@@ -92,7 +92,7 @@ impl Lists {
         }
     }
 
-    /// The list at this place.
+    /// The list of this place; empty past the width.
     pub(crate) fn of(&self, place: u32) -> &[u32]
         ensures { result.now ≡ list_at self.now place }
     {

@@ -1,4 +1,4 @@
-//! Whether an instance leads from rows to rows, and what it may lose.
+//! Upper bounds of an instance's loss by a table, and whether it leads from rows to rows.
 ghost use Rattle.std.specs.Prelude.{◌≡◌, ◌^◌, ◌<◌, nat_lt, ◌∷◌, [], All, IfOk, List, OnOk, length, map};
 ghost use Rattle.packed_state.specs.Packed.{bits_of};
 ghost use Rattle.potential_functions.specs.PotentialFunctions.{IsInRange};
@@ -6,7 +6,7 @@ ghost use Rattle.grounding.specs.Views.{numbered_of};
 ghost use Rattle.grounding.specs.Changes.{conditional_of};
 ghost use Rattle.table_functions.specs.TableFunctions.{Row};
 ghost use Rattle.table_functions.specs.FairTables as model;
-ghost use Rattle.table_losses.specs.Losses.{indexed_of, indexed_count_of, IsLossByTable, AreLossesByTable};
+ghost use Rattle.table_losses.specs.Losses.{indexed_of, indexed_count_of, AreLossesByTable};
 ghost use Rattle.table_losses.specs.Afters.{turned, ways};
 ghost use Rattle.table_losses.specs.Columns.{IsMost, RaisesTo, RaisesFrom, LosesInEach};
 ghost use Rattle.table_losses.specs.Fates.{question_of};
@@ -23,7 +23,7 @@ use packed_state::Packed;
 use potentials::touches;
 use std::alloc::Global;
 
-/// What is asked of a table: what an instance of these literals and changes loses.
+/// An instance within the scope of a table.
 #[derive(Clone, Copy)]
 pub(crate) struct Question<'a> {
     pub(crate) literals: &'a [PlacedLiteral],
@@ -31,34 +31,12 @@ pub(crate) struct Question<'a> {
 }
 
 impl IndexedTable<'_> {
-    /// The most that an instance of these literals and changes may lose by the weights at this place, which may be negative; 0
-    /// where no change is of an atom of the scope. None where the instance leads from a row that agrees to what is no row.
+    /// Whether an instance with these literals and changes leads from each row that agrees with the literals to rows only. If
+    /// so, `most` becomes, for the weights at each place, the greatest difference of such a row's weight and that of a row after
+    /// it, which may be negative; 0 if no row agrees or no change is of an atom of the scope.
     ///
     /// # Errors
-    /// Where memory is refused.
-    pub fn loses(
-        &self,
-        alloc: Global,
-        literals: &[NumberedLiteral],
-        changes: &[CountingChange<'_>],
-        place: u32,
-    ) -> Result<Option<i64>, NoMemory>
-        requires { place < indexed_count_of self.now }
-        ensures { IfOk result (IsLossByTable place (map numbered_of literals.now) (map conditional_of changes.now) (indexed_of self.now)) }
-    {
-        let mut most = vec![in alloc; 0; self.table.weight_count() as usize]?;
-        if !self.loses_by_each(alloc, literals, changes, &mut most)? {
-            return Ok(None);
-        }
-        Ok(Some(most[place as usize]))
-    }
-
-    /// Whether an instance of these literals and changes leads from rows that agree to rows only. If so, `most` has at each place
-    /// the most that the instance may lose by the weights there, which may be negative; 0 where no change is of an atom of the
-    /// scope. What it had before is lost.
-    ///
-    /// # Errors
-    /// Where memory is refused.
+    /// An allocation failed.
     pub fn loses_by_each(
         &self,
         alloc: Global,
@@ -83,8 +61,7 @@ impl IndexedTable<'_> {
         self.most_lost(alloc, &question, most)
     }
 
-    /// Whether each row that agrees leads to rows only. If so, `most` has at each place the most that is lost from a row, 0 where
-    /// none agrees.
+    /// Whether each row that agrees leads to rows only. If so, `most` becomes the greatest losses; 0 if no row agrees.
     pub(crate) fn most_lost(
         &self,
         alloc: Global,
@@ -108,7 +85,7 @@ impl IndexedTable<'_> {
         Ok(true)
     }
 
-    /// Whether the row at this place leads to rows only, if it agrees. If so, each number is raised to what is lost from it there.
+    /// Whether the row with this number, if it agrees, leads to rows only. If so, raises `most` to the losses from it.
     fn raise_from(
         &self,
         question: &Question<'_>,
@@ -135,15 +112,15 @@ impl IndexedTable<'_> {
         Ok(self.raise_to(&mut room.left, &room.free, self.table.weights(row), most))
     }
 
-    /// Whether `places` places, each turned or not, give more sets than there are rows. One of the sets is then no row.
+    /// Whether the ways to turn some of this many places are more than the rows: one of them then makes a set that is no row.
     fn is_outnumbered(&self, places: usize) -> bool
         ensures { result ≡ nat_lt (length (table_of self.now.table.now).rows) (2 ^ places) }
     {
         places >= 32 || self.table.row_count() >> places == 0
     }
 
-    /// Whether this set with any of these places turned is a row. If so, each number is raised to what is lost from these weights
-    /// to those of the rows. The set stays as it is.
+    /// Whether each way to turn some of the free places makes a row of the set. If so, raises `most` to the losses from these
+    /// weights to those of the rows. The set is restored.
     fn raise_to(&self, set: &mut Packed, free: &[u32], from: &[i64], most: &mut [i64]) -> bool
         requires width { length (bits_of set.old) ≡ length (table_of self.now.table.now).scope }
         requires free { All (λ k. k < length (table_of self.now.table.now).scope) free.now }
@@ -168,7 +145,7 @@ impl IndexedTable<'_> {
         }
     }
 
-    /// Whether this set is a row. If so, each number is raised to what is lost from these weights to those of the row.
+    /// Whether the set is a row. If so, raises `most` to the losses from these weights to the row's.
     fn raise_to_row(&self, set: &Packed, from: &[i64], most: &mut [i64]) -> bool
         requires width { length (bits_of set.now) ≡ length (table_of self.now.table.now).scope }
         requires weights { length from.now ≡ weight_count_of self.now.table.now }
@@ -187,14 +164,14 @@ impl IndexedTable<'_> {
     }
 }
 
-/// Whether one of the changes is of an atom of the scope.
+/// Whether a change is of an atom of the scope.
 fn touches_scope(changes: &[CountingChange<'_>], scope: &[u32]) -> bool
     ensures { (rows : List Row) → result ≡ model.touches_scope (map conditional_of changes.now) (record { scope = scope.now; rows = rows }) }
 {
     scope.iter().any(|atom| touches(changes, *atom))
 }
 
-/// Takes the place out of the set, if it is there, and else puts it in.
+/// Removes the place from the set if it is there; else inserts it.
 fn turn(set: &mut Packed, place: u32)
     requires { place < length (bits_of set.old) }
     ensures { bits_of set.new ≡ turned (bits_of set.old) place }

@@ -1,4 +1,4 @@
-//! Literals by the places of their atoms in a scope.
+//! Literals of a scope's atoms, by place.
 ghost use Rattle.std.specs.Prelude.{◌≡◌, ◌<◌, ◌==◌, ◌++◌, ◌∷◌, ◌^◌, [], All, IfOk, OnOk, length, map};
 ghost use Rattle.std.specs.List.{filter_map, list_all};
 ghost use Rattle.grounding.specs.Views.{numbered_of};
@@ -12,7 +12,7 @@ use packed_state::Packed;
 use std::alloc::Global;
 use table_rows::place_in;
 
-/// A literal of an atom of a scope.
+/// A literal of one of a scope's atoms.
 #[derive(Clone, Copy, Debug)]
 pub(crate) struct PlacedLiteral {
     /// The atom's place in the scope, from 0.
@@ -21,7 +21,7 @@ pub(crate) struct PlacedLiteral {
     pub(crate) value: bool,
 }
 
-/// Those of the literals that are of atoms of the scope, in order.
+/// The literals of the scope's atoms, in order.
 pub(crate) fn placed(
     alloc: Global,
     scope: &[u32],
@@ -37,7 +37,7 @@ pub(crate) fn placed(
     Ok(found)
 }
 
-/// Adds the literal, if it is of an atom of the scope.
+/// Adds the literal, if its atom is in the scope.
 fn add_placed(
     scope: &[u32],
     literal: &NumberedLiteral,
@@ -58,7 +58,7 @@ fn add_placed(
     }
 }
 
-/// Whether each of the literals is true of the set.
+/// Whether all literals are true of the set.
 pub(crate) fn all_are_so(set: &Packed, literals: &[PlacedLiteral]) -> bool
     requires { All (λ (l : model.PlacedLiteral). l.place < length (bits_of set.now)) (map placed_of literals.now) }
     ensures { result ≡ list_all (model.is_so (bits_of set.now)) (map placed_of literals.now) }

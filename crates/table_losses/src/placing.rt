@@ -1,4 +1,4 @@
-//! The changes of an instance by the places of their atoms in a scope.
+//! An instance's changes of a scope's atoms, by place.
 ghost use Rattle.std.specs.Prelude.{◌≡◌, ◌<◌, ◌++◌, ◌∷◌, ◌^◌, [], not, IfOk, OnOk, filter, length, map};
 ghost use Rattle.std.specs.List.{filter_map};
 ghost use Rattle.grounding.specs.declared.changes.CountingChange.{CountingChange};
@@ -17,7 +17,7 @@ use std::alloc::Global;
 use table_rows::place_in;
 
 impl PlacedChanges {
-    /// Those of the changes that are of atoms of the scope.
+    /// The changes of the scope's atoms.
     pub(crate) fn new(
         alloc: Global,
         scope: &[u32],
@@ -40,7 +40,7 @@ impl PlacedChanges {
     }
 }
 
-/// The places of the unconditional changes to this value.
+/// The places that unconditional changes set to this value.
 fn certain_places(
     alloc: Global,
     scope: &[u32],
@@ -57,7 +57,7 @@ fn certain_places(
     Ok(found)
 }
 
-/// Adds the place of the change, if it is unconditional, to this value, and of an atom of the scope.
+/// Adds the change's place, if the change is unconditional, sets this value, and its atom is in the scope.
 fn add_certain(
     scope: &[u32],
     value: bool,
@@ -82,7 +82,7 @@ fn add_certain(
     }
 }
 
-/// The changes under a `when`, of places that are not among those that are added.
+/// The changes under a `when`, but for those of added places: adds win.
 fn whens(
     alloc: Global,
     scope: &[u32],
@@ -99,7 +99,7 @@ fn whens(
     Ok(found)
 }
 
-/// Adds the change, if it is under a `when` that some packed state may meet, and of such a place.
+/// Adds the change, if it is under a `when` that a packed state may meet, and its place is in the scope and not added.
 fn add_when(
     alloc: Global,
     scope: &[u32],

@@ -1,3 +1,4 @@
+pub mod KeysLemmas
 pub mod TablesLemmas
 pub mod FairnessLemmas
 pub mod SeveralLemmas
@@ -7,4 +8,5 @@ pub mod ScopePlacesLemmas
 pub mod ProjectionsLemmas
 pub mod RowSumsLemmas
 pub mod KnownRowsLemmas
+pub mod GivenLemmas
 pub mod ValueLemmas

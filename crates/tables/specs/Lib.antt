@@ -1,3 +1,5 @@
+pub mod Keys
+pub mod RowIndex
 pub mod ByAtom
 pub mod AllTables
 pub mod TotalLosses
@@ -9,4 +11,5 @@ pub mod ScopePlaces
 pub mod Projections
 pub mod RowSums
 pub mod KnownRows
+pub mod Given
 pub mod Several

@@ -28,7 +28,7 @@ pub record AreSums (tables : List Table) (count : ℕ) (s : RowSums) : Type 0 wh
   pub long : length s.totals.items ≡ count
   pub totals : (place : ℕ) → place < count → slice_index_or s.totals.items place (pos 0) ≡ given_rows place tables s.rows.items
 
--- a weight less than that is added without an overflow
+-- a weight or a loss is added without an overflow
 pub record IsSmall (z : ℤ) : Type 0 where
   pub least : neg_ℤ (pos 4611686018427387904) ≤ℤ z
   pub most : z ≤ℤ pos 4611686018427387904

@@ -1,10 +1,10 @@
-//! The rows of a state, found by what they are in another.
-ghost use Rattle.std.specs.Prelude.{◌≡◌, ℕ, List, [], IfOk, length};
+//! The rows of a state, found by its difference from another.
+ghost use Rattle.std.specs.Prelude.{◌≡◌, ℕ, List, [], IfOk, length, nat_lt};
 ghost use Rattle.packed_state.specs.Packed.{bits_of};
 ghost use Rattle.packed_state.specs.Sets.{set_of};
 ghost use Rattle.table_functions.specs.TableFunctions.{Table, has_rows};
 ghost use Rattle.tables.specs.AllTables.{tables_of, count_of};
-ghost use Rattle.tables.specs.KnownRows.{AreKnown, IsKnown};
+ghost use Rattle.tables.specs.KnownRows.{AreKnown, IsKept, IsKnown};
 ghost use Rattle.tables.specs.Projections.{AreProjections};
 ghost use Rattle.tables.specs.RowSums.{AreSums};
 
@@ -15,15 +15,17 @@ use faults::NoMemory;
 use packed_state::Packed;
 use std::alloc::Global;
 
-/// A state, its rows, and what they give.
+/// The rows of a state, with the sums of their weights. While another state is looked at, the tables that may have another row for it
+/// are touched.
 #[derive(Drop)]
 pub(crate) struct KnownRows {
+    /// The state that is looked at.
     pub(crate) projections: Projections,
     pub(crate) sums: RowSums,
 }
 
 impl IndexedTables<'_> {
-    /// The rows of the state of so many atoms in which none is true.
+    /// The rows of the state in which none of `width` atoms is true.
     ///
     /// # Errors
     /// Where memory is refused.
@@ -40,13 +42,6 @@ impl IndexedTables<'_> {
 }
 
 impl KnownRows {
-    /// The state.
-    pub(crate) fn state(&self) -> &Packed
-        ensures { result.now ≡ self.now.projections.state }
-    {
-        &self.projections.state
-    }
-
     /// Whether each table has a row for the state.
     pub(crate) fn are_all(&self) -> bool
         ensures { (tables : List Table) (count : ℕ) → IsKnown tables count self.now → result ≡ has_rows tables (bits_of self.now.projections.state) }
@@ -54,9 +49,16 @@ impl KnownRows {
         self.sums.missing == 0
     }
 
-    /// Makes it what is known of this state.
+    /// Whether some table has no row here.
+    pub(crate) fn lack(&self) -> bool
+        ensures { result ≡ nat_lt 0 self.now.sums.missing }
+    {
+        self.sums.missing > 0
+    }
+
+    /// Finds the rows of this state.
     pub(crate) fn move_to(&mut self, tables: &IndexedTables<'_>, state: &Packed)
-        requires known { IsKnown (tables_of tables.now) (count_of tables.now) self.old }
+        requires kept { IsKept (tables_of tables.now) (count_of tables.now) self.old }
         requires width { length (bits_of state.now) ≡ length (bits_of self.old.projections.state) }
         ensures known { IsKnown (tables_of tables.now) (count_of tables.now) self.new }
         ensures state { bits_of self.new.projections.state ≡ bits_of state.now }
@@ -65,7 +67,7 @@ impl KnownRows {
         self.find_touched(tables);
     }
 
-    /// Finds the rows of tables that are touched. None is touched then.
+    /// Finds the rows of the touched tables. No table stays touched.
     fn find_touched(&mut self, tables: &IndexedTables<'_>)
         requires projections { AreProjections (tables_of tables.now) self.old.projections }
         requires sums { AreSums (tables_of tables.now) (count_of tables.now) self.old.sums }
@@ -76,7 +78,8 @@ impl KnownRows {
         let mut place = self.projections.touched.next(0);
         'touched: while place < self.projections.touched.width() {
             self.projections.touched.remove(place);
-            let row = self.projections.find(tables, place as usize);
+            let likely = self.sums.rows[place as usize];
+            let row = self.projections.find(tables, place as usize, likely);
             self.sums.set_row(tables, place as usize, row);
             place = self.projections.touched.next(place);
         }

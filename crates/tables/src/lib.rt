@@ -2,16 +2,16 @@
 #![tactic(auto)]
 
 mod fairness;
+mod given;
 mod known_rows;
 mod known_state;
 mod losses;
 mod projections;
+mod row_index;
 mod row_sums;
 mod scope_places;
 mod several;
 mod tables;
-#[cfg(test)]
-mod tests;
 mod unfair;
 mod values;
 

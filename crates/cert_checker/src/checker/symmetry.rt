@@ -1,4 +1,4 @@
-//! The exchanges of a certificate, if they are symmetries of the task.
+//! The test that a certificate's exchanges are symmetries of the task.
 ghost use Rattle.std.specs.Prelude.{◌≡◌, ◌++◌, ◌<◌, ◌^◌, true, IsTrue, IfErr, IfOk, OnOk, Option, None, Some, if◌then◌else◌, map};
 ghost use Rattle.std.specs.List.{list_all};
 ghost use Rattle.std.specs.Option.{option_map};
@@ -28,7 +28,7 @@ use task::{ObjectId, Task};
 use task_certificates::{Refusal, RefusalCode};
 use task_symmetries::{Exchange, SymmetryTest, exchanged_numbers};
 
-/// The certificate's exchanges, each of which is a symmetry of the task and takes numbered atoms to numbered atoms.
+/// The certificate's exchanges, if each is a symmetry of the task and maps numbered atoms to numbered atoms.
 pub(super) fn symmetric_exchanges(
     alloc: Global,
     cert: &Cert,
@@ -49,7 +49,7 @@ pub(super) fn symmetric_exchanges(
     tested_exchanges(alloc, cert, grounded, &test)
 }
 
-/// The same, by the test of this task.
+/// The same, with the task's test of symmetry.
 fn tested_exchanges(
     alloc: Global,
     cert: &Cert,
@@ -76,7 +76,7 @@ fn tested_exchanges(
     Ok(made)
 }
 
-/// The exchange of these pairs, if it is a symmetry of the task and takes numbered atoms to numbered atoms.
+/// The exchange of these pairs, if it is a symmetry of the task and maps numbered atoms to numbered atoms.
 fn symmetric_exchange(
     alloc: Global,
     pairs: &[(ObjectId, ObjectId)],
@@ -114,7 +114,7 @@ fn exchange_with(
     Exchange::new(alloc, task, objects.as_slice())
 }
 
-/// Whether the exchange is a symmetry of the task and takes numbered atoms to numbered atoms.
+/// Whether the exchange is a symmetry of the task and maps numbered atoms to numbered atoms.
 fn is_symmetry(
     alloc: Global,
     exchange: &Exchange,
@@ -131,7 +131,7 @@ fn is_symmetry(
     Ok(numbers.is_some())
 }
 
-/// The refusal of the exchange at this place, from 0, by its line.
+/// Refuses the exchange at this place, from 0, by its line.
 fn swap_line(place: usize) -> Refusal
     requires { place < 2 ^ 32 }
     ensures { result ≡ Refusal.Line NotSymmetry (exchange_line place) }
@@ -142,7 +142,7 @@ fn swap_line(place: usize) -> Refusal
     }
 }
 
-/// The representatives by these exchanges, each of which takes numbered atoms to numbered atoms.
+/// The representatives by these exchanges, each of which maps numbered atoms to numbered atoms.
 pub(super) fn representatives_by<'g, 't, 'e>(
     alloc: Global,
     grounded: &'g Ground<'t>,

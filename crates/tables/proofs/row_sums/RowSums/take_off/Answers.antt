@@ -8,7 +8,7 @@ use Rattle.table_rows.proofs.TableLemmas.{rows-weighed}
 use Rattle.table_losses.proofs.FateLemmas.{row-there}
 use Rattle.tables.specs.AllTables.{tables_of, count_of}
 use Rattle.tables.specs.RowSums.{AreAdded}
-use Rattle.tables.proofs.RowSumsLemmas.{all-small, all-ranged, few-tables, sums-off, lacking-most}
+use Rattle.tables.proofs.RowSumsLemmas.{as-losses, all-small, all-ranged, few-tables, sums-off, lacking-most}
 use Rattle.tables.proofs.TablesLemmas.{each-at}
 use Rattle.tables.proofs.row_sums.RowSums.take_off.Goals as goal
 use Rattle.tables.proofs.row_sums.RowSums.take_off.Goals.{After-table}
@@ -37,7 +37,7 @@ pub take_each-requires-clause-range : goal.take_each-requires-clause-range
 take_each-requires-clause-range c =
     let t = table_of c.table.result.now in
     let it = row-there t.rows c.in-Some.row (below (goal.at.take_each-requires-clause-range c).After-table) in
-    subst (All IsInRange) (sym (c.weights.ensures it.0 it.1)) (each-at (λ (r : Row). All IsInRange r.weights) t.rows c.in-Some.row it.0 it.1 c.table.ensures.range)
+    as-losses c.weights.result.now (subst (All IsInRange) (sym (c.weights.ensures it.0 it.1)) (each-at (λ (r : Row). All IsInRange r.weights) t.rows c.in-Some.row it.0 it.1 c.table.ensures.range))
 
 pub take_each-requires-clause-small : goal.take_each-requires-clause-small
 take_each-requires-clause-small c = all-small (tables_of c.args.tables.now) (count_of c.args.tables.now) c.args.self.now (all-ranged c.args.tables.now) (few-tables c.args.tables.now) c.requires.sums
