@@ -2,6 +2,7 @@
 use arrayvec::ArrayVec;
 use faults::{Fault, NoMemory};
 use formulas::{Atom, Instance};
+use grounding::Ground;
 use pddl_tree::{Domain, Problem, domain, problem};
 use std::alloc::Global;
 use std::test::Fail;
@@ -13,13 +14,13 @@ use typing::FromTrees;
 pub type Application = (usize, &'static [u32]);
 
 /// Parses a domain's text.
-pub fn read_domain(alloc: Global, text: &[u8]) -> Result<Domain<'_>, Fault> {
+fn read_domain(alloc: Global, text: &[u8]) -> Result<Domain<'_>, Fault> {
     let words = scan(alloc, text)?;
     domain(alloc, words.as_slice())
 }
 
 /// Parses a problem's text.
-pub fn read_problem(alloc: Global, text: &[u8]) -> Result<Problem<'_>, Fault> {
+fn read_problem(alloc: Global, text: &[u8]) -> Result<Problem<'_>, Fault> {
     let words = scan(alloc, text)?;
     problem(alloc, words.as_slice())
 }
@@ -42,6 +43,20 @@ pub fn on_task<R, F: FnOnce(&R, Global, &Task) -> Result<(), Fail> + Drop>(
 {
     let task = read_task(alloc, texts)?;
     act(rt, alloc, &task)
+}
+
+/// Runs this function on the ground task of the texts.
+pub fn on_ground<R, F: FnOnce(&R, Global, &Ground<'_>) -> Result<(), Fail> + Drop>(
+    rt: &R,
+    alloc: Global,
+    texts: &[&str; 2],
+    act: F,
+) -> Result<(), Fail>
+    requires { F.IsAlwaysCallable act }
+{
+    let task = read_task(alloc, texts)?;
+    let ground = Ground::new(alloc, &task, &[], 100)?;
+    act(rt, alloc, &ground)
 }
 
 /// The objects with these numbers.
@@ -76,10 +91,4 @@ pub fn instance(schema: usize, numbers: &[u32]) -> Instance {
         schema: SchemaId(schema),
         objects: objects(numbers),
     }
-}
-
-/// Whether the instance is this schema with these objects.
-pub fn is_of(found: &Instance, wanted: &Application) -> bool {
-    let objects = objects(wanted.1);
-    found.schema == SchemaId(wanted.0) && found.objects == objects
 }

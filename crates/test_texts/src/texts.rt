@@ -145,14 +145,6 @@ pub const TRIP: Texts = [
  (:goal (at c)) (:metric minimize (total-cost)))",
 ];
 
-/// Sixteen lamps are lit one by one.
-pub const LAMPS: Texts = [
-    "(define (domain lamps) (:predicates (on ?s))
- (:action flip :parameters (?s) :precondition (not (on ?s)) :effect (on ?s)))",
-    "(define (problem l) (:domain lamps) (:objects a b c d e f g h i j k l m n o p) (:init)
- (:goal (forall (?s) (on ?s))))",
-];
-
 /// Tiles on a board: a tile next to the gap slides into it. Cells are not tiles, but no condition says so.
 const SLIDE_DOMAIN: &str = "(define (domain slide) (:predicates (at ?t ?c) (gap ?c) (beside ?c ?d))
  (:action slide :parameters (?t ?from ?to) :precondition (and (at ?t ?from) (gap ?to) (beside ?from ?to))
