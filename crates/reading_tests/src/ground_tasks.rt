@@ -7,8 +7,9 @@ use faults::NoMemory;
 use grounding::Ground;
 use packed_state::Packed;
 use std::alloc::Global;
+use std::process::Abort;
 use std::test::Fail;
-use test_texts::{Texts, on_ground};
+use test_texts::{Texts, on_task};
 
 /// A lamp, and a way from the first place to the second that is visible when the lamp is lit.
 const LAMP: Texts = [
@@ -72,12 +73,17 @@ fn leads(alloc: Global, ground: &Ground<'_>, line: &Line) -> Result<bool, NoMemo
     Ok((light.as_deref(), go.as_deref()) == line.1)
 }
 
+fn are_led(rt: &impl Abort, alloc: Global, ground: &Ground<'_>) -> Result<(), Fail> {
+    for (number, line) in LINES.iter().enumerate() {
+        assert!(rt; leads(alloc, ground, line)?, "line {number}");
+    }
+    Ok(())
+}
+
 #[test]
 fn instances_lead_from_state_to_state(rt: HostRuntime) -> Result<(), Fail> {
-    on_ground(&rt, rt.alloc(), &LAMP, |rt, alloc, ground| {
-        for (number, line) in LINES.iter().enumerate() {
-            assert!(rt; leads(alloc, ground, line)?, "line {number}");
-        }
-        Ok(())
+    on_task(&rt, rt.alloc(), &LAMP, |rt, alloc, task| {
+        let ground = Ground::new(alloc, task, &[], 10)?;
+        are_led(rt, alloc, &ground)
     })
 }

@@ -71,12 +71,7 @@ fn cert(alloc: Global) -> Result<Option<Cert>, NoMemory> {
 }
 
 /// The result of writing, and the bytes taken, if the sink takes a thousand bytes per write and the write after this many fails.
-fn taken(
-    alloc: Global,
-    task: &Task,
-    cert: &Cert,
-    writes: u64,
-) -> (Result<(), IoFault>, Vec<u8>) {
+fn taken(alloc: Global, task: &Task, cert: &Cert, writes: u64) -> (Result<(), IoFault>, Vec<u8>) {
     let pieces = InPieces::new(Memory::empty(alloc), 1_000);
     let mut sink = FailsAt::sink(pieces, Some(writes));
     let written = write_cert(alloc, task, cert, &mut sink);

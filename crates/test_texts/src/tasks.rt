@@ -2,7 +2,6 @@
 use arrayvec::ArrayVec;
 use faults::{Fault, NoMemory};
 use formulas::{Atom, Instance};
-use grounding::Ground;
 use pddl_tree::{Domain, Problem, domain, problem};
 use std::alloc::Global;
 use std::test::Fail;
@@ -43,20 +42,6 @@ pub fn on_task<R, F: FnOnce(&R, Global, &Task) -> Result<(), Fail> + Drop>(
 {
     let task = read_task(alloc, texts)?;
     act(rt, alloc, &task)
-}
-
-/// Runs this function on the ground task of the texts.
-pub fn on_ground<R, F: FnOnce(&R, Global, &Ground<'_>) -> Result<(), Fail> + Drop>(
-    rt: &R,
-    alloc: Global,
-    texts: &[&str; 2],
-    act: F,
-) -> Result<(), Fail>
-    requires { F.IsAlwaysCallable act }
-{
-    let task = read_task(alloc, texts)?;
-    let ground = Ground::new(alloc, &task, &[], 100)?;
-    act(rt, alloc, &ground)
 }
 
 /// The objects with these numbers.
