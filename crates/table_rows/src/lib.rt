@@ -5,8 +5,6 @@ mod by_atoms;
 mod places;
 mod rows;
 mod table;
-#[cfg(test)]
-mod tests;
 
 pub use by_atoms::Added;
 pub use places::place_in;

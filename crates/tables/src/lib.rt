@@ -10,8 +10,6 @@ mod row_sums;
 mod scope_places;
 mod several;
 mod tables;
-#[cfg(test)]
-mod tests;
 mod unfair;
 mod values;
 
