@@ -217,21 +217,26 @@ fn cert_of(answer: &Answer) -> Option<&Cert> {
     }
 }
 
-/// Whether the answer at this limit of states has a certificate, and it matches what the search over the plain store finds.
-fn has_same(alloc: Global, task: &Task, states: u32) -> Result<bool, Fail> {
-    let limits = Limits::new(states, 1000).ok_or("no limits")?;
-    let answer = solve(alloc, task, limits)?;
-    match cert_of(&answer) {
-        Some(cert) => Ok(is_same(alloc, task, limits, cert)?),
+/// Whether the answer has a certificate, and it matches what the search over the plain store finds.
+fn has_same(alloc: Global, task: &Task, limits: Limits, answer: &Answer) -> Result<bool, NoMemory> {
+    match cert_of(answer) {
+        Some(cert) => is_same(alloc, task, limits, cert),
         None => Ok(false),
     }
+}
+
+/// The same for the answer to the task.
+fn answer_has_same(alloc: Global, task: &Task, limits: Limits) -> Result<bool, NoMemory> {
+    let answer = solve(alloc, task, limits)?;
+    has_same(alloc, task, limits, &answer)
 }
 
 #[test]
 fn stores_give_the_same_certificate(rt: HostRuntime) -> Result<(), Fail> {
     for (texts, states) in &TASKS {
+        let limits = Limits::new(*states, 1000).ok_or("no limits")?;
         on_task(&rt, rt.alloc(), texts, |rt, alloc, task| {
-            assert!(rt; has_same(alloc, task, *states)?, "{states}");
+            assert!(rt; answer_has_same(alloc, task, limits)?, "{states}");
             Ok(())
         })?;
     }
