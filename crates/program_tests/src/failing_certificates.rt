@@ -1,6 +1,6 @@
 //! Tests of the output order: the certificate file comes before the plan file, and both before standard output.
 use crate::failing_files::{Failing, FailingFiles, WRITE_PIECE};
-use crate::failing_runs::{OLDER, TWO_HOPS, ran, table};
+use crate::failing_runs::{OLDER, TWO_HOPS, run_with, table};
 use std::alloc::Global;
 use std::process::Abort;
 use std::test::Fail;
@@ -19,7 +19,7 @@ fn leaves(
     left: [Option<&[u8]>; 3],
 ) -> Result<bool, Fail> {
     let mut files = FailingFiles::new(table(alloc)?, failing);
-    let ran = ran(alloc, &SOLVE, &mut files);
+    let ran = run_with(alloc, &SOLVE, &mut files);
     let [certificate, plan, reported] = left;
     Ok(
         ran.status == status
@@ -32,7 +32,7 @@ fn leaves(
 /// What a run without failures writes to the certificate file.
 fn certificate(alloc: Global) -> Result<Vec<u8>, Fail> {
     let mut files = FailingFiles::new(table(alloc)?, Failing::Never);
-    let _ = ran(alloc, &SOLVE, &mut files);
+    let _ = run_with(alloc, &SOLVE, &mut files);
     let written = files.table.get("cert").ok_or("no certificate")?;
     Ok(Vec::from_slice(alloc, written)?)
 }

@@ -42,7 +42,7 @@ pub(crate) struct Ran {
 }
 
 /// What a run with these words leaves.
-pub(crate) fn ran<F: Files>(alloc: Global, words: &[&str], files: &mut F) -> Ran {
+pub(crate) fn run_with<F: Files>(alloc: Global, words: &[&str], files: &mut F) -> Ran {
     let (mut out, mut err) = (Memory::empty(alloc), Memory::empty(alloc));
     let status = run(alloc, words, files, &mut out, &mut err);
     Ran { status, out, err }
@@ -74,7 +74,7 @@ const NOTHING: Left<'static> = Left {
 /// otherwise.
 fn leaves_where(alloc: Global, failing: Failing, wanted: Left<'_>) -> Result<bool, NoMemory> {
     let mut files = FailingFiles::new(table(alloc)?, failing);
-    let ran = ran(alloc, &SOLVE, &mut files);
+    let ran = run_with(alloc, &SOLVE, &mut files);
     let reported: &[u8] = if ran.status == 21 {
         b"fault 61 Device\n"
     } else {
@@ -140,7 +140,7 @@ const SOLVE_AND_SAY: [&str; 6] = ["solve", "domain", "problem", "--plan", "out",
 /// Whether standard error ends with the name of the failing file, if this operation on it fails.
 fn says_which(alloc: Global, failing: Failing) -> Result<bool, NoMemory> {
     let mut files = FailingFiles::new(table(alloc)?, failing);
-    let ran = ran(alloc, &SOLVE_AND_SAY, &mut files);
+    let ran = run_with(alloc, &SOLVE_AND_SAY, &mut files);
     let last = b"\nprogress=failed file=out\nfault 61 Device\n".as_slice();
     Ok(ran.status == 21 && ran.err.as_slice().ends_with(last))
 }
@@ -162,7 +162,7 @@ fn the_file_that_fails_is_named(rt: HostRuntime) -> Result<(), Fail> {
 
 /// Whether a run over endless files reports that the domain is too long, and nothing else.
 fn is_too_long(alloc: Global) -> bool {
-    let ran = ran(alloc, &SOLVE, &mut EndlessFiles::new(alloc));
+    let ran = run_with(alloc, &SOLVE, &mut EndlessFiles::new(alloc));
     let reported = b"fault 5 TooLong in domain at 16777216..16777217\n".as_slice();
     ran.status == 20 && ran.out.as_slice().is_empty() && ran.err.as_slice() == reported
 }
