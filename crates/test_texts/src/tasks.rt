@@ -13,13 +13,13 @@ use typing::FromTrees;
 pub type Application = (usize, &'static [u32]);
 
 /// Parses a domain's text.
-pub fn read_domain(alloc: Global, text: &[u8]) -> Result<Domain<'_>, Fault> {
+fn read_domain(alloc: Global, text: &[u8]) -> Result<Domain<'_>, Fault> {
     let words = scan(alloc, text)?;
     domain(alloc, words.as_slice())
 }
 
 /// Parses a problem's text.
-pub fn read_problem(alloc: Global, text: &[u8]) -> Result<Problem<'_>, Fault> {
+fn read_problem(alloc: Global, text: &[u8]) -> Result<Problem<'_>, Fault> {
     let words = scan(alloc, text)?;
     problem(alloc, words.as_slice())
 }
@@ -76,10 +76,4 @@ pub fn instance(schema: usize, numbers: &[u32]) -> Instance {
         schema: SchemaId(schema),
         objects: objects(numbers),
     }
-}
-
-/// Whether the instance is this schema with these objects.
-pub fn is_of(found: &Instance, wanted: &Application) -> bool {
-    let objects = objects(wanted.1);
-    found.schema == SchemaId(wanted.0) && found.objects == objects
 }

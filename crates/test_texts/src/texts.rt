@@ -85,25 +85,6 @@ pub const FOUR_BLOCKS: Texts = [
  (:goal (and (on a b) (on b c) (on c d))))",
 ];
 
-/// Four balls are picked up and dropped, two of them carried at a time: three trips between the rooms.
-pub const FOUR_BALLS: Texts = [
-    "(define (domain gripper)
- (:predicates (room ?r) (ball ?b) (gripper ?g) (at-robot ?r) (at ?b ?r) (free ?g) (carry ?b ?g))
- (:action move :parameters (?from ?to)
-  :precondition (and (room ?from) (room ?to) (at-robot ?from))
-  :effect (and (at-robot ?to) (not (at-robot ?from))))
- (:action pick :parameters (?b ?r ?g)
-  :precondition (and (ball ?b) (room ?r) (gripper ?g) (at ?b ?r) (at-robot ?r) (free ?g))
-  :effect (and (carry ?b ?g) (not (at ?b ?r)) (not (free ?g))))
- (:action drop :parameters (?b ?r ?g)
-  :precondition (and (ball ?b) (room ?r) (gripper ?g) (carry ?b ?g) (at-robot ?r))
-  :effect (and (at ?b ?r) (free ?g) (not (carry ?b ?g)))))",
-    "(define (problem four) (:domain gripper) (:objects a b b1 b2 b3 b4 left right)
- (:init (room a) (room b) (ball b1) (ball b2) (ball b3) (ball b4) (gripper left) (gripper right)
-  (at-robot a) (free left) (free right) (at b1 a) (at b2 a) (at b3 a) (at b4 a))
- (:goal (and (at b1 b) (at b2 b) (at b3 b) (at b4 b))))",
-];
-
 /// Conditions are evaluated in the state before the step.
 pub const SNAP: Texts = [
     "(define (domain snap) (:predicates (lit) (out))
@@ -143,14 +124,6 @@ pub const TRIP: Texts = [
     "(define (problem t) (:domain trip) (:objects a b c)
  (:init (at a) (road a b) (road b c) (road a c) (= (len a b) 2) (= (len b c) 3) (= (len a c) 9))
  (:goal (at c)) (:metric minimize (total-cost)))",
-];
-
-/// Sixteen lamps are lit one by one.
-pub const LAMPS: Texts = [
-    "(define (domain lamps) (:predicates (on ?s))
- (:action flip :parameters (?s) :precondition (not (on ?s)) :effect (on ?s)))",
-    "(define (problem l) (:domain lamps) (:objects a b c d e f g h i j k l m n o p) (:init)
- (:goal (forall (?s) (on ?s))))",
 ];
 
 /// Tiles on a board: a tile next to the gap slides into it. Cells are not tiles, but no condition says so.
