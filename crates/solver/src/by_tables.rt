@@ -1,8 +1,8 @@
-//! Answers by a search that goes by values over tables.
+//! Search by values over tables.
 //!
-//! Tables are drafted, of which nothing is known. They are taken if a certificate can have them, they would have saved the
-//! search by potentials enough of the states that it expanded so far, and a test says that they are fair. Of the values over tables the
-//! first one is that of the potentials.
+//! Nothing is known of drafted tables. They are used if a certificate can have them, if they would have saved the paused search by
+//! potentials enough of its expansions, and if they pass the test of fairness. The potentials of the first value are those of that
+//! search.
 ghost use Rattle.std.specs.Prelude.{◌≡◌, ◌==◌, ◌≤◌, [], IfOk, IfSome, IsTrue, Some, length, map, slice_get};
 ghost use Rattle.std.specs.List.{list_all};
 ghost use Rattle.certificate.specs.CertificateParts.{are_bounds, bounds_of, potential_of};
@@ -46,7 +46,7 @@ use table_rows::Table;
 use tables::{IndexedTables, TableFunctions, ValuesFairness};
 use tables_drafted::{DraftedTables, Wanted, drafted_tables};
 
-/// The answer by tables, if such are found that are better than the potentials of a search that pauses so.
+/// The answer by tables, if better ones than the potentials of the paused search are found.
 pub(crate) fn solve_by_tables<E: Sink>(
     alloc: Global,
     space: SearchSpace<'_, '_>,
@@ -85,7 +85,7 @@ pub(crate) fn solve_by_tables<E: Sink>(
     )
 }
 
-/// Tables that may be better than the potentials of a search that pauses so.
+/// A draft of tables that may be better than the potentials of the paused search.
 fn drafted(
     alloc: Global,
     space: SearchSpace<'_, '_>,
@@ -108,7 +108,7 @@ fn drafted(
     Ok(draft)
 }
 
-/// The same constants and weights of all values, as a certificate has them.
+/// The constants and weights of these values, as a certificate has them.
 fn written(alloc: Global, values: &[Potentials]) -> Result<Vec<Potential>, NoMemory>
     ensures { IfOk result (λ written. map potential_of written.items ≡ map potentials_of values.now) }
 {
@@ -119,8 +119,8 @@ fn written(alloc: Global, values: &[Potentials]) -> Result<Vec<Potential>, NoMem
     Ok(written)
 }
 
-/// The answer by these values, which are given as potentials too, over their tables, if they are fair, and better than what the
-/// search that pauses goes by.
+/// The answer by these values over tables, if they are fair and better than the potentials of the paused search. `values` and
+/// `dead_ends` are those of `bounds`, as potentials.
 fn answer_by_tables<E: Sink>(
     alloc: Global,
     space: SearchSpace<'_, '_>,
@@ -159,8 +159,8 @@ fn answer_by_tables<E: Sink>(
     }
 }
 
-/// What a search by these values comes to, if they are fair, and better. Whether they are better is asked first, as it takes less
-/// time than the test of fairness.
+/// Searches by these values, if they are fair and better. Whether they are better is tested first, which takes less time than the test
+/// of fairness.
 fn search_by_tables<'l, 't, E: Sink>(
     alloc: Global,
     space: SearchSpace<'l, 't>,
@@ -200,7 +200,7 @@ fn search_by_tables<'l, 't, E: Sink>(
     Ok(Attempt::InVain)
 }
 
-/// Whether the initial state's value by these is at least that by the potentials.
+/// Whether the initial state's value is at least that by the potentials.
 fn starts_no_lower(
     alloc: Global,
     ground: &Ground<'_>,
@@ -217,7 +217,7 @@ fn starts_no_lower(
     Ok(potentials.value(&initial) <= value)
 }
 
-/// What a search by these values comes to, if they are fair.
+/// Searches by these values, if they are fair.
 fn search_if_fair<'l, 't, E: Sink>(
     alloc: Global,
     space: SearchSpace<'l, 't>,
@@ -242,7 +242,7 @@ fn search_if_fair<'l, 't, E: Sink>(
     }
 }
 
-/// These values over these tables, if their rows have a weight for each.
+/// These values over these tables, if each row has a weight for each value.
 fn functions_over<'a>(
     alloc: Global,
     ground: &Ground<'_>,
@@ -261,7 +261,7 @@ fn functions_over<'a>(
     Ok(Some(TableFunctions::new(values, dead_ends, indexed)))
 }
 
-/// Whether the rows of each table have so many weights; so they would in one that has no row.
+/// Whether each table has this number of weights a row. A table without rows has one too.
 fn have_weights(tables: &[Table], count: u32) -> bool
     ensures { result ≡ list_all (λ (t : in_memory.Table). weight_count_of t == count) tables.now }
 {
@@ -273,7 +273,7 @@ fn have_weights(tables: &[Table], count: u32) -> bool
     true
 }
 
-/// Whether the table's rows do.
+/// Whether the table does.
 fn has_weights(table: &Table, count: u32) -> bool
     ensures { result ≡ (weight_count_of table.now == count) }
 {

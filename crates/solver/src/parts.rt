@@ -27,56 +27,56 @@ use search::{Guide, Search};
 use std::alloc::Global;
 use tables_drafted::Effort;
 
-/// Where a search by potentials pauses, and how much is looked at for tables then.
+/// A pause of a search by potentials, at which tables are drafted.
 #[derive(Clone, Copy)]
 struct Pause {
-    /// How many states are listed, at least.
+    /// The number of listed states, at least.
     states: u32,
+    /// The effort of the draft.
     effort: Effort,
 }
 
-/// The first pause. So a task that is solved by fewer states is solved without tables.
+/// The first pause. A task that is solved by fewer states is solved without tables.
 const QUICK: Pause = Pause {
     states: 100_000,
     effort: Effort::Quick,
 };
 
-/// The second one, where tables that were found quickly are of some use, but not of enough.
+/// The second pause, if a quick draft is promising.
 const THOROUGH: Pause = Pause {
     states: 500_000,
     effort: Effort::Thorough,
 };
 
-/// The potentials that a search goes by.
+/// The potentials that guide a search.
 #[derive(Clone, Copy)]
 pub(crate) struct Given<'a> {
     pub(crate) potentials: &'a Potentials,
-    /// Those for dead ends.
+    /// The potentials for dead ends.
     pub(crate) dead_ends: &'a Potentials,
 }
 
-/// What a search in parts comes to.
+/// The end of a search in parts.
 #[derive(Drop)]
 pub(crate) enum Parts<'l, 't> {
-    /// An answer by tables that were found at a pause.
+    /// An answer by tables that were drafted at a pause.
     ByTables(Answer),
     /// The search's own end.
     ByGuide(Searched<'l, 't>),
 }
 
-/// What a part of a search comes to, and a look for tables after it.
+/// The end of a part: of the search up to a pause, and the attempt with tables there.
 #[derive(Drop)]
 enum Part<'l, 't, R> {
-    /// The end.
+    /// The end of the search.
     Ended(Parts<'l, 't>),
-    /// No tables, but with more effort some may be found.
+    /// No tables yet, but more effort is promising.
     Promising(Search<GroundListing<'l, 't>, R>),
     /// No tables, and none are expected.
     InVain(Search<GroundListing<'l, 't>, R>),
 }
 
-/// What a search of the ground task by the guide comes to, which goes by these potentials; or the answer by tables, if such are
-/// found at a pause that are better.
+/// Searches the ground task by the guide, which is that of these potentials. At each pause it tries to switch to tables.
 pub(crate) fn search_in_parts<'l, 't, G: Guide, E: Sink>(
     alloc: Global,
     space: SearchSpace<'l, 't>,
@@ -103,7 +103,7 @@ pub(crate) fn search_in_parts<'l, 't, G: Guide, E: Sink>(
     }
 }
 
-/// The same after the first pause.
+/// Continues the search after the first pause.
 fn search_on<'l, 't, G: Guide, E: Sink>(
     alloc: Global,
     space: SearchSpace<'l, 't>,
@@ -131,7 +131,7 @@ fn search_on<'l, 't, G: Guide, E: Sink>(
     }
 }
 
-/// The same after the last pause.
+/// Continues the search after the last pause.
 fn search_to_end<'l, 't, G: Guide, E: Sink>(
     alloc: Global,
     space: SearchSpace<'l, 't>,
@@ -151,7 +151,7 @@ fn search_to_end<'l, 't, G: Guide, E: Sink>(
     Ok(Parts::ByGuide(searched))
 }
 
-/// The search up to a pause, and a look for tables there. There is no pause where no more states may be listed.
+/// Continues the search to a pause, and tries to switch to tables there. There is no pause at the limit of states.
 fn search_to_pause<'l, 't, G: Guide, E: Sink>(
     alloc: Global,
     space: SearchSpace<'l, 't>,
@@ -188,7 +188,7 @@ fn search_to_pause<'l, 't, G: Guide, E: Sink>(
     }
 }
 
-/// The answer by tables, if such are found that are better than the potentials of this search.
+/// The answer by tables, if better ones than the potentials of this search are found.
 fn solve_at_pause<R, E: Sink>(
     alloc: Global,
     space: SearchSpace<'_, '_>,

@@ -1,7 +1,7 @@
-//! A search, with what its certificate says of each state that it found.
+//! A search of the ground task, with the certificate's mark of each found state.
 //!
-//! What is said of the states is written down where the search ends, so that what its guide works with, as the tables of values, can go
-//! into the certificate and is in memory once. The guide is not asked again: the search tells the estimates of the states that wait.
+//! Marks are made where the search ends, from the estimates that it tells. So the guide is not asked again, and its tables can move into
+//! the certificate without a copy.
 ghost use Rattle.std.specs.Prelude.{◌≡◌, ℕ, Bool, List, count_by, length, IfOk};
 ghost use Rattle.grounding.specs.Ground.{task_in, atoms_in};
 ghost use Rattle.search.specs.Outcome.{is_expanded};
@@ -24,14 +24,14 @@ use search::{
 };
 use std::alloc::Global;
 
-/// What a search came to, and what its certificate says of each state that it found, in order.
+/// The outcome of a search, and the certificate's mark of each found state, in order.
 #[derive(Drop)]
 pub(crate) struct Searched<'l, 't> {
     pub(crate) outcome: Outcome<GroundListing<'l, 't>>,
     pub(crate) marks: Vec<Listed>,
 }
 
-/// How far a search came.
+/// How far a search has come.
 #[derive(Drop)]
 pub(crate) enum Stretch<'l, 't, R> {
     /// To its end.
@@ -40,7 +40,7 @@ pub(crate) enum Stretch<'l, 't, R> {
     Paused(Search<GroundListing<'l, 't>, R>),
 }
 
-/// A search of the ground task by the guide, which has found the initial state alone.
+/// Begins a search of the ground task by the guide. The initial state alone is found.
 pub(crate) fn begin_by<'l, 't, G: Guide>(
     alloc: Global,
     space: SearchSpace<'l, 't>,
@@ -55,7 +55,7 @@ pub(crate) fn begin_by<'l, 't, G: Guide>(
     begin(alloc, &system, guide, listing)
 }
 
-/// Goes on with it until it ends, or so many states are listed.
+/// Continues the search until it ends or `pause` states are listed.
 fn stretch_by<'l, 't, G: Guide>(
     alloc: Global,
     space: SearchSpace<'l, 't>,
@@ -80,8 +80,8 @@ fn stretch_by<'l, 't, G: Guide>(
     }
 }
 
-/// Goes on with it until it ends, or so many states are listed. It says how far it is, and again where the bound is greater than
-/// was said, or twice as many states are listed.
+/// Continues the search until it ends or `pause` states are listed, and reports progress: now, and whenever the bound has risen or the
+/// listing has doubled.
 pub(crate) fn go_on_by<'l, 't, G: Guide, E: Sink>(
     alloc: Global,
     space: SearchSpace<'l, 't>,
@@ -111,7 +111,7 @@ pub(crate) fn go_on_by<'l, 't, G: Guide, E: Sink>(
     Ok(Stretch::Paused(search))
 }
 
-/// Says how far a search is, if there is anything new to say after what was said last: what was said last from now on.
+/// Reports progress if there is news after the last report. The result is the last report from now on.
 fn say_news<G: Guide, E: Sink>(
     alloc: Global,
     space: SearchSpace<'_, '_>,
@@ -133,8 +133,7 @@ fn say_news<G: Guide, E: Sink>(
     Ok(now)
 }
 
-/// Says how far a search is: what every plan costs at least, how many states it lists, and how many of them it expanded. Where none
-/// waits, nothing is said, as the search is about to end.
+/// Reports progress, unless the open list is empty: then the search is about to end.
 fn say_progress<G: Guide, E: Sink>(
     alloc: Global,
     space: SearchSpace<'_, '_>,
@@ -160,7 +159,7 @@ fn say_progress<G: Guide, E: Sink>(
     say(alloc, report, err)
 }
 
-/// How many of these were expanded.
+/// The number of expanded states.
 fn expanded_in(nodes: &[Node]) -> usize
     ensures { result ≡ count_by is_expanded nodes.now }
 {
@@ -173,7 +172,7 @@ fn expanded_in(nodes: &[Node]) -> usize
     count
 }
 
-/// Goes on with it until it ends.
+/// Continues the search to its end, and reports progress.
 pub(crate) fn finish_by<'l, 't, G: Guide, E: Sink>(
     alloc: Global,
     space: SearchSpace<'l, 't>,
@@ -195,7 +194,7 @@ pub(crate) fn finish_by<'l, 't, G: Guide, E: Sink>(
     }
 }
 
-/// What a search of the ground task by the guide comes to.
+/// Searches the ground task by the guide, and reports progress.
 pub(crate) fn search_by<'l, 't, G: Guide, E: Sink>(
     alloc: Global,
     space: SearchSpace<'l, 't>,
@@ -213,7 +212,7 @@ pub(crate) fn search_by<'l, 't, G: Guide, E: Sink>(
     finish_by(alloc, space, guide, search, limits, err)
 }
 
-/// The states that were found.
+/// The found states.
 fn found_in<'o, 'l, 't>(
     outcome: &'o Outcome<GroundListing<'l, 't>>,
 ) -> &'o FoundStates<GroundListing<'l, 't>>
@@ -226,7 +225,7 @@ fn found_in<'o, 'l, 't>(
     }
 }
 
-/// A mark for each found state, in order.
+/// The marks of the found states, in order.
 fn marks(alloc: Global, found: &FoundStates<GroundListing<'_, '_>>) -> Result<Vec<Listed>, NoMemory>
     requires { length found.now.estimates.items ≡ length found.now.nodes.items }
     ensures { IfOk result (λ marks. (estimate : List Bool → ℕ) (is_dead : List Bool → Bool)
@@ -239,8 +238,7 @@ fn marks(alloc: Global, found: &FoundStates<GroundListing<'_, '_>>) -> Result<Ve
     Ok(marks)
 }
 
-/// How a state is listed that was reached so and has this estimate: as an open one where it was expanded, as a dead end where its node
-/// says so, and else as a cut.
+/// The mark of a state with this node: open if it was expanded, dead if it is marked dead, and otherwise a cut with this estimate.
 fn listed(node: Node, estimate: u64) -> Listed
     ensures { IsMarkOf node estimate result }
 {
