@@ -29,6 +29,7 @@ use crate::listing::cert_of;
 use crate::parts::{Given, Parts, search_in_parts};
 use crate::reports::{RaisedBy, Report, say};
 use crate::searched::Searched;
+use crate::setting::{Session, Setting};
 use certificate::{Cert, Claim, Listed, Mark};
 use devices::Sink;
 use faults::{NoMemory, Refused};
@@ -269,73 +270,78 @@ fn solve_listed<E: Sink>(
     let estimate: Fair<'_, '_> = improved(alloc, ground, &groundwork)?;
     let dead_ends: DeadFair<'_, '_> = improved(alloc, ground, &groundwork)?;
     drop(groundwork);
-    solve_by_potentials(alloc, space, &estimate, &dead_ends, limits, err)
+    let setting = Setting {
+        alloc,
+        space,
+        limits,
+    };
+    solve_by_potentials(setting, &estimate, &dead_ends, err)
 }
 
 /// Solves the ground task by these potentials, or by tables if better ones are found during the search.
 fn solve_by_potentials<E: Sink>(
-    alloc: Global,
-    space: SearchSpace<'_, '_>,
+    setting: Setting<'_, '_>,
     estimate: &Fair<'_, '_>,
     dead_ends: &DeadFair<'_, '_>,
-    limits: Limits,
     err: &mut E,
 ) -> Result<Answer, NoMemory>
-    requires space { IsSearchSpace space }
-    requires ground { IsGroundOf (task_in (ground_in space)) [] limits.instances (ground_in space) }
-    requires estimate { fair.ground_in estimate.now ≡ ground_in space }
-    requires improved { AreSettledOrHigh (task_in (ground_in space)) (atoms_in (ground_in space)) (potentials_in estimate.now) }
-    requires dead_ends { fair.ground_in dead_ends.now ≡ ground_in space }
-    requires dead_ends_improved { AreDeadSettledOrHigh (task_in (ground_in space)) (atoms_in (ground_in space)) (potentials_in dead_ends.now) }
-    ensures answer { IfOk result (IsTrueAnswer (task_in (ground_in space.entry)) limits.states limits.instances) }
-    ensures said { GoesOn (IsTrueLine (task_in (ground_in space.entry))) E.wants_memory (E.failures err.old) (E.taken err.old) (E.failures err.new) (E.taken err.new) }
+    requires space { IsSearchSpace setting.space }
+    requires ground { IsGroundOf (task_in (ground_in setting.space)) [] setting.limits.instances (ground_in setting.space) }
+    requires estimate { fair.ground_in estimate.now ≡ ground_in setting.space }
+    requires improved { AreSettledOrHigh (task_in (ground_in setting.space)) (atoms_in (ground_in setting.space)) (potentials_in estimate.now) }
+    requires dead_ends { fair.ground_in dead_ends.now ≡ ground_in setting.space }
+    requires dead_ends_improved { AreDeadSettledOrHigh (task_in (ground_in setting.space)) (atoms_in (ground_in setting.space)) (potentials_in dead_ends.now) }
+    ensures answer { IfOk result (IsTrueAnswer (task_in (ground_in setting.entry.space)) setting.entry.limits.states setting.entry.limits.instances) }
+    ensures said { GoesOn (IsTrueLine (task_in (ground_in setting.entry.space))) E.wants_memory (E.failures err.old) (E.taken err.old) (E.failures err.new) (E.taken err.new) }
 {
     let guide = EstimateWithDeadEnds::new(estimate, dead_ends);
     let given = Given {
         potentials: estimate.potentials(),
         dead_ends: dead_ends.potentials(),
     };
-    match search_in_parts(alloc, space, &guide, given, limits, err)? {
+    let session = Session {
+        setting,
+        guide: &guide,
+    };
+    match search_in_parts(&session, given, err)? {
         Parts::ByTables(answer) => Ok(answer),
-        Parts::ByGuide(searched) => answer_by_potentials(alloc, space, given, searched, limits),
+        Parts::ByGuide(searched) => answer_by_potentials(setting, given, searched),
     }
 }
 
 /// The answer of a search by these potentials.
 fn answer_by_potentials(
-    alloc: Global,
-    space: SearchSpace<'_, '_>,
+    setting: Setting<'_, '_>,
     given: Given<'_>,
     searched: Searched<'_, '_>,
-    limits: Limits,
 ) -> Result<Answer, NoMemory>
-    requires space { IsSearchSpace space }
-    requires ground { IsGroundOf (task_in (ground_in space)) [] limits.instances (ground_in space) }
-    requires guidance { IsGuidanceFor space (by_potentials_of space (potentials_of given.potentials.now) (potentials_of given.dead_ends.now)) }
-    requires searched { IsSearched space
-        (estimate_by (by_potentials_of space (potentials_of given.potentials.now) (potentials_of given.dead_ends.now)))
-        (reports_dead (by_potentials_of space (potentials_of given.potentials.now) (potentials_of given.dead_ends.now)))
-        limits.states searched.outcome searched.marks.items }
-    ensures { IfOk result (IsTrueAnswer (task_in (ground_in space.entry)) limits.states limits.instances) }
+    requires space { IsSearchSpace setting.space }
+    requires ground { IsGroundOf (task_in (ground_in setting.space)) [] setting.limits.instances (ground_in setting.space) }
+    requires guidance { IsGuidanceFor setting.space (by_potentials_of setting.space (potentials_of given.potentials.now) (potentials_of given.dead_ends.now)) }
+    requires searched { IsSearched setting.space
+        (estimate_by (by_potentials_of setting.space (potentials_of given.potentials.now) (potentials_of given.dead_ends.now)))
+        (reports_dead (by_potentials_of setting.space (potentials_of given.potentials.now) (potentials_of given.dead_ends.now)))
+        setting.limits.states searched.outcome searched.marks.items }
+    ensures { IfOk result (IsTrueAnswer (task_in (ground_in setting.entry.space)) setting.entry.limits.states setting.entry.limits.instances) }
 {
+    let Setting { alloc, space, .. } = setting;
     let guidance = guidance_by(alloc, space, given.potentials, given.dead_ends)?;
-    answer_of(alloc, space, guidance, searched, limits)
+    answer_of(setting, guidance, searched)
 }
 
 /// The answer of a search by this guidance, with its certificate.
 pub(crate) fn answer_of(
-    alloc: Global,
-    space: SearchSpace<'_, '_>,
+    setting: Setting<'_, '_>,
     guidance: Guidance,
     searched: Searched<'_, '_>,
-    limits: Limits,
 ) -> Result<Answer, NoMemory>
-    requires space { IsSearchSpace space }
-    requires ground { IsGroundOf (task_in (ground_in space)) [] limits.instances (ground_in space) }
-    requires guidance { IsGuidanceFor space (guidance_of guidance) }
-    requires searched { IsSearched space (estimate_by (guidance_of guidance)) (reports_dead (guidance_of guidance)) limits.states searched.outcome searched.marks.items }
-    ensures { IfOk result (IsTrueAnswer (task_in (ground_in space.entry)) limits.states limits.instances) }
+    requires space { IsSearchSpace setting.space }
+    requires ground { IsGroundOf (task_in (ground_in setting.space)) [] setting.limits.instances (ground_in setting.space) }
+    requires guidance { IsGuidanceFor setting.space (guidance_of guidance) }
+    requires searched { IsSearched setting.space (estimate_by (guidance_of guidance)) (reports_dead (guidance_of guidance)) setting.limits.states searched.outcome searched.marks.items }
+    ensures { IfOk result (IsTrueAnswer (task_in (ground_in setting.entry.space)) setting.entry.limits.states setting.entry.limits.instances) }
 {
+    let Setting { alloc, space, .. } = setting;
     let Searched { outcome, marks } = searched;
     match outcome {
         Outcome::Found {
