@@ -19,6 +19,9 @@ pub struct PooledStore {
     ghost pooled: { IsPoolOf width pool } by { Prim.hlevel props },
 }
 
+/// How many slots a new store's table has, a power of two: it grows by doubling, and keys choose slots by their lowest bits.
+const FIRST_SLOTS: usize = 16;
+
 impl PooledStore {
     ghost use Rattle.packed_state.specs.Store.{IsPlaced};
     ghost use Rattle.packed_state.specs.PooledStore.{rows_of};
@@ -29,7 +32,7 @@ impl PooledStore {
         ensures width { IfOk result (λ store. pooled_width store ≡ width) }
         ensures states { IfOk result (λ store. pooled_states store ≡ []) }
     {
-        let pool = Pool::new(alloc, words::words_for(width));
+        let pool = Pool::new(alloc, words::words_for(width), FIRST_SLOTS)?;
         Ok(PooledStore { width, pool })
     }
 
@@ -42,10 +45,11 @@ impl PooledStore {
         ensures err { OnErr result (rows_of self.new.pool ≡ rows_of self.old.pool) }
     {
         let place = self.pool.len() as u32;
+        self.pool.make_room()?;
         match self.pool.look_up(words) {
             Ok(place) => Ok((place, false)),
-            Err(key) => {
-                self.pool.push(words, key)?;
+            Err(vacancy) => {
+                self.pool.push(words, vacancy)?;
                 Ok((place, true))
             }
         }
