@@ -9,3 +9,4 @@ pub mod PlainLemmas
 pub mod TableLemmas
 pub mod PoolLemmas
 pub mod PoolSearch
+pub mod WordMaskLemmas

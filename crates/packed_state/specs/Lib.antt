@@ -8,3 +8,4 @@ pub mod Table
 pub mod Pool
 pub mod PooledStore
 pub mod PooledView
+pub mod WordMask

@@ -1,4 +1,4 @@
-//! The words of states, one after another, and a table of their places.
+//! The words of states, state after state, and a hash table of their places.
 ghost use Rattle.std.specs.Prelude.{◌≡◌, ◌+◌, ◌<◌, ◌≤◌, ◌↔◌, IsTrue, [], ◌∷◌, ◌++◌, length, slice_get, Contains, MatchResult, IfOk, OnOk, OnErr};
 ghost use Rattle.packed_state.specs.Pool.{row_at, mixed, key_of};
 ghost use Rattle.packed_state.specs.Table.{number_of, key_in, IsFirstFree};
@@ -8,17 +8,17 @@ use crate::words::are_same;
 use faults::NoMemory;
 use std::alloc::Global;
 
-/// The words of states, all in one vector, `stride` words each.
+/// States of `stride` words each, all in one vector.
 #[derive(Drop)]
 pub(crate) struct Pool {
     pub(crate) stride: usize,
     pub(crate) words: Vec<u64>,
-    /// The states' places, by the keys of their words.
+    /// Finds a state's place by the key of its words.
     pub(crate) table: Table,
     alloc: Global,
 }
 
-/// Where a state comes that is not there.
+/// Where to insert a state that was not found.
 #[derive(Clone, Copy, Drop)]
 pub(crate) struct Vacancy {
     /// The key of its words.
@@ -30,7 +30,7 @@ pub(crate) struct Vacancy {
 impl Pool {
     ghost use Rattle.packed_state.specs.PooledStore.{rows_of, IsLinked};
 
-    /// A pool without states, whose table has so many slots.
+    /// An empty pool, with this number of slots in its table.
     pub(crate) fn new(alloc: Global, stride: usize, slots: usize) -> Result<Pool, NoMemory>
         requires some { 0 < slots }
         requires few { slots ≤ 67108864 }
@@ -46,7 +46,7 @@ impl Pool {
         })
     }
 
-    /// How many states there are.
+    /// The number of states.
     pub(crate) fn len(&self) -> usize
         ensures { result ≡ length (rows_of self.now) }
     {
@@ -63,7 +63,7 @@ impl Pool {
         &self.words[start..start + self.stride]
     }
 
-    /// The place of the state with these words, or else where it comes.
+    /// The place of the state with these words; where it is to be inserted if there is none.
     pub(crate) fn look_up(&self, words: &[u64]) -> Result<u32, Vacancy>
         requires { IsLinked self.now }
         ensures { MatchResult result
@@ -85,7 +85,8 @@ impl Pool {
         }
     }
 
-    /// Whether the entry, which is not free, is that of the state with these words, whose key this is.
+    /// Whether the entry, which is not free, is that of the state with these words and their key. The words decide; they are
+    /// looked at only if the keys are equal.
     fn is_entry_of(&self, entry: u64, key: u32, words: &[u64]) -> bool
         requires linked { IsLinked self.now }
         requires taken { 0 < entry }
@@ -95,7 +96,10 @@ impl Pool {
         entry_key(entry) == key && are_same(self.row(number(entry) as usize), words)
     }
 
-    /// One state more, of these words, where it was found to come. Where memory was refused all stays as it was.
+    /// Inserts a state of these words, which was not found.
+    ///
+    /// # Errors
+    /// Memory was refused: nothing changes.
     pub(crate) fn push(&mut self, words: &[u64], vacancy: Vacancy) -> Result<(), NoMemory>
         requires linked { IsLinked self.old }
         requires words { length words.now ≡ self.old.stride }
@@ -113,7 +117,10 @@ impl Pool {
         Ok(())
     }
 
-    /// Room for one state more: twice as many slots, where five in eight would be taken.
+    /// Makes room for one more state: doubles the slots if more than five in eight would be taken.
+    ///
+    /// # Errors
+    /// Memory was refused: nothing changes.
     pub(crate) fn make_room(&mut self) -> Result<(), NoMemory>
         requires linked { IsLinked self.old }
         requires few { self.old.table.count < 16777216 }
@@ -132,7 +139,7 @@ impl Pool {
     }
 }
 
-/// The key of these words: the upper half of a hash, into which the last word is mixed once more.
+/// The key of these words: the upper half of their hash. It is mixed once more after the last word.
 fn key(words: &[u64]) -> u32
     ensures { result ≡ key_of words.now }
 {
@@ -143,7 +150,7 @@ fn key(words: &[u64]) -> u32
     (mix(hash, 0) >> 32) as u32
 }
 
-/// One word more, mixed into the hash: the product's high half is mixed into its low half.
+/// Mixes one more word into the hash: multiplies, then folds the high half of the product into the low half.
 fn mix(hash: u64, word: u64) -> u64
     ensures { result ≡ mixed hash word }
 {

@@ -1,4 +1,4 @@
-//! A store of states whose words are in one vector.
+//! A store of states in one vector of words.
 ghost use Rattle.std.specs.Prelude.{◌≡◌, ◌<◌, [], length, IfOk, OnErr};
 ghost use Rattle.std.proofs.Props.{props};
 ghost use Rattle.packed_state.specs.Words.{AreWordsOf};
@@ -27,7 +27,10 @@ impl PooledStore {
     ghost use Rattle.packed_state.specs.PooledStore.{rows_of};
     ghost use Rattle.packed_state.specs.PooledView.{pooled_width, pooled_states};
 
-    /// A store of sets of numbers below `width`, without any.
+    /// An empty store of sets of numbers below `width`.
+    ///
+    /// # Errors
+    /// Memory was refused.
     pub fn new(alloc: Global, width: u32) -> Result<PooledStore, NoMemory>
         ensures width { IfOk result (λ store. pooled_width store ≡ width) }
         ensures states { IfOk result (λ store. pooled_states store ≡ []) }

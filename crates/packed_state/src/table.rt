@@ -1,16 +1,18 @@
-//! Numbers in an open table: each is in a slot that its key leads to.
+//! A hash table with open addressing and linear probing (Knuth, The Art of Computer Programming, volume 3, section 6.4, algorithm
+//! L). It maps the keys of states to their places.
 ghost use Rattle.std.specs.Prelude.{◌≡◌, ◌+◌, ◌<◌, ◌≤◌, length, replicate, slice_set, IfOk};
 ghost use Rattle.packed_state.specs.Table.{slot_at, entry_of, number_of, key_in, free_in, IsFirstFree, IsTakenIn, AreMoved};
 
 use faults::NoMemory;
 use std::alloc::Global;
 
-/// The numbers from 0 on, each in the first slot that was free when it came, looked at round from where its key begins.
+/// Entries for the numbers from 0 on. Each is in the first slot that was free when it was inserted, counted from the one that its
+/// key names, and round at the end. An entry has the whole key, so a table grows from its own entries.
 #[derive(Drop)]
 pub(crate) struct Table {
-    /// Of each slot its entry: [`FREE`], or a number and its key.
+    /// The entry of each slot: [`FREE`], or a number and its key.
     pub(crate) entries: Vec<u64>,
-    /// How many numbers there are.
+    /// The number of entries that are not free.
     pub(crate) count: usize,
 }
 
@@ -21,7 +23,7 @@ pub(crate) const FREE: u64 = 0;
 const KEYS: u64 = 0x1_0000_0000;
 
 impl Table {
-    /// As many free slots.
+    /// A table of this number of slots, all of them free.
     pub(crate) fn new(alloc: Global, slots: usize) -> Result<Table, NoMemory>
         ensures { IfOk result (λ table. (table.entries.items ≡ replicate slots 0) × (table.count ≡ 0)) }
     {
@@ -29,7 +31,7 @@ impl Table {
         Ok(Table { entries, count: 0 })
     }
 
-    /// The slot at so many steps from where the key begins.
+    /// The slot `step` places behind the one that the key names.
     pub(crate) fn slot(&self, key: u32, step: usize) -> usize
         requires step { step < length self.now.entries.items }
         requires few { length self.now.entries.items ≤ 67108864 }
@@ -41,7 +43,7 @@ impl Table {
         if slot < slots { slot } else { slot - slots }
     }
 
-    /// The first free slot from where the key begins.
+    /// The first free slot for the key.
     pub(crate) fn first_free(&self, key: u32) -> usize
         requires free { 0 < free_in self.now.entries.items }
         requires few { length self.now.entries.items ≤ 67108864 }
@@ -58,7 +60,7 @@ impl Table {
         }
     }
 
-    /// The next number, in this slot.
+    /// Inserts the next number by its key, in this slot.
     pub(crate) fn put(&mut self, key: u32, slot: usize)
         requires slot { slot < length self.old.entries.items }
         requires room { self.old.count < 16777216 }
@@ -68,7 +70,7 @@ impl Table {
         self.fill(slot, entry(key, self.count as u32));
     }
 
-    /// One number more, whose entry this is, in this slot.
+    /// Puts the entry into this slot.
     fn fill(&mut self, slot: usize, entry: u64)
         requires slot { slot < length self.old.entries.items }
         requires room { self.old.count < 16777216 }
@@ -79,7 +81,7 @@ impl Table {
         self.count += 1;
     }
 
-    /// The same numbers by the same keys in so many slots.
+    /// A table of this number of slots with the same entries.
     pub(crate) fn with_slots(&self, alloc: Global, slots: usize) -> Result<Table, NoMemory>
         requires counted { free_in self.now.entries.items + self.now.count ≡ length self.now.entries.items }
         requires few { self.now.count < 16777216 }
@@ -95,7 +97,7 @@ impl Table {
         Ok(table)
     }
 
-    /// An entry of another table, in the first slot for its key that is free. There is nothing to do for that of a free slot.
+    /// Inserts an entry of another table, unless it is that of a free slot.
     fn take_in(&mut self, entry: u64)
         requires free { 0 < free_in self.old.entries.items }
         requires few { length self.old.entries.items ≤ 67108864 }
