@@ -9,4 +9,3 @@ pub mod PlainLemmas
 pub mod TableLemmas
 pub mod PoolLemmas
 pub mod PoolSearch
-pub mod WordMaskLemmas

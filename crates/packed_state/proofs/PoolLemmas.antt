@@ -1,12 +1,13 @@
 -- Rows of words in one list, and the table of their places.
-use Rattle.std.proofs.Common.{◌≡◌, ℕ, ◌+◌, ◌*◌, ◌^◌, ◌<◌, ◌≤◌, List, [], ◌∷◌, ◌++◌, length, take, drop, set, add-mul, one-mul, Some, Result, Ok, Err, OnOk, OnErr, is_ok, true, refl, sym, ap, ◌∙◌, subst, arith}
+use Rattle.std.proofs.Common.{◌≡◌, ℕ, ◌+◌, ◌*◌, ◌^◌, ◌<◌, ◌≤◌, List, [], ◌∷◌, ◌++◌, length, take, drop, get_or, set, add-mul, one-mul, Some, Result, Ok, Err, OnOk, OnErr, is_ok, true, refl, sym, ap, ◌∙◌, subst, inl, inr, arith}
 use Rattle.std.specs.Prelude.{slice_get}
+use Rattle.std.proofs.lemmas.Bool.{cases_lt}
 use Rattle.std.proofs.lemmas.Nat.{row_fits}
 use Rattle.std.proofs.lemmas.Option.{slice_get-get_or, slice_get_within, same_Some}
-use Rattle.std.proofs.lemmas.List.{take_all, take-append-le, drop_at, drop-append-le, length-drop, length-append}
+use Rattle.std.proofs.lemmas.List.{take_all, take-append-le, drop_at, drop-append-le, length-drop, length-append, get_or_append_left, get_or_push}
 use Rattle.std.proofs.lemmas.List.FromFn.{length-map-range_with_len, get_or-map-range_with_len, map-range_with_len_more, fill_by_all}
 use Rattle.packed_state.specs.Pool.{row_at, rows_in, key_of, AreLinked}
-use Rattle.packed_state.specs.Table.{entry_of, IsFirstFree}
+use Rattle.packed_state.specs.Table.{entry_of, IsFirstFree, IsTable}
 use Rattle.packed_state.proofs.TableLemmas.{same_table, more_table_is}
 
 -- ---- rows
@@ -59,27 +60,45 @@ rows_push stride words row count long wide =
 
 -- ---- pools
 
-pub key_small : (words : List ℕ) → key_of words < 2 ^ 32
-unfolding key_of
-key_small words = omega arith
-
 one_row : (long wide stride count : ℕ) → long ≡ count * stride → wide ≡ stride → long + wide ≡ (count + 1) * stride
 one_row long wide stride count is same = rw (is, same) (sym (add-mul count 1 stride ∙ ap (λ n. count * stride + n) (one-mul stride)))
 
-pub linked_more : (stride : ℕ) (words : List ℕ) (count : ℕ) (entries row words' : List ℕ) (count' : ℕ) (entries' : List ℕ) (slot : ℕ) → AreLinked stride words count entries
-    → length row ≡ stride → IsFirstFree entries (key_of row) slot → count + 1 < length entries
-    → words' ≡ words ++ row → count' ≡ count + 1 → entries' ≡ set entries slot (entry_of (key_of row) count) → AreLinked stride words' count' entries'
-linked_more stride words count entries row words' count' entries' slot linked wide first room more one are =
+pub linked_more : (stride : ℕ) (words : List ℕ) (count : ℕ) (entries keys row words' : List ℕ) (count' : ℕ) (entries' keys' : List ℕ) (slot : ℕ) → AreLinked stride words count entries keys
+    → count < 16777216 → length row ≡ stride → IsFirstFree entries (key_of row) slot → count + 1 < length entries
+    → words' ≡ words ++ row → count' ≡ count + 1 → entries' ≡ set entries slot (entry_of (key_of row) count) → keys' ≡ keys ++ key_of row ∷ [] → AreLinked stride words' count' entries' keys'
+linked_more stride words count entries keys row words' count' entries' keys' slot linked small wide first room more one are pushed =
     let key : ℕ → ℕ = λ n. key_of (row_at stride words' n) in
     let kept : (n : ℕ) → n < count → key_of (row_at stride words n) ≡ key n =
     λ n within. ap key_of (sym (ap (λ ws. row_at stride ws n) more ∙ row_kept stride words row count n linked.long within)) in
     let last : key_of row ≡ key count = ap key_of (sym (ap (λ ws. row_at stride ws count) more ∙ row_last stride words row count linked.long wide)) in
     let P : ℕ → Type 0 = λ k. IsFirstFree entries k slot in
     record {
+      few = omega (arith, one);
       long = ap length more ∙ length-append words row ∙ one_row (length words) (length row) stride count linked.long wide ∙ ap (λ n. n * stride) (sym one);
+      counted = omega (arith, ap length pushed, length-append keys (key_of row ∷ []), linked.counted, one);
+      keyed = λ n within.
+          elim (cases_lt n count) [
+            | inl before ↦ ap (λ ks. get_or ks n 0) pushed ∙ get_or_append_left keys (key_of row ∷ []) 0 n (omega (arith, linked.counted)) ∙ linked.keyed n before ∙ kept n before
+            | inr after ↦
+                let at : n ≡ count = omega (arith, one) in
+                ap (λ ks. get_or ks n 0) pushed ∙ get_or_push keys (key_of row) 0 n (linked.counted ∙ sym at) ∙ last ∙ ap key (sym at)
+          ];
       table =
-          more_table_is key count slot entries entries' count' (key_small (row_at stride words' count)) (same_table (λ n. key_of (row_at stride words n)) key count entries kept linked.table) (subst P last first) room
+          more_table_is key count slot entries entries' count' small (same_table (λ n. key_of (row_at stride words n)) key count entries kept linked.table) (subst P last first) room
           (are ∙ ap (λ k. set entries slot (entry_of k count)) last) one;
+    }
+
+-- the same states by a larger table, which is filled by their keys
+pub linked_again : (stride : ℕ) (words : List ℕ) (count : ℕ) (entries keys : List ℕ) (count' : ℕ) (entries' : List ℕ) → AreLinked stride words count entries keys
+    → count' ≡ length keys → IsTable (λ n. get_or keys n 0) count' entries' → AreLinked stride words count' entries' keys
+linked_again stride words count entries keys count' entries' linked one table =
+    let same : count' ≡ count = one ∙ linked.counted in
+    record {
+      few = omega (arith, same, linked.few);
+      long = linked.long ∙ ap (λ n. n * stride) (sym same);
+      counted = sym one;
+      keyed = λ n within. linked.keyed n (omega (arith, same));
+      table = same_table (λ n. get_or keys n 0) (λ n. key_of (row_at stride words n)) count' entries' (λ n within. linked.keyed n (omega (arith, same))) table;
     }
 
 pub rows_more : (stride : ℕ) (words : List ℕ) (count : ℕ) (row words' : List ℕ) (count' : ℕ) → length words ≡ count * stride → length row ≡ stride

@@ -1,10 +1,10 @@
 -- Open tables: a number is met from where its key begins, before any free slot is.
-use Rattle.std.proofs.Common.{◌≡◌, ℕ, zero, suc, ◌+◌, ◌-◌, ◌^◌, ◌<◌, ◌≤◌, List, [], ◌∷◌, length, take, get_or, set, refl, sym, ap, ◌∙◌, subst, inl, inr, arith}
+use Rattle.std.proofs.Common.{◌≡◌, ℕ, zero, suc, ◌+◌, ◌-◌, ◌^◌, ◌<◌, ◌≤◌, List, [], ◌∷◌, length, get_or, set, refl, sym, ap, ◌∙◌, subst, inl, inr, arith}
 use Rattle.std.specs.Prelude.{bit_and, replicate}
 use Rattle.std.proofs.lemmas.Bool.{cases_eq, cases_lt, cases_order, cond-true, cond-false, lt-ltb, le-ltb}
-use Rattle.std.proofs.lemmas.List.{take_all, length-set, length-replicate, get_or-set_same, get_or-set_other}
+use Rattle.std.proofs.lemmas.List.{length-set, length-replicate, get_or-set_same, get_or-set_other}
 use Rattle.std.proofs.lemmas.Nat.{and_le_r}
-use Rattle.packed_state.specs.Table.{slot_at, entry_of, number_of, key_in, free_in, IsFirstFree, IsMet, IsTable, IsTakenIn, AreMoved}
+use Rattle.packed_state.specs.Table.{slot_at, tag_of, entry_of, number_of, tag_in, free_in, IsFirstFree, IsMet, IsTable}
 
 -- ---- entries
 
@@ -12,13 +12,13 @@ pub entry_taken : (key n : ℕ) → entry_of key n ≡ 0 → ⊥
 unfolding entry_of
 entry_taken key n is = absurd (omega arith)
 
-pub number_of_entry : (key n : ℕ) → key < 2 ^ 32 → number_of (entry_of key n) ≡ n
+pub number_of_entry : (key n : ℕ) → n < 2 ^ 24 → number_of (entry_of key n) ≡ n
 unfolding entry_of number_of
 number_of_entry key n small = omega arith
 
-pub key_in_entry : (key n : ℕ) → key < 2 ^ 32 → key_in (entry_of key n) ≡ key
-unfolding entry_of key_in
-key_in_entry key n small = omega arith
+pub tag_in_entry : (key n : ℕ) → n < 2 ^ 24 → tag_in (entry_of key n) ≡ tag_of key
+unfolding entry_of tag_in
+tag_in_entry key n small = omega arith
 
 -- ---- free slots
 
@@ -179,7 +179,7 @@ met_new entries key entry slot first inside taken step within is_free other =
 pub first_within : (entries : List ℕ) (key slot : ℕ) → IsFirstFree entries key slot → slot < length entries
 first_within entries key slot first = omega (arith, first.is, slot_within (length entries) key first.step first.within)
 
-more_within : (key count slot : ℕ) (entries : List ℕ) → key < 2 ^ 32 → slot < length entries
+more_within : (key count slot : ℕ) (entries : List ℕ) → count < 2 ^ 24 → slot < length entries
     → ((s : ℕ) → (get_or entries s 0 ≡ 0 → ⊥) → number_of (get_or entries s 0) < count)
     → (s : ℕ) → (get_or (set entries slot (entry_of key count)) s 0 ≡ 0 → ⊥) → number_of (get_or (set entries slot (entry_of key count)) s 0) < count + 1
 more_within key count slot entries small inside within s taken =
@@ -195,7 +195,7 @@ more_within key count slot entries small inside within s taken =
           omega (arith, ap number_of is)
     ]
 
-pub more_table : (key : ℕ → ℕ) (count slot : ℕ) (entries : List ℕ) → key count < 2 ^ 32 → IsTable key count entries → IsFirstFree entries (key count) slot
+pub more_table : (key : ℕ → ℕ) (count slot : ℕ) (entries : List ℕ) → count < 2 ^ 24 → IsTable key count entries → IsFirstFree entries (key count) slot
     → count + 1 < length entries → IsTable key (count + 1) (set entries slot (entry_of (key count) count))
 more_table key count slot entries small table first room =
     let entry : ℕ = entry_of (key count) count in
@@ -220,155 +220,9 @@ more_table key count slot entries small table first room =
           );
     }
 
-pub more_table_is : (key : ℕ → ℕ) (count slot : ℕ) (entries entries' : List ℕ) (count' : ℕ) → key count < 2 ^ 32 → IsTable key count entries → IsFirstFree entries (key count) slot
+pub more_table_is : (key : ℕ → ℕ) (count slot : ℕ) (entries entries' : List ℕ) (count' : ℕ) → count < 2 ^ 24 → IsTable key count entries → IsFirstFree entries (key count) slot
     → count + 1 < length entries → entries' ≡ set entries slot (entry_of (key count) count) → count' ≡ count + 1 → IsTable key count' entries'
 more_table_is key count slot entries entries' count' small table first room are is =
     let P : List ℕ → Type 0 = IsTable key (count + 1) in
     let Q : ℕ → Type 0 = λ n. IsTable key n entries' in
     subst Q (sym is) (subst P (sym are) (more_table key count slot entries small table first room))
-
--- ---- the entries of a table in another
-
--- among the first slots no more are free than among all
-free_first : (entries : List ℕ) (seen : ℕ) → seen ≤ length entries → free_in entries + seen ≤ free_in (take seen entries) + length entries
-unfolding free_in
-free_first [] seen within = omega arith
-free_first (zero ∷ entries) zero within = let less = free_first entries 0 (omega arith) in omega arith
-free_first (zero ∷ entries) (suc seen) within = let less = free_first entries seen (omega arith) in omega arith
-free_first (suc entry ∷ entries) zero within = let less = free_first entries 0 (omega arith) in omega arith
-free_first (suc entry ∷ entries) (suc seen) within = let less = free_first entries seen (omega arith) in omega arith
-
-free_next : (entries : List ℕ) (seen : ℕ) → seen < length entries → get_or entries seen 0 ≡ 0 → free_in (take (suc seen) entries) ≡ free_in (take seen entries) + 1
-unfolding free_in
-free_next [] seen within free = absurd (omega arith)
-free_next (zero ∷ entries) zero within free = refl
-free_next (suc entry ∷ entries) zero within free = absurd (omega arith)
-free_next (zero ∷ entries) (suc seen) within free = let next = free_next entries seen (omega arith) free in omega arith
-free_next (suc entry ∷ entries) (suc seen) within free = free_next entries seen (omega arith) free
-
-taken_next : (entries : List ℕ) (seen : ℕ) → seen < length entries → (get_or entries seen 0 ≡ 0 → ⊥) → free_in (take (suc seen) entries) ≡ free_in (take seen entries)
-unfolding free_in
-taken_next [] seen within taken = absurd (omega arith)
-taken_next (zero ∷ entries) zero within taken = absurd (taken refl)
-taken_next (suc entry ∷ entries) zero within taken = refl
-taken_next (zero ∷ entries) (suc seen) within taken = let next = taken_next entries seen (omega arith) taken in omega arith
-taken_next (suc entry ∷ entries) (suc seen) within taken = taken_next entries seen (omega arith) taken
-
-one_more : (seen : ℕ) → seen + 1 ≡ suc seen
-one_more seen = omega arith
-
-pub none_moved : (old : List ℕ) (slots : ℕ) (new : List ℕ) → new ≡ replicate slots 0 → AreMoved old 0 0 new
-unfolding free_in
-none_moved old slots new are =
-    let P : List ℕ → Type 0 = AreMoved old 0 0 in
-    subst P (sym are)
-    record {
-      counted = refl;
-      free = omega (arith, all_free slots, length-replicate {A = ℕ} slots 0);
-      from = λ slot taken. absurd (taken (no_entry slots slot));
-      met = λ s before. absurd (omega arith);
-    }
-
--- of a table with more slots than there are numbers
-pub moved_room : (old new : List ℕ) (seen count total : ℕ) → AreMoved old seen count new → free_in old + total ≡ length old → seen ≤ length old → total < length new
-    → (0 < free_in new) × (count ≤ total)
-moved_room old new seen count total moved all within room =
-    let counted = moved.counted in
-    let free = moved.free in
-    (omega (arith, free_first old seen within), omega (arith, free_first old seen within))
-
-moved_free : (old new : List ℕ) (seen count entry : ℕ) → AreMoved old seen count new → seen < length old → entry ≡ get_or old seen 0 → entry ≡ 0 → AreMoved old (seen + 1) count new
-moved_free old new seen count entry moved within read is =
-    record {
-      counted = omega (arith, moved.counted, free_next old seen within (sym read ∙ is), ap (λ n. free_in (take n old)) (one_more seen));
-      free = moved.free;
-      from = moved.from;
-      met = λ s before taken.
-          elim (cases_lt s seen) [
-            | inl sooner ↦ moved.met s sooner taken
-            | inr last ↦ let this : s ≡ seen = omega arith in absurd (taken (ap (λ k. get_or old k 0) this ∙ sym read ∙ is))
-          ];
-    }
-
-moved_taken : (old new new' : List ℕ) (seen count entry count' : ℕ) → AreMoved old seen count new → seen < length old → entry ≡ get_or old seen 0 → (entry ≡ 0 → ⊥)
-    → (slot : ℕ) → IsFirstFree new (key_in entry) slot → new' ≡ set new slot entry → count' ≡ count + 1 → AreMoved old (seen + 1) count' new'
-moved_taken old new new' seen count entry count' moved within read taken slot first put one =
-    let inside : slot < length new = first_within new (key_in entry) slot first in
-    let long : length (set new slot entry) ≡ length new = length-set new slot entry in
-    let P : List ℕ → Type 0 = AreMoved old (seen + 1) count' in
-    subst P (sym put)
-    record {
-      counted = omega (arith, moved.counted, taken_next old seen within (λ free. taken (read ∙ free)), ap (λ n. free_in (take n old)) (one_more seen));
-      free = omega (arith, moved.free, one_less new slot entry inside first.free taken);
-      from = λ s there.
-          elim (cases_eq s slot) [
-            | inl same ↦ (seen, sym read ∙ sym (ap (λ k. get_or (set new slot entry) k 0) same ∙ get_or-set_same new slot entry 0 inside))
-            | inr other ↦
-                let is : get_or (set new slot entry) s 0 ≡ get_or new s 0 = get_or-set_other new slot s entry 0 other in
-                let before = moved.from s (λ free. there (is ∙ free)) in
-                (before.0, before.1 ∙ sym is)
-          ];
-      met = λ s before there.
-          let Q : ℕ → Type 0 = λ slots. IsMet slots (key_in (get_or old s 0)) (get_or old s 0) (set new slot entry) in
-          subst Q (sym long) (
-          elim (cases_lt s seen) [
-            | inl sooner ↦
-                met_kept (length new) (key_in (get_or old s 0)) (get_or old s 0) new slot entry inside first.free taken there (moved.met s sooner there)
-            | inr last ↦
-                let this : entry ≡ get_or old s 0 = let at : seen ≡ s = omega arith in read ∙ ap (λ k. get_or old k 0) at in
-                let R : ℕ → Type 0 = λ e. IsMet (length new) (key_in e) e (set new slot entry) in
-                subst R this (met_new new (key_in entry) entry slot first inside taken)
-          ]
-          );
-    }
-
-pub moved_next : (old new new' : List ℕ) (seen count entry count' : ℕ) → AreMoved old seen count new → seen < length old → entry ≡ get_or old seen 0
-    → IsTakenIn entry new count new' count' → AreMoved old (seen + 1) count' new'
-moved_next old new new' seen count entry count' moved within read next =
-    elim (cases_eq entry 0) [
-      | inl none ↦
-          let same = next.free none in
-          subst (λ (p : List ℕ × ℕ). AreMoved old (seen + 1) p.1 p.0) (λ i. (sym same.0 i, sym same.1 i)) (moved_free old new seen count entry moved within read none)
-      | inr some ↦
-          let put = next.taken some in
-          moved_taken old new new' seen count entry count' moved within read some put.0 put.1.0 put.1.1.0 put.1.1.1
-    ]
-
--- how long the table is does not change
-pub taken_in_length : (entry : ℕ) (old : List ℕ) (count : ℕ) (new : List ℕ) (count' : ℕ) → IsTakenIn entry old count new count' → length new ≡ length old
-taken_in_length entry old count new count' next =
-    elim (cases_eq entry 0) [
-      | inl none ↦ ap length (next.free none).0
-      | inr some ↦ let put = next.taken some in ap length put.1.1.0 ∙ length-set old put.0 entry
-    ]
-
--- so that it is a table of the same numbers
-pub moved_table : (key : ℕ → ℕ) (count count' : ℕ) (old new : List ℕ) → ((n : ℕ) → key n < 2 ^ 32) → IsTable key count old → AreMoved old (length old) count' new
-    → length new ≤ 67108864 → count < length new → (count' ≡ count) × IsTable key count new
-moved_table key count count' old new small table moved few room =
-    let whole : free_in (take (length old) old) ≡ free_in old = ap free_in (take_all (length old) old (omega arith)) in
-    let same : count' ≡ count = omega (arith, moved.counted, whole, table.free) in (
-      same,
-      record {
-        few = few;
-        room = room;
-        free = omega (arith, moved.free);
-        within = λ slot taken.
-            let from = moved.from slot taken in
-            let below : number_of (get_or old from.0 0) < count = table.within from.0 (λ free. taken (sym from.1 ∙ free)) in
-            omega (arith, ap number_of from.1);
-        met = λ n below step within free other.
-            let entry : ℕ = entry_of (key n) n in
-            some_free old (key n) (has_free key count old table)
-            (λ step' within' free'.
-            table.met n below step' within' free'
-            (λ earlier before is.
-            let slot : ℕ = slot_at (length old) (key n) earlier in
-            let met : IsMet (length new) (key_in (get_or old slot 0)) (get_or old slot 0) new =
-            moved.met slot (slot_within (length old) (key n) earlier (omega arith)) (λ none. entry_taken (key n) n (sym is ∙ none)) in
-            let P : ℕ → Type 0 = λ e. IsMet (length new) (key_in e) e new in
-            let Q : ℕ → Type 0 = λ k. IsMet (length new) k entry new in
-            let met_here : IsMet (length new) (key n) entry new = subst Q (key_in_entry (key n) n (small n)) (subst P is met) in
-            met_here step within free other));
-      },
-    )

@@ -34,7 +34,7 @@ neither (suc (suc a)) p = absurd (omega arith)
 or_bit : (a b i : ℕ) → (bit_at (bit_or a b) i == 1) ≡ ((bit_at a i == 1) || (bit_at b i == 1))
 or_bit a b i = ap (λ n. n == 1) (bit_at_or a b i) ∙ either (bit_at a i) (bit_at b i) (bit_at-lt a i) (bit_at-lt b i)
 
-pub and_bit : (a b i : ℕ) → (bit_at (bit_and a b) i == 1) ≡ ((bit_at a i == 1) && (bit_at b i == 1))
+and_bit : (a b i : ℕ) → (bit_at (bit_and a b) i == 1) ≡ ((bit_at a i == 1) && (bit_at b i == 1))
 and_bit a b i = ap (λ n. n == 1) (bit_at_and a b i) ∙ both (bit_at a i) (bit_at b i) (bit_at-lt a i) (bit_at-lt b i)
 
 not_bit : (a i : ℕ) → a < 2 ^ 64 → i < 64 → (bit_at (bit_not w64 a) i == 1) ≡ not (bit_at a i == 1)
@@ -46,7 +46,7 @@ zero_bit (suc zero) p is = absurd (cc)
 zero_bit (suc (suc a)) p is = absurd (omega arith)
 
 -- a word of which no bit is set is 0
-pub no_bit : (word : ℕ) → word < 2 ^ 64 → ((i : ℕ) → i < 64 → (bit_at word i == 1) ≡ false) → word ≡ 0
+no_bit : (word : ℕ) → word < 2 ^ 64 → ((i : ℕ) → i < 64 → (bit_at word i == 1) ≡ false) → word ≡ 0
 no_bit word small none =
     same_from_bits_below 64 word 0 small (omega arith)
     (λ i within. zero_bit (bit_at word i) (bit_at-lt word i) (none i within) ∙ sym (bit_at-zero i))
@@ -67,7 +67,7 @@ past_words words k past = rw (get_or_past words (k / 64) 0 past, bit_at-zero (k 
 
 -- ---- one number more
 
-pub left_alone : (a b : Bool) → b ≡ false → (a || b) ≡ a
+left_alone : (a b : Bool) → b ≡ false → (a || b) ≡ a
 left_alone true b is = refl
 left_alone false b is = is
 
@@ -196,7 +196,7 @@ only_if true true f = refl
 only_if true false f = sym (f refl)
 only_if false b f = refl
 
-pub never : (a b : Bool) → (a ≡ true → b ≡ true → ⊥) → (a && b) ≡ false
+never : (a b : Bool) → (a ≡ true → b ≡ true → ⊥) → (a && b) ≡ false
 never true true f = absurd (f refl refl)
 never true false f = refl
 never false b f = refl
@@ -206,7 +206,7 @@ implied true true is has = refl
 implied true false is has = absurd (cc)
 implied false b is has = absurd (cc)
 
-pub apart : (a b : Bool) → (a && b) ≡ false → a ≡ true → b ≡ true → ⊥
+apart : (a b : Bool) → (a && b) ≡ false → a ≡ true → b ≡ true → ⊥
 apart true true is p q = absurd (cc)
 apart true false is p q = absurd (cc)
 apart false b is p q = absurd (cc)

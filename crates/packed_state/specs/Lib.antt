@@ -8,4 +8,3 @@ pub mod Table
 pub mod Pool
 pub mod PooledStore
 pub mod PooledView
-pub mod WordMask

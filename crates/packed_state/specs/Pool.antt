@@ -1,5 +1,5 @@
 -- The words of states in one list, with a table that has their places by a key.
-use Rattle.std.specs.Prelude.{◌≡◌, ℕ, ◌*◌, ◌/◌, ◌%◌, ◌^◌, List, length, map, take, drop, fold, bit_xor}
+use Rattle.std.specs.Prelude.{◌≡◌, ℕ, ◌*◌, ◌/◌, ◌%◌, ◌^◌, ◌<◌, ◌≤◌, List, length, map, take, drop, fold, bit_xor, slice_index}
 use Rattle.std.specs.List.{range_with_len}
 use Rattle.packed_state.specs.Table.{IsTable}
 
@@ -19,7 +19,10 @@ mixed hash word = let product = bit_xor hash word * 11400714819323198485 % 2 ^ 6
 unfoldable pub key_of : List ℕ → ℕ
 key_of words = mixed (fold mixed 0 words) 0 / 2 ^ 32 % 2 ^ 32
 
--- a list of the words of states, with the table of their places
-pub record AreLinked (stride : ℕ) (words : List ℕ) (count : ℕ) (entries : List ℕ) : Type 0 where
+-- a list of the words of states, with their keys and the table of their places
+pub record AreLinked (stride : ℕ) (words : List ℕ) (count : ℕ) (entries keys : List ℕ) : Type 0 where
+  pub few : count ≤ 16777216
   pub long : length words ≡ count * stride
+  pub counted : length keys ≡ count
+  pub keyed : (n : ℕ) → n < count → slice_index keys n ≡ key_of (row_at stride words n)
   pub table : IsTable (λ n. key_of (row_at stride words n)) count entries

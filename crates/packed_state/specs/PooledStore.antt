@@ -9,7 +9,7 @@ abbrev pub rows_of : Pool → List (List ℕ)
 rows_of pool = rows_in pool.stride pool.words.items pool.table.count
 
 abbrev pub IsLinked : Pool → Type 0
-IsLinked pool = AreLinked pool.stride pool.words.items pool.table.count pool.table.entries.items
+IsLinked pool = AreLinked pool.stride pool.words.items pool.table.count pool.table.entries.items pool.keys.items
 
 -- a pool of states of this width
 pub record IsPoolOf (width : ℕ) (pool : Pool) : Type 0 where

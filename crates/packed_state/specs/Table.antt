@@ -1,18 +1,22 @@
--- Numbers in the slots of an open table. A slot's entry is 0 where it is free.
-use Rattle.std.specs.Prelude.{◌≡◌, ℕ, zero, suc, ◌+◌, ◌-◌, ◌*◌, ◌/◌, ◌%◌, ◌^◌, ◌<◌, ◌≤◌, ltb, cond, List, [], ◌∷◌, length, take, bit_and, slice_index, slice_set}
+-- An open table of numbers below 2^24, by keys of 32 bits. A slot's entry is 0 where it is free.
+use Rattle.std.specs.Prelude.{◌≡◌, ℕ, zero, suc, ◌+◌, ◌-◌, ◌*◌, ◌/◌, ◌%◌, ◌^◌, ◌<◌, ◌≤◌, ltb, cond, List, [], ◌∷◌, length, bit_and, slice_index}
 
 -- the slot at some steps from where a key begins, round in a table of so many
 unfoldable pub slot_at : ℕ → ℕ → ℕ → ℕ
 slot_at slots key step = let slot = bit_and key (slots - 1) + step in cond (ltb slot slots) slot (slot - slots)
 
+-- the seven highest bits of a key
+unfoldable pub tag_of : ℕ → ℕ
+tag_of key = key / 2 ^ 25
+
 unfoldable pub entry_of : ℕ → ℕ → ℕ
-entry_of key number = number * 2 ^ 32 + key + 1
+entry_of key number = tag_of key * 2 ^ 24 + number + 1
 
 unfoldable pub number_of : ℕ → ℕ
-number_of entry = (entry - 1) / 2 ^ 32
+number_of entry = (entry - 1) % 2 ^ 24
 
-unfoldable pub key_in : ℕ → ℕ
-key_in entry = (entry - 1) % 2 ^ 32
+unfoldable pub tag_in : ℕ → ℕ
+tag_in entry = (entry - 1) / 2 ^ 24
 
 -- how many slots are free
 unfoldable pub free_in : List ℕ → ℕ
@@ -41,15 +45,3 @@ pub record IsTable (key : ℕ → ℕ) (count : ℕ) (entries : List ℕ) : Type
   pub free : free_in entries + count ≡ length entries
   pub within : (slot : ℕ) → (slice_index entries slot ≡ 0 → ⊥) → number_of (slice_index entries slot) < count
   pub met : (n : ℕ) → n < count → IsMet (length entries) (key n) (entry_of (key n) n) entries
-
--- an entry that is not that of a free slot is put into the first slot for its key that is free, and counted
-pub record IsTakenIn (entry : ℕ) (old : List ℕ) (count : ℕ) (new : List ℕ) (count' : ℕ) : Type 0 where
-  pub free : entry ≡ 0 → (new ≡ old) × (count' ≡ count)
-  pub taken : (entry ≡ 0 → ⊥) → (slot : ℕ) × (IsFirstFree old (key_in entry) slot × ((new ≡ slice_set old slot entry) × (count' ≡ count + 1)))
-
--- the entries of the first slots of one table, so many, are those of another
-pub record AreMoved (old : List ℕ) (seen count : ℕ) (new : List ℕ) : Type 0 where
-  pub counted : count + free_in (take seen old) ≡ seen
-  pub free : free_in new + count ≡ length new
-  pub from : (slot : ℕ) → (slice_index new slot ≡ 0 → ⊥) → (s : ℕ) × (slice_index old s ≡ slice_index new slot)
-  pub met : (s : ℕ) → s < seen → (slice_index old s ≡ 0 → ⊥) → IsMet (length new) (key_in (slice_index old s)) (slice_index old s) new

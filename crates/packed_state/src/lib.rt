@@ -8,11 +8,9 @@ mod pool;
 mod pooled;
 mod store;
 mod table;
-mod word_mask;
 mod words;
 
 pub use packed::{Mask, Packed};
 pub use plain::PlainStore;
 pub use pooled::PooledStore;
 pub use store::StateStore;
-pub use word_mask::WordMask;

@@ -3,7 +3,6 @@ ghost use Rattle.std.specs.Prelude.{◌≡◌, ◌<◌, ◌≤◌, ℕ, false, L
 ghost use Rattle.std.proofs.Props.{props};
 ghost use Rattle.packed_state.specs.Words.{bits_in, AreWordsOf};
 
-use crate::word_mask::WordMask;
 use crate::words;
 use faults::NoMemory;
 use std::alloc::Global;
@@ -27,7 +26,6 @@ impl Packed {
     ghost use Rattle.std.specs.List.{All, filter, range_with_len};
     ghost use Rattle.packed_state.specs.Sets.{has, set_of, IsNext, Includes, AreDisjoint, changed, at_width};
     ghost use Rattle.packed_state.specs.Packed.{bits_of, mask_bits_of};
-    ghost use Rattle.packed_state.specs.WordMask.{has_any};
 
     /// The empty set of numbers below `width`.
     pub fn empty(alloc: Global, width: u32) -> Result<Packed, NoMemory>
@@ -171,13 +169,6 @@ impl Packed {
         ensures { IsTrue result ↔ AreDisjoint (bits_of self.now) (mask_bits_of mask.now) }
     {
         words::are_disjoint(&self.words, &mask.set.words)
-    }
-
-    /// Whether any number of the mask is in the set.
-    pub fn has_any(&self, mask: WordMask) -> bool
-        ensures { result ≡ has_any (bits_of self.now) mask }
-    {
-        mask.meets(&self.words)
     }
 
     /// Removes the numbers of `deletes`, then adds those of `adds`.

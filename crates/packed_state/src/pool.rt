@@ -1,9 +1,9 @@
 //! The words of states, state after state, and a hash table of their places.
 ghost use Rattle.std.specs.Prelude.{◌≡◌, ◌+◌, ◌<◌, ◌≤◌, ◌↔◌, IsTrue, [], ◌∷◌, ◌++◌, length, slice_get, Contains, MatchResult, IfOk, OnOk, OnErr};
 ghost use Rattle.packed_state.specs.Pool.{row_at, mixed, key_of};
-ghost use Rattle.packed_state.specs.Table.{number_of, key_in, IsFirstFree};
+ghost use Rattle.packed_state.specs.Table.{number_of, tag_in, tag_of, IsFirstFree};
 
-use crate::table::{FREE, Table, entry_key, number};
+use crate::table::{FREE, Table, entry_tag, number, tag};
 use crate::words::are_same;
 use faults::NoMemory;
 use std::alloc::Global;
@@ -15,6 +15,8 @@ pub(crate) struct Pool {
     pub(crate) words: Vec<u64>,
     /// Finds a state's place by the key of its words.
     pub(crate) table: Table,
+    /// The keys of the states, from which a larger table is filled.
+    pub(crate) keys: Vec<u32>,
     alloc: Global,
 }
 
@@ -42,6 +44,7 @@ impl Pool {
             stride,
             words: Vec::new(alloc),
             table,
+            keys: Vec::new(alloc),
             alloc,
         })
     }
@@ -86,14 +89,14 @@ impl Pool {
     }
 
     /// Whether the entry, which is not free, is that of the state with these words and their key. The words decide; they are
-    /// looked at only if the keys are equal.
-    fn is_entry_of(&self, entry: u64, key: u32, words: &[u64]) -> bool
+    /// looked at only if the tags are equal.
+    fn is_entry_of(&self, entry: u32, key: u32, words: &[u64]) -> bool
         requires linked { IsLinked self.now }
         requires taken { 0 < entry }
         requires within { number_of entry < self.now.table.count }
-        ensures { IsTrue result ↔ ((key_in entry ≡ key) × (row_at self.now.stride self.now.words.items (number_of entry) ≡ words.now)) }
+        ensures { IsTrue result ↔ ((tag_in entry ≡ tag_of key) × (row_at self.now.stride self.now.words.items (number_of entry) ≡ words.now)) }
     {
-        entry_key(entry) == key && are_same(self.row(number(entry) as usize), words)
+        entry_tag(entry) == tag(key) && are_same(self.row(number(entry) as usize), words)
     }
 
     /// Inserts a state of these words, which was not found.
@@ -112,12 +115,14 @@ impl Pool {
         ensures ok { OnOk result (rows_of self.new ≡ rows_of self.old ++ words.now ∷ []) }
         ensures err { OnErr result (rows_of self.new ≡ rows_of self.old) }
     {
+        self.keys.reserve(1)?;
         self.words.extend_from_slice(words)?;
+        self.keys.push_reserved(vacancy.key);
         self.table.put(vacancy.key, vacancy.slot);
         Ok(())
     }
 
-    /// Makes room for one more state: doubles the slots if more than five in eight would be taken.
+    /// Makes room for one more state: doubles the slots if more than three in four would be taken.
     ///
     /// # Errors
     /// Memory was refused: nothing changes.
@@ -131,10 +136,10 @@ impl Pool {
         ensures room { OnOk result (self.new.table.count + 1 < length self.new.table.entries.items) }
     {
         let slots = self.table.entries.len();
-        if 8 * (self.table.count + 1) <= 5 * slots {
+        if 4 * (self.table.count + 1) <= 3 * slots {
             return Ok(());
         }
-        self.table = self.table.with_slots(self.alloc, 2 * slots)?;
+        self.table = Table::of_keys(self.alloc, &self.keys, 2 * slots)?;
         Ok(())
     }
 }

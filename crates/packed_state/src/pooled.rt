@@ -19,7 +19,7 @@ pub struct PooledStore {
     ghost pooled: { IsPoolOf width pool } by { Prim.hlevel props },
 }
 
-/// How many slots a new store's table has, a power of two: it grows by doubling, and keys choose slots by their lowest bits.
+/// Slots of a new table: a power of two, since it grows by doubling, and a key names its slot by its lowest bits.
 const FIRST_SLOTS: usize = 16;
 
 impl PooledStore {

@@ -1,26 +1,30 @@
 //! A hash table with open addressing and linear probing (Knuth, The Art of Computer Programming, volume 3, section 6.4, algorithm
 //! L). It maps the keys of states to their places.
-ghost use Rattle.std.specs.Prelude.{◌≡◌, ◌+◌, ◌<◌, ◌≤◌, length, replicate, slice_set, IfOk};
-ghost use Rattle.packed_state.specs.Table.{slot_at, entry_of, number_of, key_in, free_in, IsFirstFree, IsTakenIn, AreMoved};
+ghost use Rattle.std.specs.Prelude.{◌≡◌, ◌+◌, ◌<◌, ◌≤◌, length, replicate, slice_index, slice_set, IfOk};
+ghost use Rattle.packed_state.specs.Table.{slot_at, tag_of, entry_of, number_of, tag_in, free_in, IsFirstFree, IsTable};
 
 use faults::NoMemory;
 use std::alloc::Global;
 
 /// Entries for the numbers from 0 on. Each is in the first slot that was free when it was inserted, counted from the one that its
-/// key names, and round at the end. An entry has the whole key, so a table grows from its own entries.
+/// key names, and round at the end. An entry takes four bytes, so that a look-up seldom misses the cache: the number, and a tag
+/// that tells most keys apart.
 #[derive(Drop)]
 pub(crate) struct Table {
-    /// The entry of each slot: [`FREE`], or a number and its key.
-    pub(crate) entries: Vec<u64>,
+    /// The entry of each slot: [`FREE`], or a number and the tag of its key.
+    pub(crate) entries: Vec<u32>,
     /// The number of entries that are not free.
     pub(crate) count: usize,
 }
 
 /// The entry of a free slot.
-pub(crate) const FREE: u64 = 0;
+pub(crate) const FREE: u32 = 0;
 
-/// Keys are below this.
-const KEYS: u64 = 0x1_0000_0000;
+/// Numbers are below this.
+const NUMBERS: u32 = 0x100_0000;
+
+/// Tags are the multiples of this in keys.
+const TAGS: u32 = 0x200_0000;
 
 impl Table {
     /// A table of this number of slots, all of them free.
@@ -29,6 +33,23 @@ impl Table {
     {
         let entries = vec![in alloc; FREE; slots]?;
         Ok(Table { entries, count: 0 })
+    }
+
+    /// A table of this number of slots, in which each key has its place in the list as its number.
+    pub(crate) fn of_keys(alloc: Global, keys: &[u32], slots: usize) -> Result<Table, NoMemory>
+        requires few { length keys.now ≤ 16777216 }
+        requires room { length keys.now < slots }
+        requires slots { slots ≤ 67108864 }
+        ensures count { IfOk result (λ table. table.count ≡ length keys.now) }
+        ensures slots { IfOk result (λ table. length table.entries.items ≡ slots) }
+        ensures table { IfOk result (λ table. IsTable (slice_index keys.now) table.count table.entries.items) }
+    {
+        let mut table = Table::new(alloc, slots)?;
+        for &key in keys {
+            let slot = table.first_free(key);
+            table.put(key, slot);
+        }
+        Ok(table)
     }
 
     /// The slot `step` places behind the one that the key names.
@@ -67,71 +88,39 @@ impl Table {
         ensures entries { self.new.entries.items ≡ slice_set self.old.entries.items slot (entry_of key self.old.count) }
         ensures count { self.new.count ≡ self.old.count + 1 }
     {
-        self.fill(slot, entry(key, self.count as u32));
-    }
-
-    /// Puts the entry into this slot.
-    fn fill(&mut self, slot: usize, entry: u64)
-        requires slot { slot < length self.old.entries.items }
-        requires room { self.old.count < 16777216 }
-        ensures entries { self.new.entries.items ≡ slice_set self.old.entries.items slot entry }
-        ensures count { self.new.count ≡ self.old.count + 1 }
-    {
-        self.entries[slot] = entry;
+        self.entries[slot] = entry(key, self.count as u32);
         self.count += 1;
-    }
-
-    /// A table of this number of slots with the same entries.
-    pub(crate) fn with_slots(&self, alloc: Global, slots: usize) -> Result<Table, NoMemory>
-        requires counted { free_in self.now.entries.items + self.now.count ≡ length self.now.entries.items }
-        requires few { self.now.count < 16777216 }
-        requires room { self.now.count < slots }
-        requires slots { slots ≤ 67108864 }
-        ensures slots { IfOk result (λ table. length table.entries.items ≡ slots) }
-        ensures moved { IfOk result (λ table. AreMoved self.now.entries.items (length self.now.entries.items) table.count table.entries.items) }
-    {
-        let mut table = Table::new(alloc, slots)?;
-        'entries: for place in 0..self.entries.len() {
-            table.take_in(self.entries[place]);
-        }
-        Ok(table)
-    }
-
-    /// Inserts an entry of another table, unless it is that of a free slot.
-    fn take_in(&mut self, entry: u64)
-        requires free { 0 < free_in self.old.entries.items }
-        requires few { length self.old.entries.items ≤ 67108864 }
-        requires room { self.old.count < 16777216 }
-        ensures { IsTakenIn entry self.old.entries.items self.old.count self.new.entries.items self.new.count }
-    {
-        if entry == FREE {
-            return;
-        }
-        let slot = self.first_free(entry_key(entry));
-        self.fill(slot, entry);
     }
 }
 
 /// The entry of a number and its key.
-fn entry(key: u32, number: u32) -> u64
+fn entry(key: u32, number: u32) -> u32
     requires { number < 16777216 }
     ensures { result ≡ entry_of key number }
 {
-    number as u64 * KEYS + key as u64 + 1
+    tag(key) * NUMBERS + number + 1
+}
+
+/// The tag of a key.
+pub(crate) fn tag(key: u32) -> u32
+    ensures tag { result ≡ tag_of key }
+    ensures small { result < 128 }
+{
+    key / TAGS
 }
 
 /// The number of an entry that is not free.
-pub(crate) fn number(entry: u64) -> u32
+pub(crate) fn number(entry: u32) -> u32
     requires { 0 < entry }
     ensures { result ≡ number_of entry }
 {
-    ((entry - 1) / KEYS) as u32
+    (entry - 1) % NUMBERS
 }
 
-/// The key of an entry that is not free.
-pub(crate) fn entry_key(entry: u64) -> u32
+/// The tag of an entry that is not free.
+pub(crate) fn entry_tag(entry: u32) -> u32
     requires { 0 < entry }
-    ensures { result ≡ key_in entry }
+    ensures { result ≡ tag_in entry }
 {
-    ((entry - 1) % KEYS) as u32
+    (entry - 1) / NUMBERS
 }

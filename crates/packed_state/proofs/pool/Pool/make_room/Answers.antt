@@ -1,19 +1,19 @@
-use Rattle.std.proofs.Common.{◌∙◌, ◌*◌, ◌<◌, ◌≤◌, length, ap, sym, subst, ℕ, arith}
-use Rattle.packed_state.specs.Pool.{row_at, key_of}
+use Rattle.std.proofs.Common.{◌≡◌, ◌∙◌, ◌<◌, ◌≤◌, length, get_or, ap, subst, arith}
 use Rattle.packed_state.specs.Table.{IsTable}
-use Rattle.packed_state.proofs.PoolLemmas.{key_small}
-use Rattle.packed_state.proofs.TableLemmas.{moved_table}
+use Rattle.packed_state.proofs.PoolLemmas.{linked_again}
 use Rattle.packed_state.proofs.pool.Pool.make_room.Goals as goal
+
+pub of_keys-requires-clause-few : goal.of_keys-requires-clause-few
+of_keys-requires-clause-few c = omega (arith, ap length c.deref.ensures.value, c.requires.linked.counted, c.requires.few)
+
+pub of_keys-requires-clause-room : goal.of_keys-requires-clause-room
+of_keys-requires-clause-room c =
+    omega (arith, ap length c.deref.ensures.value, c.requires.linked.counted, c.requires.linked.table.room, c.len-slots.ensures, c.args.self.now.table.entries.ok.0)
 
 pub returns-clause-linked : goal.returns-clause-linked
 returns-clause-linked c =
     let p = c.args.self.now in
     let new = c.in_ok-self.field-0 in
-    let key : ℕ → ℕ = λ n. key_of (row_at p.stride p.words.items n) in
-    let linked = c.requires.linked in
-    let few : length new.entries.items ≤ 67108864 = omega (arith, c.in_ok-self.ensures.slots, c.len-slots.ensures, c.if-self-slots.false, c.requires.few, p.table.entries.ok.0) in
-    let room : p.table.count < length new.entries.items = omega (arith, c.in_ok-self.ensures.slots, c.len-slots.ensures, linked.table.room, p.table.entries.ok.0) in
-    let moved =
-    moved_table key p.table.count new.count p.table.entries.items new.entries.items (λ n. key_small (row_at p.stride p.words.items n)) linked.table c.in_ok-self.ensures.moved few room in
-    let P : ℕ → Type 0 = λ n. IsTable key n new.entries.items in
-    record { long = linked.long ∙ ap (λ n. n * p.stride) (sym moved.0); table = subst P (sym moved.0) moved.1 }
+    linked_again p.stride p.words.items p.table.count p.table.entries.items p.keys.items new.count new.entries.items c.requires.linked
+    (c.in_ok-self.ensures.count ∙ ap length c.deref.ensures.value)
+    (subst (λ keys. IsTable (λ n. get_or keys n 0) new.count new.entries.items) c.deref.ensures.value c.in_ok-self.ensures.table)

@@ -1,4 +1,4 @@
-use Rattle.std.proofs.Common.{◌∙◌, ◌*◌, ℕ, length, ap, sym, refl, subst}
+use Rattle.std.proofs.Common.{◌∙◌, ◌*◌, ℕ, length, ap, sym, refl, subst, arith}
 use Rattle.packed_state.specs.Pool.{rows_in, row_at, key_of}
 use Rattle.packed_state.specs.Table.{IsTable}
 use Rattle.packed_state.proofs.PoolLemmas.{no_rows, no_words}
@@ -12,6 +12,9 @@ returns-clause-linked c =
     let key : ℕ → ℕ = λ n. key_of (row_at c.args.stride words n) in
     let P : ℕ → Type 0 = λ n. IsTable key n table.entries.items in
     record {
+      few = omega (arith, c.in_ok-table.ensures.1);
+      counted = ap length c.new-3.ensures.items ∙ sym c.in_ok-table.ensures.1;
+      keyed = λ n within. absurd (omega (arith, c.in_ok-table.ensures.1));
       long = no_words c.args.stride (length words) (ap length c.new-2.ensures.items) ∙ ap (λ n. n * c.args.stride) (sym c.in_ok-table.ensures.1);
       table = subst P (sym c.in_ok-table.ensures.1) (empty_table key c.args.slots table.entries.items c.requires.some c.requires.few c.in_ok-table.ensures.0);
     }
