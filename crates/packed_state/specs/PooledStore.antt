@@ -1,4 +1,4 @@
--- A pool, and the store above it as contracts see it.
+-- A pool as contracts see it.
 use Rattle.std.specs.Prelude.{ℕ, ◌+◌, ◌*◌, ◌<◌, ◌≤◌, List}
 use Rattle.packed_state.specs.declared.pool.Pool.{Pool}
 use Rattle.packed_state.specs.Store.{AreStored}

@@ -1,7 +1,7 @@
--- An open table of numbers below 2^24, by keys of 32 bits. A slot's entry is 0 where it is free.
+-- A hash table with open addressing, of numbers below 2^24 by keys of 32 bits. The entry of a free slot is 0.
 use Rattle.std.specs.Prelude.{◌≡◌, ℕ, zero, suc, ◌+◌, ◌-◌, ◌*◌, ◌/◌, ◌%◌, ◌^◌, ◌<◌, ◌≤◌, ltb, cond, List, [], ◌∷◌, length, bit_and, slice_index}
 
--- the slot at some steps from where a key begins, round in a table of so many
+-- the slot `step` places behind the one that the key names, round at the end
 unfoldable pub slot_at : ℕ → ℕ → ℕ → ℕ
 slot_at slots key step = let slot = bit_and key (slots - 1) + step in cond (ltb slot slots) slot (slot - slots)
 
@@ -18,13 +18,13 @@ number_of entry = (entry - 1) % 2 ^ 24
 unfoldable pub tag_in : ℕ → ℕ
 tag_in entry = (entry - 1) / 2 ^ 24
 
--- how many slots are free
+-- the number of free slots
 unfoldable pub free_in : List ℕ → ℕ
 free_in [] = 0
 free_in (zero ∷ entries) = suc (free_in entries)
 free_in (suc entry ∷ entries) = free_in entries
 
--- the first free slot from where the key begins
+-- the first free slot for the key
 pub record IsFirstFree (entries : List ℕ) (key slot : ℕ) : Type 0 where
   pub step : ℕ
   pub within : step < length entries
@@ -32,13 +32,13 @@ pub record IsFirstFree (entries : List ℕ) (key slot : ℕ) : Type 0 where
   pub free : slice_index entries slot ≡ 0
   pub taken : (earlier : ℕ) → earlier < step → slice_index entries (slot_at (length entries) key earlier) ≡ 0 → ⊥
 
--- from where the key begins, the entry is met before any free slot is
+-- a probe for the key meets the entry before any free slot
 abbrev pub IsMet : ℕ → ℕ → ℕ → List ℕ → Type 0
 IsMet slots key entry entries =
     (step : ℕ) → step < slots → slice_index entries (slot_at slots key step) ≡ 0
     → ((earlier : ℕ) → earlier < step → slice_index entries (slot_at slots key earlier) ≡ entry → ⊥) → ⊥
 
--- a table of the numbers below a count, each with its key
+-- a table of the numbers below a count, by their keys
 pub record IsTable (key : ℕ → ℕ) (count : ℕ) (entries : List ℕ) : Type 0 where
   pub few : length entries ≤ 67108864
   pub room : count < length entries
