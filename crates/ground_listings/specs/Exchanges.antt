@@ -1,4 +1,4 @@
--- The exchanges by which a task is searched.
+-- The exchanges modulo which a task is searched.
 use Rattle.std.specs.Prelude.{ℕ, nat_le, ◌≤◌, Bool, ◌&&◌, IsTrue, List, length}
 use Rattle.std.specs.List.{list_all}
 use Rattle.grounding.specs.declared.ground.Ground.{Ground}

@@ -1,4 +1,4 @@
--- What is true in a packed state that is looked at as a valuation.
+-- A packed state as a valuation.
 use Rattle.packed_state.specs.Packed.{bits_of}
 use Rattle.grounding_kept.specs.Numbering.{task_in, atoms_in}
 use Rattle.grounding.specs.declared.state_view.StateView.{StateView}

@@ -1,6 +1,6 @@
 //! The ground task: what the task does, by numbers of instances and atoms, over states that are bits.
 //!
-//! A formula is looked at only where its sure literals do not decide it.
+//! A formula is evaluated only if its sure literals do not decide it.
 #![tactic(auto)]
 
 mod changes;

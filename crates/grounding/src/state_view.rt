@@ -9,8 +9,7 @@ use grounding_kept::Numbering;
 use packed_state::Packed;
 use task::Atom;
 
-/// The state that a packed state stands for, as formulas are judged in it: the numbered atoms whose bits are set, and the
-/// static atoms that are true at the start.
+/// The state that a packed state stands for: the numbered atoms whose bits are set, and the static atoms of the initial state.
 #[derive(Drop)]
 pub(crate) struct StateView<'a, 't> {
     numbering: &'a Numbering<'t>,
@@ -23,7 +22,7 @@ impl<'a, 't> StateView<'a, 't> {
     ghost use Rattle.model.specs.Grounding.{state_of_bits};
     ghost use Rattle.grounding.specs.StateView.{facts_of};
 
-    /// That of the packed state, which has a bit for each numbered atom.
+    /// The view of a packed state, which has a bit for each numbered atom.
     pub(crate) fn new(numbering: &'a Numbering<'t>, state: &'a Packed) -> StateView<'a, 't>
         requires { length (bits_of state.now) ≡ length (atoms_in numbering.now) }
         ensures { facts_of result ≡ state_of_bits (task_in numbering.now) (atoms_in numbering.now) (bits_of state.now) }

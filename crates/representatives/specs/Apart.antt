@@ -1,4 +1,4 @@
--- Exchanges that have no atom in common: an image by the one comes before a state where it did before the other was made.
+-- Exchanges without a common atom: taking an image by one does not change whether the image by the other precedes the state.
 use Rattle.std.specs.Prelude.{◌≡◌, ℕ, ◌<◌, ◌≤◌, Bool, true, false, ◌||◌, ◌==◌, List, [], slice_get}
 use Rattle.std.specs.List.{list_any}
 use Rattle.std.specs.Option.{option_map_or}

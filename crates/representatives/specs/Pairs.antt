@@ -1,4 +1,4 @@
--- The code's pairs of numbers.
+-- The code's pairs of atoms.
 use Rattle.std.specs.Prelude.{ℕ, Bool, List, map, IsTrue}
 use Rattle.std.specs.List.{list_all}
 use Rattle.std.specs.Global.{Vec}

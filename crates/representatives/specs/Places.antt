@@ -1,4 +1,4 @@
--- Exchanges of objects, seen through the numbers of atoms: pairs of places whose bits change places.
+-- Exchanges of objects acting on bits: pairs of places whose bits are swapped.
 use Rattle.std.specs.Prelude.{◌≡◌, ℕ, ◌<◌, ◌≤◌, Bool, true, false, ◌&&◌, cond, nat_lt, List, [], ◌∷◌, map, slice_set, slice_get, Option, None, Some}
 use Rattle.std.specs.List.{list_all}
 use Rattle.std.specs.Option.{option_map_or}
@@ -7,7 +7,7 @@ use Rattle.model.specs.Task.{Atom}
 use Rattle.symmetries.specs.Exchanges.{Exchange, image_of_object}
 use Rattle.task_symmetries.specs.Numbers.{exchanged_numbers}
 
--- the pairs of numbers that the exchange takes to each other
+-- the pairs of numbers that the exchange swaps
 abbrev pub swap_of : List Atom → Exchange → List (ℕ × ℕ)
 swap_of atoms exchange = exchanged_numbers atoms (image_of_object exchange)
 
@@ -25,12 +25,12 @@ are_within width pairs = list_all (is_within width) pairs
 abbrev pub decide : Bool → Bool → Bool → Bool
 decide first second rest = cond first (cond second rest true) (cond second false rest)
 
--- of the first pair whose bits differ the second one is set
+-- in the first pair whose bits differ, the second bit is set
 abbrev pub is_earlier : List (ℕ × ℕ) → (ℕ → Bool) → Bool
 is_earlier [] bit = false
 is_earlier (pair ∷ pairs) bit = decide (bit pair.1) (bit pair.0) (is_earlier pairs bit)
 
--- the bits of each pair change places
+-- the bits of each pair are swapped
 abbrev pub with_swapped : List (ℕ × ℕ) → List Bool → List Bool
 with_swapped [] bits = bits
 with_swapped (pair ∷ pairs) bits = with_swapped pairs (slice_set (slice_set bits pair.0 (has bits pair.1)) pair.1 (has bits pair.0))

@@ -1,23 +1,23 @@
-//! The lowest of a set of numbers of exchanges.
+//! The lowest numbers of a growing set.
 ghost use Rattle.std.specs.Prelude.{◌≡◌, ◌≤◌, ℕ, true};
 ghost use Rattle.representatives.specs.Lowest.{tells};
 
 use arrayvec::ArrayVec;
 
-/// How many numbers are kept at most.
+/// Numbers kept, at most.
 pub(crate) const MOST: usize = 4;
 
-/// The lowest of a set of numbers of exchanges.
+/// The lowest numbers of a set of exchanges.
 #[derive(Drop)]
 pub(crate) struct Lowest {
-    /// At most so many, rising.
+    /// In ascending order.
     pub(crate) numbers: ArrayVec<usize, MOST>,
-    /// All of the set that are below this number are among them.
+    /// Members of the set below this number are all kept.
     pub(crate) from: usize,
 }
 
 impl Lowest {
-    /// Those of the empty set.
+    /// The empty set.
     pub(crate) fn new() -> Lowest {
         Lowest {
             numbers: ArrayVec::new(),
@@ -25,7 +25,7 @@ impl Lowest {
         }
     }
 
-    /// Takes one more number into the set, above all others.
+    /// Adds a number, which is above all others.
     pub(crate) fn note(&mut self, number: usize)
         ensures kept { (n : ℕ) → tells self.old n ≡ true → tells self.new n ≡ true }
         ensures noted { tells self.new number ≡ true }
@@ -37,7 +37,7 @@ impl Lowest {
         }
     }
 
-    /// The first number of the set from this one on; where more are in the set than are kept, one that is no higher.
+    /// A lower bound of the members that are at least `start`; the least of them if it is kept.
     pub(crate) fn first_from(&self, start: usize) -> usize
         ensures { (n : ℕ) → tells self.now n ≡ true → start ≤ n → result ≤ n }
     {

@@ -1,5 +1,5 @@
-//! The exchanges that have an atom in common. Once an image was taken, only those are tried again: an image by another one comes before
-//! the state exactly if it did before.
+//! Neighbours: exchanges that share an atom. Once an image is taken, only neighbours are tried again, since the image by any other
+//! exchange precedes the state if and only if it did before.
 ghost use Rattle.std.specs.Prelude.{◌≡◌, ◌<◌, ◌≤◌, ℕ, true, length, map, IfOk};
 ghost use Rattle.representatives.specs.Pairs.{pair_of, swaps_in, AreBelow};
 ghost use Rattle.representatives.specs.Apart.{is_in, AreAllWithin};
@@ -11,7 +11,7 @@ use arrayvec::ArrayVec;
 use faults::NoMemory;
 use std::alloc::Global;
 
-/// For each of these exchanges the lowest of those before it that share an atom with it. All numbers of atoms are below the width.
+/// For each exchange, the lowest of those before it that share an atom with it. All atoms are below `width`.
 pub(crate) fn neighbours(
     alloc: Global,
     width: usize,
@@ -21,7 +21,7 @@ pub(crate) fn neighbours(
     ensures all { IfOk result (λ all. AreAllNeighbours (swaps_in swaps.now) all.items) }
     ensures each { IfOk result (λ all. length all.items ≡ length swaps.now) }
 {
-    // for each atom the lowest exchanges that have it
+    // for each atom the lowest exchanges that move it
     let mut noted = none_noted(alloc, width)?;
     let mut all = Vec::new(alloc);
     for number in 0..swaps.len() {
@@ -32,7 +32,7 @@ pub(crate) fn neighbours(
     Ok(all)
 }
 
-/// At each of as many atoms no exchange that has it.
+/// For each atom, no exchange yet.
 fn none_noted(alloc: Global, width: usize) -> Result<Vec<Lowest>, NoMemory>
     ensures { IfOk result (λ noted. length noted.items ≡ width) }
 {
@@ -43,7 +43,7 @@ fn none_noted(alloc: Global, width: usize) -> Result<Vec<Lowest>, NoMemory>
     Ok(noted)
 }
 
-/// The lowest numbers that are noted of the atoms in the pairs, of those below this number.
+/// The lowest numbers below `number` that are noted at the atoms of the pairs.
 fn neighbours_of(noted: &[Lowest], pairs: &[Pair], number: usize) -> Lowest
     requires { AreBelow (length noted.now) pairs.now }
     ensures { AreLowest noted.now (map pair_of pairs.now) number result.numbers.items result.from }
@@ -60,7 +60,7 @@ fn neighbours_of(noted: &[Lowest], pairs: &[Pair], number: usize) -> Lowest
     Lowest { numbers, from }
 }
 
-/// The least of this number and those that are noted, from the start on, of the atoms in the pairs.
+/// A lower bound of `number` and of what is noted, from `start` on, at the atoms of the pairs.
 fn least_from(noted: &[Lowest], pairs: &[Pair], start: usize, number: usize) -> usize
     requires { AreBelow (length noted.now) pairs.now }
     ensures most { result ≤ number }
@@ -75,7 +75,7 @@ fn least_from(noted: &[Lowest], pairs: &[Pair], start: usize, number: usize) -> 
     least
 }
 
-/// The first number that is noted of the atom at this place, from the start on.
+/// A lower bound of what is noted at this place, from `start` on.
 fn first_at(noted: &[Lowest], place: usize, start: usize) -> usize
     requires { place < length noted.now }
     ensures { (n : ℕ) → tells_at noted.now place n ≡ true → start ≤ n → result ≤ n }
@@ -83,7 +83,7 @@ fn first_at(noted: &[Lowest], place: usize, start: usize) -> usize
     noted[place].first_from(start)
 }
 
-/// Notes the number of an exchange beside the atoms in its pairs.
+/// Notes the exchange at the atoms of its pairs.
 fn note(noted: &mut [Lowest], pairs: &[Pair], number: usize)
     requires { AreBelow (length noted.old) pairs.now }
     ensures wide { length noted.new ≡ length noted.old }
@@ -96,7 +96,7 @@ fn note(noted: &mut [Lowest], pairs: &[Pair], number: usize)
     }
 }
 
-/// Notes the number at the place.
+/// Notes the exchange at this place.
 fn note_at(noted: &mut [Lowest], place: usize, number: usize)
     requires { place < length noted.old }
     ensures wide { length noted.new ≡ length noted.old }

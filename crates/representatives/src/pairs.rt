@@ -1,4 +1,4 @@
-//! Pairs of numbers of atoms that an exchange takes to each other.
+//! Pairs of atoms that an exchange swaps, by number.
 ghost use Rattle.std.specs.Prelude.{◌≡◌, ◌^◌, IfOk, IsTrue, map};
 ghost use Rattle.representatives.specs.Places.{are_within};
 ghost use Rattle.representatives.specs.Pairs.{pair_of};
@@ -6,14 +6,14 @@ ghost use Rattle.representatives.specs.Pairs.{pair_of};
 use faults::NoMemory;
 use std::alloc::Global;
 
-/// The numbers of two atoms that an exchange takes to each other.
+/// The numbers of two atoms that an exchange swaps.
 #[derive(Clone, Copy)]
 pub(crate) struct Pair {
     pub(crate) lower: u32,
     pub(crate) upper: u32,
 }
 
-/// These pairs of numbers.
+/// The pairs of these numbers.
 pub(crate) fn pairs_from(alloc: Global, numbers: &[(usize, usize)]) -> Result<Vec<Pair>, NoMemory>
     requires { IsTrue (are_within (2 ^ 32) numbers.now) }
     ensures { IfOk result (λ pairs. map pair_of pairs.items ≡ numbers.now) }

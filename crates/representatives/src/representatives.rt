@@ -21,15 +21,14 @@ use packed_state::Packed;
 use std::alloc::Global;
 use task_symmetries::{Exchange, exchanged_numbers};
 
-/// Exchanges of objects, as what they do to the packed states of a ground task: of the states that they take into one another
-/// one stands for them all, their representative.
+/// Exchanges of objects acting on the packed states of a ground task. A state's representative stands for its images.
 #[derive(Drop)]
 pub struct Representatives<'g, 't, 'e> {
     ground: &'g Ground<'t>,
     exchanges: &'e [Exchange],
-    /// For each exchange the pairs of numbers of atoms that it takes to each other, by their lower numbers, in runs.
+    /// For each exchange, the pairs of atoms that it swaps, by their lower numbers, in runs.
     swaps: Vec<Vec<Run>>,
-    /// For each exchange the lowest of those before it that share an atom with it.
+    /// For each exchange, the lowest of those before it that share an atom with it.
     neighbours: Vec<Lowest>,
     ghost kept: { list_all (keeps_atoms (atoms_in ground.now)) (map exchange_of exchanges.now) ≡ true } by { Prim.hlevel props },
     ghost made: { swaps_in_runs swaps.items ≡ swaps_of_all (atoms_in ground.now) (map exchange_of exchanges.now) } by { Prim.hlevel props },
@@ -45,11 +44,11 @@ impl<'g, 't, 'e> Representatives<'g, 't, 'e> {
     ghost use Rattle.representatives.specs.Places.{is_earlier_at, swapped_at, FindsFrom};
     ghost use Rattle.representatives.specs.Representatives.{ground_of, task_of, atoms_of, exchanges_of, swaps_of};
 
-    /// Those by these exchanges of the objects of the ground task. `None`, if the image of a numbered atom by one of them has no
+    /// Representatives by these exchanges of the ground task's objects; `None` if one of them maps a numbered atom to one without a
     /// number.
     ///
     /// # Errors
-    /// Memory was refused, which says nothing of the exchanges.
+    /// Memory was refused.
     pub fn new(
         alloc: Global,
         ground: &'g Ground<'t>,
@@ -94,9 +93,9 @@ impl<'g, 't, 'e> Representatives<'g, 't, 'e> {
         self.exchanges
     }
 
-    /// Makes a state its representative: as long as the image by one of the exchanges comes before it, the first such image
-    /// takes its place, but (n + 1)^2 times at most, if there are n exchanges. Of two states the one comes before in which the least
-    /// atom is true that is true in one of them alone. No memory is taken.
+    /// Replaces a state by its representative: as long as the image by some exchange precedes it, the first such image takes its
+    /// place, but (n + 1)^2 times at most, n the number of exchanges. Of two states, the one precedes in which the least atom in
+    /// which they differ is true. No memory is taken.
     pub fn represent(&self, state: &mut Packed)
         requires { length (bits_of state.old) ≡ length (atoms_of self.now) }
         ensures { bits_of state.new ≡ packed_representative (task_of self.now) (atoms_of self.now) (exchanges_of self.now) (bits_of state.old) }
@@ -113,8 +112,8 @@ impl<'g, 't, 'e> Representatives<'g, 't, 'e> {
         }
     }
 
-    /// Makes the state its image by the exchange of this number, the first whose image comes before it. The first exchange whose
-    /// image comes before the new state: one that shares no atom with this one, and is before it, has none as before.
+    /// Replaces the state by its image by this exchange, the first whose image precedes it. Answers the first exchange whose image
+    /// precedes the new state: none before this one that shares no atom with it.
     fn take_image(&self, number: usize, state: &mut Packed) -> Option<usize>
         requires wide { length (bits_of state.old) ≡ length (atoms_of self.now) }
         requires first { FindsFrom (swaps_of self.now) (bits_of state.old) 0 (Some number) }
@@ -131,7 +130,7 @@ impl<'g, 't, 'e> Representatives<'g, 't, 'e> {
         self.next_before(state, lowest.from)
     }
 
-    /// The first exchange, from this number on, whose image of the state comes before it.
+    /// The first exchange, from this number on, whose image precedes the state.
     fn next_before(&self, state: &Packed, from: usize) -> Option<usize>
         requires { length (bits_of state.now) ≡ length (atoms_of self.now) }
         ensures { FindsFrom (swaps_of self.now) (bits_of state.now) from result }
@@ -144,7 +143,7 @@ impl<'g, 't, 'e> Representatives<'g, 't, 'e> {
         None
     }
 
-    /// Whether the image of the state by the exchange of this number comes before it.
+    /// Whether the image by this exchange precedes the state.
     fn comes_before(&self, number: usize, state: &Packed) -> bool
         requires number { number < length (swaps_of self.now) }
         requires wide { length (bits_of state.now) ≡ length (atoms_of self.now) }
@@ -153,7 +152,7 @@ impl<'g, 't, 'e> Representatives<'g, 't, 'e> {
         image_comes_before(self.swaps[number].as_slice(), state)
     }
 
-    /// Makes the state its image by the exchange of this number.
+    /// Replaces the state by its image by this exchange.
     fn exchange(&self, number: usize, state: &mut Packed)
         requires number { number < length (swaps_of self.now) }
         requires wide { length (bits_of state.old) ≡ length (atoms_of self.now) }
@@ -163,7 +162,7 @@ impl<'g, 't, 'e> Representatives<'g, 't, 'e> {
     }
 }
 
-/// The pairs of numbers of atoms that the exchange takes to each other. `None`, if the image of a numbered atom has no number.
+/// The pairs of atoms that the exchange swaps; `None` if it maps a numbered atom to one without a number.
 fn pairs_of(
     alloc: Global,
     ground: &Ground<'_>,

@@ -1,17 +1,17 @@
-//! A run of pairs of numbers of atoms, whose bits are compared a word at a time.
+//! A run of pairs of atoms, whose bits are compared a word at a time.
 ghost use Rattle.std.specs.Prelude.{◌≡◌, ◌<◌, ◌-◌, ◌%◌, ◌^◌};
 ghost use Rattle.std.specs.Int.{bit_at};
 
 use crate::pairs::Pair;
 use packed_state::Packed;
 
-/// Pairs of numbers of atoms at one distance: their lower numbers are in one word of a state, and so are their upper ones.
+/// Pairs of atoms at the same distance, whose lower numbers are in one word of a state, and whose upper numbers too.
 #[derive(Clone, Copy)]
 pub(crate) struct Run {
     /// The first pair.
     pub(crate) lower: u32,
     pub(crate) upper: u32,
-    /// Bit i says whether the pair of `lower + i` and `upper + i` is one of them.
+    /// Bit i is set if `lower + i` and `upper + i` are a pair.
     mask: u64,
     ghost first: { bit_at mask 0 ≡ 1 },
     ghost lower_inside: { mask < 2 ^ (64 - lower % 64) },
@@ -35,7 +35,7 @@ impl Run {
         }
     }
 
-    /// The run with this pair after its own. `None`, if it does not fit.
+    /// The run with this pair appended; `None` if it does not fit.
     pub(crate) fn with(self, pair: Pair) -> Option<Run>
         ensures { IfSome result (λ run. pairs_in run ≡ pairs_in self ++ pair_of pair ∷ []) }
     {
@@ -51,7 +51,7 @@ impl Run {
         })
     }
 
-    /// Whether a pair at this place is in the same words, and after all others.
+    /// Whether a pair at this place is in the same words, and behind all others.
     fn has_room(self, place: u32) -> bool
         ensures lower { IsTrue result → self.lower % 64 + place < 64 }
         ensures upper { IsTrue result → self.upper % 64 + place < 64 }

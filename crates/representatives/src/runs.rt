@@ -1,4 +1,4 @@
-//! Runs of pairs of numbers of atoms, whose bits are compared a word at a time.
+//! Images of packed states by runs of pairs.
 ghost use Rattle.std.specs.Prelude.{◌≡◌, ◌<◌, ◌++◌, [], ◌∷◌, IfOk, OnOk, MatchBool, length, map, slice_set};
 ghost use Rattle.packed_state.specs.Packed.{bits_of};
 ghost use Rattle.packed_state.specs.Sets.{has};
@@ -12,7 +12,7 @@ use faults::NoMemory;
 use packed_state::Packed;
 use std::alloc::Global;
 
-/// The pairs of each of these exchanges in runs.
+/// The pairs of each exchange in runs.
 pub(crate) fn runs_of_all(alloc: Global, swaps: &[Vec<Pair>]) -> Result<Vec<Vec<Run>>, NoMemory>
     ensures { IfOk result (λ all. swaps_in_runs all.items ≡ swaps_in swaps.now) }
 {
@@ -24,7 +24,7 @@ pub(crate) fn runs_of_all(alloc: Global, swaps: &[Vec<Pair>]) -> Result<Vec<Vec<
     Ok(all)
 }
 
-/// The pairs in runs, as few as can be without changing their order.
+/// The pairs in runs, in the same order.
 fn runs_of(alloc: Global, pairs: &[Pair]) -> Result<Vec<Run>, NoMemory>
     ensures { IfOk result (λ runs. pairs_in_all runs.items ≡ map pair_of pairs.now) }
 {
@@ -35,7 +35,7 @@ fn runs_of(alloc: Global, pairs: &[Pair]) -> Result<Vec<Run>, NoMemory>
     Ok(runs)
 }
 
-/// Puts the pair after those of the runs: into the last of them, if it fits there, and else into a run of its own.
+/// Appends the pair to the last run, or as a run of its own if it does not fit there.
 fn add(runs: &mut Vec<Run>, pair: Pair) -> Result<(), NoMemory>
     ensures { OnOk result (pairs_in_all runs.new.items ≡ pairs_in_all runs.old.items ++ pair_of pair ∷ []) }
 {
@@ -45,7 +45,7 @@ fn add(runs: &mut Vec<Run>, pair: Pair) -> Result<(), NoMemory>
     Ok(())
 }
 
-/// Puts the pair into the last run, and says whether it fits there.
+/// Appends the pair to the last run, if it fits there.
 fn fits_last(runs: &mut Vec<Run>, pair: Pair) -> bool
     ensures { MatchBool result (pairs_in_all runs.new.items ≡ pairs_in_all runs.old.items ++ pair_of pair ∷ []) (runs.new.items ≡ runs.old.items) }
 {
@@ -59,8 +59,8 @@ fn fits_last(runs: &mut Vec<Run>, pair: Pair) -> bool
     true
 }
 
-/// Whether the image of the state, in which the bits of each pair have changed places, comes before it: of the first pair whose
-/// bits differ the upper one is set.
+/// Whether the image of the state, in which the bits of each pair are swapped, precedes it: in the first pair whose bits differ, the
+/// upper bit is set.
 pub(crate) fn image_comes_before(runs: &[Run], state: &Packed) -> bool
     requires { AreBelow (length (bits_of state.now)) runs.now }
     ensures { result ≡ is_earlier (pairs_in_all runs.now) (has (bits_of state.now)) }
@@ -75,7 +75,7 @@ pub(crate) fn image_comes_before(runs: &[Run], state: &Packed) -> bool
     false
 }
 
-/// Makes the state its image: the bits of each pair change places.
+/// Replaces the state by its image: swaps the bits of each pair.
 pub(crate) fn exchange_bits(runs: &[Run], state: &mut Packed)
     requires { AreBelow (length (bits_of state.old)) runs.now }
     ensures { bits_of state.new ≡ with_swapped (pairs_in_all runs.now) (bits_of state.old) }
@@ -85,7 +85,7 @@ pub(crate) fn exchange_bits(runs: &[Run], state: &mut Packed)
     }
 }
 
-/// Lets the bits of each pair of the run change places.
+/// Swaps the bits of each pair of the run.
 fn exchange_run(run: Run, state: &mut Packed)
     requires { IsBelow (length (bits_of state.old)) run }
     ensures { bits_of state.new ≡ with_swapped (pairs_in run) (bits_of state.old) }
@@ -103,7 +103,7 @@ fn exchange_run(run: Run, state: &mut Packed)
     }
 }
 
-/// Lets the bits of two numbers change places.
+/// Swaps the bits of two numbers.
 fn exchange_pair(state: &mut Packed, lower: u32, upper: u32)
     requires lower { lower < length (bits_of state.old) }
     requires upper { upper < length (bits_of state.old) }
@@ -115,7 +115,7 @@ fn exchange_pair(state: &mut Packed, lower: u32, upper: u32)
     put(state, upper, lower_bit);
 }
 
-/// Puts the number into the state, or takes it out.
+/// Sets the number's bit to `value`.
 fn put(state: &mut Packed, number: u32, value: bool)
     requires { number < length (bits_of state.old) }
     ensures { bits_of state.new ≡ slice_set (bits_of state.old) number value }
