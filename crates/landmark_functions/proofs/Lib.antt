@@ -1,0 +1,4 @@
+pub mod Zones
+pub mod Values
+pub mod LowerBound
+pub mod LandmarkExampleProofs
