@@ -1,8 +1,10 @@
 -- The worked examples of landmark values.
 use Rattle.std.proofs.Common.{◌≡◌, ◌∙◌, ℕ, ◌≤◌, ◌<◌, Bool, true, false, true≢false, List, [], ◌∷◌, sum_by, refl, sym, ap, subst, arith}
-use Rattle.std.specs.Prelude.{All, IsTrue, filter}
+use Rattle.std.specs.Prelude.{All, IsTrue, filter, if◌then◌else◌}
 use Rattle.std.specs.List.{list_all, filter_map}
 use Rattle.std.proofs.lemmas.List.Elements.{All-nil, All-cons}
+use Rattle.std.specs.FinSet.{from_list}
+use Rattle.model.specs.Grounding.{bits_of_state}
 use Rattle.model.specs.Task.{Atom, Task, Instance}
 use Rattle.model.specs.Meaning.{cost_of}
 use Rattle.model.specs.StaticallyFalse.{kept_instances}
@@ -15,8 +17,9 @@ use Rattle.potential_functions.specs.FairExamples.{hop_task, hop_atoms, when_tas
 use Rattle.potential_functions.proofs.FairExampleProofs.{hop, leap, hops_kept, the_one, fore, back, moves_kept}
 use Rattle.table_functions.specs.TableFunctions.{Table}
 use Rattle.table_functions.specs.FairTables.{is_asked, is_closed}
-use Rattle.table_functions.specs.TableExamples.{never_at_a, never_at_b}
-use Rattle.landmark_functions.specs.LandmarkFunctions.{Zone, Landmark, LandmarkFunction}
+use Rattle.table_functions.specs.TableExamples.{never_at_a, never_at_b, x, y}
+use Rattle.table_functions.proofs.TableExampleProofs.{y-unnumbered}
+use Rattle.landmark_functions.specs.LandmarkFunctions.{Zone, Landmark, LandmarkFunction, value}
 use Rattle.landmark_functions.specs.FairLandmarks.{may_break, instance_may_break, cut_of, charge, charges, IsFairAt, AreFairAt, AreOfGoal, IsFair, IsDeadFair, AreClosed}
 use Rattle.landmark_functions.specs.LandmarkExamples.{AreZonesJudged, AreTasksJudged, zone, weighing, alone, beside, not_at_c, at_neither, by_hops, at_once, never_without_tables, fire_task, fire_atoms, burning, nowhere, not_here}
 
@@ -183,4 +186,7 @@ tasks_are_judged = record {
   before_hole = refl;
   in_hole = refl;
   not_closed = hole-open;
+  unnumbered =
+      let h = alone (weighing 5 (zone (0 ∷ []) []) ∷ []) in
+      ap (λ b. if b then value h (bits_of_state (x ∷ []) (from_list (y ∷ []))) else 0) y-unnumbered;
 }

@@ -20,15 +20,15 @@ use Rattle.table_functions.proofs.LowerBound.{state-bound, are_lower_bounds, are
 use Rattle.landmark_functions.specs.LandmarkFunctions.{Zone, has_any, is_whole, gives, LandmarkFunction, value}
 use Rattle.landmark_functions.specs.FairLandmarks.{instance_may_break, AreFairAt}
 use Rattle.landmark_functions.specs.Laws.{is_zone_over, ZonesAreLandmarks, FairOnesAreLowerBounds, DeadFairOnesReportDeadEnds, FairTablesAreClosed}
-use Rattle.landmark_functions.proofs.Values.{one-estimate}
+use Rattle.landmark_functions.proofs.Values.{landmarks_are_fair_values}
 
 pub fair_ones_are_lower_bounds : FairOnesAreLowerBounds
 fair_ones_are_lower_bounds task atoms h numbered over closed fair =
-    are_lower_bounds task atoms numbered (value h) (one-estimate (cost_of task) task atoms h numbered.numberable over closed fair)
+    are_lower_bounds task atoms numbered (value h) (landmarks_are_fair_values (cost_of task) task atoms h numbered.numberable over closed fair)
 
 pub dead_fair_ones_report_dead_ends : DeadFairOnesReportDeadEnds
 dead_fair_ones_report_dead_ends task atoms h numbered over closed fair =
-    are_dead_ends task atoms numbered (value h) (one-estimate nothing task atoms h numbered.numberable over closed fair)
+    are_dead_ends task atoms numbered (value h) (landmarks_are_fair_values nothing task atoms h numbered.numberable over closed fair)
 
 pub fair_tables_are_closed : FairTablesAreClosed
 fair_tables_are_closed task atoms t fair k d below asked = (fair.instances k d below asked).closed
@@ -87,8 +87,8 @@ pub zones_are_landmarks : ZonesAreLandmarks
 zones_are_landmarks task atoms zone numbered over goals s end plan statics fluents whole runs goal =
     let p = breaks task atoms zone in
     let h = alone task atoms zone in
-    let estimate = one-estimate (counted p) task atoms h numbered.numberable (record { zones = and_from (is_zone_over (length atoms) zone) true over refl; scopes = refl }) (λ k d below asked. refl)
+    let fair = landmarks_are_fair_values (counted p) task atoms h numbered.numberable (record { zones = and_from (is_zone_over (length atoms) zone) true over refl; scopes = refl }) (λ k d below asked. refl)
     (alone-fair task atoms zone goals) in
-    let most = state-bound (counted p) task atoms numbered (value h) estimate s end plan statics runs goal in
+    let most = state-bound (counted p) task atoms numbered (value h) fair s end plan statics runs goal in
     let one = some-passes p plan (omega (arith, begins task atoms zone s fluents whole)) in
     (one.0, one.1, Contains-filter p (kept_instances task) one.0 (all-kept task plan s end one.0 statics runs one.1) one.2)

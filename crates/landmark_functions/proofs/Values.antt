@@ -1,33 +1,31 @@
--- The value of a fair landmark function: what is so of it across a step of the task and at a goal.
-use Rattle.std.proofs.Common.{◌≡◌, ◌∙◌, ℕ, ◌+◌, ◌<◌, ◌≤◌, Bool, true, false, true≢false, not, ◌&&◌, ◌||◌, List, [], ◌∷◌, length, sum_by, Some, refl, sym, ap, arith}
-use Rattle.std.specs.Prelude.{IsTrue, Contains, nat_lt, slice_get, if◌then◌else◌, is_some}
+-- Fair landmark functions are fair values: across a step of the task and in goal states.
+use Rattle.std.proofs.Common.{◌≡◌, ◌∙◌, ℕ, ◌+◌, ◌<◌, ◌≤◌, Bool, true, false, true≢false, not, ◌&&◌, List, [], ◌∷◌, length, sum_by, Some, refl, sym, ap, arith}
+use Rattle.std.specs.Prelude.{IsTrue, Contains, nat_lt, if◌then◌else◌}
 use Rattle.std.specs.List.{list_all}
-use Rattle.std.specs.Option.{option_map_or}
 use Rattle.std.proofs.lemmas.Bool.{ltb-true, and_parts, false_from_ne_true}
 use Rattle.std.proofs.lemmas.List.Elements.{All-contains}
 use Rattle.std.proofs.lemmas.List.Folds.{list_all-append}
-use Rattle.model.specs.Task.{Atom, Schema, Task, Instance}
+use Rattle.model.specs.Task.{Atom, Task, Instance}
 use Rattle.model.specs.Meaning.{State, step, meets_goal}
 use Rattle.model.specs.StaticallyFalse.{kept_instances, counting_changes}
 use Rattle.model.specs.NumberedLiterals.{literals_of_instance, literals_of_goal, counting_of_instance}
-use Rattle.model.specs.ConditionalChanges.{wants_unnumbered, changes_in, conditional_of_instance}
+use Rattle.model.specs.ConditionalChanges.{changes_in, conditional_of_instance}
 use Rattle.model.specs.Grounding.{bits_of_state}
-use Rattle.model.proofs.ListLemmas.{Contains-here, Contains-there}
 use Rattle.model.proofs.StaticallyFalseLemmas.{Contains-kept}
 use Rattle.potential_functions.specs.Fair.{says, may_become}
 use Rattle.potential_functions.specs.Laws.{AreNumberable}
 use Rattle.potential_functions.proofs.Falls.{bit}
 use Rattle.potential_functions.proofs.Repacked.{repacked, repacked-bit}
-use Rattle.table_functions.specs.TableFunctions.{Table, is_among, projection, row_of, has_rows}
-use Rattle.table_functions.specs.FairTables.{is_shut_out, is_asked, is_closed}
+use Rattle.table_functions.specs.TableFunctions.{is_among, has_rows}
+use Rattle.table_functions.specs.FairTables.{is_asked, is_closed}
+use Rattle.table_functions.specs.Laws.{IsOfAtoms}
 use Rattle.table_functions.proofs.Lists.{all-at, all-among}
-use Rattle.table_functions.proofs.Rows.{projection-alike, not-shut_out}
 use Rattle.table_functions.proofs.Falls.{has-next}
-use Rattle.table_functions.proofs.Steps.{all_changes-are, formula-within, pair-bits, instance-wants_none, instance-within, steps-within}
-use Rattle.table_functions.proofs.Estimates.{IsOfAtoms, IsEstimate}
+use Rattle.table_functions.proofs.Steps.{all_changes-are, formula-within, pair-bits, steps-within}
+use Rattle.table_functions.proofs.FairValues.{steps-in, asked, repacked-rows}
 use Rattle.landmark_functions.specs.LandmarkFunctions.{has_any, is_whole, Landmark, gives, LandmarkFunction, value}
 use Rattle.landmark_functions.specs.FairLandmarks.{IsFairAt, AreFairAt, AreClosed}
-use Rattle.landmark_functions.specs.Laws.{is_zone_over, IsOver}
+use Rattle.landmark_functions.specs.Laws.{is_zone_over, IsOver, LandmarksAreFairValues}
 use Rattle.landmark_functions.proofs.Zones.{scope_of, has-none, stays-whole, sum-falls, sum-ends, sum-alike}
 
 module _ (allowance : Instance → ℕ) (task : Task) (atoms : List Atom) (h : LandmarkFunction) (numberable : AreNumberable task atoms) (over : IsOver (length atoms) h)
@@ -35,26 +33,13 @@ module _ (allowance : Instance → ℕ) (task : Task) (atoms : List Atom) (h : L
   abbrev bits_of : State → List Bool
   bits_of s = bits_of_state atoms s
 
-  below : (t : Table) → Contains h.tables t → (n : ℕ) → is_among t.scope n ≡ true → n < length atoms
-  below t at n there =
-      ltb-true n (length atoms) (all-among (λ k. nat_lt k (length atoms)) t.scope n (all-at (λ (u : Table). list_all (λ k. nat_lt k (length atoms)) u.scope) h.tables t over.scopes at) there)
+  over-zone : (m : Landmark) → Contains h.landmarks m → is_zone_over (length atoms) m.zone ≡ true
+  over-zone m at = all-at (λ (k : Landmark). is_zone_over (length atoms) k.zone) h.landmarks m over.zones at
 
-  zone-below : (m : Landmark) → Contains h.landmarks m → (n : ℕ) → is_among (scope_of m.zone) n ≡ true → n < length atoms
-  zone-below m at n there =
+  below : (m : Landmark) → Contains h.landmarks m → (n : ℕ) → is_among (scope_of m.zone) n ≡ true → n < length atoms
+  below m at n there =
       ltb-true n (length atoms) (all-among (λ k. nat_lt k (length atoms)) (scope_of m.zone) n
-      (list_all-append (λ k. nat_lt k (length atoms)) m.zone.atoms m.zone.negated ∙ all-at (λ (k : Landmark). is_zone_over (length atoms) k.zone) h.landmarks m over.zones at) there)
-
-  -- an instance that leads from a state that has its rows to another is not shut out
-  asked : (s next : State) (i : Instance) → IsOfAtoms task atoms s → step task s i ≡ Some next → has_rows h.tables (bits_of s) ≡ true → is_asked task atoms h.tables i ≡ true
-  asked s next i here leads has =
-      neither (option_map_or (λ (schema : Schema). wants_unnumbered task atoms schema.precondition i.objects) (slice_get task.schemas i.schema) false) (is_shut_out (literals_of_instance task atoms i) h.tables)
-      (instance-wants_none task atoms numberable.distinct s next i here.statics leads here.numbered)
-      (not-shut_out (bits_of s) (literals_of_instance task atoms i) h.tables has (λ t at. instance-within task atoms numberable.distinct s next i here.statics leads here.numbered t.scope (below t at)))
-    where
-      neither : (x y : Bool) → x ≡ false → y ≡ false → not (x || y) ≡ true
-      neither false false e f = refl
-      neither false true e f = absurd (true≢false f)
-      neither true y e f = absurd (true≢false e)
+      (list_all-append (λ k. nat_lt k (length atoms)) m.zone.atoms m.zone.negated ∙ over-zone m at) there)
 
   -- what may become of each atom by all changes that count
   becomes : (s next : State) (i : Instance) → IsOfAtoms task atoms s → step task s i ≡ Some next → (n : ℕ) → n < length atoms
@@ -70,16 +55,15 @@ module _ (allowance : Instance → ℕ) (task : Task) (atoms : List Atom) (h : L
       let literals = literals_of_instance task atoms i in
       let changes = conditional_of_instance task atoms i in
       let kept = Contains-kept task s next i here.statics leads in
-      let is = asked s next i here leads has in
+      let is = asked task atoms h.tables numberable over.scopes s next i here leads has in
       let closes = All-contains (λ (j : Instance). IsTrue (is_asked task atoms h.tables j)
       → IsTrue (list_all (is_closed (literals_of_instance task atoms j) (conditional_of_instance task atoms j)) h.tables)) (kept_instances task) i closed kept is in
       let within = (All-contains (λ (j : Instance). IsTrue (is_asked task atoms h.tables j) → IsFairAt (allowance j) task atoms h j) (kept_instances task) i fair.instances kept is).within in
       let falls = sum-falls literals changes (bits_of s) (bits_of next) h.landmarks (λ m at whole unbroken.
       stays-whole literals changes (bits_of s) (bits_of next) m.zone
-      (steps-within task atoms numberable.distinct s next i here.statics leads here.numbered (scope_of m.zone) (zone-below m at))
-      (λ n there. becomes s next i here leads n (zone-below m at n there)) whole unbroken) in (
-        has-next literals changes (bits_of s) (bits_of next) h.tables
-            (λ t at. steps-within task atoms numberable.distinct s next i here.statics leads here.numbered t.scope (below t at)) has closes,
+      (steps-within task atoms numberable.distinct s next i here.statics leads here.numbered (scope_of m.zone) (below m at))
+      (λ n there. becomes s next i here leads n (below m at n there)) whole unbroken) in (
+        has-next literals changes (bits_of s) (bits_of next) h.tables (steps-in task atoms h.tables numberable over.scopes s next i here leads) has closes,
         omega arith,
       )
 
@@ -99,20 +83,11 @@ module _ (allowance : Instance → ℕ) (task : Task) (atoms : List Atom) (h : L
       let literals = literals_of_goal task atoms in
       let none = sum-ends (bits_of s) h.landmarks (λ m at. false_from_ne_true (is_whole (bits_of s) m.zone) (λ whole.
       true≢false (sym (all-at (λ (k : Landmark). has_any k.zone literals) h.landmarks m fair.goals at)
-      ∙ has-none (bits_of s) m.zone literals whole (formula-within task atoms numberable.distinct (scope_of m.zone) (zone-below m at) s task.goal [] goal)))) in
+      ∙ has-none (bits_of s) m.zone literals whole (formula-within task atoms numberable.distinct (scope_of m.zone) (below m at) s task.goal [] goal)))) in
       elim (has_rows h.tables (bits_of s)) as (λ b. (if b then sum_by (gives (bits_of s)) h.landmarks else 0) ≡ 0) [
         | true ↦ none
         | false ↦ refl
       ]
-
-  -- ---- bits that are looked at
-
-  has-alike : (bits other : List Bool) (tables : List Table) → ((t : Table) → Contains tables t → projection bits t.scope ≡ projection other t.scope) → has_rows tables bits ≡ has_rows tables other
-  has-alike bits other [] each = refl
-  has-alike bits other (t ∷ ts) each =
-      let rest = has-alike bits other ts (λ u at. each u (Contains-there t ts u at)) in
-      let first = ap (λ trues. is_some (row_of t trues)) (each t (Contains-here t ts)) in
-      cc
 
   bits-alike : (f : Bool → Bool) (bits other : List Bool) (numbers : List ℕ) → ((n : ℕ) → n < length atoms → bit bits n ≡ bit other n) → list_all (λ n. nat_lt n (length atoms)) numbers ≡ true
       → list_all (λ n. f (bit bits n)) numbers ≡ list_all (λ n. f (bit other n)) numbers
@@ -127,14 +102,17 @@ module _ (allowance : Instance → ℕ) (task : Task) (atoms : List Atom) (h : L
   repacked-value bits =
       let other = repacked task atoms bits in
       let same = repacked-bit task atoms numberable bits in
-      let has = has-alike other bits h.tables (λ t at. projection-alike other bits t.scope (λ n there. same n (below t at n there))) in
+      let has = repacked-rows task atoms h.tables numberable over.scopes bits in
       let sums = sum-alike h.landmarks (gives other) (gives bits) (λ m at.
-      let parts = and_parts (list_all (λ n. nat_lt n (length atoms)) m.zone.atoms) (list_all (λ n. nat_lt n (length atoms)) m.zone.negated)
-      (all-at (λ (k : Landmark). is_zone_over (length atoms) k.zone) h.landmarks m over.zones at) in
+      let parts = and_parts (list_all (λ n. nat_lt n (length atoms)) m.zone.atoms) (list_all (λ n. nat_lt n (length atoms)) m.zone.negated) (over-zone m at) in
       let falses = bits-alike not other bits m.zone.atoms same parts.0 in
       let trues = bits-alike (λ b. b) other bits m.zone.negated same parts.1 in
       (λ i. if falses i && trues i then m.weight else 0)) in
       (λ i. if has i then sums i else 0)
 
-  pub one-estimate : IsEstimate allowance task atoms (value h)
-  one-estimate = record { falls = one-falls; ends = one-ends; by_numbered = repacked-value }
+pub landmarks_are_fair_values : LandmarksAreFairValues
+landmarks_are_fair_values allowance task atoms h numberable over closed fair = record {
+  falls = one-falls allowance task atoms h numberable over closed fair;
+  ends = one-ends allowance task atoms h numberable over closed fair;
+  by_numbered = repacked-value allowance task atoms h numberable over closed fair;
+}

@@ -1,13 +1,14 @@
 -- Worked examples of landmark values: which instances may break which zones, where zones are whole, and values; and landmark
 -- functions of small tasks. Each is chosen to expose a wrong reading.
 use Rattle.std.specs.Prelude.{◌≡◌, ℕ, Bool, true, false, List, [], ◌∷◌, codes}
+use Rattle.std.specs.FinSet.{from_list}
 use Rattle.model.specs.Task.{Atom, atom, not, by_number, Task}
 use Rattle.model.specs.Examples.{ground, lifted, instance, root, fact, deletes, all}
 use Rattle.table_functions.specs.FairTables.{is_instance_shut_out}
 use Rattle.potential_functions.specs.FairExamples.{hop_task, hop_atoms, when_task, when_atoms, token_task, token_atoms}
 use Rattle.table_functions.specs.TableFunctions.{Table}
-use Rattle.table_functions.specs.TableExamples.{is_true, is_false, becomes, becomes_when, becomes_never, never_at_a, never_at_b, at_a, at_b}
-use Rattle.landmark_functions.specs.LandmarkFunctions.{Zone, is_whole, Landmark, LandmarkFunction, value, is_dead_by}
+use Rattle.table_functions.specs.TableExamples.{is_true, is_false, becomes, becomes_when, becomes_never, never_at_a, never_at_b, at_a, at_b, x, y}
+use Rattle.landmark_functions.specs.LandmarkFunctions.{Zone, is_whole, Landmark, LandmarkFunction, value, is_dead_by, value_of_state}
 use Rattle.landmark_functions.specs.FairLandmarks.{may_break, instance_may_break, cut_of, charges, AreOfGoal, IsFair, IsDeadFair, AreClosed}
 
 -- ---- notation
@@ -171,3 +172,5 @@ pub record AreTasksJudged : Type 0 where
   pub before_hole : value (beside never_at_b.tables by_hops.landmarks) at_a ≡ 6
   pub in_hole : value (beside never_at_b.tables by_hops.landmarks) at_b ≡ 0
   pub not_closed : ¬ AreClosed hop_task hop_atoms never_at_b.tables
+  -- A state with a true fluent atom that has no number has the value 0.
+  pub unnumbered : value_of_state token_task (x ∷ []) (alone (weighing 5 (zone (0 ∷ []) []) ∷ [])) (from_list (y ∷ [])) ≡ 0

@@ -8,11 +8,12 @@ use Rattle.model.specs.Meaning.{State, meets_goal, system_of}
 use Rattle.model.specs.Fluents.{HasInitialStatics}
 use Rattle.model.specs.Grounding.{bits_of_state}
 use Rattle.model.specs.NumberedLiterals.{literals_of_goal}
+use Rattle.potential_functions.specs.Laws.{AreNumberable}
 use Rattle.table_functions.specs.TableFunctions.{TableFunction, has_numbered_fluents}
 use Rattle.table_functions.specs.FairTables as fair_tables
-use Rattle.table_functions.specs.Laws.{AreAllNumbered, are_over, AreLowerBounds, AreDeadEnds}
+use Rattle.table_functions.specs.Laws.{AreAllNumbered, are_over, IsFairValueAt, AreLowerBounds, AreDeadEnds}
 use Rattle.landmark_functions.specs.LandmarkFunctions.{Zone, has_any, is_whole, Landmark, LandmarkFunction, value}
-use Rattle.landmark_functions.specs.FairLandmarks.{cut_of, IsFair, IsDeadFair, AreClosed}
+use Rattle.landmark_functions.specs.FairLandmarks.{cut_of, AreFairAt, IsFair, IsDeadFair, AreClosed}
 
 -- the zone is over this many atoms
 abbrev pub is_zone_over : ℕ → Zone → Bool
@@ -32,7 +33,13 @@ ZonesAreLandmarks =
     → run (system_of task) state plan ≡ Some end → IsTrue (meets_goal task end)
     → (i : Instance) × Contains plan i × Contains (cut_of task atoms zone) i
 
--- across an instance the value falls by at most its cost, and in goal states it is 0; so it is a lower bound
+-- fair landmark functions are a kind of fair values
+abbrev pub LandmarksAreFairValues : Type 0
+LandmarksAreFairValues =
+    (allowance : Instance → ℕ) (task : Task) (atoms : List Atom) (h : LandmarkFunction) → AreNumberable task atoms → IsOver (length atoms) h → AreClosed task atoms h.tables
+    → AreFairAt allowance task atoms h → IsFairValueAt allowance task atoms (value h)
+
+-- so across an instance the value falls by at most its cost, in goal states it is 0, and it is a lower bound
 abbrev pub FairOnesAreLowerBounds : Type 0
 FairOnesAreLowerBounds =
     (task : Task) (atoms : List Atom) (h : LandmarkFunction) → AreAllNumbered task atoms → IsOver (length atoms) h → AreClosed task atoms h.tables

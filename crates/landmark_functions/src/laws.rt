@@ -1,11 +1,16 @@
 //! Laws of landmark functions, proved for all tasks. The functions do nothing.
-ghost use Rattle.landmark_functions.specs.Laws.{ZonesAreLandmarks, FairOnesAreLowerBounds, DeadFairOnesReportDeadEnds, FairTablesAreClosed};
+ghost use Rattle.landmark_functions.specs.Laws.{ZonesAreLandmarks, LandmarksAreFairValues, FairOnesAreLowerBounds, DeadFairOnesReportDeadEnds, FairTablesAreClosed};
 ghost use Rattle.landmark_functions.specs.LandmarkExamples.{AreZonesJudged, AreTasksJudged};
 
 /// A zone with a literal of the goal is a disjunctive action landmark: every run from a state in which it is whole to a goal state
 /// has an instance that may break it.
 pub fn zones_are_landmarks()
     ensures { ZonesAreLandmarks }
+{}
+
+/// Fair landmark functions are fair values, at any allowance.
+pub fn landmarks_are_fair_values()
+    ensures { LandmarksAreFairValues }
 {}
 
 /// The value of a fair landmark function in a state with the static atoms of the initial state is a lower bound: every run from it
