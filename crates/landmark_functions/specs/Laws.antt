@@ -1,6 +1,6 @@
 -- The purpose of fair landmark functions: their values are lower bounds of the remaining cost in every state with the initial static
 -- atoms, not only in the one for which they were found. And of dead-fair ones: a state whose value is not 0 is a dead end.
-use Rattle.std.specs.Prelude.{◌≡◌, ℕ, nat_lt, Bool, ◌&&◌, IsTrue, List, Contains, length, Some}
+use Rattle.std.specs.Prelude.{◌≡◌, ℕ, nat_lt, Bool, ◌&&◌, IsTrue, List, All, Contains, length, Some}
 use Rattle.std.specs.List.{list_all}
 use Rattle.model.specs.Task.{Atom, Task, Instance}
 use Rattle.model.specs.Runs.{run}
@@ -9,10 +9,11 @@ use Rattle.model.specs.Fluents.{HasInitialStatics}
 use Rattle.model.specs.Grounding.{bits_of_state}
 use Rattle.model.specs.NumberedLiterals.{literals_of_goal}
 use Rattle.potential_functions.specs.Laws.{AreNumberable}
-use Rattle.table_functions.specs.TableFunctions.{TableFunction, has_numbered_fluents}
+use Rattle.table_functions.specs.TableFunctions.{Table, TableFunction, has_numbered_fluents}
 use Rattle.table_functions.specs.FairTables as fair_tables
 use Rattle.table_functions.specs.Laws.{AreAllNumbered, are_over, IsFairValueAt, AreLowerBounds, AreDeadEnds}
 use Rattle.landmark_functions.specs.LandmarkFunctions.{Zone, has_any, is_whole, Landmark, LandmarkFunction, value}
+use Rattle.landmark_functions.specs.LandmarkLines.{NumberedLandmarks, functions_of, keep_limits}
 use Rattle.landmark_functions.specs.FairLandmarks.{cut_of, AreFairAt, IsFair, IsDeadFair, AreClosed}
 
 -- the zone is over this many atoms
@@ -50,6 +51,11 @@ abbrev pub DeadFairOnesReportDeadEnds : Type 0
 DeadFairOnesReportDeadEnds =
     (task : Task) (atoms : List Atom) (h : LandmarkFunction) → AreAllNumbered task atoms → IsOver (length atoms) h → AreClosed task atoms h.tables
     → IsDeadFair task atoms h → AreDeadEnds task atoms (value h)
+
+-- what a text may have is over the atoms that it may have it for
+abbrev pub KeptOnesAreOver : Type 0
+KeptOnesAreOver =
+    (count : ℕ) (tables : List Table) (l : NumberedLandmarks) → IsTrue (keep_limits count l) → IsTrue (are_over count tables) → All (IsOver count) (functions_of tables l)
 
 -- the tables of a fair table function are closed
 abbrev pub FairTablesAreClosed : Type 0

@@ -1,6 +1,7 @@
 //! Laws of landmark functions, proved for all tasks. The functions do nothing.
-ghost use Rattle.landmark_functions.specs.Laws.{ZonesAreLandmarks, LandmarksAreFairValues, FairOnesAreLowerBounds, DeadFairOnesReportDeadEnds, FairTablesAreClosed};
+ghost use Rattle.landmark_functions.specs.Laws.{ZonesAreLandmarks, LandmarksAreFairValues, FairOnesAreLowerBounds, DeadFairOnesReportDeadEnds, FairTablesAreClosed, KeptOnesAreOver};
 ghost use Rattle.landmark_functions.specs.LandmarkExamples.{AreZonesJudged, AreTasksJudged};
+ghost use Rattle.landmark_functions.specs.LandmarkLines.{AreLinesJudged};
 
 /// A zone with a literal of the goal is a disjunctive action landmark: every run from a state in which it is whole to a goal state
 /// has an instance that may break it.
@@ -31,6 +32,11 @@ pub fn fair_tables_are_closed()
     ensures { FairTablesAreClosed }
 {}
 
+/// The zones of values that a text may have are over its atoms, as the laws require.
+pub fn kept_landmarks_are_over()
+    ensures { KeptOnesAreOver }
+{}
+
 /// The worked examples of zones: which instances may break which, where zones are whole, and values.
 pub fn landmark_examples_are_judged()
     ensures { AreZonesJudged }
@@ -39,4 +45,9 @@ pub fn landmark_examples_are_judged()
 /// The worked examples of landmark functions of small tasks: which are fair, which are not, and why.
 pub fn landmark_task_examples_are_judged()
     ensures { AreTasksJudged }
+{}
+
+/// The worked examples of lines, and of those that a text may not have.
+pub fn landmark_lines_are_judged()
+    ensures { AreLinesJudged }
 {}
