@@ -13,7 +13,7 @@ pub record Ends (start : ℕ) (end : ZoneEnd) (ends : List ZoneEnd) (last : ℕ)
   pub second : end.atoms ≤ end.negated
   pub rest : are_zone_ends end.negated ends last ≡ true
 
-ends-of : (start : ℕ) (end : ZoneEnd) (ends : List ZoneEnd) (last : ℕ) → are_zone_ends start (end ∷ ends) last ≡ true → Ends start end ends last
+pub ends-of : (start : ℕ) (end : ZoneEnd) (ends : List ZoneEnd) (last : ℕ) → are_zone_ends start (end ∷ ends) last ≡ true → Ends start end ends last
 ends-of start end ends last are =
     let parts = and_parts (nat_le start end.atoms && nat_le end.atoms end.negated) (are_zone_ends end.negated ends last) are in
     let both = and_parts (nat_le start end.atoms) (nat_le end.atoms end.negated) parts.0 in

@@ -46,7 +46,7 @@ fn zones_and_values_are_written_by_line(rt: HostRuntime) -> Result<(), Fail> {
     let text = lines_of(alloc, &landmarks)?;
     let lines =
         b"zone 2\nzone 1 2 not 0 10\nzone not 4294967295\nmarks 0 3 2 1\nmarks 1 2147483647\n";
-    assert_eq!(rt; text.as_slice(), lines);
+    assert_eq!(rt; text.as_slice(), lines.as_slice());
     Ok(())
 }
 
@@ -59,5 +59,27 @@ fn states_name_the_value_that_they_rest_on(rt: HostRuntime) -> Result<(), Fail> 
         text.as_slice(),
         b"cut-by 7 3 4dead-by 0 18446744073709551615"
     );
+    Ok(())
+}
+
+#[test]
+fn limits_of_a_text_are_told(rt: HostRuntime) -> Result<(), Fail> {
+    let alloc = rt.alloc();
+    let mut within = Landmarks::none(alloc);
+    within.push_zone(ZoneRef {
+        atoms: &[1, 2],
+        negated: &[0, 4],
+    })?;
+    within.push_value(&[Share { zone: 0, weight: 1 }])?;
+    assert!(rt; within.keep_limits(5));
+    assert!(rt; !within.keep_limits(4));
+    within.push_value(&[Share { zone: 1, weight: 1 }])?;
+    assert!(rt; !within.keep_limits(5));
+    let mut on_both_sides = Landmarks::none(alloc);
+    on_both_sides.push_zone(ZoneRef {
+        atoms: &[1, 2],
+        negated: &[2],
+    })?;
+    assert!(rt; !on_both_sides.keep_limits(5));
     Ok(())
 }
