@@ -55,10 +55,8 @@ fn states_name_the_value_that_they_rest_on(rt: HostRuntime) -> Result<(), Fail> 
     let mut text = Vec::new(rt.alloc());
     add_cut_by(7, 3, 4, &mut text)?;
     add_dead_by(0, 18_446_744_073_709_551_615, &mut text)?;
-    assert_eq!(rt;
-        text.as_slice(),
-        b"cut-by 7 3 4dead-by 0 18446744073709551615"
-    );
+    let lines = b"cut-by 7 3 4dead-by 0 18446744073709551615";
+    assert_eq!(rt; text.as_slice(), lines.as_slice());
     Ok(())
 }
 
