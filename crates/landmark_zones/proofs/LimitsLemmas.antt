@@ -40,7 +40,7 @@ rise-least count least (n ∷ numbers) (suc j) rises within =
     let rest = rise-least count (n + 1) numbers j parts.1 (omega arith) in
     omega arith
 
-rise-up : (count least : ℕ) (numbers : List ℕ) → rise count least numbers ≡ true → (i j : ℕ) → i ≤ j → j < length numbers → get_or numbers i 0 ≤ get_or numbers j 0
+pub rise-up : (count least : ℕ) (numbers : List ℕ) → rise count least numbers ≡ true → (i j : ℕ) → i ≤ j → j < length numbers → get_or numbers i 0 ≤ get_or numbers j 0
 rise-up count least [] rises i j up within = absurd (omega arith)
 rise-up count least (n ∷ numbers) rises zero zero up within = omega arith
 rise-up count least (n ∷ numbers) rises zero (suc j) up within =
@@ -67,8 +67,9 @@ among-none (n ∷ numbers) number none =
     let first : (n == number) ≡ false = false_from_ne_true (n == number) (λ is. none 0 (omega arith) (eqb-true n number is)) in
     ap (λ b. b || is_among numbers number) first ∙ among-none numbers number (λ k within is. none (suc k) (omega arith) is)
 
-pub found-among : (count : ℕ) (numbers : List ℕ) (number : ℕ) (r : Result ℕ ℕ) → rise count 0 numbers ≡ true → IsBinarySearchResult (λ y. nat_cmp y number) numbers r → is_ok r ≡ is_among numbers number
-found-among count numbers number r rises result = by_result r (searched numbers number r result (rise-up count 0 numbers rises))
+pub found-rising : (numbers : List ℕ) (number : ℕ) (r : Result ℕ ℕ) → ((i j : ℕ) → i ≤ j → j < length numbers → get_or numbers i 0 ≤ get_or numbers j 0)
+    → IsBinarySearchResult (λ y. nat_cmp y number) numbers r → is_ok r ≡ is_among numbers number
+found-rising numbers number r up result = by_result r (searched numbers number r result up)
   where
     by_result : (r : Result ℕ ℕ) → MatchResult r (λ i. (i < length numbers) × (get_or numbers i 0 ≡ number))
         (λ i. (i ≤ length numbers) × ((k : ℕ) → k < i → get_or numbers k 0 < number) × ((k : ℕ) → i ≤ k → k < length numbers → number < get_or numbers k 0)) → is_ok r ≡ is_among numbers number
@@ -78,6 +79,9 @@ found-among count numbers number r rises result = by_result r (searched numbers 
           | inl before ↦ let less = apart.1 k before in absurd (omega (arith, is))
           | inr after ↦ let more = apart.2 k after within in absurd (omega (arith, is))
         ]))
+
+pub found-among : (count : ℕ) (numbers : List ℕ) (number : ℕ) (r : Result ℕ ℕ) → rise count 0 numbers ≡ true → IsBinarySearchResult (λ y. nat_cmp y number) numbers r → is_ok r ≡ is_among numbers number
+found-among count numbers number r rises = found-rising numbers number r (rise-up count 0 numbers rises)
 
 -- ---- the number of entries
 
