@@ -1,6 +1,8 @@
-//! Tests which instances of a ground task may break a zone.
+//! Landmark values over a ground task: which instances may break a zone, and the value of a state.
 #![tactic(auto)]
 
 mod breaking;
+mod values;
 
 pub use breaking::may_break;
+pub use values::{is_whole, value_in};
