@@ -1,5 +1,5 @@
 -- Zones of the code, and parts of what may break one.
-use Rattle.std.specs.Prelude.{ℕ, ◌<◌, ◌≤◌, ◌==◌, Bool, true, ◌&&◌, List, get_or, length}
+use Rattle.std.specs.Prelude.{ℕ, ◌<◌, ◌≤◌, ◌==◌, Bool, true, ◌&&◌, List, Contains, get_or, length}
 use Rattle.std.specs.Bool.{beq}
 use Rattle.model.specs.NumberedLiterals.{NumberedChange}
 use Rattle.model.specs.ConditionalChanges.{ConditionalChange}
@@ -17,6 +17,10 @@ IsRising numbers = (i j : ℕ) → i ≤ j → j < length numbers → get_or num
 pub record IsSorted (z : Zone) : Type 0 where
   pub atoms : IsRising z.atoms
   pub negated : IsRising z.negated
+
+-- so are the numbers of each zone
+abbrev pub AreSorted : List Zone → Type 0
+AreSorted zones = (z : Zone) → Contains zones z → IsSorted z
 
 -- the change, which is one of these, makes a literal of the zone true, and may take effect where it is whole
 abbrev pub breaks : List ConditionalChange → Zone → ConditionalChange → Bool

@@ -2,7 +2,9 @@
 #![tactic(auto)]
 
 mod breaking;
+mod charging;
 mod values;
 
 pub use breaking::may_break;
+pub use charging::charges;
 pub use values::{is_whole, value_in};
