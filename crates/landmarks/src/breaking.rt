@@ -82,7 +82,7 @@ fn adds(change: &CountingChange<'_>, atom: u32) -> bool
 }
 
 /// Whether one of the literals is one of the zone's.
-fn has_any(zone: ZoneRef<'_>, literals: &[NumberedLiteral]) -> bool
+pub(crate) fn has_any(zone: ZoneRef<'_>, literals: &[NumberedLiteral]) -> bool
     requires { IsSorted (zone_in zone) }
     ensures { result ≡ has_any (zone_in zone.entry) (map numbered_of literals.now) }
 {

@@ -3,8 +3,10 @@
 
 mod breaking;
 mod charging;
+mod testing;
 mod values;
 
 pub use breaking::may_break;
 pub use charging::charges;
+pub use testing::{Fairness, fairness_for};
 pub use values::{is_whole, value_in};
