@@ -4,19 +4,21 @@ use Rattle.std.specs.Prelude.{All, ◌==◌, ◌||◌, slice_get}
 use Rattle.std.specs.List.{list_all}
 use Rattle.std.specs.Option.{option_map_or}
 use Rattle.std.proofs.lemmas.Bool.{cases_eq, eq-eqb, eqb-true, or_cases}
-use Rattle.std.proofs.lemmas.Option.{slice_get-get_or}
+use Rattle.std.proofs.lemmas.List.Sums.{get_or-le-sum_by}
+use Rattle.std.proofs.lemmas.Option.{slice_get-get_or, slice_get_within, get_or_from_slice_get}
 use Rattle.model.specs.Task.{Atom, Task, Instance}
 use Rattle.model.specs.Meaning.{cost_of}
 use Rattle.model.specs.StaticallyFalse.{kept_instances}
 use Rattle.model.specs.NumberedLiterals.{literals_of_instance, literals_of_goal}
 use Rattle.model.specs.ConditionalChanges.{conditional_of_instance}
 use Rattle.potential_functions.specs.Fair.{nothing}
-use Rattle.table_functions.specs.TableFunctions.{is_among}
+use Rattle.table_functions.specs.TableFunctions.{Table, is_among}
 use Rattle.landmark_functions.specs.LandmarkFunctions.{Landmark, LandmarkFunction}
-use Rattle.landmark_functions.specs.FairLandmarks.{charge, charges, AreFairAt}
+use Rattle.landmark_functions.specs.FairLandmarks.{charge, charges, AreFairAt, IsFair, IsDeadFair}
+use Rattle.landmark_functions.specs.LandmarkLines.{Share, NumberedLandmarks, share_count}
 use Rattle.landmarks.specs.declared.testing.Fairness.{Fairness}
 use Rattle.landmarks.specs.declared.testing.Fairness.TheVariants.{DeadFair, Fair, Unfair}
-use Rattle.landmarks.specs.Fairness.{AreAsked, IsFairness, charged_at, cost_at, AreWithin, IsOneBeyond, free, IsFairnessBelow, after, has_one}
+use Rattle.landmarks.specs.Fairness.{AreAsked, IsFairness, charged_at, cost_at, AreWithin, IsOneBeyond, free, IsFairnessBelow, after, has_one, is_unfair, function_over, IsFairValue, IsFirstUnfair}
 
 -- ---- one more instance
 
@@ -104,3 +106,48 @@ fairness-of task atoms h asked are within goals Fair so = (
 )
 fairness-of task atoms h asked are within goals Unfair so =
     none-fair task atoms h asked are within (cost_at task atoms) (cost_of task) (λ number i at. ap (λ o. option_map_or (cost_of task) o 0) at) so
+
+-- ---- fair where it is not unfair
+
+-- allowed nothing, none is charged more than it costs
+less-fair : (task : Task) (atoms : List Atom) (h : LandmarkFunction) → IsDeadFair task atoms h → IsFair task atoms h
+less-fair task atoms h fair = record {
+  instances = λ k d below is. let none = (fair.instances k d below is).within in record { within = omega arith };
+  goals = fair.goals;
+}
+
+pub fair-of : (task : Task) (atoms : List Atom) (h : LandmarkFunction) (f : Fairness) → is_unfair f ≡ false → IsFairness task atoms h f → IsFair task atoms h
+fair-of task atoms h DeadFair isnt so = less-fair task atoms h so
+fair-of task atoms h Fair isnt so = so.0
+fair-of task atoms h Unfair isnt so = absurd (true≢false isnt)
+
+pub unfair-of : (task : Task) (atoms : List Atom) (h : LandmarkFunction) (f : Fairness) → is_unfair f ≡ true → IsFairness task atoms h f → ¬ IsFair task atoms h
+unfair-of task atoms h DeadFair is so = absurd (true≢false (sym is))
+unfair-of task atoms h Fair is so = absurd (true≢false (sym is))
+unfair-of task atoms h Unfair is so = so
+
+-- ---- the first that is unfair
+
+-- a row is no longer than all together
+pub few-of : (values : List (List Share)) (number count : ℕ) (found : List Share) → slice_get values number ≡ Some found → share_count values ≤ count → length found ≤ count
+few-of values number count found at few =
+    let one = get_or-le-sum_by length values number [] (slice_get_within values number found at) in
+    omega (arith, ap length (get_or_from_slice_get values number found [] at))
+
+module _ (task : Task) (atoms : List Atom) (beside : List Table) (l : NumberedLandmarks) (number : ℕ) (shares : List Share) (at : slice_get l.values number ≡ Some shares)
+    (f : Fairness) (so : IsFairness task atoms (function_over beside l.zones shares) f) (before : (k : ℕ) → k < number → IsFairValue task atoms beside l k) where
+  is-at : get_or l.values number [] ≡ shares
+  is-at = get_or_from_slice_get l.values number shares [] at
+
+  pub found-unfair : is_unfair f ≡ true → IsFirstUnfair task atoms beside l (Some number)
+  found-unfair is = (
+    slice_get_within l.values number shares at,
+    subst (λ s. ¬ IsFair task atoms (function_over beside l.zones s)) (sym is-at) (unfair-of task atoms (function_over beside l.zones shares) f is so),
+    before,
+  )
+
+  pub one-more : is_unfair f ≡ false → (k : ℕ) → k < number + 1 → IsFairValue task atoms beside l k
+  one-more isnt k below = elim (cases_eq k number) [
+    | inl here ↦ subst (IsFairValue task atoms beside l) (sym here) (subst (λ s. IsFair task atoms (function_over beside l.zones s)) (sym is-at) (fair-of task atoms (function_over beside l.zones shares) f isnt so))
+    | inr other ↦ before k (omega (arith, other))
+  ]

@@ -1,5 +1,5 @@
 -- What the test of a value says.
-use Rattle.std.specs.Prelude.{◌≡◌, ℕ, zero, suc, ◌<◌, ◌≤◌, Bool, List, get_or, slice_get, Some, sum_by}
+use Rattle.std.specs.Prelude.{◌≡◌, ℕ, zero, suc, ◌<◌, ◌≤◌, Bool, true, false, List, get_or, slice_get, Option, None, Some, [], length, sum_by}
 use Rattle.std.specs.List.{filter_map}
 use Rattle.model.specs.Task.{Atom, Task, Instance}
 use Rattle.model.specs.StaticallyFalse.{kept_instances}
@@ -10,7 +10,7 @@ use Rattle.table_functions.specs.TableFunctions.{Table, is_among}
 use Rattle.table_functions.specs.FairTables.{is_asked}
 use Rattle.landmark_functions.specs.LandmarkFunctions.{Zone, has_any, Landmark, LandmarkFunction}
 use Rattle.landmark_functions.specs.FairLandmarks.{charge, IsFair, IsDeadFair}
-use Rattle.landmark_functions.specs.LandmarkLines.{Share, landmark_of}
+use Rattle.landmark_functions.specs.LandmarkLines.{Share, NumberedLandmarks, landmark_of}
 use Rattle.landmarks.specs.declared.testing.Fairness.{Fairness}
 use Rattle.landmarks.specs.declared.testing.Fairness.TheVariants.{DeadFair, Fair, Unfair}
 
@@ -30,6 +30,16 @@ abbrev pub IsFairness : Task → List Atom → LandmarkFunction → Fairness →
 IsFairness task atoms h DeadFair = IsDeadFair task atoms h
 IsFairness task atoms h Fair = IsFair task atoms h × ¬ IsDeadFair task atoms h
 IsFairness task atoms h Unfair = ¬ IsFair task atoms h
+
+-- the value with this number, beside these tables, is fair
+abbrev pub IsFairValue : Task → List Atom → List Table → NumberedLandmarks → ℕ → Type 0
+IsFairValue task atoms beside l number = IsFair task atoms (function_over beside l.zones (get_or l.values number []))
+
+-- the first value that is not
+abbrev pub IsFirstUnfair : Task → List Atom → List Table → NumberedLandmarks → Option ℕ → Type 0
+IsFirstUnfair task atoms beside l None = (k : ℕ) → k < length l.values → IsFairValue task atoms beside l k
+IsFirstUnfair task atoms beside l (Some number) =
+    (number < length l.values) × (¬ IsFairValue task atoms beside l number) × ((k : ℕ) → k < number → IsFairValue task atoms beside l k)
 
 -- ---- the first so many of these instances
 
@@ -62,3 +72,8 @@ after DeadFair zero = DeadFair
 after DeadFair (suc charged) = Fair
 after Fair charged = Fair
 after Unfair charged = Unfair
+
+abbrev pub is_unfair : Fairness → Bool
+is_unfair DeadFair = false
+is_unfair Fair = false
+is_unfair Unfair = true

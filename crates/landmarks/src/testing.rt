@@ -5,10 +5,10 @@ ghost use Rattle.grounding.specs.Ground.{atoms_in, task_in};
 ghost use Rattle.grounding.specs.Views.{numbered_of};
 ghost use Rattle.model.specs.StaticallyFalse.{kept_instances};
 ghost use Rattle.table_functions.specs.TableFunctions as tables;
-ghost use Rattle.landmark_functions.specs.LandmarkLines.{landmark_of};
+ghost use Rattle.landmark_functions.specs.LandmarkLines.{landmark_of, share_count};
 ghost use Rattle.landmark_zones.specs.Landmarks.{landmarks_of, share_of};
 ghost use Rattle.landmarks.specs.Breaking.{AreSorted};
-ghost use Rattle.landmarks.specs.Fairness.{AreAsked, IsFairness, IsFairnessBelow, after, function_over, has_one};
+ghost use Rattle.landmarks.specs.Fairness.{AreAsked, IsFairness, IsFairnessBelow, after, IsFirstUnfair, function_over, has_one, is_unfair};
 
 use crate::breaking::has_any;
 use crate::charging::charges;
@@ -27,6 +27,16 @@ pub enum Fairness {
 }
 
 impl Fairness {
+    /// Whether it is not fair.
+    fn is_unfair(self) -> bool
+        ensures { result ≡ is_unfair self }
+    {
+        match self {
+            Fairness::DeadFair | Fairness::Fair => false,
+            Fairness::Unfair => true,
+        }
+    }
+
     /// The same where one more instance is charged this much, which is no more than it costs.
     fn after(self, charged: u64) -> Fairness
         ensures { result ≡ after self charged }
@@ -43,6 +53,23 @@ impl Fairness {
             Fairness::Unfair => Fairness::Unfair,
         }
     }
+}
+
+/// The number of the first value that is not fair for the ground task, if there is one. The numbers asked are those of the kept
+/// instances that the tables beside the values do not shut out.
+pub fn first_unfair(ground: &Ground<'_>, landmarks: &Landmarks, asked: &[u32]) -> Option<usize>
+    requires sorted { AreSorted (landmarks_of landmarks.now).zones }
+    requires few { share_count (landmarks_of landmarks.now).values ≤ 67108864 }
+    requires asked { All (λ number. number < length (kept_instances (task_in ground.now))) asked.now }
+    ensures { (beside : List tables.Table) → AreAsked (task_in ground.now) (atoms_in ground.now) beside asked.now
+        → IsFirstUnfair (task_in ground.now) (atoms_in ground.now) beside (landmarks_of landmarks.now) result }
+{
+    for number in 0..landmarks.value_count() {
+        if fairness_for(ground, landmarks, landmarks.value(number), asked).is_unfair() {
+            return Some(number);
+        }
+    }
+    None
 }
 
 /// Whether the value with these shares is fair for the ground task. The numbers are those of the kept instances that the tables
