@@ -1,4 +1,4 @@
-//! Landmark values over a ground task: which instances may break a zone, and the value of a state.
+//! Landmark values over a ground task: which instances may break a zone, whether a value is fair, and the value of a state.
 #![tactic(auto)]
 
 mod breaking;
