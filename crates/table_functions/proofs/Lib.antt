@@ -2,7 +2,7 @@ pub mod Lists
 pub mod Rows
 pub mod Falls
 pub mod Steps
-pub mod Estimates
+pub mod FairValues
 pub mod LowerBound
 pub mod WithoutTables
 pub mod Certain

@@ -1,6 +1,5 @@
--- Values that fall by no more than the instances' costs are lower bounds, and values that never fall detect dead ends; both for
--- fair and dead-fair table functions.
-use Rattle.std.proofs.Common.{◌≡◌, ◌∙◌, ℕ, zero, suc, ◌+◌, ◌≤◌, ◌||◌, inl, inr, Bool, true, false, true≢false, not, List, [], ◌∷◌, length, sum_by, Some, refl, sym, ap, subst, arith, pos}
+-- Fair values of every kind are bounds: at the costs they are lower bounds, and at the allowance 0 they detect dead ends.
+use Rattle.std.proofs.Common.{◌≡◌, ◌∙◌, ℕ, zero, suc, ◌+◌, ◌≤◌, max, Contains, map, ◌||◌, inl, inr, Bool, true, false, true≢false, not, List, [], ◌∷◌, length, sum_by, Some, refl, sym, ap, subst, arith, pos}
 use Rattle.std.specs.Prelude.{IsTrue, nat_le, slice_get, if◌then◌else◌, All}
 use Rattle.std.specs.Ordering.{eq_by_cmp}
 use Rattle.std.specs.Option.{option_map_or}
@@ -23,14 +22,16 @@ use Rattle.model.proofs.StaticallyFalseLemmas.{Contains-kept}
 use Rattle.model.proofs.GroundTaskLemmas.{step-HasInitialStatics, step-touched}
 use Rattle.potential_functions.specs.PotentialFunctions.{PotentialFunction}
 use Rattle.potential_functions.specs.Fair.{nothing}
+use Rattle.potential_functions.specs.Laws.{AreNumberable}
+use Rattle.model.proofs.ListLemmas.{Contains-here, Contains-there, Contains-none, Contains-cases}
 use Rattle.potential_functions.proofs.LowerBound.{height-most, led, sum-nothing, nothing-allowed}
 use Rattle.potential_functions.proofs.Passing.{all-any}
 use Rattle.potential_functions.proofs.Repacked.{numbered-fluent}
-use Rattle.table_functions.specs.TableFunctions.{Table, value, greatest_value, over_tables, functions_of, dead_ends_of, has_numbered_fluents, in_state}
+use Rattle.table_functions.specs.TableFunctions.{Table, TableFunction, value, greatest_value, over_tables, functions_of, dead_ends_of, has_numbered_fluents, in_state}
 use Rattle.table_functions.specs.FairTables.{IsFair}
-use Rattle.table_functions.specs.Laws.{AreAllNumbered, are_over, IsOver, AreLowerBounds, AreDeadEnds, FairOnesAreLowerBounds, GreatestOfFairOnesIsLowerBound, DeadFairOnesReportDeadEnds, FairValuesAreSound}
+use Rattle.table_functions.specs.Laws.{AreAllNumbered, are_over, IsOver, IsOfAtoms, IsFairValueAt, greatest_of, FairnessIsEnough, AreLowerBounds, AreDeadEnds, FairOnesAreLowerBounds, GreatestOfFairOnesIsLowerBound, DeadFairOnesReportDeadEnds, FairValuesAreSound}
 use Rattle.table_functions.proofs.Lists.{all-from, any-at}
-use Rattle.table_functions.proofs.Estimates.{IsOfAtoms, IsEstimate, one-estimate, greatest-estimate}
+use Rattle.table_functions.proofs.FairValues.{tables_are_fair_values}
 
 -- ---- numbered fluent atoms
 
@@ -59,7 +60,7 @@ module _ (task : Task) (atoms : List Atom) where
 
 -- ---- along any run
 
-module _ (allowance : Instance → ℕ) (task : Task) (atoms : List Atom) (numbered : AreAllNumbered task atoms) (value : List Bool → ℕ) (estimate : IsEstimate allowance task atoms value) where
+module _ (allowance : Instance → ℕ) (task : Task) (atoms : List Atom) (numbered : AreAllNumbered task atoms) (value : List Bool → ℕ) (fair : IsFairValueAt allowance task atoms value) where
   -- if the fluent atoms are numbered, they are numbered after a step
   stays : (s next : State) (i : Instance) → IsOfAtoms task atoms s → step task s i ≡ Some next → HasNumberedFluents task atoms next
   stays s next i here leads q is has = elim (step-touched task s next i q here.statics leads has) [
@@ -74,7 +75,7 @@ module _ (allowance : Instance → ℕ) (task : Task) (atoms : List Atom) (numbe
             let here : IsOfAtoms task atoms s = record { statics = statics; numbered = has-numbered task atoms s has } in
             let after : in_state task atoms value next ≡ value (bits_of_state atoms next) =
             ap (λ b. if b then value (bits_of_state atoms next) else 0) (numbered-has task atoms next (stays s next i here leads)) in
-            let falls = estimate.falls s next i here leads in
+            let falls = fair.falls s next i here leads in
             omega arith
         | false ↦ λ _. omega arith
       ] refl
@@ -82,7 +83,7 @@ module _ (allowance : Instance → ℕ) (task : Task) (atoms : List Atom) (numbe
   pub state-ends : (s : State) → HasInitialStatics task s → meets_goal task s ≡ true → in_state task atoms value s ≡ 0
   state-ends s statics goal =
       elim (has_numbered_fluents task atoms s) as (λ b. (if b then value (bits_of_state atoms s) else 0) ≡ 0) [
-        | true ↦ estimate.ends s goal
+        | true ↦ fair.ends s goal
         | false ↦ refl
       ]
 
@@ -110,13 +111,13 @@ module _ (allowance : Instance → ℕ) (task : Task) (atoms : List Atom) (numbe
   ground-falls bits next number leads =
       let there = led task atoms bits next number leads in
       let allows : allowed number ≡ allowance there.0 = ap (λ o. option_map_or allowance o 0) there.2 in
-      let falls = estimate.falls (state_of_bits task atoms bits) there.1 there.0 (packed bits) there.3 in
-      let before = estimate.by_numbered bits in
+      let falls = fair.falls (state_of_bits task atoms bits) there.1 there.0 (packed bits) there.3 in
+      let before = fair.by_numbered bits in
       let after : value (bits_of_state atoms there.1) ≡ value next = ap value there.4 in
       omega arith
 
   pub ground-ends : (bits : List Bool) → IsTrue ((ground_system task atoms).meets_goal bits) → value bits ≡ 0
-  ground-ends bits goal = sym (estimate.by_numbered bits) ∙ estimate.ends (state_of_bits task atoms bits) goal
+  ground-ends bits goal = sym (fair.by_numbered bits) ∙ fair.ends (state_of_bits task atoms bits) goal
 
   pub ground-bound : (bits end : List Bool) (plan : List ℕ) → run (ground_system task atoms) bits plan ≡ Some end → IsTrue ((ground_system task atoms).meets_goal end)
       → value bits ≤ sum_by allowed plan
@@ -128,17 +129,17 @@ module _ (allowance : Instance → ℕ) (task : Task) (atoms : List Atom) (numbe
 
 -- ---- the allowance is the cost
 
-pub are_lower_bounds : (task : Task) (atoms : List Atom) → AreAllNumbered task atoms → (value : List Bool → ℕ) → IsEstimate (cost_of task) task atoms value → AreLowerBounds task atoms value
-are_lower_bounds task atoms numbered value estimate = record {
-  bound = state-bound (cost_of task) task atoms numbered value estimate;
+pub are_lower_bounds : (task : Task) (atoms : List Atom) → AreAllNumbered task atoms → (value : List Bool → ℕ) → IsFairValueAt (cost_of task) task atoms value → AreLowerBounds task atoms value
+are_lower_bounds task atoms numbered value fair = record {
+  bound = state-bound (cost_of task) task atoms numbered value fair;
   consistent = record {
-    falls = state-falls (cost_of task) task atoms numbered value estimate;
-    ends = state-ends (cost_of task) task atoms numbered value estimate;
+    falls = state-falls (cost_of task) task atoms numbered value fair;
+    ends = state-ends (cost_of task) task atoms numbered value fair;
   };
-  ground_bound = ground-bound (cost_of task) task atoms numbered value estimate;
+  ground_bound = ground-bound (cost_of task) task atoms numbered value fair;
   ground_consistent = record {
-    zero_at_goals = ground-ends (cost_of task) task atoms numbered value estimate;
-    falls_by_no_more = ground-falls (cost_of task) task atoms numbered value estimate;
+    zero_at_goals = ground-ends (cost_of task) task atoms numbered value fair;
+    falls_by_no_more = ground-falls (cost_of task) task atoms numbered value fair;
   };
 }
 
@@ -148,51 +149,97 @@ are_lower_bounds task atoms numbered value estimate = record {
 never-where : (n : ℕ) (b : Bool) → IsTrue (nat_le 1 n) → (b ≡ true → n ≤ 0) → b ≡ false
 never-where n b some none_left = false_from_ne_true b (λ is. let none = none_left is in let least = leb-true 1 n some in absurd (omega arith))
 
-pub are_dead_ends : (task : Task) (atoms : List Atom) → AreAllNumbered task atoms → (value : List Bool → ℕ) → IsEstimate nothing task atoms value → AreDeadEnds task atoms value
-are_dead_ends task atoms numbered value estimate = record {
+pub are_dead_ends : (task : Task) (atoms : List Atom) → AreAllNumbered task atoms → (value : List Bool → ℕ) → IsFairValueAt nothing task atoms value → AreDeadEnds task atoms value
+are_dead_ends task atoms numbered value fair = record {
   no_plan = λ s end plan statics dead runs. never-where (in_state task atoms value s) (meets_goal task end) dead (λ goal.
-      let most = state-bound nothing task atoms numbered value estimate s end plan statics runs goal in
+      let most = state-bound nothing task atoms numbered value fair s end plan statics runs goal in
       let none = sum-nothing nothing (λ i. refl) plan in
       omega arith);
   stays = record {
     stays = λ s next i statics dead leads.
-        let falls = state-falls nothing task atoms numbered value estimate s next i statics leads in
+        let falls = state-falls nothing task atoms numbered value fair s next i statics leads in
         let some = leb-true 1 (in_state task atoms value s) dead in
         le-leb 1 (in_state task atoms value next) (omega arith);
     no_goal = λ s statics dead. never-where (in_state task atoms value s) (meets_goal task s) dead (λ goal.
-        let none = state-ends nothing task atoms numbered value estimate s statics goal in
+        let none = state-ends nothing task atoms numbered value fair s statics goal in
         omega arith);
   };
   no_ground_plan = λ bits end plan dead runs. never-where (value bits) ((ground_system task atoms).meets_goal end) dead (λ goal.
-      let most = ground-bound nothing task atoms numbered value estimate bits end plan runs goal in
+      let most = ground-bound nothing task atoms numbered value fair bits end plan runs goal in
       let none = sum-nothing (λ number. option_map_or nothing (slice_get (kept_instances task) number) 0) (nothing-allowed task) plan in
       omega arith);
   ground_stays = record {
     no_goal = λ bits dead. never-where (value bits) ((ground_system task atoms).meets_goal bits) dead (λ goal.
-        let none = ground-ends nothing task atoms numbered value estimate bits goal in
+        let none = ground-ends nothing task atoms numbered value fair bits goal in
         omega arith);
     stays_dead = λ bits next number dead leads.
-        let falls = ground-falls nothing task atoms numbered value estimate bits next number leads in
+        let falls = ground-falls nothing task atoms numbered value fair bits next number leads in
         let none = nothing-allowed task number in
         let some = leb-true 1 (value bits) dead in
         le-leb 1 (value next) (omega arith);
   };
 }
 
+-- ---- the maximum of several
+
+greatest-fair : (allowance : Instance → ℕ) (task : Task) (atoms : List Atom) (values : List (List Bool → ℕ))
+    → ((value : List Bool → ℕ) → Contains values value → IsFairValueAt allowance task atoms value) → IsFairValueAt allowance task atoms (greatest_of values)
+greatest-fair allowance task atoms [] each = record { falls = λ s next i here leads. omega arith; ends = λ s goal. refl; by_numbered = λ bits. refl }
+greatest-fair allowance task atoms (value ∷ others) each =
+    let first = each value (Contains-here value others) in
+    let rest = greatest-fair allowance task atoms others (λ v at. each v (Contains-there value others v at)) in
+    record {
+      falls = λ s next i here leads. let one = first.falls s next i here leads in let other = rest.falls s next i here leads in omega arith;
+      ends = λ s goal. (λ i. max (first.ends s goal i) (rest.ends s goal i));
+      by_numbered = λ bits. (λ i. max (first.by_numbered bits i) (rest.by_numbered bits i));
+    }
+
+each-less : (values : List (List Bool → ℕ)) (value : List Bool → ℕ) (bits : List Bool) → Contains values value → value bits ≤ greatest_of values bits
+each-less [] value bits at = absurd (Contains-none value at)
+each-less (first ∷ others) value bits at = elim (Contains-cases first others value at) [
+  | inl is ↦ let same : first bits ≡ value bits = ap (λ (v : List Bool → ℕ). v bits) is in omega arith
+  | inr later ↦ let rest = each-less others value bits later in omega arith
+]
+
+pub fairness_is_enough : FairnessIsEnough
+fairness_is_enough task atoms numbered = record {
+  at_an_allowance = λ allowance value fair. state-bound allowance task atoms numbered value fair;
+  at_costs = are_lower_bounds task atoms numbered;
+  at_nothing = are_dead_ends task atoms numbered;
+  greatest = λ allowance. greatest-fair allowance task atoms;
+  each_is_less = each-less;
+}
+
 -- ---- fair table functions
 
 pub fair_ones_are_lower_bounds : FairOnesAreLowerBounds
 fair_ones_are_lower_bounds task atoms h numbered over fair =
-    are_lower_bounds task atoms numbered (value h) (one-estimate (cost_of task) task atoms h numbered.numberable over fair)
+    are_lower_bounds task atoms numbered (value h) (tables_are_fair_values (cost_of task) task atoms h numbered.numberable over fair)
+
+greatest-is : (functions : List TableFunction) (bits : List Bool) → greatest_of (map value functions) bits ≡ greatest_value functions bits
+greatest-is [] bits = refl
+greatest-is (h ∷ others) bits = ap (max (value h bits)) (greatest-is others bits)
+
+all-fair : (task : Task) (atoms : List Atom) (functions : List TableFunction) → AreNumberable task atoms
+    → ((h : TableFunction) → Contains functions h → IsOver (length atoms) h × IsFair task atoms h)
+    → (v : List Bool → ℕ) → Contains (map value functions) v → IsFairValueAt (cost_of task) task atoms v
+all-fair task atoms [] numberable each v at = absurd (Contains-none v at)
+all-fair task atoms (h ∷ others) numberable each v at = elim (Contains-cases (value h) (map value others) v at) [
+  | inl is ↦
+      let here = each h (Contains-here h others) in
+      subst (IsFairValueAt (cost_of task) task atoms) is (tables_are_fair_values (cost_of task) task atoms h numberable here.0 here.1)
+  | inr later ↦ all-fair task atoms others numberable (λ g there. each g (Contains-there h others g there)) v later
+]
 
 pub greatest_is_lower_bound : GreatestOfFairOnesIsLowerBound
 greatest_is_lower_bound task atoms functions numbered over fair =
-    are_lower_bounds task atoms numbered (greatest_value functions) (greatest-estimate (cost_of task) task atoms functions (λ h at.
-    one-estimate (cost_of task) task atoms h numbered.numberable (All-contains (IsOver (length atoms)) functions h over at) (All-contains (IsFair task atoms) functions h fair at)))
+    subst (AreLowerBounds task atoms) (λ i bits. greatest-is functions bits i)
+    (are_lower_bounds task atoms numbered (greatest_of (map value functions)) (greatest-fair (cost_of task) task atoms (map value functions) (all-fair task atoms functions numbered.numberable (λ h at.
+    (All-contains (IsOver (length atoms)) functions h over at, All-contains (IsFair task atoms) functions h fair at)))))
 
 pub dead_fair_ones_report_dead_ends : DeadFairOnesReportDeadEnds
 dead_fair_ones_report_dead_ends task atoms h numbered over fair =
-    are_dead_ends task atoms numbered (value h) (one-estimate nothing task atoms h numbered.numberable over fair)
+    are_dead_ends task atoms numbered (value h) (tables_are_fair_values nothing task atoms h numbered.numberable over fair)
 
 -- ---- several values
 

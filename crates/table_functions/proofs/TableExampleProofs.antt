@@ -190,7 +190,7 @@ one h fair goals =
 
 -- ---- atoms without a number
 
-y-unnumbered : has_numbered_fluents token_task (x ∷ []) (from_list (y ∷ [])) ≡ false
+pub y-unnumbered : has_numbered_fluents token_task (x ∷ []) (from_list (y ∷ [])) ≡ false
 y-unnumbered =
     false_from_ne_true (has_numbered_fluents token_task (x ∷ []) (from_list (y ∷ []))) (λ all.
     let there : occurs_in (x ∷ []) y ≡ true = has-numbered token_task (x ∷ []) (from_list (y ∷ [])) all y refl (contains-from_list atoms_total (y ∷ []) y ∙ refl) in

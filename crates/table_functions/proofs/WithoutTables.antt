@@ -1,5 +1,5 @@
 -- Potential functions as table functions without tables; and the atoms that a ground task numbers.
-use Rattle.std.proofs.Common.{◌≡◌, ◌∙◌, ℕ, ◌||◌, Bool, List, length, get_or, refl, sym, ap, subst, arith, ℤ, pos, ◌+ℤ◌, ◌≤ℤ◌, nat_le}
+use Rattle.std.proofs.Common.{◌≡◌, ◌∙◌, ℕ, ◌||◌, Bool, List, [], length, get_or, refl, sym, ap, subst, arith, ℤ, pos, ◌+ℤ◌, ◌≤ℤ◌, nat_le}
 use Rattle.std.specs.List.{flat_map}
 use Rattle.std.proofs.lemmas.Bool.{or_right}
 use Rattle.std.proofs.lemmas.Int.{ints}
@@ -13,9 +13,10 @@ use Rattle.potential_functions.specs.PotentialFunctions.{PotentialFunction, scor
 use Rattle.potential_functions.specs.Fair as potential
 use Rattle.potential_functions.specs.Fair.{loses_at_most}
 use Rattle.table_functions.specs.TableFunctions.{value}
-use Rattle.table_functions.specs.FairTables.{IsFairAt}
-use Rattle.table_functions.specs.Laws.{without_tables, PotentialsAreTableFunctions, GroundAtomsAreAllNumbered}
+use Rattle.table_functions.specs.FairTables.{IsFairAt, is_asked}
+use Rattle.table_functions.specs.Laws.{without_tables, IsFairValueAt, PotentialsAreTableFunctions, PotentialsAreFairValues, GroundAtomsAreAllNumbered}
 use Rattle.table_functions.proofs.Steps.{all_changes-are}
+use Rattle.table_functions.proofs.FairValues.{tables_are_fair_values}
 
 more-zero : (z : ℤ) → (z +ℤ pos 0) ≡ z
 more-zero z = omega (arith, ints)
@@ -69,6 +70,12 @@ potentials_are_table_functions task atoms p = record {
     earlier = λ n i below named. only-here task atoms p (allowance i) i (first.earlier n i below named refl);
   };
 }
+
+pub potentials_are_fair_values : PotentialsAreFairValues
+potentials_are_fair_values allowance task atoms p numberable width fair =
+    subst (IsFairValueAt allowance task atoms) (λ i bits. same-value task atoms p bits i)
+    (tables_are_fair_values allowance task atoms (without_tables p) numberable (record { weights = width; scopes = refl })
+    ((potentials_are_table_functions task atoms p).fair allowance (is_asked task atoms []) fair))
 
 pub ground_atoms_are_all_numbered : GroundAtomsAreAllNumbered
 ground_atoms_are_all_numbered task more numberable = record {

@@ -1,23 +1,23 @@
--- The purpose of fair table functions: their values, and the maximum of several, are lower bounds of the remaining cost. And of
+-- The purpose of fair values of every kind: they, and the maximum of several, are lower bounds of the remaining cost. And of
 -- dead-fair ones: a state with a value of at least 1 is a dead end. Everything is stated for a value of packed states, however it
--- is computed.
-use Rattle.std.specs.Prelude.{◌≡◌, ℕ, ◌+◌, ◌≤◌, nat_le, nat_lt, Bool, true, false, not, ◌&&◌, ◌||◌, IsTrue, List, [], ◌∷◌, Contains, All, length, filter, Some}
+-- is computed; a kind of values has its own conditions on instances and goals, and a law that they make it fair in this sense.
+use Rattle.std.specs.Prelude.{◌≡◌, ℕ, ◌+◌, ◌≤◌, max, nat_le, nat_lt, Bool, true, false, not, ◌&&◌, ◌||◌, IsTrue, List, [], ◌∷◌, Contains, All, length, filter, sum_by, Some}
 use Rattle.std.specs.List.{list_all}
 use Rattle.model.specs.Task.{Atom, Task, Instance}
 use Rattle.model.specs.Runs.{run, cost_of_all}
 use Rattle.model.specs.Meaning.{State, cost_of, step, meets_goal, system_of}
 use Rattle.model.specs.Fluents.{HasInitialStatics}
 use Rattle.model.specs.StaticallyFalse.{kept_instances}
-use Rattle.model.specs.NumberedAtoms.{occurs_in, touched_by, numbered_atoms}
+use Rattle.model.specs.NumberedAtoms.{occurs_in, touched_by, numbered_atoms, HasNumberedFluents}
 use Rattle.model.specs.NumberedLiterals.{NumberedChange}
-use Rattle.model.specs.Grounding.{ground_step, ground_system}
+use Rattle.model.specs.Grounding.{state_of_bits, bits_of_state, ground_step, ground_system}
 use Rattle.potential_functions.specs.PotentialFunctions as potential
 use Rattle.potential_functions.specs.PotentialFunctions.{PotentialFunction}
 use Rattle.potential_functions.specs.Fair as fair_potentials
-use Rattle.potential_functions.specs.Fair.{makes}
+use Rattle.potential_functions.specs.Fair.{makes, nothing}
 use Rattle.potential_functions.specs.Laws.{AreNumberable}
 use Rattle.table_functions.specs.TableFunctions.{Table, is_among, TableFunction, value, is_dead_by, greatest_value, SeveralValues, functions_of, dead_ends_of, in_state}
-use Rattle.table_functions.specs.FairTables.{afters, AreFairAt, IsFair, IsDeadFair, AreFair, each_instance, IsFirstUnfairAt}
+use Rattle.table_functions.specs.FairTables.{afters, is_asked, AreFairAt, IsFair, IsDeadFair, AreFair, each_instance, IsFirstUnfairAt}
 
 -- ---- numbering
 
@@ -34,6 +34,26 @@ are_over count tables = list_all (λ (t : Table). list_all (λ number. nat_lt nu
 pub record IsOver (count : ℕ) (h : TableFunction) : Type 0 where
   pub weights : length h.potentials.weights ≤ count
   pub scopes : IsTrue (are_over count h.tables)
+
+-- ---- fair at an allowance
+
+-- the state is like every reachable one: its static atoms are the initial ones, and its fluent atoms are numbered
+pub record IsOfAtoms (task : Task) (atoms : List Atom) (state : State) : Type 0 where
+  pub statics : HasInitialStatics task state
+  pub numbered : HasNumberedFluents task atoms state
+
+-- A value is fair at an allowance if it falls by no more than an instance is allowed, wherever that is applied, and is 0 in goal
+-- states. It depends on the bits of the numbered atoms alone. At the costs this is a heuristic that is consistent and goal-aware.
+pub record IsFairValueAt (allowance : Instance → ℕ) (task : Task) (atoms : List Atom) (value : List Bool → ℕ) : Type 0 where
+  pub falls : (state next : State) (i : Instance) → IsOfAtoms task atoms state → step task state i ≡ Some next
+      → value (bits_of_state atoms state) ≤ value (bits_of_state atoms next) + allowance i
+  pub ends : (state : State) → IsTrue (meets_goal task state) → value (bits_of_state atoms state) ≡ 0
+  pub by_numbered : (bits : List Bool) → value (bits_of_state atoms (state_of_bits task atoms bits)) ≡ value bits
+
+-- the maximum of several values
+abbrev pub greatest_of : List (List Bool → ℕ) → List Bool → ℕ
+greatest_of [] bits = 0
+greatest_of (value ∷ others) bits = max (value bits) (greatest_of others bits)
 
 -- ---- lower bounds
 
@@ -68,6 +88,12 @@ pub record AreLowerBounds (task : Task) (atoms : List Atom) (value : List Bool �
   pub consistent : IsConsistent task atoms value
   pub ground_bound : IsGroundLowerBoundOf task atoms value
   pub ground_consistent : IsGroundConsistent task atoms value
+
+-- fair table functions are one kind of fair values
+abbrev pub TablesAreFairValues : Type 0
+TablesAreFairValues =
+    (allowance : Instance → ℕ) (task : Task) (atoms : List Atom) (h : TableFunction) → AreNumberable task atoms → IsOver (length atoms) h
+    → AreFairAt (is_asked task atoms h.tables) allowance task atoms h → IsFairValueAt allowance task atoms (value h)
 
 abbrev pub FairOnesAreLowerBounds : Type 0
 FairOnesAreLowerBounds =
@@ -116,6 +142,23 @@ pub record AreDeadEnds (task : Task) (atoms : List Atom) (value : List Bool → 
   pub no_ground_plan : HasNoGroundPlan task atoms value
   pub ground_stays : StaysDeadInGround task atoms (λ bits. nat_le 1 (value bits))
 
+-- What follows from fairness, of whatever kind the value is.
+pub record FairValuesAreBounds (task : Task) (atoms : List Atom) : Type 0 where
+  -- the instances of a list that leads to a goal state are allowed at least the value
+  pub at_an_allowance : (allowance : Instance → ℕ) (value : List Bool → ℕ) → IsFairValueAt allowance task atoms value
+      → (state end : State) (plan : List Instance) → HasInitialStatics task state → run (system_of task) state plan ≡ Some end → IsTrue (meets_goal task end)
+      → in_state task atoms value state ≤ sum_by allowance plan
+  -- at the costs it is a lower bound, and at the allowance 0 it detects dead ends
+  pub at_costs : (value : List Bool → ℕ) → IsFairValueAt (cost_of task) task atoms value → AreLowerBounds task atoms value
+  pub at_nothing : (value : List Bool → ℕ) → IsFairValueAt nothing task atoms value → AreDeadEnds task atoms value
+  -- the maximum of fair values is fair, and none of them exceeds it
+  pub greatest : (allowance : Instance → ℕ) (values : List (List Bool → ℕ)) → ((value : List Bool → ℕ) → Contains values value → IsFairValueAt allowance task atoms value)
+      → IsFairValueAt allowance task atoms (greatest_of values)
+  pub each_is_less : (values : List (List Bool → ℕ)) (value : List Bool → ℕ) (bits : List Bool) → Contains values value → value bits ≤ greatest_of values bits
+
+abbrev pub FairnessIsEnough : Type 0
+FairnessIsEnough = (task : Task) (atoms : List Atom) → AreAllNumbered task atoms → FairValuesAreBounds task atoms
+
 abbrev pub DeadFairOnesReportDeadEnds : Type 0
 DeadFairOnesReportDeadEnds =
     (task : Task) (atoms : List Atom) (h : TableFunction) → AreAllNumbered task atoms → IsOver (length atoms) h → IsDeadFair task atoms h → AreDeadEnds task atoms (value h)
@@ -157,6 +200,12 @@ pub record IsSpecialCase (task : Task) (atoms : List Atom) (p : PotentialFunctio
 
 abbrev pub PotentialsAreTableFunctions : Type 0
 PotentialsAreTableFunctions = (task : Task) (atoms : List Atom) (p : PotentialFunction) → IsSpecialCase task atoms p
+
+-- fair potential functions are another kind of fair values
+abbrev pub PotentialsAreFairValues : Type 0
+PotentialsAreFairValues =
+    (allowance : Instance → ℕ) (task : Task) (atoms : List Atom) (p : PotentialFunction) → AreNumberable task atoms → length p.weights ≤ length atoms
+    → fair_potentials.AreFairAt allowance task atoms p → IsFairValueAt allowance task atoms (potential.value p)
 
 -- ---- the ground task's atoms
 

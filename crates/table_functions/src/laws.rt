@@ -1,6 +1,23 @@
 //! Laws of table functions, proved for all tasks. The functions do nothing.
-ghost use Rattle.table_functions.specs.Laws.{FairOnesAreLowerBounds, GreatestOfFairOnesIsLowerBound, DeadFairOnesReportDeadEnds, FairValuesAreSound, PotentialsAreTableFunctions, GroundAtomsAreAllNumbered, CertainChangesHaveOneAfter};
+ghost use Rattle.table_functions.specs.Laws.{FairnessIsEnough, TablesAreFairValues, PotentialsAreFairValues, FairOnesAreLowerBounds, GreatestOfFairOnesIsLowerBound, DeadFairOnesReportDeadEnds, FairValuesAreSound, PotentialsAreTableFunctions, GroundAtomsAreAllNumbered, CertainChangesHaveOneAfter};
 ghost use Rattle.table_functions.specs.TableExamples.{AreTablesJudged, AreTasksJudged};
+
+/// What follows from fairness at an allowance, of whatever kind the value is: every run from a state to a goal state is allowed at
+/// least its value. So at the costs the value is a lower bound, and at the allowance 0 it detects dead ends. The maximum of fair
+/// values is fair.
+pub fn fairness_is_enough()
+    ensures { FairnessIsEnough }
+{}
+
+/// Fair table functions are fair values, at any allowance.
+pub fn tables_are_fair_values()
+    ensures { TablesAreFairValues }
+{}
+
+/// So are fair potential functions.
+pub fn potentials_are_fair_values()
+    ensures { PotentialsAreFairValues }
+{}
 
 /// The value of a fair table function in a state with the static atoms of the initial state is a lower bound: every run from it
 /// to a goal state, of whatever length, costs at least that much. The value falls by no more than an instance's cost, and is 0 in
