@@ -169,9 +169,9 @@ module _ (formulas : List task.Formula) (i : ℕ) where
   indexes_all t past so o place =
       so o place
       ∙ elim (nat_lt place i) as (λ b. nat_lt place i ≡ b → (b && names_at o place) ≡ names_at o place) [
-          | true ↦ λ _. refl
-          | false ↦ λ beyond. sym (nowhere (slice_get formulas place) refl (ltb-false place i beyond))
-        ] refl
+        | true ↦ λ _. refl
+        | false ↦ λ beyond. sym (nowhere (slice_get formulas place) refl (ltb-false place i beyond))
+      ] refl
     where
       nowhere : (found : Option task.Formula) → slice_get formulas place ≡ found → i ≤ place → option_map_or (λ f. is_among (named_in_formula f) o) found false ≡ false
       nowhere None _ _ = refl

@@ -76,10 +76,7 @@ fn named_in_actions(alloc: Global, task: &Task) -> Result<Vec<ObjectId>, NoMemor
 }
 
 /// The objects that the formula names, each as often as it is named.
-pub(crate) fn named_in_formula(
-    alloc: Global,
-    formula: &Formula,
-) -> Result<Vec<ObjectId>, NoMemory>
+pub(crate) fn named_in_formula(alloc: Global, formula: &Formula) -> Result<Vec<ObjectId>, NoMemory>
     ensures { IfOk result (λ found. map object_of found.items ≡ defined.named_in_formula (formula_of formula.now)) }
 {
     let mut found = Vec::new(alloc);
