@@ -4,3 +4,4 @@ pub mod CostLemmas
 pub mod FoldLemmas
 pub mod CountLemmas
 pub mod LackingLemmas
+pub mod AddedLemmas

@@ -1,10 +1,10 @@
 -- Atoms that the goal requires and that are never true.
-use Rattle.std.specs.Prelude.{ℕ, Bool, false, not, ◌&&◌, nat_lt, List, [], ◌∷◌, ◌++◌, length, take, filter, if◌then◌else◌}
+use Rattle.std.specs.Prelude.{◌≡◌, ℕ, Bool, false, not, ◌&&◌, ◌||◌, nat_lt, List, [], ◌∷◌, ◌++◌, length, take, filter, if◌then◌else◌}
 use Rattle.std.specs.Ordering.{eq_by_cmp}
 use Rattle.std.specs.FinSet.{contains}
 use Rattle.std.specs.List.{list_any, flat_map}
 use Rattle.model.specs.Task.{Task, Atom, Instance}
-use Rattle.model.specs.Meaning.{atom_cmp, Change, GroundLiteral, adds, deletes, changes_of_instance, initial_state}
+use Rattle.model.specs.Meaning.{State, atom_cmp, Change, GroundLiteral, adds, deletes, changes_of_instance, initial_state}
 use Rattle.model.specs.SureLiterals.{Literal, is_true, sure}
 use Rattle.model.specs.StaticallyFalse.{kept_instances}
 
@@ -40,5 +40,18 @@ first_missing t limit = take limit (filter (is_never_true t) (goal_atoms t))
 
 -- ---- intermediate definitions
 
-abbrev pub with_missing : Task → (limit : ℕ) → List Atom → Atom → List Atom
-with_missing t limit found a = if nat_lt (length found) limit && is_never_true t a then found ++ a ∷ [] else found
+-- the new set has also the atoms that pass the test
+abbrev pub Gains : (Atom → Bool) → (old new : State) → Type 0
+Gains test old new = (a : Atom) → contains new a ≡ (contains old a || test a)
+
+-- the new set has also the atoms that are asked for and pass the test
+abbrev pub GainsAsked : (asked : State) → (Atom → Bool) → (old new : State) → Type 0
+GainsAsked asked test old new = Gains (λ a. contains asked a && test a) old new
+
+-- the atom is initially false and not in this set
+abbrev pub is_neither : Task → (added : State) → Atom → Bool
+is_neither t added a = not (contains (initial_state t) a) && not (contains added a)
+
+-- one more atom is looked at
+abbrev pub with_passing : (Atom → Bool) → (limit : ℕ) → List Atom → Atom → List Atom
+with_passing test limit found a = if nat_lt (length found) limit && test a then found ++ a ∷ [] else found

@@ -1,6 +1,6 @@
 pub mod PairLemmas
 pub mod ImageLemmas
-pub mod NamedMarks
+pub mod NamedLists
 pub mod ConjunctLemmas
 pub mod PlaceLemmas
 pub mod TestSteps

@@ -3,7 +3,8 @@ use Rattle.std.proofs.Common.{◌≡◌, ◌∙◌, ℕ, zero, suc, ◌+◌, ◌
 use Rattle.std.specs.Prelude.{◌==◌, cond, nat_lt, slice_get, if◌then◌else◌}
 use Rattle.std.specs.Global.{Vec}
 use Rattle.std.specs.Option.{option_map, option_map_or}
-use Rattle.std.proofs.lemmas.Bool.{ltb-true, ltb-false, and_from, eq-eqb, or_left, or_right}
+use Rattle.std.proofs.lemmas.Bool.{ltb-true, ltb-false, lt-ltb, and_from, and_right, eq-eqb, eqb-true, or_left, or_right}
+use Rattle.std.proofs.lemmas.Bool.Decides.{nat_tests}
 use Rattle.std.proofs.lemmas.List.{take_all, take_more, map-append}
 use Rattle.std.proofs.lemmas.List.Folds.{list_any-append}
 use Rattle.std.proofs.lemmas.Option.{slice_get_within, slice_get_read, slice_get-map}
@@ -12,9 +13,10 @@ use Rattle.task.specs.declared.atoms.ObjectId.{ObjectId}
 use Rattle.task.specs.TaskParts.{atom_of, object_of, value_of}
 use Rattle.model.specs.Task as task
 use Rattle.model.proofs.StaticLemmas.{or_false}
+use Rattle.symmetries.specs.NamedObjects.{named_in_formula}
 use Rattle.task_symmetries.specs.declared.places.PlacesByObject.{PlacesByObject}
 use Rattle.task_symmetries.specs.Named.{is_among}
-use Rattle.task_symmetries.specs.Places.{Covers, IsAdded, IsAddedAt, functions_of, row_of}
+use Rattle.task_symmetries.specs.Places.{Covers, Indexes, IsAdded, IsAddedAt, functions_of, row_of}
 use Rattle.task_symmetries.proofs.PairLemmas.{flip}
 
 -- ---- rows
@@ -115,3 +117,62 @@ module _ (atoms : List task.Atom) where
 
   pub covers_all : (i : ℕ) (t : PlacesByObject) → length atoms ≤ i → CoversBelow atoms i t → Covers atoms t
   covers_all i t past so = λ place a at. so place a (omega (arith, past, slice_get_within atoms place a at)) at
+
+-- the formulas below this index are found, and no others
+abbrev pub IndexesBelow : List task.Formula → ℕ → PlacesByObject → Type 0
+IndexesBelow formulas count t = (o place : ℕ) → is_among (row_of t o) place ≡ (nat_lt place count && option_map_or (λ f. is_among (named_in_formula f) o) (slice_get formulas place) false)
+
+pub indexes_none : (formulas : List task.Formula) (t : PlacesByObject) → ((o : ℕ) → row_of t o ≡ []) → IndexesBelow formulas 0 t
+indexes_none formulas t empty o place =
+    let past : nat_lt place 0 ≡ false = grind (arith, nat_tests) in
+    ap (λ l. is_among l place) (empty o) ∙ sym (ap (λ b. b && option_map_or (λ f. is_among (named_in_formula f) o) (slice_get formulas place) false) past)
+
+module _ (formulas : List task.Formula) (i : ℕ) where
+  and_nothing : (b : Bool) → (b && true) ≡ b
+  and_nothing true = refl
+  and_nothing false = refl
+
+  abbrev names_at : ℕ → ℕ → Bool
+  names_at o place = option_map_or (λ f. is_among (named_in_formula f) o) (slice_get formulas place) false
+
+  -- a place is below one more if it was below or is the next one
+  below_more : (place : ℕ) (here : Bool) (o : ℕ) → (place ≡ i → here ≡ names_at o place)
+      → ((nat_lt place i && names_at o place) || (here && i == place)) ≡ (nat_lt place (i + 1) && names_at o place)
+  below_more place here o is =
+      elim (nat_lt place i) as (λ b. nat_lt place i ≡ b → ((b && names_at o place) || (here && i == place)) ≡ (nat_lt place (i + 1) && names_at o place)) [
+        | true ↦ λ earlier.
+            let less = ltb-true place i earlier in
+            let other : (i == place) ≡ false = grind (arith, nat_tests) in
+            let later : nat_lt place (i + 1) ≡ true = lt-ltb place (i + 1) (omega (arith, less)) in
+            (λ j. names_at o place || (here && other j)) ∙ ap (λ b. names_at o place || b) (and_right here false refl) ∙ or_false (names_at o place) ∙ sym (ap (λ b. b && names_at o place) later)
+        | false ↦ λ past.
+            let above = ltb-false place i past in
+            elim (i == place) as (λ b. (i == place) ≡ b → (here && b) ≡ (nat_lt place (i + 1) && names_at o place)) [
+              | true ↦ λ same.
+                  let at : i ≡ place = eqb-true i place same in
+                  let later : nat_lt place (i + 1) ≡ true = lt-ltb place (i + 1) (omega (arith, at)) in
+                  and_nothing here ∙ is (sym at) ∙ sym (ap (λ b. b && names_at o place) later)
+              | false ↦ λ differs.
+                  let beyond : nat_lt place (i + 1) ≡ false = grind (arith, nat_tests) in
+                  and_right here false refl ∙ sym (ap (λ b. b && names_at o place) beyond)
+            ] refl
+      ] refl
+
+  pub indexes_more : (f : task.Formula) (objects : List ObjectId) (old new : PlacesByObject) → slice_get formulas i ≡ Some f → map object_of objects ≡ named_in_formula f
+      → IndexesBelow formulas i old → IsAdded i (map object_of objects) old new → IndexesBelow formulas (i + 1) new
+  indexes_more f objects old new at named so added o place =
+      added o place ∙ ap (λ b. b || (is_among (map object_of objects) o && i == place)) (so o place)
+      ∙ below_more place (is_among (map object_of objects) o) o (λ same.
+      ap (λ l. is_among l o) named ∙ sym (ap (λ found. option_map_or (λ g. is_among (named_in_formula g) o) found false) (ap (slice_get formulas) same ∙ at)))
+
+  pub indexes_all : (t : PlacesByObject) → length formulas ≤ i → IndexesBelow formulas i t → Indexes formulas t
+  indexes_all t past so o place =
+      so o place
+      ∙ elim (nat_lt place i) as (λ b. nat_lt place i ≡ b → (b && names_at o place) ≡ names_at o place) [
+        | true ↦ λ _. refl
+        | false ↦ λ beyond. sym (nowhere (slice_get formulas place) refl (ltb-false place i beyond))
+      ] refl
+    where
+      nowhere : (found : Option task.Formula) → slice_get formulas place ≡ found → i ≤ place → option_map_or (λ f. is_among (named_in_formula f) o) found false ≡ false
+      nowhere None _ _ = refl
+      nowhere (Some f) at above = absurd (let within = slice_get_within formulas place f at in omega (arith, past, within, above))

@@ -1,17 +1,17 @@
 -- The parts of the test, step by step.
-use Rattle.std.proofs.Common.{◌≡◌, ◌∙◌, ℕ, inl, inr, ◌+◌, ◌<◌, Bool, true, false, not, ◌&&◌, ◌||◌, List, [], ◌∷◌, length, map, take, Option, None, Some, refl, sym, ap, arith}
+use Rattle.std.proofs.Common.{◌≡◌, ◌∙◌, ℕ, inl, inr, ◌+◌, ◌<◌, Bool, true, false, not, ◌&&◌, ◌||◌, List, [], ◌∷◌, ◌++◌, length, get_or, map, take, Option, None, Some, refl, sym, ap, subst, arith}
 use Rattle.std.specs.Prelude.{◌==◌, cond, nat_eq, slice_get, filter, Contains}
-use Rattle.std.specs.List.{list_all, list_any}
+use Rattle.std.specs.List.{flat_map, list_all, list_any}
 use Rattle.std.specs.Option.{option_eq, option_map, option_map_or}
 use Rattle.std.specs.FinSet.{contains, contains-from_list}
-use Rattle.std.proofs.lemmas.Bool.{and_cases, and_from, and_parts, or_cases, or_parts, or_right, not-false, not-true, eqb-true, eq-eqb, cond-false, true≢false}
+use Rattle.std.proofs.lemmas.Bool.{and_cases, and_from, and_parts, or_cases, or_parts, or_right, not-false, not-true, eqb-true, eq-eqb, cond-false, true≢false, false≢true}
+use Rattle.std.proofs.lemmas.List.Folds.{list_any_at, list_any_more}
+use Rattle.std.proofs.lemmas.List.Elements.{Contains-append_cases, Contains-append_left, Contains-append_right}
 use Rattle.std.proofs.lemmas.Option.{slice_get_cases, slice_get-map}
-use Rattle.std.specs.Borrow.{Bor}
 use Rattle.std.specs.Cmp.{Equal-is, tied_itself}
 use Rattle.std.specs.Ordering.{eq_by_cmp}
 use Rattle.task.specs.declared.atoms.Atom.{Atom}
 use Rattle.task.specs.declared.atoms.TypeId.{TypeId}
-use Rattle.task.specs.declared.schemas.Formula.{Formula}
 use Rattle.task.specs.contracts.atoms.TypeIdPartialEq.TheImpl as type_impl
 use Rattle.task.specs.TaskParts.{type_of, value_of}
 use Rattle.model.specs.Task as task
@@ -20,14 +20,18 @@ use Rattle.model.specs.Meaning.{atom_cmp, initial_state, value_in}
 use Rattle.model.specs.Fluents.{is_fluent}
 use Rattle.model.specs.NumberedAtoms.{occurs_in}
 use Rattle.model.proofs.Atoms.{atoms_total}
-use Rattle.model.proofs.ListLemmas.{Contains-cases, Contains-got, Contains-here, Contains-map, Contains-none, Contains-place, Contains-there}
 use Rattle.model.proofs.Tests.{passes_more_index}
-use Rattle.symmetries.specs.Exchanges.{Exchange, image_of_object, image_of_atom, objects_in, are_different}
-use Rattle.symmetries.specs.Symmetries.{keeps_types, keeps_actions, keeps_values, keeps_statics, keeps_goal, is_symmetry}
+use Rattle.model.proofs.ListLemmas.{Contains-cases, Contains-got, Contains-here, Contains-none, Contains-place, Contains-there}
+use Rattle.symmetries.specs.Exchanges.{Exchange, image_of_object, image_of_atom, image_of_formula, image_of_formulas, image_of_term, objects_in, are_different}
+use Rattle.symmetries.specs.NamedObjects.{named_in_formula, named_in_formulas, named_in_term}
+use Rattle.symmetries.specs.SameFormula.{is_same_formula}
+use Rattle.symmetries.specs.Symmetries.{conjuncts, keeps_types, keeps_actions, keeps_values, keeps_statics, keeps_goal, is_symmetry}
 use Rattle.symmetries.proofs.Lists.{tests_alike, all-at, all-from, any-at, any-found}
 use Rattle.symmetries.proofs.ExchangeLemmas.{image_of_first, own_inverse}
-use Rattle.task_symmetries.specs.Kept.{keeps_at, keeps_atom, keeps_value}
-use Rattle.task_symmetries.specs.Lent.{formulas_lent, lent_formula}
+use Rattle.symmetries.proofs.NamedLemmas.{same_formula}
+use Rattle.symmetries.proofs.SameFormulaLemmas.{formula-is, formula-same}
+use Rattle.task_symmetries.specs.Kept.{has_image, keeps_at, keeps_atom, keeps_value}
+use Rattle.task_symmetries.specs.Lent.{PassAlike}
 use Rattle.task_symmetries.specs.Places.{functions_of}
 use Rattle.task_symmetries.specs.Named.{is_among}
 use Rattle.task_symmetries.proofs.PairLemmas.{flip}
@@ -251,11 +255,109 @@ module _ (t : Task) (exchange : Exchange) (rows : ℕ → List ℕ) where
 
 -- ---- conjuncts of the goal
 
--- a formula of the list that passes
-pub passes_itself : (p : task.Formula → Bool) (items : List (Bor Formula)) (place : ℕ) (f : Bor Formula) → Some f ≡ slice_get items place → p (lent_formula f) ≡ true
-    → true ≡ list_any p (formulas_lent items)
-passes_itself p items place f at passes =
-    sym (any-at p (formulas_lent items) (lent_formula f) (Contains-map lent_formula items f (Contains-got items place f (sym at))) passes)
+-- a number of a row is among it
+pub listed_at : (row : List ℕ) (i d : ℕ) → i < length row → (whole : List ℕ) → row ≡ whole → is_among whole (get_or row i d) ≡ true
+listed_at row i d within whole is = ap (λ l. is_among l (get_or row i d)) (sym is) ∙ list_any_at (λ other. other == get_or row i d) row i d within (eq-eqb (get_or row i d) (get_or row i d) refl)
+
+pub any_here_index : {X : Type 0} (p : X → Bool) (xs : List X) (i : ℕ) (d : X) → i < length xs → p (get_or xs i d) ≡ true → true ≡ list_any p xs
+any_here_index p xs i d within here = sym (list_any_at p xs i d within here)
+
+pub any_more_index : {X : Type 0} (p : X → Bool) (xs : List X) (i : ℕ) (d : X) → i < length xs → list_any p (take i xs) ≡ false → p (get_or xs i d) ≡ false → list_any p (take (i + 1) xs) ≡ false
+any_more_index p xs i d within before here = list_any_more p xs i d within ∙ (λ j. before j || here j)
+
+module _ (to : ℕ → ℕ) where
+  named_in_image_of_terms : (terms : List task.Term) (o : ℕ) → Contains (flat_map named_in_term terms) o → Contains (flat_map named_in_term (map (image_of_term to) terms)) (to o)
+  named_in_image_of_terms [] o at = absurd (Contains-none o at)
+  named_in_image_of_terms (task.variable n ∷ terms) o at = named_in_image_of_terms terms o at
+  named_in_image_of_terms (task.object n ∷ terms) o at =
+      elim (Contains-cases n (flat_map named_in_term terms) o at) [
+        | inl is ↦ subst (λ m. Contains (to n ∷ flat_map named_in_term (map (image_of_term to) terms)) (to m)) is (Contains-here (to n) (flat_map named_in_term (map (image_of_term to) terms)))
+        | inr later ↦ Contains-there (to n) (flat_map named_in_term (map (image_of_term to) terms)) (to o) (named_in_image_of_terms terms o later)
+      ]
+
+  -- what one of two parts names
+  named_in_either : (xs ys us vs : List ℕ) (o : ℕ) → (Contains xs o → Contains us (to o)) → (Contains ys o → Contains vs (to o)) → Contains (xs ++ ys) o → Contains (us ++ vs) (to o)
+  named_in_either xs ys us vs o first second at =
+      elim (Contains-append_cases xs ys o at) [
+        | inl left ↦ Contains-append_left us vs (to o) (first left)
+        | inr right ↦ Contains-append_right us vs (to o) (second right)
+      ]
+
+  named_in_image_of_term : (t : task.Term) (o : ℕ) → Contains (named_in_term t) o → Contains (named_in_term (image_of_term to t)) (to o)
+  named_in_image_of_term (task.variable n) o at = absurd (Contains-none o at)
+  named_in_image_of_term (task.object n) o at =
+      elim (Contains-cases n [] o at) [
+        | inl is ↦ subst (λ m. Contains (to n ∷ []) (to m)) is (Contains-here (to n) [])
+        | inr later ↦ absurd (Contains-none o later)
+      ]
+
+  mutual
+    named_in_image : (f : task.Formula) (o : ℕ) → Contains (named_in_formula f) o → Contains (named_in_formula (image_of_formula to f)) (to o)
+    named_in_image (task.atom a) o at = named_in_image_of_terms a.terms o at
+    named_in_image (task.equal t u) o at =
+        named_in_either (named_in_term t) (named_in_term u) (named_in_term (image_of_term to t)) (named_in_term (image_of_term to u)) o (named_in_image_of_term t o) (named_in_image_of_term u o) at
+    named_in_image (task.and parts) o at = named_in_images parts o at
+    named_in_image (task.or parts) o at = named_in_images parts o at
+    named_in_image (task.not part) o at = named_in_image part o at
+    named_in_image (task.imply premise conclusion) o at =
+        named_in_either (named_in_formula premise) (named_in_formula conclusion) (named_in_formula (image_of_formula to premise)) (named_in_formula (image_of_formula to conclusion)) o
+        (named_in_image premise o) (named_in_image conclusion o) at
+    named_in_image (task.exists types part) o at = named_in_image part o at
+    named_in_image (task.forall types part) o at = named_in_image part o at
+
+    named_in_images : (fs : task.Formulas) (o : ℕ) → Contains (named_in_formulas fs) o → Contains (named_in_formulas (image_of_formulas to fs)) (to o)
+    named_in_images task.no_formula o at = absurd (Contains-none o at)
+    named_in_images (task.more_formulas first rest) o at =
+        named_in_either (named_in_formula first) (named_in_formulas rest) (named_in_formula (image_of_formula to first)) (named_in_formulas (image_of_formulas to rest)) o
+        (named_in_image first o) (named_in_images rest o) at
+
+  named_among : (f : task.Formula) (o : ℕ) → is_among (named_in_formula f) o ≡ true → is_among (named_in_formula (image_of_formula to f)) (to o) ≡ true
+  named_among f o at =
+      let found = any-found (λ other. other == o) (named_in_formula f) at in
+      let same : found.0 ≡ o = eqb-true found.0 o found.2 in
+      any-at (λ other. other == to o) (named_in_formula (image_of_formula to f)) (to o)
+      (subst (λ n. Contains (named_in_formula (image_of_formula to f)) (to n)) same (named_in_image f found.0 found.1)) (eq-eqb (to o) (to o) refl)
+
+  -- the image of a formula is in the row of the image of an object that it names
+  module _ (xs : List task.Formula) (rows : ℕ → List ℕ) (indexed : (o place : ℕ) → is_among (rows o) place ≡ option_map_or (λ f. is_among (named_in_formula f) o) (slice_get xs place) false) where
+    pub image_in_row : (f : task.Formula) (o : ℕ) → is_among (named_in_formula f) o ≡ true
+        → list_any (λ place. option_map_or (is_same_formula (image_of_formula to f)) (slice_get xs place) false) (rows (to o)) ≡ list_any (is_same_formula (image_of_formula to f)) xs
+    image_in_row f o names =
+        let is : task.Formula → Bool = is_same_formula (image_of_formula to f) in
+        let at : ℕ → Bool = λ place. option_map_or is (slice_get xs place) false in
+        tests_alike (list_any at (rows (to o))) (list_any is xs)
+        (λ some.
+        let one = any-found at (rows (to o)) some in
+        somewhere one.0 (slice_get xs one.0) refl one.2)
+        (λ some.
+        let one = any-found is xs some in
+        let place = Contains-place xs one.0 one.1 in
+        let same : image_of_formula to f ≡ one.0 = formula-is (image_of_formula to f) one.0 one.2 in
+        let listed : is_among (rows (to o)) place.0 ≡ true =
+        indexed (to o) place.0 ∙ ap (λ found. option_map_or (λ g. is_among (named_in_formula g) (to o)) found false) place.1
+        ∙ ap (λ g. is_among (named_in_formula g) (to o)) (sym same) ∙ named_among f o names in
+        let row = any-found (λ other. other == place.0) (rows (to o)) listed in
+        any-at at (rows (to o)) row.0 row.1
+        (ap at (eqb-true row.0 place.0 row.2) ∙ ap (λ found. option_map_or is found false) place.1 ∙ one.2))
+      where
+        somewhere : (place : ℕ) (found : Option task.Formula) → slice_get xs place ≡ found → option_map_or (is_same_formula (image_of_formula to f)) (slice_get xs place) false ≡ true
+            → list_any (is_same_formula (image_of_formula to f)) xs ≡ true
+        somewhere place None none passes = absurd (false≢true (sym (ap (λ x. option_map_or (is_same_formula (image_of_formula to f)) x false) none) ∙ passes))
+        somewhere place (Some g) got passes =
+            any-at (is_same_formula (image_of_formula to f)) xs g (Contains-got xs place g got) (sym (ap (λ x. option_map_or (is_same_formula (image_of_formula to f)) x false) got) ∙ passes)
+
+-- the conjuncts that name exchanged objects decide
+pub goal_covered : (t : Task) (exchange : Exchange) (rows : ℕ → List ℕ) (xs : List task.Formula) → PassAlike xs (conjuncts t.goal)
+    → ((o place : ℕ) → is_among (rows o) place ≡ option_map_or (λ f. is_among (named_in_formula f) o) (slice_get xs place) false)
+    → list_all (pair_keeps (has_image t (image_of_object exchange)) xs rows) exchange ≡ keeps_goal t (image_of_object exchange)
+goal_covered t exchange rows xs alike indexed =
+    covered (has_image t (image_of_object exchange)) xs named_in_formula rows exchange
+    (λ place f at o names. indexed o place ∙ ap (λ found. option_map_or (λ g. is_among (named_in_formula g) o) found false) at ∙ names)
+    (λ f there stay.
+    let itself : image_of_formula (image_of_object exchange) f ≡ f = same_formula (image_of_object exchange) f stay in
+    sym (alike (is_same_formula (image_of_formula (image_of_object exchange) f))).1
+    ∙ any-at (is_same_formula (image_of_formula (image_of_object exchange) f)) xs f there (formula-same (image_of_formula (image_of_object exchange) f) f itself))
+    ∙ (alike (has_image t (image_of_object exchange))).0
 
 -- ---- the whole
 

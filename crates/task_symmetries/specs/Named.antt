@@ -1,16 +1,18 @@
--- Tables of the objects that actions name.
-use Rattle.std.specs.Prelude.{◌≡◌, ℕ, Bool, ◌==◌, List, ◌++◌}
+-- The objects that actions name, as a list and as a table.
+use Rattle.std.specs.Prelude.{◌≡◌, ℕ, Bool, ◌==◌, List, ◌++◌, map}
 use Rattle.std.specs.List.{list_any}
-use Rattle.formulas.specs.FluentTable.{Marks, is_marked}
+use Rattle.formulas.specs.FluentTable.{is_marked}
+use Rattle.task.specs.declared.atoms.ObjectId.{ObjectId}
+use Rattle.task.specs.TaskParts.{object_of}
 use Rattle.model.specs.Task.{Union, Formula, Effect, Increase, Task}
 use Rattle.symmetries.specs.NamedObjects.{named_in_formula, named_in_effect, named_in_increase, named_in_actions}
 
 abbrev pub is_among : List ℕ → ℕ → Bool
 is_among numbers n = list_any (λ other. other == n) numbers
 
--- these objects are added to the table
-abbrev pub MarksAll : List ℕ → List Bool → List Bool → Type 0
-MarksAll numbers old new = Marks (is_among numbers) old new
+-- these objects are added to the list
+abbrev pub AreAdded : List ℕ → (old new : List ObjectId) → Type 0
+AreAdded numbers old new = map object_of new ≡ map object_of old ++ numbers
 
 -- the table contains exactly the objects that actions name
 abbrev pub AreNamedIn : Task → List Bool → Type 0

@@ -1,10 +1,11 @@
 -- Tables of the indices at which objects are named.
-use Rattle.std.specs.Prelude.{◌≡◌, ℕ, true, ◌&&◌, ◌||◌, ◌==◌, List, [], map, slice_get, Some}
+use Rattle.std.specs.Prelude.{◌≡◌, ℕ, true, false, ◌&&◌, ◌||◌, ◌==◌, List, [], map, slice_get, Some}
 use Rattle.std.specs.Global.{Vec}
 use Rattle.std.specs.Option.{option_map_or}
 use Rattle.task_symmetries.specs.declared.places.PlacesByObject.{PlacesByObject}
 use Rattle.task_symmetries.specs.Named.{is_among}
-use Rattle.model.specs.Task.{Atom, FunctionValue}
+use Rattle.model.specs.Task.{Atom, Formula, FunctionValue}
+use Rattle.symmetries.specs.NamedObjects.{named_in_formula}
 
 -- the indices for an object; empty past the last row
 abbrev pub row_of : PlacesByObject → ℕ → List ℕ
@@ -24,3 +25,7 @@ IsAddedAt atoms place old new = IsAdded place (option_map_or (λ (a : Atom). a.o
 -- the index of an atom is in the rows of its objects
 abbrev pub Covers : List Atom → PlacesByObject → Type 0
 Covers atoms t = (place : ℕ) (a : Atom) → slice_get atoms place ≡ Some a → (o : ℕ) → is_among a.objects o ≡ true → is_among (row_of t o) place ≡ true
+
+-- the index of each formula is in the rows of the objects that it names, and in no others
+abbrev pub Indexes : List Formula → PlacesByObject → Type 0
+Indexes formulas t = (o place : ℕ) → is_among (row_of t o) place ≡ option_map_or (λ f. is_among (named_in_formula f) o) (slice_get formulas place) false

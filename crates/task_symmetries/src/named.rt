@@ -1,10 +1,10 @@
-//! The objects that actions name, as a table.
-ghost use Rattle.std.specs.Prelude.{◌≡◌, ◌==◌, map, IfOk, OnOk};
+//! The objects that formulas and actions name.
+ghost use Rattle.std.specs.Prelude.{◌≡◌, ◌==◌, ℕ, map, IfOk, OnOk};
 ghost use Rattle.std.specs.List.{flat_map};
 ghost use Rattle.task.specs.Task.{task_of};
-ghost use Rattle.task.specs.TaskParts.{effect_literal_of, effect_of, formula_of, increase_of, shape_of, term_of};
+ghost use Rattle.task.specs.TaskParts.{effect_literal_of, effect_of, formula_of, increase_of, object_of, shape_of, term_of};
 ghost use Rattle.formulas.specs.FluentTable.{Marks, is_marked};
-ghost use Rattle.task_symmetries.specs.Named.{AreNamedIn, MarksAll, named_in_shape};
+ghost use Rattle.task_symmetries.specs.Named.{AreAdded, AreNamedIn, is_among, named_in_shape};
 ghost use Rattle.symmetries.specs.NamedObjects as defined;
 
 use faults::NoMemory;
@@ -23,13 +23,8 @@ impl NamedObjects {
     pub(crate) fn new(alloc: Global, task: &Task) -> Result<NamedObjects, NoMemory>
         ensures { IfOk result (λ named. AreNamedIn (task_of task.now) named.table.items) }
     {
-        let mut table = Vec::new(alloc);
-        for number in 0..task.schema_count() {
-            match task.schema(SchemaId(number)) {
-                Some(schema) => mark_schema(schema, &mut table)?,
-                None => unreachable!(),
-            }
-        }
+        let found = named_in_actions(alloc, task)?;
+        let table = table_of(alloc, &found)?;
         Ok(NamedObjects { table })
     }
 
@@ -44,114 +39,15 @@ impl NamedObjects {
     }
 }
 
-/// Marks the objects that the action names.
-fn mark_schema(schema: &Schema, table: &mut Vec<bool>) -> Result<(), NoMemory>
-    ensures { OnOk result (MarksAll (named_in_shape (shape_of schema.now)) table.old.items table.new.items) }
+/// The table of these objects.
+fn table_of(alloc: Global, objects: &[ObjectId]) -> Result<Vec<bool>, NoMemory>
+    ensures { IfOk result (λ table. (o : ℕ) → is_marked table.items o ≡ is_among (map object_of objects.now) o) }
 {
-    mark_formula(&schema.precondition, table)?;
-    mark_effect(&schema.effect, table)?;
-    mark_increase(&schema.increase, table)
-}
-
-/// Marks the objects that the formula names.
-fn mark_formula(formula: &Formula, table: &mut Vec<bool>) -> Result<(), NoMemory>
-    ensures { OnOk result (MarksAll (defined.named_in_formula (formula_of formula.now)) table.old.items table.new.items) }
-{
-    match formula {
-        Formula::Atom(atom) => mark_terms(&atom.terms, table),
-        Formula::Equal(left, right) => {
-            mark_term(left, table)?;
-            mark_term(right, table)
-        }
-        Formula::And(parts) => {
-            for part in parts {
-                mark_formula(part, table)?;
-            }
-            Ok(())
-        }
-        Formula::Or(choices) => {
-            for choice in choices {
-                mark_formula(choice, table)?;
-            }
-            Ok(())
-        }
-        Formula::Not(part) => mark_formula(part, table),
-        Formula::Imply(premise, conclusion) => {
-            mark_formula(premise, table)?;
-            mark_formula(conclusion, table)
-        }
-        Formula::Exists(_, part) | Formula::Forall(_, part) => mark_formula(part, table),
+    let mut table = Vec::new(alloc);
+    for object in objects {
+        mark(object.0 as usize, &mut table)?;
     }
-}
-
-/// Marks the objects that the effect names.
-fn mark_effect(effect: &Effect, table: &mut Vec<bool>) -> Result<(), NoMemory>
-    ensures { OnOk result (MarksAll (defined.named_in_effect (effect_of effect.now)) table.old.items table.new.items) }
-{
-    match effect {
-        Effect::Literal(literal) => mark_literal(literal, table),
-        Effect::And(parts) => {
-            for part in parts {
-                mark_effect(part, table)?;
-            }
-            Ok(())
-        }
-        Effect::Forall(_, part) => mark_effect(part, table),
-        Effect::When(condition, literals) => {
-            mark_formula(condition, table)?;
-            mark_literals(literals, table)
-        }
-    }
-}
-
-/// Marks the objects that the literals name.
-fn mark_literals(literals: &[EffectLiteral], table: &mut Vec<bool>) -> Result<(), NoMemory>
-    ensures { OnOk result (MarksAll (flat_map defined.named_in_literal (map effect_literal_of literals.now)) table.old.items table.new.items) }
-{
-    for literal in literals {
-        mark_literal(literal, table)?;
-    }
-    Ok(())
-}
-
-/// Marks the objects that the literal names.
-fn mark_literal(literal: &EffectLiteral, table: &mut Vec<bool>) -> Result<(), NoMemory>
-    ensures { OnOk result (MarksAll (defined.named_in_literal (effect_literal_of literal.now)) table.old.items table.new.items) }
-{
-    match literal {
-        EffectLiteral::Add(atom) => mark_terms(&atom.terms, table),
-        EffectLiteral::Delete(atom) => mark_terms(&atom.terms, table),
-    }
-}
-
-/// Marks the objects that the cost increase names.
-fn mark_increase(increase: &Increase, table: &mut Vec<bool>) -> Result<(), NoMemory>
-    ensures { OnOk result (MarksAll (defined.named_in_increase (increase_of increase.now)) table.old.items table.new.items) }
-{
-    match increase {
-        Increase::Number(_) => Ok(()),
-        Increase::Function(function) => mark_terms(&function.terms, table),
-    }
-}
-
-/// Marks the objects that the terms name.
-fn mark_terms(terms: &[Term], table: &mut Vec<bool>) -> Result<(), NoMemory>
-    ensures { OnOk result (MarksAll (flat_map defined.named_in_term (map term_of terms.now)) table.old.items table.new.items) }
-{
-    for term in terms {
-        mark_term(term, table)?;
-    }
-    Ok(())
-}
-
-/// Marks the object that the term names, if it names one.
-fn mark_term(term: &Term, table: &mut Vec<bool>) -> Result<(), NoMemory>
-    ensures { OnOk result (MarksAll (defined.named_in_term (term_of term.now)) table.old.items table.new.items) }
-{
-    match term {
-        Term::Variable(_) => Ok(()),
-        Term::Object(object) => mark(object.0 as usize, table),
-    }
+    Ok(table)
 }
 
 /// Marks the number.
@@ -163,4 +59,140 @@ fn mark(number: usize, table: &mut Vec<bool>) -> Result<(), NoMemory>
     }
     table[number] = true;
     Ok(())
+}
+
+/// The objects that the task's actions name, each as often as it is named.
+fn named_in_actions(alloc: Global, task: &Task) -> Result<Vec<ObjectId>, NoMemory>
+    ensures { IfOk result (λ found. map object_of found.items ≡ defined.named_in_actions (task_of task.now)) }
+{
+    let mut found = Vec::new(alloc);
+    for number in 0..task.schema_count() {
+        match task.schema(SchemaId(number)) {
+            Some(schema) => add_schema(schema, &mut found)?,
+            None => unreachable!(),
+        }
+    }
+    Ok(found)
+}
+
+/// The objects that the formula names, each as often as it is named.
+pub(crate) fn named_in_formula(alloc: Global, formula: &Formula) -> Result<Vec<ObjectId>, NoMemory>
+    ensures { IfOk result (λ found. map object_of found.items ≡ defined.named_in_formula (formula_of formula.now)) }
+{
+    let mut found = Vec::new(alloc);
+    add_formula(formula, &mut found)?;
+    Ok(found)
+}
+
+/// Adds the objects that the action names.
+fn add_schema(schema: &Schema, found: &mut Vec<ObjectId>) -> Result<(), NoMemory>
+    ensures { OnOk result (AreAdded (named_in_shape (shape_of schema.now)) found.old.items found.new.items) }
+{
+    add_formula(&schema.precondition, found)?;
+    add_effect(&schema.effect, found)?;
+    add_increase(&schema.increase, found)
+}
+
+/// Adds the objects that the formula names.
+fn add_formula(formula: &Formula, found: &mut Vec<ObjectId>) -> Result<(), NoMemory>
+    ensures { OnOk result (AreAdded (defined.named_in_formula (formula_of formula.now)) found.old.items found.new.items) }
+{
+    match formula {
+        Formula::Atom(atom) => add_terms(&atom.terms, found),
+        Formula::Equal(left, right) => {
+            add_term(left, found)?;
+            add_term(right, found)
+        }
+        Formula::And(parts) => {
+            for part in parts {
+                add_formula(part, found)?;
+            }
+            Ok(())
+        }
+        Formula::Or(choices) => {
+            for choice in choices {
+                add_formula(choice, found)?;
+            }
+            Ok(())
+        }
+        Formula::Not(part) => add_formula(part, found),
+        Formula::Imply(premise, conclusion) => {
+            add_formula(premise, found)?;
+            add_formula(conclusion, found)
+        }
+        Formula::Exists(_, part) | Formula::Forall(_, part) => add_formula(part, found),
+    }
+}
+
+/// Adds the objects that the effect names.
+fn add_effect(effect: &Effect, found: &mut Vec<ObjectId>) -> Result<(), NoMemory>
+    ensures { OnOk result (AreAdded (defined.named_in_effect (effect_of effect.now)) found.old.items found.new.items) }
+{
+    match effect {
+        Effect::Literal(literal) => add_literal(literal, found),
+        Effect::And(parts) => {
+            for part in parts {
+                add_effect(part, found)?;
+            }
+            Ok(())
+        }
+        Effect::Forall(_, part) => add_effect(part, found),
+        Effect::When(condition, literals) => {
+            add_formula(condition, found)?;
+            add_literals(literals, found)
+        }
+    }
+}
+
+/// Adds the objects that the literals name.
+fn add_literals(literals: &[EffectLiteral], found: &mut Vec<ObjectId>) -> Result<(), NoMemory>
+    ensures { OnOk result (AreAdded (flat_map defined.named_in_literal (map effect_literal_of literals.now)) found.old.items found.new.items) }
+{
+    for literal in literals {
+        add_literal(literal, found)?;
+    }
+    Ok(())
+}
+
+/// Adds the objects that the literal names.
+fn add_literal(literal: &EffectLiteral, found: &mut Vec<ObjectId>) -> Result<(), NoMemory>
+    ensures { OnOk result (AreAdded (defined.named_in_literal (effect_literal_of literal.now)) found.old.items found.new.items) }
+{
+    match literal {
+        EffectLiteral::Add(atom) => add_terms(&atom.terms, found),
+        EffectLiteral::Delete(atom) => add_terms(&atom.terms, found),
+    }
+}
+
+/// Adds the objects that the cost increase names.
+fn add_increase(increase: &Increase, found: &mut Vec<ObjectId>) -> Result<(), NoMemory>
+    ensures { OnOk result (AreAdded (defined.named_in_increase (increase_of increase.now)) found.old.items found.new.items) }
+{
+    match increase {
+        Increase::Number(_) => Ok(()),
+        Increase::Function(function) => add_terms(&function.terms, found),
+    }
+}
+
+/// Adds the objects that the terms name.
+fn add_terms(terms: &[Term], found: &mut Vec<ObjectId>) -> Result<(), NoMemory>
+    ensures { OnOk result (AreAdded (flat_map defined.named_in_term (map term_of terms.now)) found.old.items found.new.items) }
+{
+    for term in terms {
+        add_term(term, found)?;
+    }
+    Ok(())
+}
+
+/// Adds the object that the term names, if it names one.
+fn add_term(term: &Term, found: &mut Vec<ObjectId>) -> Result<(), NoMemory>
+    ensures { OnOk result (AreAdded (defined.named_in_term (term_of term.now)) found.old.items found.new.items) }
+{
+    match term {
+        Term::Variable(_) => Ok(()),
+        Term::Object(object) => {
+            found.push(*object)?;
+            Ok(())
+        }
+    }
 }

@@ -2,12 +2,14 @@
 ghost use Rattle.std.specs.Prelude.{◌≡◌, ℕ, ◌<◌, ◌++◌, ◌∷◌, [], ◌==◌, if◌then◌else◌, length, map, slice_get, IfOk, OnOk};
 ghost use Rattle.std.specs.Option.{option_map};
 ghost use Rattle.task.specs.TaskParts.{atom_of, object_of, value_of};
-ghost use Rattle.task_symmetries.specs.Places.{Covers, IsAdded, IsAddedAt, functions_of, row_of};
+ghost use Rattle.task_symmetries.specs.Lent.{formulas_lent};
+ghost use Rattle.task_symmetries.specs.Places.{Covers, Indexes, IsAdded, IsAddedAt, functions_of, row_of};
 
+use crate::named::named_in_formula;
 use faults::NoMemory;
 use indexmap::IndexMap;
 use std::alloc::Global;
-use task::{Atom, ObjectId};
+use task::{Atom, Formula, ObjectId};
 
 /// For each object, by number, the indices of the entries that name it.
 #[derive(Drop)]
@@ -38,6 +40,21 @@ impl PlacesByObject {
         let mut places = PlacesByObject::none(alloc);
         for place in 0..values.len() {
             places.add_function(values, place)?;
+        }
+        Ok(places)
+    }
+
+    /// The index of the formulas.
+    pub(crate) fn of_formulas(
+        alloc: Global,
+        formulas: &[&Formula],
+    ) -> Result<PlacesByObject, NoMemory>
+        ensures { IfOk result (Indexes (formulas_lent formulas.now)) }
+    {
+        let mut places = PlacesByObject::none(alloc);
+        for place in 0..formulas.len() {
+            let named = named_in_formula(alloc, formulas[place])?;
+            places.add(&named, place)?;
         }
         Ok(places)
     }

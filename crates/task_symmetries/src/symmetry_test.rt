@@ -7,7 +7,7 @@ ghost use Rattle.formulas.specs.FluentTable.{AreFluentsOf};
 ghost use Rattle.formulas.specs.State.{state_of};
 ghost use Rattle.task_symmetries.specs.Lent.{PassAlike, formulas_lent};
 ghost use Rattle.task_symmetries.specs.Named.{AreNamedIn};
-ghost use Rattle.task_symmetries.specs.Places.{Covers, functions_of};
+ghost use Rattle.task_symmetries.specs.Places.{Covers, Indexes, functions_of};
 ghost use Rattle.model.specs.Task as model_task;
 ghost use Rattle.model.specs.Meaning.{initial_state};
 ghost use Rattle.symmetries.specs.Symmetries as defined;
@@ -32,29 +32,32 @@ pub struct SymmetryTest<'t> {
     /// Where the initial atoms name an object, and where the functions with values do.
     atoms: PlacesByObject,
     functions: PlacesByObject,
-    /// The conjuncts of the goal.
+    /// The conjuncts of the goal, and where they name an object.
     conjuncts: Vec<&'t Formula>,
+    goals: PlacesByObject,
     ghost are_named: { AreNamedIn (task_of task.now) named.table.items } by { Prim.hlevel props },
     ghost are_fluents: { AreFluentsOf (task_of task.now) fluents } by { Prim.hlevel props },
     ghost is_initial: { (a : model_task.Atom) → contains (state_of initial) a ≡ contains (initial_state (task_of task.now)) a } by { Prim.hlevel props },
     ghost covers_atoms: { Covers (task_of task.now).init atoms } by { Prim.hlevel props },
     ghost covers_functions: { Covers (functions_of (task_of task.now).values) functions } by { Prim.hlevel props },
     ghost are_conjuncts: { PassAlike (formulas_lent conjuncts.items) (defined.conjuncts (task_of task.now).goal) } by { Prim.hlevel props },
+    ghost covers_goal: { Indexes (formulas_lent conjuncts.items) goals } by { Prim.hlevel props },
 }
 
 impl<'t> SymmetryTest<'t> {
-    ghost use Rattle.std.specs.Prelude.{true, ◌&&◌, ◌||◌, nat_eq, slice_get, IfOk};
-    ghost use Rattle.std.specs.Option.{option_eq, option_map, option_map_or};
+    ghost use Rattle.std.specs.Prelude.{true, false, ◌&&◌, ◌||◌, nat_eq, slice_get, IfOk};
+    ghost use Rattle.std.specs.Option.{option_eq, option_map_or};
     ghost use Rattle.task.specs.TaskParts.{atom_of, formula_of};
     ghost use Rattle.task_symmetries.specs.Exchange.{exchange_of, image};
-    ghost use Rattle.task_symmetries.specs.Lent.{lent_formula};
     ghost use Rattle.task_symmetries.specs.Named.{is_among};
     ghost use Rattle.task_symmetries.specs.Places.{row_of};
     ghost use Rattle.task_symmetries.specs.SymmetryTest.{task_tested};
     ghost use Rattle.task_symmetries.specs.Kept.{has_image, keeps_at, keeps_atom, keeps_value, keeps_value_of};
     ghost use Rattle.model.specs.Fluents.{is_fluent};
     ghost use Rattle.model.specs.NumberedAtoms.{occurs_in};
-    ghost use Rattle.symmetries.specs.NamedObjects.{named_in_actions};
+    ghost use Rattle.symmetries.specs.Exchanges.{image_of_formula};
+    ghost use Rattle.symmetries.specs.NamedObjects.{named_in_actions, named_in_formula};
+    ghost use Rattle.symmetries.specs.SameFormula.{is_same_formula};
 
     /// Prepares the test for the task.
     ///
@@ -69,6 +72,7 @@ impl<'t> SymmetryTest<'t> {
         let atoms = PlacesByObject::of_atoms(alloc, task.init())?;
         let functions = PlacesByObject::of_functions(alloc, task.values())?;
         let conjuncts = conjuncts(alloc, task.goal())?;
+        let goals = PlacesByObject::of_formulas(alloc, &conjuncts)?;
         Ok(SymmetryTest {
             task,
             named,
@@ -77,6 +81,7 @@ impl<'t> SymmetryTest<'t> {
             atoms,
             functions,
             conjuncts,
+            goals,
         })
     }
 
@@ -266,40 +271,70 @@ impl<'t> SymmetryTest<'t> {
         self.initial.contains(atom)
     }
 
-    /// Whether the image of each conjunct of the goal is a conjunct of the goal.
+    /// Whether the image of each conjunct of the goal is a conjunct of the goal. Only a conjunct that names exchanged objects
+    /// differs from its image.
     fn keeps_goal(&self, exchange: &Exchange) -> bool
         ensures { result ≡ defined.keeps_goal (task_tested self.now) (image exchange.now) }
     {
-        for place in 0..self.conjuncts.len() {
-            if !self.has_image_at(exchange, place) {
+        for pair in exchange.pairs() {
+            if !self.keeps_conjuncts_of_pair(exchange, pair.0, pair.1) {
                 return false;
             }
         }
         true
     }
 
-    /// Whether the image of the conjunct at this index, if there is one, is a conjunct of the goal. Most are their own images.
-    fn has_image_at(&self, exchange: &Exchange, place: usize) -> bool
-        ensures { result ≡ option_map_or (has_image (task_tested self.now) (image exchange.now)) (option_map lent_formula (slice_get self.now.conjuncts.items place)) true }
+    /// Whether the image of each conjunct that names one of the objects is a conjunct.
+    fn keeps_conjuncts_of_pair(&self, exchange: &Exchange, one: ObjectId, other: ObjectId) -> bool
+        ensures { result ≡ (keeps_at (has_image (task_tested self.now) (image exchange.now)) (formulas_lent self.now.conjuncts.items) (row_of self.now.goals) one.0
+            && keeps_at (has_image (task_tested self.now) (image exchange.now)) (formulas_lent self.now.conjuncts.items) (row_of self.now.goals) other.0) }
     {
-        let Some(conjunct) = self.conjuncts.get(place) else {
-            return true;
-        };
-        if is_image(exchange, conjunct, conjunct) {
-            return true;
-        }
-        self.has_image(exchange, conjunct)
+        self.keeps_conjuncts_of(exchange, one) && self.keeps_conjuncts_of(exchange, other)
     }
 
-    /// Whether the image of the formula is a conjunct of the goal.
-    fn has_image(&self, exchange: &Exchange, formula: &Formula) -> bool
+    /// Whether the image of each conjunct that names the object is a conjunct.
+    fn keeps_conjuncts_of(&self, exchange: &Exchange, object: ObjectId) -> bool
+        ensures { result ≡ keeps_at (has_image (task_tested self.now) (image exchange.now)) (formulas_lent self.now.conjuncts.items) (row_of self.now.goals) object.0 }
+    {
+        for place in self.goals.of(object) {
+            if !self.has_image_at(exchange, object, *place) {
+                return false;
+            }
+        }
+        true
+    }
+
+    /// Whether the image of the conjunct at this index, which names the object, is a conjunct.
+    fn has_image_at(&self, exchange: &Exchange, object: ObjectId, place: usize) -> bool
+        requires { is_among (row_of self.now.goals object.0) place ≡ true }
+        ensures { result ≡ option_map_or (has_image (task_tested self.now) (image exchange.now)) (slice_get (formulas_lent self.now.conjuncts.items) place) true }
+    {
+        match self.conjuncts.get(place) {
+            Some(conjunct) => self.has_image(exchange, object, conjunct),
+            None => true,
+        }
+    }
+
+    /// Whether the image of the formula, which names the object, is a conjunct. Only one that names the object's image can be.
+    fn has_image(&self, exchange: &Exchange, object: ObjectId, formula: &Formula) -> bool
+        requires { is_among (named_in_formula (formula_of formula.now)) object.0 ≡ true }
         ensures { result ≡ has_image (task_tested self.now) (image exchange.now) (formula_of formula.now) }
     {
-        for place in 0..self.conjuncts.len() {
-            if is_image(exchange, formula, self.conjuncts[place]) {
+        for place in self.goals.of(exchange.image(object)) {
+            if self.is_image_at(exchange, formula, *place) {
                 return true;
             }
         }
         false
+    }
+
+    /// Whether the conjunct at this index, if there is one, is the image of the formula.
+    fn is_image_at(&self, exchange: &Exchange, formula: &Formula, place: usize) -> bool
+        ensures { result ≡ option_map_or (is_same_formula (image_of_formula (image exchange.now) (formula_of formula.now))) (slice_get (formulas_lent self.now.conjuncts.items) place) false }
+    {
+        match self.conjuncts.get(place) {
+            Some(conjunct) => is_image(exchange, formula, conjunct),
+            None => false,
+        }
     }
 }

@@ -1,37 +1,39 @@
-use Rattle.std.proofs.Common.{◌∙◌, ◌<◌, ◌≤◌, true, length, ap, sym, arith}
-use Rattle.std.specs.Option.{option_map_or}
-use Rattle.std.proofs.lemmas.List.{length-map}
-use Rattle.std.proofs.lemmas.Option.{slice_get-map}
-use Rattle.model.proofs.Tests.{passes_whole}
-use Rattle.task_symmetries.specs.Exchange.{image}
+use Rattle.std.proofs.Common.{◌∙◌, ap, sym}
+use Rattle.std.specs.List.{list_all}
+use Rattle.task.specs.declared.atoms.ObjectId.{ObjectId}
+use Rattle.model.proofs.Tests.{passes_map, passes_more_index, passes_not_index, passes_whole}
+use Rattle.task_symmetries.specs.Exchange.{exchange_of, image}
 use Rattle.task_symmetries.specs.Kept.{has_image}
-use Rattle.task_symmetries.specs.Lent.{formulas_lent, lent_formula}
+use Rattle.task_symmetries.specs.Lent.{formulas_lent}
+use Rattle.task_symmetries.specs.Pairs.{pair_of}
+use Rattle.task_symmetries.specs.Places.{row_of}
 use Rattle.task_symmetries.specs.SymmetryTest.{task_tested}
-use Rattle.task_symmetries.proofs.TestSteps.{at_fails, at_more}
+use Rattle.task_symmetries.proofs.TestSteps.{pair_keeps, goal_covered}
 use Rattle.task_symmetries.proofs.symmetry_test.SymmetryTest.keeps_goal.Goals as goal
 
-pub returns-then-not-has_image_at : goal.returns-then-not-has_image_at
-returns-then-not-has_image_at c =
-    let items = c.args.self.now.conjuncts.items in
-    let test = has_image (task_tested c.args.self.now) (image c.args.exchange.now) in
-    at_fails test (formulas_lent items) c.loop-place.place
-    (ap (λ o. option_map_or test o true) (slice_get-map lent_formula items c.loop-place.place) ∙ sym c.has_image_at.ensures ∙ c.if-not-has_image_at.true)
-    ∙ (c.args.self.now.are_conjuncts test).0
+pub loop-pair-preserved : goal.loop-pair-preserved
+loop-pair-preserved c =
+    let test = pair_keeps (has_image (task_tested c.args.self.now) (image c.args.exchange.now)) (formulas_lent c.args.self.now.conjuncts.items) (row_of c.args.self.now.goals) in
+    let d : ObjectId × ObjectId = (record { 0 = 0 }, record { 0 = 0 }) in
+    passes_more_index (λ pair. test (pair_of pair)) c.pairs-pair-items.result.now c.loop-pair.pair-index d c.loop-pair-test.true c.loop-pair.invariant
+    (sym c.keeps_conjuncts_of_pair.ensures ∙ c.if-not-keeps_conjuncts_of_pair.false)
 
-pub loop-place-preserved : goal.loop-place-preserved
-loop-place-preserved c =
-    let items = c.args.self.now.conjuncts.items in
-    let test = has_image (task_tested c.args.self.now) (image c.args.exchange.now) in
-    let same = length-map items lent_formula in
-    let within : c.loop-place.place < length (formulas_lent items) = omega (arith, c.loop-place-test.true, c.len-place-end.ensures, same, c.args.self.now.conjuncts.ok.0) in
-    at_more test (formulas_lent items) c.loop-place.place within
-    (ap (λ o. option_map_or test o true) (slice_get-map lent_formula items c.loop-place.place) ∙ sym c.has_image_at.ensures ∙ c.if-not-has_image_at.false)
-    c.loop-place.invariant
+pub returns-then-not-keeps_conjuncts_of_pair : goal.returns-then-not-keeps_conjuncts_of_pair
+returns-then-not-keeps_conjuncts_of_pair c =
+    let tested = c.args.self.now in
+    let e = exchange_of c.args.exchange.now in
+    let test = pair_keeps (has_image (task_tested tested) (image c.args.exchange.now)) (formulas_lent tested.conjuncts.items) (row_of tested.goals) in
+    let d : ObjectId × ObjectId = (record { 0 = 0 }, record { 0 = 0 }) in
+    passes_not_index (λ pair. test (pair_of pair)) c.pairs-pair-items.result.now c.loop-pair.pair-index d c.loop-pair-test.true
+    (sym c.keeps_conjuncts_of_pair.ensures ∙ c.if-not-keeps_conjuncts_of_pair.true)
+    ∙ sym (passes_map test pair_of c.pairs-pair-items.result.now) ∙ ap (list_all test) c.pairs-pair-items.ensures
+    ∙ goal_covered (task_tested tested) e (row_of tested.goals) (formulas_lent tested.conjuncts.items) tested.are_conjuncts tested.covers_goal
 
 pub returns : goal.returns
 returns c =
-    let items = c.args.self.now.conjuncts.items in
-    let test = has_image (task_tested c.args.self.now) (image c.args.exchange.now) in
-    let same = length-map items lent_formula in
-    let past : length (formulas_lent items) ≤ c.loop-place.place = omega (arith, c.loop-place-test.false, c.len-place-end.ensures, same, c.args.self.now.conjuncts.ok.0) in
-    passes_whole test (formulas_lent items) c.loop-place.place past c.loop-place.invariant ∙ (c.args.self.now.are_conjuncts test).0
+    let tested = c.args.self.now in
+    let e = exchange_of c.args.exchange.now in
+    let test = pair_keeps (has_image (task_tested tested) (image c.args.exchange.now)) (formulas_lent tested.conjuncts.items) (row_of tested.goals) in
+    passes_whole (λ pair. test (pair_of pair)) c.pairs-pair-items.result.now c.loop-pair.pair-index c.loop-pair-test.false c.loop-pair.invariant
+    ∙ sym (passes_map test pair_of c.pairs-pair-items.result.now) ∙ ap (list_all test) c.pairs-pair-items.ensures
+    ∙ goal_covered (task_tested tested) e (row_of tested.goals) (formulas_lent tested.conjuncts.items) tested.are_conjuncts tested.covers_goal

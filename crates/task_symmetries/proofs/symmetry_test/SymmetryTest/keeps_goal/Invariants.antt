@@ -3,9 +3,13 @@ use Rattle.std.specs.List.{list_all}
 use Rattle.task_symmetries.specs.Exchange.{image}
 use Rattle.task_symmetries.specs.Kept.{has_image}
 use Rattle.task_symmetries.specs.Lent.{formulas_lent}
+use Rattle.task_symmetries.specs.Pairs.{pair_of}
+use Rattle.task_symmetries.specs.Places.{row_of}
 use Rattle.task_symmetries.specs.SymmetryTest.{task_tested}
+use Rattle.task_symmetries.proofs.TestSteps.{pair_keeps}
 use Rattle.task_symmetries.proofs.symmetry_test.SymmetryTest.keeps_goal.Given as goal
 
--- the images of the conjuncts so far are conjuncts
-abbrev pub invariant-loop-place : goal.invariant-loop-place
-invariant-loop-place l = list_all (has_image (task_tested l.self) (image l.exchange)) (take l.place (formulas_lent l.self.conjuncts.items)) ≡ true
+-- the conjuncts that name an object of the pairs so far have their images
+abbrev pub invariant-loop-pair : goal.invariant-loop-pair
+invariant-loop-pair l =
+    list_all (λ pair. pair_keeps (has_image (task_tested l.self) (image l.exchange)) (formulas_lent l.self.conjuncts.items) (row_of l.self.goals) (pair_of pair)) (take l.pair-index l.pair-items) ≡ true

@@ -5,7 +5,7 @@ use Rattle.task.specs.Task.{task_of}
 use Rattle.symmetries.specs.Symmetries.{conjuncts}
 use Rattle.task.specs.TaskParts.{value_of}
 use Rattle.task_symmetries.specs.Lent.{formulas_lent}
-use Rattle.task_symmetries.specs.Places.{Covers, functions_of}
+use Rattle.task_symmetries.specs.Places.{Covers, Indexes, functions_of}
 use Rattle.task_symmetries.proofs.symmetry_test.SymmetryTest.new.Goals as goal
 
 pub invariant_of-result : goal.invariant_of-result
@@ -19,4 +19,5 @@ invariant_of-result c =
       covers_atoms = subst (λ l. Covers l c.in_ok-atoms.atoms) c.init.ensures c.in_ok-atoms.ensures;
       covers_functions = subst (λ l. Covers l c.in_ok-functions.functions) given c.in_ok-functions.ensures;
       are_conjuncts = λ p. (ap (list_all p) same, ap (list_any p) same);
+      covers_goal = subst (λ l. Indexes (formulas_lent l) c.in_ok-goals.goals) c.deref.ensures.value c.in_ok-goals.ensures;
     }
