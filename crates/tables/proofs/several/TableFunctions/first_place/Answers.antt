@@ -1,4 +1,4 @@
-use Rattle.std.proofs.Common.{◌≡◌, ◌∙◌, false, length, refl, sym, ap, subst}
+use Rattle.std.proofs.Common.{◌∙◌, false, length, refl, sym, ap, subst}
 use Rattle.grounding.specs.Ground.{task_in, atoms_in}
 use Rattle.model.specs.ConditionalChanges.{conditional_of_number}
 use Rattle.model.specs.NumberedLiterals.{literals_of_number}

@@ -1,6 +1,5 @@
-use Rattle.std.proofs.Common.{◌≡◌, ◌∙◌, ℕ, ◌+◌, ◌<◌, ◌^◌, Bool, true, false, List, ◌++◌, length, map, take, drop, Some, refl, sym, ap, subst, arith, ℤ}
+use Rattle.std.proofs.Common.{◌≡◌, ◌∙◌, ℕ, ◌+◌, ◌<◌, ◌^◌, Bool, true, false, List, ◌++◌, length, map, take, drop, Some, sym, ap, subst, arith, ℤ}
 use Rattle.std.specs.Prelude.{All, slice_get}
-use Rattle.std.specs.List.{list_all}
 use Rattle.std.proofs.lemmas.List.{length-map, take-append-le, take_all}
 use Rattle.std.proofs.lemmas.List.Elements.{All-contains}
 use Rattle.std.proofs.lemmas.Option.{slice_get-get_or}
@@ -9,18 +8,16 @@ use Rattle.grounding.specs.Views.{numbered_of}
 use Rattle.grounding.specs.Changes.{conditional_of}
 use Rattle.model.specs.ConditionalChanges.{ConditionalChange, conditional_of_number}
 use Rattle.model.specs.NumberedLiterals.{NumberedLiteral, literals_of_number}
-use Rattle.model.specs.Task.{Atom, Task}
 use Rattle.model.proofs.ListLemmas.{Contains-got}
 use Rattle.packed_state.specs.Packed.{bits_of}
 use Rattle.table_functions.specs.TableFunctions.{Table}
-use Rattle.table_functions.specs.FairTables.{is_closed, touches_scope}
+use Rattle.table_functions.specs.FairTables.{is_closed}
 use Rattle.table_losses.specs.Fates.{IsLoss}
 use Rattle.table_losses.specs.Losses.{indexed_of, indexed_count_of, AreLossesByTable}
 use Rattle.table_losses.specs.declared.indexed.IndexedTable.{IndexedTable}
 use Rattle.table_losses.proofs.FateLemmas.{row-there}
 use Rattle.tables.specs.AllTables.{tables_of, count_of}
 use Rattle.tables.specs.TotalLosses.{IsShutOut, IsSmall, AreAddedUp, AreTotals, StandsAfter}
-use Rattle.tables.specs.declared.losses.Standing.TheVariants.{Stays}
 use Rattle.tables.proofs.TablesLemmas.{not-all, not-touched, read-at, by-all}
 use Rattle.tables.proofs.TotalLemmas.{losses-range, totals-more, totals-small, totals-untouched}
 use Rattle.tables.proofs.tables.IndexedTables.add_if_named.Goals.{Start, After-loses_by_each, After-deref}
