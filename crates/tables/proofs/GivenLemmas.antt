@@ -1,5 +1,5 @@
 -- What the rows of a state give, table by table.
-use Rattle.std.proofs.Common.{◌≡◌, ◌∙◌, ◌≢◌, ℕ, zero, suc, ◌+◌, ◌<◌, ◌≤◌, ◌^◌, inl, inr, Bool, true, false, ◌&&◌, List, [], ◌∷◌, length, get_or, Option, None, Some, refl, sym, ap, subst, arith, ℤ, pos, ◌+ℤ◌, neg_ℤ, ◌≤ℤ◌}
+use Rattle.std.proofs.Common.{◌≡◌, ◌∙◌, ◌≢◌, ℕ, zero, suc, ◌+◌, ◌<◌, ◌≤◌, ◌^◌, inl, inr, Bool, true, false, ◌&&◌, List, [], ◌∷◌, length, get_or, Option, None, Some, refl, sym, ap, subst, arith, ℤ, pos}
 use Rattle.std.specs.Prelude.{◌⊎◌, is_some, slice_get, slice_set}
 use Rattle.std.proofs.lemmas.Int.{ints}
 use Rattle.std.proofs.lemmas.Bool.{cases_eq, cases_lt}
@@ -7,7 +7,7 @@ use Rattle.std.proofs.lemmas.List.{get_or-set_same, get_or-set_other, length-set
 use Rattle.std.proofs.lemmas.Option.{slice_get_within}
 use Rattle.packed_state.specs.Packed.{bits_of}
 use Rattle.packed_state.specs.Sets.{has, IsNext}
-use Rattle.table_functions.specs.TableFunctions.{Table, row_in, given_by, has_rows, sum_over}
+use Rattle.table_functions.specs.TableFunctions.{Table, row_in, given_by, has_rows}
 use Rattle.tables.specs.Given.{AreGiven, IsGivenWith, IsSmallGiven}
 use Rattle.tables.specs.KnownRows.{IsKept, IsPlaceOfRow}
 use Rattle.tables.specs.RowSums.{row_at, given_rows, lacking, IsSmall}

@@ -1,6 +1,6 @@
 -- What the rows of a state give.
-use Rattle.std.specs.Prelude.{◌≡◌, ℕ, ◌<◌, Bool, true, false, ℤ, ◌+ℤ◌, List, Option, None, Some}
-use Rattle.table_functions.specs.TableFunctions.{Row, Table, given_by, has_rows, row_in, sum_over}
+use Rattle.std.specs.Prelude.{◌≡◌, ℕ, Bool, true, false, ◌+ℤ◌, List, Option, None, Some}
+use Rattle.table_functions.specs.TableFunctions.{Table, given_by, has_rows, row_in, sum_over}
 use Rattle.tables.specs.KnownRows.{IsPlaceOfRow}
 use Rattle.tables.specs.RowSums.{row_at, IsSmall}
 use Rattle.tables.specs.declared.given.Given.{Given}

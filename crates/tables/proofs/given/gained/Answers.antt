@@ -1,6 +1,6 @@
-use Rattle.std.proofs.Common.{◌≡◌, ◌∙◌, Some, ap, arith}
+use Rattle.std.proofs.Common.{ap, arith}
 use Rattle.std.proofs.lemmas.Int.{ints}
-use Rattle.table_functions.specs.TableFunctions.{given_by, weight_at}
+use Rattle.table_functions.specs.TableFunctions.{given_by}
 use Rattle.table_rows.specs.Tables.{table_of}
 use Rattle.table_losses.proofs.FateLemmas.{row-there, row-range}
 use Rattle.tables.proofs.given.gained.Goals as goal

@@ -1,4 +1,4 @@
-use Rattle.std.proofs.Common.{◌≡◌, ◌∙◌, length, ap, subst}
+use Rattle.std.proofs.Common.{◌∙◌, length, ap, subst}
 use Rattle.std.specs.Prelude.{◌-◌}
 use Rattle.tables.specs.AllTables.{tables_of, count_of}
 use Rattle.tables.specs.Given.{AreGivenUnless}

@@ -1,4 +1,4 @@
-use Rattle.std.proofs.Common.{◌∙◌, sym, arith}
+use Rattle.std.proofs.Common.{◌∙◌, sym}
 use Rattle.tables.proofs.SeveralLemmas.{knows}
 use Rattle.tables.proofs.several.TableFunctions.value_with_rows.Goals as goal
 
