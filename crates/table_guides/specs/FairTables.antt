@@ -1,4 +1,4 @@
--- Fair values over tables of the code, as the values that they are.
+-- Views of fair values over tables in memory.
 use Rattle.grounding.specs.declared.ground.Ground.{Ground}
 use Rattle.table_functions.specs.TableFunctions.{SeveralValues}
 use Rattle.tables.specs.Several.{several_of}

@@ -7,26 +7,26 @@ use Rattle.tables.specs.Projections.{AreProjections}
 use Rattle.tables.specs.RowSums.{AreSums}
 use Rattle.tables.specs.declared.known_rows.KnownRows.{KnownRows}
 
--- where the packed state's row of the table is, if it has one
+-- the number of the packed state's row of the table, if it has one
 abbrev pub IsPlaceOfRow : Table → List Bool → Option ℕ → Type 0
 IsPlaceOfRow t bits None = row_in bits t ≡ None
 IsPlaceOfRow t bits (Some place) = (place < length t.rows) × (slice_get t.rows place ≡ row_in bits t)
 
--- of each table this is where the packed state's row is, if it has one
+-- the same for each table
 abbrev pub KnowsRows : List Table → List Bool → List (Option ℕ) → Type 0
 KnowsRows tables bits rows = (k : ℕ) (t : Table) → slice_get tables k ≡ Some t → IsPlaceOfRow t bits (slice_index_or rows k None)
 
--- so it is of each table that is not touched
+-- the same for each table that is not touched
 abbrev pub AreKnown : List Table → (touched bits : List Bool) → List (Option ℕ) → Type 0
 AreKnown tables touched bits rows = (k : ℕ) (t : Table) → slice_get tables k ≡ Some t → has touched k ≡ false → IsPlaceOfRow t bits (slice_index_or rows k None)
 
--- the rows of tables that are not touched are those of the state that is looked at, and the sums are those of the rows
+-- the rows of tables that are not touched are those of the state that is looked at; the sums are those of all rows
 pub record IsKept (tables : List Table) (count : ℕ) (k : KnownRows) : Type 0 where
   pub projections : AreProjections tables k.projections
   pub sums : AreSums tables count k.sums
   pub rows : AreKnown tables (bits_of k.projections.touched) (bits_of k.projections.state) k.sums.rows.items
 
--- all rows are those of the state that is looked at, and the sums theirs
+-- all rows are those of the state that is looked at; the sums are theirs
 pub record IsKnown (tables : List Table) (count : ℕ) (k : KnownRows) : Type 0 where
   pub projections : AreProjections tables k.projections
   pub sums : AreSums tables count k.sums
