@@ -23,7 +23,7 @@ pub(crate) const FREE: u32 = 0;
 /// Numbers are below this.
 const NUMBERS: u32 = 0x100_0000;
 
-/// Tags are the multiples of this in keys.
+/// The quotient of a key by this is its tag: its seven highest bits.
 const TAGS: u32 = 0x200_0000;
 
 impl Table {
