@@ -7,7 +7,7 @@ use faults::NoMemory;
 use std::alloc::Global;
 
 /// Entries for the numbers from 0 on. Each is in the first slot that was free when it was inserted, counted from the one that its
-/// key names, and round at the end. An entry takes four bytes, so that a look-up seldom misses the cache: the number, and a tag
+/// key names, and round at the end. An entry takes four bytes, so that fewer look-ups miss the cache: the number, and a tag
 /// that tells most keys apart.
 #[derive(Drop)]
 pub(crate) struct Table {
@@ -23,7 +23,7 @@ pub(crate) const FREE: u32 = 0;
 /// Numbers are below this.
 const NUMBERS: u32 = 0x100_0000;
 
-/// Tags are the multiples of this in keys.
+/// The quotient of a key by this is its tag: its seven highest bits.
 const TAGS: u32 = 0x200_0000;
 
 impl Table {
