@@ -18,7 +18,7 @@ use Rattle.landmark_functions.specs.FairLandmarks.{charge, charges, AreFairAt, I
 use Rattle.landmark_functions.specs.LandmarkLines.{Share, NumberedLandmarks, share_count}
 use Rattle.landmarks.specs.declared.testing.Fairness.{Fairness}
 use Rattle.landmarks.specs.declared.testing.Fairness.TheVariants.{DeadFair, Fair, Unfair}
-use Rattle.landmarks.specs.Fairness.{AreAsked, IsFairness, charged_at, cost_at, AreWithin, IsOneBeyond, free, IsFairnessBelow, after, has_one, is_unfair, function_over, IsFairValue, IsFirstUnfair}
+use Rattle.landmarks.specs.Fairness.{AreAsked, IsFairness, charged_at, cost_at, AreWithin, IsOneBeyond, free, IsFairnessBelow, after, has_one, is_unfair, function_over, IsFairValue, IsFirstUnfair, is_dead_fair, IsDeadFairValue, IsFirstNotDead}
 
 -- ---- one more instance
 
@@ -149,5 +149,34 @@ module _ (task : Task) (atoms : List Atom) (beside : List Table) (l : NumberedLa
   pub one-more : is_unfair f ≡ false → (k : ℕ) → k < number + 1 → IsFairValue task atoms beside l k
   one-more isnt k below = elim (cases_eq k number) [
     | inl here ↦ subst (IsFairValue task atoms beside l) (sym here) (subst (λ s. IsFair task atoms (function_over beside l.zones s)) (sym is-at) (fair-of task atoms (function_over beside l.zones shares) f isnt so))
+    | inr other ↦ before k (omega (arith, other))
+  ]
+
+-- ---- the first that is not dead-fair
+
+dead-of : (task : Task) (atoms : List Atom) (h : LandmarkFunction) (f : Fairness) → is_dead_fair f ≡ true → IsFairness task atoms h f → IsDeadFair task atoms h
+dead-of task atoms h DeadFair is so = so
+dead-of task atoms h Fair is so = absurd (true≢false (sym is))
+dead-of task atoms h Unfair is so = absurd (true≢false (sym is))
+
+undead-of : (task : Task) (atoms : List Atom) (h : LandmarkFunction) (f : Fairness) → is_dead_fair f ≡ false → IsFairness task atoms h f → ¬ IsDeadFair task atoms h
+undead-of task atoms h DeadFair isnt so = absurd (true≢false isnt)
+undead-of task atoms h Fair isnt so = so.1
+undead-of task atoms h Unfair isnt so = λ dead. so (less-fair task atoms h dead)
+
+module _ (task : Task) (atoms : List Atom) (beside : List Table) (l : NumberedLandmarks) (numbers : List ℕ) (place : ℕ) (within : place < length numbers) (shares : List Share)
+    (at : slice_get l.values (get_or numbers place 0) ≡ Some shares) (f : Fairness) (so : IsFairness task atoms (function_over beside l.zones shares) f)
+    (before : (k : ℕ) → k < place → IsDeadFairValue task atoms beside l (get_or numbers k 0)) where
+  is-so : get_or l.values (get_or numbers place 0) [] ≡ shares
+  is-so = get_or_from_slice_get l.values (get_or numbers place 0) shares [] at
+
+  pub found-undead : is_dead_fair f ≡ false → IsFirstNotDead task atoms beside l numbers (Some place)
+  found-undead isnt =
+      (within, subst (λ s. ¬ IsDeadFair task atoms (function_over beside l.zones s)) (sym is-so) (undead-of task atoms (function_over beside l.zones shares) f isnt so), before)
+
+  pub one-more-dead : is_dead_fair f ≡ true → (k : ℕ) → k < place + 1 → IsDeadFairValue task atoms beside l (get_or numbers k 0)
+  one-more-dead is k below = elim (cases_eq k place) [
+    | inl here ↦ subst (λ p. IsDeadFairValue task atoms beside l (get_or numbers p 0)) (sym here)
+        (subst (λ s. IsDeadFair task atoms (function_over beside l.zones s)) (sym is-so) (dead-of task atoms (function_over beside l.zones shares) f is so))
     | inr other ↦ before k (omega (arith, other))
   ]

@@ -41,6 +41,16 @@ IsFirstUnfair task atoms beside l None = (k : ℕ) → k < length l.values → I
 IsFirstUnfair task atoms beside l (Some number) =
     (number < length l.values) × (¬ IsFairValue task atoms beside l number) × ((k : ℕ) → k < number → IsFairValue task atoms beside l k)
 
+-- the value with this number is dead-fair
+abbrev pub IsDeadFairValue : Task → List Atom → List Table → NumberedLandmarks → ℕ → Type 0
+IsDeadFairValue task atoms beside l number = IsDeadFair task atoms (function_over beside l.zones (get_or l.values number []))
+
+-- the place of the first of these values that is not
+abbrev pub IsFirstNotDead : Task → List Atom → List Table → NumberedLandmarks → List ℕ → Option ℕ → Type 0
+IsFirstNotDead task atoms beside l numbers None = (k : ℕ) → k < length numbers → IsDeadFairValue task atoms beside l (get_or numbers k 0)
+IsFirstNotDead task atoms beside l numbers (Some place) =
+    (place < length numbers) × (¬ IsDeadFairValue task atoms beside l (get_or numbers place 0)) × ((k : ℕ) → k < place → IsDeadFairValue task atoms beside l (get_or numbers k 0))
+
 -- ---- the first so many of these instances
 
 -- what the instance with this number is charged, and what it costs
@@ -77,3 +87,8 @@ abbrev pub is_unfair : Fairness → Bool
 is_unfair DeadFair = false
 is_unfair Fair = false
 is_unfair Unfair = true
+
+abbrev pub is_dead_fair : Fairness → Bool
+is_dead_fair DeadFair = true
+is_dead_fair Fair = false
+is_dead_fair Unfair = false

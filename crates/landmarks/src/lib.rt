@@ -8,5 +8,5 @@ mod values;
 
 pub use breaking::may_break;
 pub use charging::charges;
-pub use testing::{Fairness, fairness_for, first_unfair};
+pub use testing::{Fairness, fairness_for, first_not_dead, first_unfair};
 pub use values::{is_whole, value_in};

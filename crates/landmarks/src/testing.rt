@@ -8,7 +8,7 @@ ghost use Rattle.table_functions.specs.TableFunctions as tables;
 ghost use Rattle.landmark_functions.specs.LandmarkLines.{landmark_of, share_count};
 ghost use Rattle.landmark_zones.specs.Landmarks.{landmarks_of, share_of};
 ghost use Rattle.landmarks.specs.Breaking.{AreSorted};
-ghost use Rattle.landmarks.specs.Fairness.{AreAsked, IsFairness, IsFairnessBelow, after, IsFirstUnfair, function_over, has_one, is_unfair};
+ghost use Rattle.landmarks.specs.Fairness.{AreAsked, IsFairness, IsFairnessBelow, after, IsFirstNotDead, IsFirstUnfair, function_over, has_one, is_dead_fair, is_unfair};
 
 use crate::breaking::has_any;
 use crate::charging::charges;
@@ -34,6 +34,16 @@ impl Fairness {
         match self {
             Fairness::DeadFair | Fairness::Fair => false,
             Fairness::Unfair => true,
+        }
+    }
+
+    /// Whether no instance is charged at all.
+    fn is_dead_fair(self) -> bool
+        ensures { result ≡ is_dead_fair self }
+    {
+        match self {
+            Fairness::DeadFair => true,
+            Fairness::Fair | Fairness::Unfair => false,
         }
     }
 
@@ -67,6 +77,30 @@ pub fn first_unfair(ground: &Ground<'_>, landmarks: &Landmarks, asked: &[u32]) -
     for number in 0..landmarks.value_count() {
         if fairness_for(ground, landmarks, landmarks.value(number), asked).is_unfair() {
             return Some(number);
+        }
+    }
+    None
+}
+
+/// The place of the first of the values with these numbers that is not dead-fair for the ground task, if there is one. The numbers
+/// asked are those of the kept instances that the tables beside the values do not shut out.
+pub fn first_not_dead(
+    ground: &Ground<'_>,
+    landmarks: &Landmarks,
+    numbers: &[u32],
+    asked: &[u32],
+) -> Option<usize>
+    requires sorted { AreSorted (landmarks_of landmarks.now).zones }
+    requires few { share_count (landmarks_of landmarks.now).values ≤ 67108864 }
+    requires numbered { All (λ number. number < length (landmarks_of landmarks.now).values) numbers.now }
+    requires asked { All (λ number. number < length (kept_instances (task_in ground.now))) asked.now }
+    ensures { (beside : List tables.Table) → AreAsked (task_in ground.now) (atoms_in ground.now) beside asked.now
+        → IsFirstNotDead (task_in ground.now) (atoms_in ground.now) beside (landmarks_of landmarks.now) numbers.now result }
+{
+    for place in 0..numbers.len() {
+        let shares = landmarks.value(numbers[place] as usize);
+        if !fairness_for(ground, landmarks, shares, asked).is_dead_fair() {
+            return Some(place);
         }
     }
     None
