@@ -12,7 +12,6 @@ use Rattle.tables.specs.declared.projections.Projections.{Projections}
 use Rattle.tables.specs.KnownRows.{IsPlaceOfRow, KnowsRows, AreKnown}
 use Rattle.tables.specs.Projections.{AreMoved}
 use Rattle.tables.specs.RowSums.{row_at, given_rows, lacking}
-use Rattle.tables.proofs.ProjectionsLemmas.{not-yet}
 
 -- ---- one table
 
@@ -35,9 +34,8 @@ same-place t bits next (Some row) same is = (is.0, is.1 ∙ same)
 
 -- ---- all tables
 
-pub still-known : (tables : List Table) (old new : Projections) (rows : List (Option ℕ)) → AreMoved tables old new → AreKnown tables (bits_of old.touched) (bits_of old.state) rows → AreKnown tables (bits_of new.touched) (bits_of new.state) rows
-still-known tables old new rows moved known k t at untouched =
-    same-place t (bits_of old.state) (bits_of new.state) (get_or rows k None) (moved.alike k t at untouched) (known k t at (not-yet tables old new k moved untouched))
+pub still-known : (tables : List Table) (old new : Projections) (rows : List (Option ℕ)) → AreMoved tables old new → KnowsRows tables (bits_of old.state) rows → AreKnown tables (bits_of new.touched) (bits_of new.state) rows
+still-known tables old new rows moved known k t at untouched = same-place t (bits_of old.state) (bits_of new.state) (get_or rows k None) (moved.alike k t at untouched) (known k t at)
 
 -- one row more is known
 pub known-more : (tables : List Table) (touched bits : List Bool) (rows : List (Option ℕ)) (k : ℕ) (row : Option ℕ) → length rows ≡ length tables → ((t : Table) → slice_get tables k ≡ Some t → IsPlaceOfRow t bits row)

@@ -8,5 +8,4 @@ pub mod ScopePlacesLemmas
 pub mod ProjectionsLemmas
 pub mod RowSumsLemmas
 pub mod KnownRowsLemmas
-pub mod GivenLemmas
 pub mod ValueLemmas

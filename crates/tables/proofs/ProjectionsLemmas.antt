@@ -167,18 +167,17 @@ module _ (tables : List Table) (number : ℕ) (is : Bool) (l : ScopePlaces) (old
 pub moved-none : (tables : List Table) (p : Projections) → AreMoved tables p p
 moved-none tables p = record { kept = λ k was. was; alike = λ k t at untouched. refl }
 
--- what is not touched was not before
-pub not-yet : (tables : List Table) (old new : Projections) (k : ℕ) → AreMoved tables old new → has (bits_of new.touched) k ≡ false → has (bits_of old.touched) k ≡ false
-not-yet tables old new k moved none = elim (has (bits_of old.touched) k) as (λ b. has (bits_of old.touched) k ≡ b → b ≡ false) [
-  | true ↦ λ was. absurd (true≢false (sym (moved.kept k was) ∙ none))
-  | false ↦ λ _. refl
-] refl
-
 pub moved-more : (tables : List Table) (old mid new : Projections) → AreMoved tables old mid → AreMoved tables mid new → AreMoved tables old new
 moved-more tables old mid new first second = record {
   kept = λ k was. second.kept k (first.kept k was);
-  alike = λ k t at untouched. first.alike k t at (not-yet tables mid new k second untouched) ∙ second.alike k t at untouched;
+  alike = λ k t at untouched. first.alike k t at (not-yet k untouched) ∙ second.alike k t at untouched;
 }
+  where
+    not-yet : (k : ℕ) → has (bits_of new.touched) k ≡ false → has (bits_of mid.touched) k ≡ false
+    not-yet k none = elim (has (bits_of mid.touched) k) as (λ b. has (bits_of mid.touched) k ≡ b → b ≡ false) [
+      | true ↦ λ was. absurd (true≢false (sym (second.kept k was) ∙ none))
+      | false ↦ λ _. refl
+    ] refl
 
 -- ---- the atoms of one word
 

@@ -20,13 +20,7 @@ KnowsRows tables bits rows = (k : ℕ) (t : Table) → slice_get tables k ≡ So
 abbrev pub AreKnown : List Table → (touched bits : List Bool) → List (Option ℕ) → Type 0
 AreKnown tables touched bits rows = (k : ℕ) (t : Table) → slice_get tables k ≡ Some t → has touched k ≡ false → IsPlaceOfRow t bits (slice_index_or rows k None)
 
--- the rows of tables that are not touched are those of the state that is looked at; the sums are those of all rows
-pub record IsKept (tables : List Table) (count : ℕ) (k : KnownRows) : Type 0 where
-  pub projections : AreProjections tables k.projections
-  pub sums : AreSums tables count k.sums
-  pub rows : AreKnown tables (bits_of k.projections.touched) (bits_of k.projections.state) k.sums.rows.items
-
--- all rows are those of the state that is looked at; the sums are theirs
+-- the rows are those of the state, and the sums theirs
 pub record IsKnown (tables : List Table) (count : ℕ) (k : KnownRows) : Type 0 where
   pub projections : AreProjections tables k.projections
   pub sums : AreSums tables count k.sums

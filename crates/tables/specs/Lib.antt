@@ -11,5 +11,4 @@ pub mod ScopePlaces
 pub mod Projections
 pub mod RowSums
 pub mod KnownRows
-pub mod Given
 pub mod Several

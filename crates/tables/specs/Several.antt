@@ -1,5 +1,5 @@
 -- Views of several values in memory, and reports on them.
-use Rattle.std.specs.Prelude.{◌≡◌, ℕ, ◌+◌, ◌<◌, Bool, ℤ, pos, All, List, length, map, take, slice_get, slice_index_or, Some}
+use Rattle.std.specs.Prelude.{◌≡◌, ℕ, ◌+◌, Bool, ℤ, pos, All, List, length, map, take, slice_get, slice_index_or, Some}
 use Rattle.model.specs.Task.{Atom, Task}
 use Rattle.model.specs.Meaning.{cost_of}
 use Rattle.packed_state.specs.Packed.{bits_of}
@@ -11,7 +11,7 @@ use Rattle.table_functions.specs.TableFunctions.{TableFunction, SeveralValues, f
 use Rattle.table_functions.specs.FairTables.{IsFair, IsFairAtGoals, IsFirstUnfair, IsFirstDeadUnfair, AreFair}
 use Rattle.tables.specs.AllTables.{tables_of, count_of}
 use Rattle.tables.specs.Fairness.{AreInstancesFairAt}
-use Rattle.tables.specs.KnownRows.{IsKept, IsKnown}
+use Rattle.tables.specs.KnownRows.{IsKnown}
 use Rattle.tables.specs.declared.known_state.KnownState.{KnownState}
 use Rattle.tables.specs.declared.several.TableFunctions.{TableFunctions}
 use Rattle.tables.specs.declared.several.ValuesFairness.{ValuesFairness}
@@ -30,25 +30,15 @@ pub record AreScores (values : List Potentials) (dead_ends : Potentials) (bits :
   pub each : (k : ℕ) (p : Potentials) → slice_get values k ≡ Some p → slice_index_or scores k (pos 0) ≡ score (potentials_of p) bits
   pub last : slice_index_or scores (length values) (pos 0) ≡ score (potentials_of dead_ends) bits
 
--- the packed state that is looked at
+-- the packed state of which it is known
 abbrev pub state_of : KnownState → List Bool
 state_of k = bits_of k.rows.projections.state
 
--- the scores are those of `home`, and the rows of tables that are not touched those of the state that is looked at
+-- the rows and the scores are those of the state
 pub record Knows (f : TableFunctions) (k : KnownState) : Type 0 where
-  pub width : length (bits_of k.home) ≡ width_of f
-  pub looked_at : length (state_of k) ≡ width_of f
-  pub rows : IsKept (tables_of f.tables) (count_of f.tables) k.rows
-  pub scores : AreScores f.values.items f.dead_ends (bits_of k.home) k.scores.items
-  pub best : k.best < count_of f.tables
-
--- all is known of the packed state that is looked at, which is `home`
-pub record KnowsAll (f : TableFunctions) (k : KnownState) : Type 0 where
   pub width : length (state_of k) ≡ width_of f
-  pub home : bits_of k.home ≡ state_of k
   pub rows : IsKnown (tables_of f.tables) (count_of f.tables) k.rows
   pub scores : AreScores f.values.items f.dead_ends (state_of k) k.scores.items
-  pub best : k.best < count_of f.tables
 
 -- the value at this place, where all before it are fair
 pub record IsFirstValue (task : Task) (atoms : List Atom) (s : SeveralValues) (place : ℕ) (function : TableFunction) : Type 0 where

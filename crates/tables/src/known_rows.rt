@@ -1,10 +1,10 @@
 //! The rows of a state, found by its difference from another.
-ghost use Rattle.std.specs.Prelude.{◌≡◌, ℕ, List, [], IfOk, length, nat_lt};
+ghost use Rattle.std.specs.Prelude.{◌≡◌, ℕ, List, [], IfOk, length};
 ghost use Rattle.packed_state.specs.Packed.{bits_of};
 ghost use Rattle.packed_state.specs.Sets.{set_of};
 ghost use Rattle.table_functions.specs.TableFunctions.{Table, has_rows};
 ghost use Rattle.tables.specs.AllTables.{tables_of, count_of};
-ghost use Rattle.tables.specs.KnownRows.{AreKnown, IsKept, IsKnown};
+ghost use Rattle.tables.specs.KnownRows.{AreKnown, IsKnown};
 ghost use Rattle.tables.specs.Projections.{AreProjections};
 ghost use Rattle.tables.specs.RowSums.{AreSums};
 
@@ -15,11 +15,9 @@ use faults::NoMemory;
 use packed_state::Packed;
 use std::alloc::Global;
 
-/// The rows of a state, with the sums of their weights. While another state is looked at, the tables that may have another row for it
-/// are touched.
+/// A state and its rows, with the sums of their weights.
 #[derive(Drop)]
 pub(crate) struct KnownRows {
-    /// The state that is looked at.
     pub(crate) projections: Projections,
     pub(crate) sums: RowSums,
 }
@@ -49,16 +47,9 @@ impl KnownRows {
         self.sums.missing == 0
     }
 
-    /// Whether some table has no row here.
-    pub(crate) fn lack(&self) -> bool
-        ensures { result ≡ nat_lt 0 self.now.sums.missing }
-    {
-        self.sums.missing > 0
-    }
-
     /// Finds the rows of this state.
     pub(crate) fn move_to(&mut self, tables: &IndexedTables<'_>, state: &Packed)
-        requires kept { IsKept (tables_of tables.now) (count_of tables.now) self.old }
+        requires known { IsKnown (tables_of tables.now) (count_of tables.now) self.old }
         requires width { length (bits_of state.now) ≡ length (bits_of self.old.projections.state) }
         ensures known { IsKnown (tables_of tables.now) (count_of tables.now) self.new }
         ensures state { bits_of self.new.projections.state ≡ bits_of state.now }

@@ -3,7 +3,7 @@ ghost use Rattle.std.specs.Prelude.{◌≡◌, ◌<◌, IfOk, pos, length, slice
 ghost use Rattle.packed_state.specs.Packed.{bits_of};
 ghost use Rattle.potential_functions.specs.PotentialFunctions.{score};
 ghost use Rattle.potentials.specs.Potentials.{potentials_of};
-ghost use Rattle.tables.specs.Several.{width_of, state_of, AreScores, Knows, KnowsAll};
+ghost use Rattle.tables.specs.Several.{width_of, state_of, AreScores, Knows};
 
 use crate::known_rows::KnownRows;
 use crate::several::TableFunctions;
@@ -15,14 +15,10 @@ use std::alloc::Global;
 /// What is known of one state, at which it stands, so that another is evaluated by its difference.
 #[derive(Drop)]
 pub struct KnownState {
-    /// Its rows, unless another state is looked at.
+    /// Its rows.
     pub(crate) rows: KnownRows,
-    /// The state.
-    pub(crate) home: Packed,
     /// The score of its atoms by each value, and last by that for dead ends.
     pub(crate) scores: Vec<i64>,
-    /// The place of the value that was the greatest when it was asked for last.
-    pub(crate) best: u32,
 }
 
 impl TableFunctions<'_> {
@@ -35,14 +31,8 @@ impl TableFunctions<'_> {
     {
         let width = self.dead_ends.weights().len() as u32;
         let rows = self.tables.known_rows(alloc, width)?;
-        let home = Packed::empty(alloc, width)?;
-        let scores = self.scores(alloc, &home)?;
-        Ok(KnownState {
-            rows,
-            home,
-            scores,
-            best: 0,
-        })
+        let scores = self.scores(alloc, &rows.projections.state)?;
+        Ok(KnownState { rows, scores })
     }
 
     /// The score of the state's atoms by each value, and last by that for dead ends.
@@ -66,14 +56,12 @@ impl TableFunctions<'_> {
         requires width { length (bits_of state.now) ≡ width_of self.now }
         requires known { Knows self.now known.old }
         ensures known { Knows self.now known.new }
-        ensures all { KnowsAll self.now known.new }
         ensures state { state_of known.new ≡ bits_of state.now }
     {
         for place in 0..self.values.len() {
             known.score_after(place, &self.values[place], state);
         }
         known.score_after(self.values.len(), &self.dead_ends, state);
-        known.home.copy_from(state);
         known.rows.move_to(&self.tables, state);
     }
 }
@@ -82,13 +70,13 @@ impl KnownState {
     /// Replaces the score at this place, by these potentials, by the next state's.
     fn score_after(&mut self, place: usize, by: &Potentials, next: &Packed)
         requires there { place < length self.old.scores.items }
-        requires before { length (bits_of self.old.home) ≡ length (potentials_of by.now).weights }
+        requires before { length (state_of self.old) ≡ length (potentials_of by.now).weights }
         requires next { length (bits_of next.now) ≡ length (potentials_of by.now).weights }
-        requires score { slice_index_or self.old.scores.items place (pos 0) ≡ score (potentials_of by.now) (bits_of self.old.home) }
+        requires score { slice_index_or self.old.scores.items place (pos 0) ≡ score (potentials_of by.now) (state_of self.old) }
         ensures scores { self.new.scores.items ≡ slice_set self.old.scores.items place (score (potentials_of by.now) (bits_of next.now)) }
-        ensures others { (self.new.rows ≡ self.old.rows) × (self.new.home ≡ self.old.home) × (self.new.best ≡ self.old.best) }
+        ensures rows { self.new.rows ≡ self.old.rows }
     {
         let score = self.scores[place];
-        self.scores[place] = by.score_after(score, &self.home, next);
+        self.scores[place] = by.score_after(score, &self.rows.projections.state, next);
     }
 }

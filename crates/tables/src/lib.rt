@@ -2,7 +2,6 @@
 #![tactic(auto)]
 
 mod fairness;
-mod given;
 mod known_rows;
 mod known_state;
 mod losses;

@@ -6,7 +6,5 @@ use Rattle.tables.proofs.several.TableFunctions.move_to.Given as goal
 abbrev pub invariant-loop-place : goal.invariant-loop-place
 invariant-loop-place l = record {
   rows : l.known.rows ≡ l.initial.known.rows;
-  home : l.known.home ≡ l.initial.known.home;
-  best : l.known.best ≡ l.initial.known.best;
   scores : AreMovedBelow l.self.values.items (bits_of l.state) l.place l.initial.known.scores.items l.known.scores.items;
 }
