@@ -3,8 +3,8 @@ use Rattle.std.specs.Prelude.{◌≡◌, ℕ, nat_le, List, [], ◌++◌, All, c
 use Rattle.std.specs.String.{string_bytes}
 use Rattle.explained_faults.specs.Explained.{BeginsWith, heading}
 use Rattle.fault_help.specs.declared.refusal.FileRefusal.{FileRefusal}
-use Rattle.fault_lists.specs.FaultLists.{IsFaultOf}
 use Rattle.source_text.specs.Files.{name_in, text_in}
+use Rattle.typing.specs.Listed.{IsFaultOf}
 use Rattle.source_text.specs.Places.{IsPlace}
 use Rattle.source_text.specs.declared.place.LineColumn.{LineColumn}
 use Rattle.source_text.specs.declared.texts.NamedTexts.{NamedTexts}

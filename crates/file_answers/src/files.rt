@@ -19,7 +19,6 @@ ghost use Rattle.model.specs.PlanText.{IsPlanText};
 
 use crate::quantifiers::variable_names;
 use explained_plans::VariableNames;
-use fault_lists::{FoundFaults, listed_faults};
 use faults::{Code, Fault, NoMemory, Refused, Span, TextRefusal};
 use formulas::Plan;
 use plan_file::read_plan;
@@ -28,7 +27,7 @@ use std::alloc::Global;
 use task::Task;
 use thiserror::Error;
 use tokens::scan;
-use typing::{FromTrees, TaskFault, TaskFile, TaskRefusal};
+use typing::{FromTrees, TaskFault, TaskFile, TaskRefusal, listed_faults};
 
 /// Why files have no answer.
 #[derive(Clone, Copy, Debug, PartialEq, Eq, Error)]
@@ -133,17 +132,17 @@ pub(crate) fn named_task_of_files<'a>(
     Ok(NamedTask { task, names })
 }
 
-/// The independent faults of two files, if the first one is a typing fault; otherwise none.
+/// The faults of two files that do not hide each other, if the first one is a typing fault; otherwise none.
 pub(crate) fn faults_of_files(
     alloc: Global,
     domain: &[u8],
     problem: &[u8],
-) -> Result<FoundFaults, NoMemory>
-    ensures { IfOk result (λ found. All (λ r. IsFaultOfTexts domain.now problem.now (refusal_of r)) found.gathered.items) }
+) -> Result<Vec<TaskRefusal>, NoMemory>
+    ensures { IfOk result (λ found. All (λ r. IsFaultOfTexts domain.now problem.now (refusal_of r)) found.items) }
 {
     match trees_of_files(alloc, domain, problem) {
         Ok(trees) => listed_faults(alloc, &trees.domain, &trees.problem),
-        Err(FileFault::At { .. }) => Ok(FoundFaults::new(alloc)),
+        Err(FileFault::At { .. }) => Ok(Vec::new(alloc)),
         Err(FileFault::NoMemory) => Err(NoMemory),
     }
 }

@@ -6,7 +6,7 @@ use Rattle.model.specs.Trees as tree
 use Rattle.model.specs.Trees.{TaskFile}
 use Rattle.model.specs.Typing.{Known, TypingFault, terms_faults, term_faults, misfit_faults}
 use Rattle.task_parts.specs.Scope.{argument_faults}
-use Rattle.task_parts.specs.Walk.{found}
+use Rattle.task_parts.specs.Walk.{Findings, found}
 use Rattle.task_parts.proofs.Found.{found-append}
 
 drop-nil : {X : Type 0} (n : ℕ) → drop {A = X} n [] ≡ []
@@ -30,7 +30,7 @@ rest_left (x ∷ xs) (suc i) =
 
 -- one more term
 pub argument_step : {X : Type 0} (file : TaskFile) (known : Known) (arguments : List task.Union) (seen : X → tree.Term) (xs : List X) (i : ℕ) (d : X) → i < length xs
-    → (least new whole : Option TypingFault) → new ≡ found least (argument_faults file known (slice_get arguments i) (seen (get_or xs i d)))
+    → (least new whole : Findings) → new ≡ found least (argument_faults file known (slice_get arguments i) (seen (get_or xs i d)))
     → found least (terms_faults file known (drop i arguments) (map seen (drop i xs))) ≡ whole
     → found new (terms_faults file known (drop (i + 1) arguments) (map seen (drop (i + 1) xs))) ≡ whole
 argument_step file known arguments seen xs i d l least new whole finds h =
@@ -44,6 +44,6 @@ argument_step file known arguments seen xs i d l least new whole finds h =
 
 -- and the end
 pub argument_end : {X : Type 0} (file : TaskFile) (known : Known) (arguments : List task.Union) (seen : X → tree.Term) (xs : List X) (i : ℕ) → length xs ≤ i
-    → (least whole : Option TypingFault) → found least (terms_faults file known (drop i arguments) (map seen (drop i xs))) ≡ whole → least ≡ whole
+    → (least whole : Findings) → found least (terms_faults file known (drop i arguments) (map seen (drop i xs))) ≡ whole → least ≡ whole
 argument_end file known arguments seen xs i l least whole h =
     sym (ap (λ ys. found least (terms_faults file known (drop i arguments) (map seen ys))) (drop_all i xs l)) ∙ h

@@ -6,45 +6,45 @@ use Rattle.std.proofs.lemmas.List.Sums.{fold-append}
 use Rattle.std.specs.List.{flat_map}
 use Rattle.model.specs.Task as task
 use Rattle.model.specs.Typing.{Placed, TypingFault, refused, repeated_after, with_name, is_known}
-use Rattle.task_parts.specs.Walk.{found, earlier}
+use Rattle.task_parts.specs.Walk.{Findings, found, with_fault}
 
 pub map-map : {X Y Z : Type 0} (F : Y → Z) (g : X → Y) (xs : List X) → map F (map g xs) ≡ map (λ x. F (g x)) xs
 map-map F g [] = refl
 map-map F g (x ∷ xs) = ap (λ ys. F (g x) ∷ ys) (map-map F g xs)
 
-pub found-append : (least : Option TypingFault) (fs gs : List TypingFault) → found least (fs ++ gs) ≡ found (found least fs) gs
-found-append least fs gs = fold-append earlier least fs gs
+pub found-append : (least : Findings) (fs gs : List TypingFault) → found least (fs ++ gs) ≡ found (found least fs) gs
+found-append least fs gs = fold-append with_fault least fs gs
 
 -- what was found, followed by more
-pub found_after : (before middle last : Option TypingFault) (fs gs : List TypingFault) → middle ≡ found before fs → last ≡ found middle gs → last ≡ found before (fs ++ gs)
+pub found_after : (before middle last : Findings) (fs gs : List TypingFault) → middle ≡ found before fs → last ≡ found middle gs → last ≡ found before (fs ++ gs)
 found_after before middle last fs gs m l = l ∙ ap (λ o. found o gs) m ∙ sym (found-append before fs gs)
 
 -- one more element, and the end
-pub found_more : {X : Type 0} (F : X → List TypingFault) (least : Option TypingFault) (xs : List X) (i : ℕ) (d : X) → i < length xs
+pub found_more : {X : Type 0} (F : X → List TypingFault) (least : Findings) (xs : List X) (i : ℕ) (d : X) → i < length xs
     → found least (flat_map F (drop i xs)) ≡ found (found least (F (get_or xs i d))) (flat_map F (drop (i + 1) xs))
 found_more F least xs i d l =
     at_drop_more (λ ys. found least (flat_map F ys)) xs i d l ∙ found-append least (F (get_or xs i d)) (flat_map F (drop (i + 1) xs))
 
-pub found_all : {X : Type 0} (F : X → List TypingFault) (least : Option TypingFault) (xs : List X) (i : ℕ) → length xs ≤ i
+pub found_all : {X : Type 0} (F : X → List TypingFault) (least : Findings) (xs : List X) (i : ℕ) → length xs ≤ i
     → found least (flat_map F (drop i xs)) ≡ least
 found_all F least xs i l = at_drop_all (λ ys. found least (flat_map F ys)) xs i l
 
 -- one step of a walk over a list
 pub found_step : {X : Type 0} (F : X → List TypingFault) (xs : List X) (i : ℕ) (x : X) → i < length xs → x ≡ get_or xs i x
-    → (least new whole : Option TypingFault) → new ≡ found least (F x)
+    → (least new whole : Findings) → new ≡ found least (F x)
     → found least (flat_map F (drop i xs)) ≡ whole → found new (flat_map F (drop (i + 1) xs)) ≡ whole
 found_step F xs i x l is least new whole finds h =
     ap (λ o. found o (flat_map F (drop (i + 1) xs))) (finds ∙ ap (λ y. found least (F y)) is) ∙ sym (found_more F least xs i x l) ∙ h
 
 -- the same, by the index of the element
 pub found_at : {X : Type 0} (F : X → List TypingFault) (xs : List X) (i : ℕ) (d : X) → i < length xs
-    → (least new whole : Option TypingFault) → new ≡ found least (F (get_or xs i d))
+    → (least new whole : Findings) → new ≡ found least (F (get_or xs i d))
     → found least (flat_map F (drop i xs)) ≡ whole → found new (flat_map F (drop (i + 1) xs)) ≡ whole
 found_at F xs i d l least new whole finds h =
     ap (λ o. found o (flat_map F (drop (i + 1) xs))) finds ∙ sym (found_more F least xs i d l) ∙ h
 
 -- one more declaration
-pub found_repeated : (least : Option TypingFault) (before : List task.Name) (w : Placed) (rest : List Placed)
+pub found_repeated : (least : Findings) (before : List task.Name) (w : Placed) (rest : List Placed)
     → found least (refused 16 (repeated_after before (w ∷ rest)))
     ≡ found (found least (refused 16 (if is_known before w.word then w ∷ [] else []))) (refused 16 (repeated_after (with_name before w.word) rest))
 found_repeated least before w rest =
@@ -53,7 +53,7 @@ found_repeated least before w rest =
 
 -- what is found after one more declaration of a list
 pub found_declared : {X : Type 0} (placed_as : X → Placed) (xs : List X) (i : ℕ) (x : X) → i < length xs → x ≡ get_or xs i x
-    → (before after : List task.Name) (least new whole : Option TypingFault)
+    → (before after : List task.Name) (least new whole : Findings)
     → after ≡ with_name before (placed_as x).word
     → new ≡ found least (refused 16 (if is_known before (placed_as x).word then placed_as x ∷ [] else []))
     → found least (refused 16 (repeated_after before (map placed_as (drop i xs)))) ≡ whole
@@ -79,7 +79,7 @@ got_twice (x ∷ xs) (suc i) d l = other d (get_or xs i d) xs i (omega (arith, l
     other d e (y ∷ ys) (suc k) m = other d e ys k (omega (arith, m))
 
 pub found_declared_at : {X : Type 0} (placed_as : X → Placed) (xs : List X) (i : ℕ) (d : X) → i < length xs
-    → (before after : List task.Name) (least new whole : Option TypingFault)
+    → (before after : List task.Name) (least new whole : Findings)
     → after ≡ with_name before (placed_as (get_or xs i d)).word
     → new ≡ found least (refused 16 (if is_known before (placed_as (get_or xs i d)).word then placed_as (get_or xs i d) ∷ [] else []))
     → found least (refused 16 (repeated_after before (map placed_as (drop i xs)))) ≡ whole
@@ -119,12 +119,12 @@ pub map_taken : {X Y Z : Type 0} (F : Y → Z) (g : X → Y) (xs ys : List X) (i
 map_taken F g xs ys i zs e l s = map_to_end (λ x. F (g x)) xs ys i zs e l s ∙ sym (map-map F g ys)
 
 -- what a walk over a list has found at the end
-pub found_to_end : {X : Type 0} (F : X → List TypingFault) (xs ys : List X) (i : ℕ) (least before : Option TypingFault)
+pub found_to_end : {X : Type 0} (F : X → List TypingFault) (xs ys : List X) (i : ℕ) (least before : Findings)
     → found least (flat_map F (drop i xs)) ≡ found before (flat_map F xs) → length xs ≤ i → xs ≡ ys → least ≡ found before (flat_map F ys)
 found_to_end F xs ys i least before e l s = sym (found_all F least xs i l) ∙ e ∙ ap (λ zs. found before (flat_map F zs)) s
 
 -- the same for a list that is read
-pub found_walked : {X Y : Type 0} (F : Y → List TypingFault) (g : X → Y) (xs ys : List X) (i : ℕ) (least before : Option TypingFault)
+pub found_walked : {X Y : Type 0} (F : Y → List TypingFault) (g : X → Y) (xs ys : List X) (i : ℕ) (least before : Findings)
     → found least (flat_map (λ x. F (g x)) (drop i xs)) ≡ found before (flat_map (λ x. F (g x)) xs) → length xs ≤ i → xs ≡ ys
     → least ≡ found before (flat_map F (map g ys))
 found_walked F g xs ys i least before e l s =

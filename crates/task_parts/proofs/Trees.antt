@@ -12,7 +12,7 @@ use Rattle.task.specs.TaskParts.{formula_of, formulas_of}
 use Rattle.model.specs.Task as task
 use Rattle.model.specs.Trees.{TaskFile, formulas}
 use Rattle.model.specs.Typing.{Known, TypingFault, formula_in, formulas_in, formula_faults, formulas_faults, exists_each, forall_each, exists_over, forall_over}
-use Rattle.task_parts.specs.Walk.{found}
+use Rattle.task_parts.specs.Walk.{Findings, found}
 
 -- ---- formulas
 
@@ -53,7 +53,7 @@ module _ (file : TaskFile) (known : Known) (whole : read_formula.Formula) (parts
   joined_parts : (resolved : List task.Formula) → resolved ≡ map (λ x. formula_in file known (read.formula_of x)) items → joined_formulas resolved ≡ formulas_in file known (formulas (map read.formula_of parts.items))
   joined_parts resolved are = ap joined_formulas (are ∙ ap (map (λ x. formula_in file known (read.formula_of x))) same) ∙ sym (formulas_in-joined file known parts.items)
 
-  found_in_parts : (least before : Option TypingFault) → least ≡ found before (flat_map (λ x. formula_faults file known (read.formula_of x)) items) → least ≡ found before (formulas_faults file known (formulas (map read.formula_of parts.items)))
+  found_in_parts : (least before : Findings) → least ≡ found before (flat_map (λ x. formula_faults file known (read.formula_of x)) items) → least ≡ found before (formulas_faults file known (formulas (map read.formula_of parts.items)))
   found_in_parts least before finds =
       finds ∙ ap (λ ys. found before (flat_map (λ x. formula_faults file known (read.formula_of x)) ys)) same ∙ ap (found before) (sym (formulas_faults-joined file known parts.items))
 
@@ -62,7 +62,7 @@ module _ (file : TaskFile) (known : Known) (whole : read_formula.Formula) (parts
   and_by_parts is resolved are =
       formula_of-And resolved ∙ ap task.and (joined_parts (map formula_of resolved.items) are) ∙ ap (formula_in file known) (sym (ap read.formula_of is ∙ rows.formula_of-And parts))
 
-  pub and_faults_by_parts : whole ≡ read_formula.And parts → (least before : Option TypingFault) → least ≡ found before (flat_map (λ x. formula_faults file known (read.formula_of x)) items)
+  pub and_faults_by_parts : whole ≡ read_formula.And parts → (least before : Findings) → least ≡ found before (flat_map (λ x. formula_faults file known (read.formula_of x)) items)
       → least ≡ found before (formula_faults file known (read.formula_of whole))
   and_faults_by_parts is least before finds = found_in_parts least before finds ∙ ap (λ f. found before (formula_faults file known f)) (sym (ap read.formula_of is ∙ rows.formula_of-And parts))
 
@@ -71,7 +71,7 @@ module _ (file : TaskFile) (known : Known) (whole : read_formula.Formula) (parts
   or_by_parts is resolved are =
       formula_of-Or resolved ∙ ap task.or (joined_parts (map formula_of resolved.items) are) ∙ ap (formula_in file known) (sym (ap read.formula_of is ∙ rows.formula_of-Or parts))
 
-  pub or_faults_by_parts : whole ≡ read_formula.Or parts → (least before : Option TypingFault) → least ≡ found before (flat_map (λ x. formula_faults file known (read.formula_of x)) items)
+  pub or_faults_by_parts : whole ≡ read_formula.Or parts → (least before : Findings) → least ≡ found before (flat_map (λ x. formula_faults file known (read.formula_of x)) items)
       → least ≡ found before (formula_faults file known (read.formula_of whole))
   or_faults_by_parts is least before finds = found_in_parts least before finds ∙ ap (λ f. found before (formula_faults file known f)) (sym (ap read.formula_of is ∙ rows.formula_of-Or parts))
 

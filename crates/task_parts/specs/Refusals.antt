@@ -1,7 +1,8 @@
 -- The faults that typing reports, in the model's terms.
-use Rattle.std.specs.Prelude.{List}
+use Rattle.std.specs.Prelude.{◌≡◌, List, map, take}
 use Rattle.faults.specs.Fault.{number_of}
 use Rattle.syntax_tree.specs.Tree.{file_of}
+use Rattle.task_parts.specs.declared.fault.PairRefusal.{PairRefusal}
 use Rattle.task_parts.specs.declared.fault.TaskRefusal.{TaskRefusal}
 use Rattle.faults.specs.declared.refused.Refused.{Refused}
 use Rattle.faults.specs.declared.refused.Refused.TheVariants.{At, NoMemory}
@@ -17,7 +18,15 @@ refusal_of r = record {
 abbrev pub TaskFault : Type 0
 TaskFault = Refused TaskRefusal
 
--- the least of these faults is reported; nothing is stated for running out of memory
-abbrev pub ReportsLeastOf : List TypingFault → TaskFault → Type 0
-ReportsLeastOf faults NoMemory = Unit {0}
-ReportsLeastOf faults (At r) = IsLeastOf faults (refusal_of r)
+abbrev pub PairFault : Type 0
+PairFault = Refused PairRefusal
+
+-- the least of these faults is the first, and they are listed, up to the limit
+pub record AreReported (faults : List TypingFault) (r : PairRefusal) : Type 0 where
+  pub first : IsLeastOf faults (refusal_of r.first)
+  pub listed : map refusal_of r.listed.items ≡ take 1000 faults
+
+-- these faults are reported; nothing is stated for running out of memory
+abbrev pub ReportsAll : List TypingFault → PairFault → Type 0
+ReportsAll faults NoMemory = Unit {0}
+ReportsAll faults (At r) = AreReported faults r

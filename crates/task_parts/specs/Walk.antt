@@ -1,29 +1,47 @@
 -- The faults found by walks over the trees, in the model's terms.
-use Rattle.std.specs.Prelude.{◌≡◌, List, fold, Option, None, Some, if◌then◌else◌}
+use Rattle.std.specs.Prelude.{◌≡◌, nat_lt, List, [], ◌∷◌, ◌++◌, fold, length, map, Option, None, Some, if◌then◌else◌}
 use Rattle.std.specs.Option.{option_map}
 use Rattle.faults.specs.declared.refused.Refused.TheVariants.{At, NoMemory}
+use Rattle.task_parts.specs.declared.walk.FoundFaults.{FoundFaults}
 use Rattle.task_parts.specs.declared.walk.Walk.{Walk}
-use Rattle.task_parts.specs.Refusals.{TaskFault, refusal_of}
+use Rattle.task_parts.specs.Refusals.{PairFault, refusal_of}
 use Rattle.model.specs.Typing as typing
 
-abbrev pub least_of : Walk → Option typing.TypingFault
-least_of w = option_map refusal_of w.least
+-- what was found: the least fault, and the first ones, up to the limit, in the order in which they were found
+pub record Findings : Type 0 where
+  pub least : Option typing.TypingFault
+  pub listed : List typing.TypingFault
+
+abbrev pub nothing : Findings
+nothing = record { least = None; listed = [] }
+
+abbrev pub found_in : FoundFaults → Findings
+found_in f = record { least = option_map refusal_of f.least; listed = map refusal_of f.listed.items }
+
+abbrev pub found_by : Walk → Findings
+found_by w = found_in w.found
 
 -- the lesser of the fault found before and this one
 abbrev pub earlier : Option typing.TypingFault → typing.TypingFault → Option typing.TypingFault
 earlier None f = Some f
 earlier (Some least) f = if typing.is_before f least then Some f else Some least
 
--- the least of the fault found before and these faults
-abbrev pub found : Option typing.TypingFault → List typing.TypingFault → Option typing.TypingFault
-found before faults = fold earlier before faults
+-- one more fault is listed, if the limit is not reached
+abbrev pub with_listed : List typing.TypingFault → typing.TypingFault → List typing.TypingFault
+with_listed listed f = if nat_lt (length listed) 1000 then listed ++ f ∷ [] else listed
 
--- the fault that was found is reported; nothing is stated for running out of memory
-abbrev pub ReportsFound : Option typing.TypingFault → TaskFault → Type 0
-ReportsFound least NoMemory = Unit {0}
-ReportsFound None (At r) = ⊥
-ReportsFound (Some f) (At r) = refusal_of r ≡ f
+-- what was found with one more fault, and with these
+abbrev pub with_fault : Findings → typing.TypingFault → Findings
+with_fault before f = record { least = earlier before.least f; listed = with_listed before.listed f }
+
+abbrev pub found : Findings → List typing.TypingFault → Findings
+found before faults = fold with_fault before faults
+
+-- what was found is reported; nothing is stated for running out of memory
+abbrev pub ReportsFound : Findings → PairFault → Type 0
+ReportsFound found NoMemory = Unit {0}
+ReportsFound found (At r) = (found.least ≡ Some (refusal_of r.first)) × (map refusal_of r.listed.items ≡ found.listed)
 
 -- the walk has found these faults in addition
 abbrev pub Finds : Walk → Walk → List typing.TypingFault → Type 0
-Finds old new faults = least_of new ≡ found (least_of old) faults
+Finds old new faults = found_by new ≡ found (found_by old) faults

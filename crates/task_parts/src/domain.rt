@@ -3,7 +3,7 @@ ghost use Rattle.std.specs.Prelude.{◌≡◌, ◌≤◌, [], ◌∷◌, ◌++�
 ghost use Rattle.task_parts.specs.TypedLists.{declared_of};
 ghost use Rattle.task_parts.specs.Scope.{keys_in, IsAdded};
 ghost use Rattle.syntax_tree.specs.Tree.{file_of};
-ghost use Rattle.task_parts.specs.Refusals.{ReportsLeastOf};
+ghost use Rattle.task_parts.specs.Refusals.{ReportsAll};
 ghost use Rattle.task_parts.specs.Walk.{Finds};
 ghost use Rattle.syntax_tree.specs.Tree as read;
 ghost use Rattle.model.specs.Trees.{problem_file};
@@ -13,7 +13,7 @@ use crate::type_names::TypeTable;
 use crate::typed_lists::{Declared, limit};
 use crate::types::check_all;
 use crate::walk::Walk;
-use crate::{TaskFault, TaskFile};
+use crate::{PairFault, TaskFile};
 use faults::{Code, NoMemory};
 use indexmap::IndexMap;
 use std::alloc::Global;
@@ -106,14 +106,14 @@ fn checked_names(
     domain: &Domain<'_>,
     problem: &Problem<'_>,
     declared: &[Declared<'_>],
-) -> Result<IndexMap<Vec<u8>, Vec<TypeId>>, TaskFault>
+) -> Result<IndexMap<Vec<u8>, Vec<TypeId>>, PairFault>
     requires { map declared_of declared.now ≡ typing.declared_types (read.domain_of domain.now) }
     ensures ok { IfOk result (λ m.
         (typing.domain_name_faults (read.domain_of domain.now) (read.problem_of problem.now) ++ typing.type_declaration_faults (read.domain_of domain.now) ≡ [])
         × ((keys_in m.entries ≡ typing.type_names (read.domain_of domain.now)) × (length m.entries ≤ 4096))) }
-    ensures err { IfErr result (ReportsLeastOf (typing.domain_name_faults (read.domain_of domain.now) (read.problem_of problem.now) ++ typing.type_declaration_faults (read.domain_of domain.now))) }
+    ensures err { IfErr result (ReportsAll (typing.domain_name_faults (read.domain_of domain.now) (read.problem_of problem.now) ++ typing.type_declaration_faults (read.domain_of domain.now))) }
 {
-    let mut walk = Walk::new(alloc);
+    let mut walk = Walk::new(alloc)?;
     compare(&mut walk, &domain.name, &problem.domain);
     let names = type_names(alloc, &mut walk, declared)?;
     check_all(&mut walk, &names, declared)?;
@@ -126,18 +126,18 @@ fn checked_names(
 ///
 /// # Errors
 /// The least fault of the first phase: a problem for another domain, a type that is declared again (`object` is predeclared), an
-/// unknown parent type, or the first type beyond the limit; [`TaskFault::NoMemory`] if an allocation failed.
+/// unknown parent type, or the first type beyond the limit; [`PairFault::NoMemory`] if an allocation failed.
 pub fn names(
     alloc: Global,
     domain: &Domain<'_>,
     problem: &Problem<'_>,
     declared: &[Declared<'_>],
-) -> Result<TypeTable, TaskFault>
+) -> Result<TypeTable, PairFault>
     requires { map declared_of declared.now ≡ typing.declared_types (read.domain_of domain.now) }
     ensures ok { IfOk result (λ t.
         (typing.domain_name_faults (read.domain_of domain.now) (read.problem_of problem.now) ++ typing.type_declaration_faults (read.domain_of domain.now) ≡ [])
         × (keys_in t.by_name.entries ≡ typing.type_names (read.domain_of domain.now))) }
-    ensures err { IfErr result (ReportsLeastOf (typing.domain_name_faults (read.domain_of domain.now) (read.problem_of problem.now) ++ typing.type_declaration_faults (read.domain_of domain.now))) }
+    ensures err { IfErr result (ReportsAll (typing.domain_name_faults (read.domain_of domain.now) (read.problem_of problem.now) ++ typing.type_declaration_faults (read.domain_of domain.now))) }
 {
     let by_name = checked_names(alloc, domain, problem, declared)?;
     Ok(TypeTable { by_name })

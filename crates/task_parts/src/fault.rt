@@ -20,6 +20,18 @@ pub struct TaskRefusal {
 /// Why a pair of a domain and a problem is not a task.
 pub type TaskFault = Refused<TaskRefusal>;
 
+/// The faults of a pair that is not well-typed.
+#[derive(Debug, Drop)]
+pub struct PairRefusal {
+    /// The least fault.
+    pub first: TaskRefusal,
+    /// The first [`MAX_LISTED`](crate::MAX_LISTED) faults, in the order in which they were found.
+    pub listed: Vec<TaskRefusal>,
+}
+
+/// Why a pair of a domain and a problem is not a task, with all faults.
+pub type PairFault = Refused<PairRefusal>;
+
 impl TaskRefusal {
     /// The order of reporting: the domain before the problem, then the least start, then the lower number.
     pub(crate) fn is_before(&self, other: &TaskRefusal) -> bool

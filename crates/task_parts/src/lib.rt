@@ -1,4 +1,4 @@
-//! Resolves the names in formulas to numbers, and keeps the least fault found.
+//! Resolves the names in formulas to numbers, and keeps the faults found.
 #![tactic(auto)]
 
 pub mod domain;
@@ -11,8 +11,8 @@ pub mod types;
 pub mod variables;
 mod walk;
 
-pub use fault::{TaskFault, TaskRefusal};
+pub use fault::{PairFault, PairRefusal, TaskFault, TaskRefusal};
 pub use scope::{Globals, Scope, declares_cost};
 pub use syntax_tree::TaskFile;
 pub use type_names::TypeTable;
-pub use walk::Walk;
+pub use walk::{MAX_LISTED, Walk};

@@ -12,7 +12,7 @@ use Rattle.task.specs.TaskParts.{effect_of, effects_of}
 use Rattle.model.specs.Task as task
 use Rattle.model.specs.Trees.{TaskFile, effects}
 use Rattle.model.specs.Typing.{Known, TypingFault, effect_in, effects_in, effect_faults, effects_faults, each_of}
-use Rattle.task_parts.specs.Walk.{found}
+use Rattle.task_parts.specs.Walk.{Findings, found}
 
 abbrev pub joined_effects : List task.Effect → task.Effects
 joined_effects [] = task.no_effect
@@ -49,7 +49,7 @@ module _ (file : TaskFile) (known : Known) (whole : read_effect.Effect) (parts :
       ∙ ap task.both (ap joined_effects (are ∙ ap (map (λ x. effect_in file known (read.effect_of x))) same) ∙ sym (effects_in-joined file known parts.items))
       ∙ ap (effect_in file known) (sym (ap read.effect_of is ∙ rows.effect_of-And parts))
 
-  pub both_faults_by_parts : (least before : Option TypingFault) → least ≡ found before (flat_map (λ x. effect_faults file known (read.effect_of x)) items)
+  pub both_faults_by_parts : (least before : Findings) → least ≡ found before (flat_map (λ x. effect_faults file known (read.effect_of x)) items)
       → least ≡ found before (effect_faults file known (read.effect_of whole))
   both_faults_by_parts least before finds =
       finds ∙ ap (λ ys. found before (flat_map (λ x. effect_faults file known (read.effect_of x)) ys)) same

@@ -3,3 +3,4 @@ pub mod Task
 pub mod Chains
 pub mod DeclaredObjects
 pub mod Declarations
+pub mod Listed

@@ -2,7 +2,7 @@
 ghost use Rattle.std.specs.Prelude.{◌≡◌, [], map, IfErr, IfOk, OnOk};
 ghost use Rattle.task.specs.TaskParts as parts;
 ghost use Rattle.task_parts.specs.Scope.{known_outside, known_over};
-ghost use Rattle.typing.specs.Task.{file_of, ReportsLeastOf};
+ghost use Rattle.typing.specs.Task.{file_of, ReportsAll};
 ghost use Rattle.task_parts.specs.Walk.{Finds};
 ghost use Rattle.syntax_tree.specs.Tree as read;
 ghost use Rattle.model.specs.Trees.{domain_file};
@@ -11,7 +11,7 @@ ghost use Rattle.std.specs.List.{flat_map};
 
 use crate::effects::effect;
 use crate::functions::increase;
-use crate::{TaskFault, TaskFile};
+use crate::{PairFault, TaskFile};
 use faults::NoMemory;
 use indexmap::IndexMap;
 use std::alloc::Global;
@@ -106,15 +106,29 @@ pub(crate) fn schemas(
     alloc: Global,
     globals: &Globals<'_>,
     domain: &Domain<'_>,
-) -> Result<IndexMap<Vec<u8>, Schema>, TaskFault>
+) -> Result<IndexMap<Vec<u8>, Schema>, PairFault>
     ensures ok { IfOk result
         (λ m. (typing.action_faults (known_outside globals.now) (read.domain_of domain.now).actions ≡ [])
         × (map parts.schema_of m.entries ≡ map (typing.schema_in (known_outside globals.now)) (read.domain_of domain.now).actions)) }
-    ensures err { IfErr result (ReportsLeastOf (typing.action_faults (known_outside globals.now) (read.domain_of domain.now).actions)) }
+    ensures err { IfErr result (ReportsAll (typing.action_faults (known_outside globals.now) (read.domain_of domain.now).actions)) }
 {
-    let mut walk = Walk::new(alloc);
-    let actions = domain.actions.as_slice();
-    declare_actions(alloc, &mut walk, actions)?;
-    let schemas = table(alloc, &mut walk, globals, actions)?;
+    let mut walk = Walk::new(alloc)?;
+    let schemas = walked_actions(alloc, &mut walk, globals, domain)?;
     walk.finish(schemas)
+}
+
+/// The same. Faults are recorded in the walk.
+pub(crate) fn walked_actions(
+    alloc: Global,
+    walk: &mut Walk,
+    globals: &Globals<'_>,
+    domain: &Domain<'_>,
+) -> Result<IndexMap<Vec<u8>, Schema>, NoMemory>
+    ensures table { IfOk result (λ m. typing.action_faults (known_outside globals.now) (read.domain_of domain.now).actions ≡ []
+        → map parts.schema_of m.entries ≡ map (typing.schema_in (known_outside globals.now)) (read.domain_of domain.now).actions) }
+    ensures finds { OnOk result (Finds walk.old walk.new (typing.action_faults (known_outside globals.now) (read.domain_of domain.now).actions)) }
+{
+    let actions = domain.actions.as_slice();
+    declare_actions(alloc, walk, actions)?;
+    table(alloc, walk, globals, actions)
 }

@@ -2,14 +2,14 @@
 ghost use Rattle.std.specs.Prelude.{◌≡◌, [], fold, map, IfErr, IfOk, OnOk};
 ghost use Rattle.task.specs.TaskParts as parts;
 ghost use Rattle.task_parts.specs.Scope.{keys_in};
-ghost use Rattle.typing.specs.Task.{ReportsLeastOf};
+ghost use Rattle.typing.specs.Task.{ReportsAll};
 ghost use Rattle.task_parts.specs.Walk.{Finds};
 ghost use Rattle.syntax_tree.specs.Tree as read;
 ghost use Rattle.model.specs.Trees.{domain_file};
 ghost use Rattle.model.specs.Typing as typing;
 ghost use Rattle.std.specs.List.{flat_map};
 
-use crate::{TaskFault, TaskFile};
+use crate::{PairFault, TaskFile};
 use faults::NoMemory;
 use indexmap::IndexMap;
 use std::alloc::Global;
@@ -111,13 +111,13 @@ pub fn predicates(
     alloc: Global,
     types: &TypeTable,
     domain: &Domain<'_>,
-) -> Result<IndexMap<Vec<u8>, Predicate>, TaskFault>
+) -> Result<IndexMap<Vec<u8>, Predicate>, PairFault>
     ensures ok { IfOk result
         (λ m. (typing.declaration_faults (keys_in types.now.by_name.entries) (read.domain_of domain.now).predicates ≡ [])
         × (map parts.predicate_of m.entries ≡ map (typing.predicate_in (keys_in types.now.by_name.entries)) (read.domain_of domain.now).predicates)) }
-    ensures err { IfErr result (ReportsLeastOf (typing.declaration_faults (keys_in types.now.by_name.entries) (read.domain_of domain.now).predicates)) }
+    ensures err { IfErr result (ReportsAll (typing.declaration_faults (keys_in types.now.by_name.entries) (read.domain_of domain.now).predicates)) }
 {
-    let mut walk = Walk::new(alloc);
+    let mut walk = Walk::new(alloc)?;
     let predicates = declared(alloc, &mut walk, types, &domain.predicates)?;
     walk.finish(predicates)
 }

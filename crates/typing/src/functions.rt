@@ -4,7 +4,7 @@ ghost use Rattle.std.specs.List.{flat_map};
 ghost use Rattle.std.specs.Option.{option_map_or};
 ghost use Rattle.task.specs.TaskParts as parts;
 ghost use Rattle.task_parts.specs.Scope.{keys_in, known_over};
-ghost use Rattle.typing.specs.Task.{file_of, ReportsLeastOf};
+ghost use Rattle.typing.specs.Task.{file_of, ReportsAll};
 ghost use Rattle.task_parts.specs.Walk.{Finds};
 ghost use Rattle.syntax_tree.specs.Tree as read;
 ghost use Rattle.model.specs.Trees.{problem_file};
@@ -12,7 +12,7 @@ ghost use Rattle.model.specs.Task as task;
 ghost use Rattle.model.specs.Typing as typing;
 
 use crate::declarations::declared;
-use crate::{TaskFault, TaskFile};
+use crate::{PairFault, TaskFile};
 use faults::{Code, NoMemory};
 use indexmap::IndexMap;
 use std::alloc::Global;
@@ -37,14 +37,14 @@ pub fn functions(
     types: &TypeTable,
     domain: &Domain<'_>,
     problem: &Problem<'_>,
-) -> Result<IndexMap<Vec<u8>, Predicate>, TaskFault>
+) -> Result<IndexMap<Vec<u8>, Predicate>, PairFault>
     requires { keys_in types.now.by_name.entries ≡ typing.type_names (read.domain_of domain.now) }
     ensures ok { IfOk result
         (λ m. (typing.function_faults (read.domain_of domain.now) (read.problem_of problem.now) ≡ [])
         × (map parts.predicate_of m.entries ≡ typing.functions_of (read.domain_of domain.now))) }
-    ensures err { IfErr result (ReportsLeastOf (typing.function_faults (read.domain_of domain.now) (read.problem_of problem.now))) }
+    ensures err { IfErr result (ReportsAll (typing.function_faults (read.domain_of domain.now) (read.problem_of problem.now))) }
 {
-    let mut walk = Walk::new(alloc);
+    let mut walk = Walk::new(alloc)?;
     let functions = declared(alloc, &mut walk, types, &domain.functions)?;
     let has_cost = declares_cost(&functions);
     check_metric(&mut walk, has_cost, problem.metric.as_ref());

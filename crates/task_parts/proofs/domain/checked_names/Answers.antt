@@ -2,7 +2,7 @@ use Rattle.std.proofs.Common.{◌≡◌, ◌≤◌, ◌∙◌, List, [], ◌∷�
 use Rattle.std.proofs.lemmas.List.{length-map}
 use Rattle.std.specs.Map.{keys_of}
 use Rattle.task_parts.specs.Scope.{keys_in}
-use Rattle.task_parts.specs.Walk.{found, least_of}
+use Rattle.task_parts.specs.Walk.{found, found_by, nothing}
 use Rattle.syntax_tree.specs.Tree as read
 use Rattle.model.specs.Typing as typing
 use Rattle.task_parts.proofs.Found as finding
@@ -23,11 +23,11 @@ returns c =
     let many = λ (ys : List typing.Declared). typing.refused 25 (typing.one_after 4095 (typing.words_of ys)) in
     let faults = other ++ typing.type_declaration_faults d in
     let are : keys_in names.entries ≡ typing.type_names d = c.in_ok-names.ensures.names ∙ ap (λ ys. fold typing.with_name (codes "object" ∷ []) (typing.names_of ys)) same in
-    let total : least_of c.limit.new.walk ≡ found None faults =
-    finding.found_after None (least_of c.compare.new.walk) _ other ((twice xs ++ unknown xs) ++ many xs) (c.compare.ensures ∙ ap (λ o. found o other) c.new-walk.ensures)
-    (finding.found_after (least_of c.compare.new.walk) (least_of c.check_all.new.walk) _ (twice xs ++ unknown xs) (many xs)
-    (finding.found_after (least_of c.compare.new.walk) (least_of c.type_names.new.walk) _ (twice xs) (unknown xs) (c.in_ok-names.ensures.finds ∙ ap (λ ys. found (least_of c.compare.new.walk) (twice ys)) same) (c.in_ok-check_all.ensures ∙ (λ i. found (least_of c.type_names.new.walk) (typing.type_faults (are i) (same i)))))
-    (c.limit.ensures ∙ ap (λ ys. found (least_of c.check_all.new.walk) (many ys)) same)) in
+    let total : found_by c.limit.new.walk ≡ found nothing faults =
+    finding.found_after nothing (found_by c.compare.new.walk) _ other ((twice xs ++ unknown xs) ++ many xs) (c.compare.ensures ∙ ap (λ o. found o other) c.in_ok-walk.ensures)
+    (finding.found_after (found_by c.compare.new.walk) (found_by c.check_all.new.walk) _ (twice xs ++ unknown xs) (many xs)
+    (finding.found_after (found_by c.compare.new.walk) (found_by c.type_names.new.walk) _ (twice xs) (unknown xs) (c.in_ok-names.ensures.finds ∙ ap (λ ys. found (found_by c.compare.new.walk) (twice ys)) same) (c.in_ok-check_all.ensures ∙ (λ i. found (found_by c.type_names.new.walk) (typing.type_faults (are i) (same i)))))
+    (c.limit.ensures ∙ ap (λ ys. found (found_by c.check_all.new.walk) (many ys)) same)) in
     let few : faults ≡ [] → length names.entries ≤ 4096 =
     λ none. let types = empty.nil_right other (typing.type_declaration_faults d) none in
     let once = empty.not_refused 16 (typing.repeated_after (codes "object" ∷ []) (typing.words_of xs)) (empty.nil_left (twice xs) (unknown xs) (empty.nil_left (twice xs ++ unknown xs) (many xs) types)) in

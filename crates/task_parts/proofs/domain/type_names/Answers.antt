@@ -1,6 +1,6 @@
 use Rattle.std.proofs.Common.{◌∙◌, ◌∷◌, [], ap, sym, map, fold, drop, codes, ◌+◌}
 use Rattle.std.proofs.lemmas.List.{drop_more, drop_all}
-use Rattle.task_parts.specs.Walk.{found, least_of}
+use Rattle.task_parts.specs.Walk.{found, found_by}
 use Rattle.task_parts.specs.TypedLists.{declared_of, placed_of}
 use Rattle.task_parts.specs.Scope.{keys_in}
 use Rattle.syntax_tree.specs.Tree as read
@@ -18,7 +18,7 @@ loop-one-preserved c =
           ∙ ap (λ ys. fold typing.with_name (keys_in c.loop-one.names.entries) (map named ys)) (sym (drop_more xs i _ c.loop-one-test.true))
           ∙ c.loop-one.invariant.names;
       finds = finding.found_declared_at placed_of xs i _ c.loop-one-test.true (keys_in c.loop-one.names.entries) (keys_in c.declare.new.table.entries)
-          (least_of c.loop-one.walk) (least_of c.declare.new.walk) _ c.in_ok-declare.ensures.names c.in_ok-declare.ensures.finds c.loop-one.invariant.finds;
+          (found_by c.loop-one.walk) (found_by c.declare.new.walk) _ c.in_ok-declare.ensures.names c.in_ok-declare.ensures.finds c.loop-one.invariant.finds;
     }
 
 pub returns-clause-names : goal.returns-clause-names
@@ -30,6 +30,6 @@ returns-clause-names c =
 pub returns-clause-finds : goal.returns-clause-finds
 returns-clause-finds c =
     let xs = c.args.declared.now in
-    sym (ap (λ ys. found (least_of c.loop-one.walk) (typing.refused 16 (typing.repeated_after (keys_in c.loop-one.names.entries) (map placed_of ys)))) (drop_all c.loop-one.one-index xs c.loop-one-test.false))
+    sym (ap (λ ys. found (found_by c.loop-one.walk) (typing.refused 16 (typing.repeated_after (keys_in c.loop-one.names.entries) (map placed_of ys)))) (drop_all c.loop-one.one-index xs c.loop-one-test.false))
     ∙ c.loop-one.invariant.finds
-    ∙ ap (λ ws. found (least_of c.args.walk.now) (typing.refused 16 (typing.repeated_after (codes "object" ∷ []) ws))) (sym (finding.map-map (λ (y : typing.Declared). typing.placed y.file y.name) declared_of xs))
+    ∙ ap (λ ws. found (found_by c.args.walk.now) (typing.refused 16 (typing.repeated_after (codes "object" ∷ []) ws))) (sym (finding.map-map (λ (y : typing.Declared). typing.placed y.file y.name) declared_of xs))

@@ -1,5 +1,5 @@
 use Rattle.std.proofs.Common.{◌≡◌, [], ◌∷◌, map, fold, drop, codes}
-use Rattle.task_parts.specs.Walk.{found, least_of}
+use Rattle.task_parts.specs.Walk.{found, found_by}
 use Rattle.task_parts.specs.TypedLists.{placed_of}
 use Rattle.task_parts.specs.Scope.{keys_in}
 use Rattle.syntax_tree.specs.Tree as read
@@ -9,6 +9,6 @@ use Rattle.task_parts.proofs.domain.type_names.Given as goal
 abbrev pub invariant-loop-one : goal.invariant-loop-one
 invariant-loop-one l = record {
   names : fold typing.with_name (keys_in l.names.entries) (map (λ x. read.name_of x.name) (drop l.one-index l.declared)) ≡ fold typing.with_name (codes "object" ∷ []) (map (λ x. read.name_of x.name) l.declared);
-  finds : found (least_of l.walk) (typing.refused 16 (typing.repeated_after (keys_in l.names.entries) (map placed_of (drop l.one-index l.declared))))
-      ≡ found (least_of l.initial.walk) (typing.refused 16 (typing.repeated_after (codes "object" ∷ []) (map placed_of l.declared)));
+  finds : found (found_by l.walk) (typing.refused 16 (typing.repeated_after (keys_in l.names.entries) (map placed_of (drop l.one-index l.declared))))
+      ≡ found (found_by l.initial.walk) (typing.refused 16 (typing.repeated_after (codes "object" ∷ []) (map placed_of l.declared)));
 }

@@ -1,6 +1,6 @@
 use Rattle.syntax_tree.specs.Tree.{file_of}
 use Rattle.task_parts.specs.Scope.{known_over}
-use Rattle.task_parts.specs.Walk.{least_of}
+use Rattle.task_parts.specs.Walk.{found_by}
 use Rattle.task_parts.proofs.Trees.{and_by_parts, and_faults_by_parts, or_by_parts, or_faults_by_parts}
 use Rattle.task_parts.proofs.formulas.+formulas.Goals as goal
 
@@ -12,7 +12,7 @@ formula-returns-in_ok-parts-in-And-clause-value t c =
 pub formula-returns-in_ok-parts-in-And-clause-finds : goal.formula-returns-in_ok-parts-in-And-clause-finds
 formula-returns-in_ok-parts-in-And-clause-finds t c =
     and_faults_by_parts (file_of c.args.globals.now.file) (known_over c.args.globals.now c.args.variables.now.entries) c.args.given.now c.in-And.parts c.deref.result.now c.deref.ensures.value
-    c.in-And.is (least_of c.several.new.walk) (least_of c.args.walk.now) c.in_ok-parts-in-And.ensures.finds
+    c.in-And.is (found_by c.several.new.walk) (found_by c.args.walk.now) c.in_ok-parts-in-And.ensures.finds
 
 pub formula-returns-in_ok-parts-in-Or-clause-value : goal.formula-returns-in_ok-parts-in-Or-clause-value
 formula-returns-in_ok-parts-in-Or-clause-value t c =
@@ -22,4 +22,4 @@ formula-returns-in_ok-parts-in-Or-clause-value t c =
 pub formula-returns-in_ok-parts-in-Or-clause-finds : goal.formula-returns-in_ok-parts-in-Or-clause-finds
 formula-returns-in_ok-parts-in-Or-clause-finds t c =
     or_faults_by_parts (file_of c.args.globals.now.file) (known_over c.args.globals.now c.args.variables.now.entries) c.args.given.now c.in-Or.parts c.deref-in-Or.result.now c.deref-in-Or.ensures.value
-    c.in-Or.is (least_of c.several-in-Or.new.walk) (least_of c.args.walk.now) c.in_ok-parts-in-Or.ensures.finds
+    c.in-Or.is (found_by c.several-in-Or.new.walk) (found_by c.args.walk.now) c.in_ok-parts-in-Or.ensures.finds

@@ -2,7 +2,7 @@ use Rattle.std.proofs.Common.{◌≡◌, ◌∙◌, map, ap}
 use Rattle.syntax_tree.specs.Tree.{file_of}
 use Rattle.task_parts.specs.TypedLists.{declared_of}
 use Rattle.task_parts.specs.Scope.{known_over}
-use Rattle.task_parts.specs.Walk.{found, least_of}
+use Rattle.task_parts.specs.Walk.{found, found_by}
 use Rattle.syntax_tree.specs.Tree as read
 use Rattle.model.specs.Typing as typing
 use Rattle.task_parts.proofs.formulas.enter.Goals.{After-as_slice-declared}
@@ -28,4 +28,4 @@ returns-clause-known c =
 pub returns-clause-finds : goal.returns-clause-finds
 returns-clause-finds c =
     let known = known_over c.args.globals.now c.args.variables.now.entries in
-    c.in_ok-declare_variables.ensures.finds ∙ ap (λ xs. found (least_of c.args.walk.now) (typing.variable_faults known.type_names known.variables xs)) (same (goal.at.returns-clause-finds c).After-as_slice-declared)
+    c.in_ok-declare_variables.ensures.finds ∙ ap (λ xs. found (found_by c.args.walk.now) (typing.variable_faults known.type_names known.variables xs)) (same (goal.at.returns-clause-finds c).After-as_slice-declared)

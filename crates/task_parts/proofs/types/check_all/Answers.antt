@@ -1,7 +1,7 @@
 use Rattle.std.proofs.Common.{refl}
 use Rattle.task_parts.specs.Scope.{keys_in}
 use Rattle.task_parts.specs.TypedLists.{declared_of}
-use Rattle.task_parts.specs.Walk.{least_of}
+use Rattle.task_parts.specs.Walk.{found_by}
 use Rattle.task_parts.specs.declared.typed_lists.Declared.{Declared}
 use Rattle.model.specs.Typing as typing
 use Rattle.task_parts.proofs.Found.{found_at, found_walked}
@@ -10,9 +10,9 @@ use Rattle.task_parts.proofs.types.check_all.Goals as goal
 pub loop-one-preserved : goal.loop-one-preserved
 loop-one-preserved c =
     found_at (λ (x : Declared). typing.types_faults (keys_in c.args.names.now.entries) (declared_of x)) c.args.declared.now c.loop-one.one-index _
-    c.loop-one-test.true (least_of c.loop-one.walk) _ _ c.in_ok-check_types.ensures c.loop-one.invariant
+    c.loop-one-test.true (found_by c.loop-one.walk) _ _ c.in_ok-check_types.ensures c.loop-one.invariant
 
 pub returns : goal.returns
 returns c =
     found_walked (typing.types_faults (keys_in c.args.names.now.entries)) declared_of c.args.declared.now c.args.declared.now c.loop-one.one-index
-    (least_of c.loop-one.walk) (least_of c.args.walk.now) c.loop-one.invariant c.loop-one-test.false refl
+    (found_by c.loop-one.walk) (found_by c.args.walk.now) c.loop-one.invariant c.loop-one-test.false refl

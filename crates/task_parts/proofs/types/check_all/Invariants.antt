@@ -2,11 +2,11 @@ use Rattle.std.proofs.Common.{◌≡◌, drop}
 use Rattle.std.specs.List.{flat_map}
 use Rattle.task_parts.specs.Scope.{keys_in}
 use Rattle.task_parts.specs.TypedLists.{declared_of}
-use Rattle.task_parts.specs.Walk.{found, least_of}
+use Rattle.task_parts.specs.Walk.{found, found_by}
 use Rattle.model.specs.Typing as typing
 use Rattle.task_parts.proofs.types.check_all.Given as goal
 
 abbrev pub invariant-loop-one : goal.invariant-loop-one
 invariant-loop-one l =
-    found (least_of l.walk) (flat_map (λ x. typing.types_faults (keys_in l.names.entries) (declared_of x)) (drop l.one-index l.declared))
-    ≡ found (least_of l.initial.walk) (flat_map (λ x. typing.types_faults (keys_in l.names.entries) (declared_of x)) l.declared)
+    found (found_by l.walk) (flat_map (λ x. typing.types_faults (keys_in l.names.entries) (declared_of x)) (drop l.one-index l.declared))
+    ≡ found (found_by l.initial.walk) (flat_map (λ x. typing.types_faults (keys_in l.names.entries) (declared_of x)) l.declared)

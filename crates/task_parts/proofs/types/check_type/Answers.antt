@@ -4,13 +4,13 @@ use Rattle.syntax_tree.specs.Tree.{name_of}
 use Rattle.model.specs.Typing.{refused_word}
 use Rattle.syntax_tree.specs.Tree.{file_of}
 use Rattle.task_parts.specs.Refusals.{refusal_of}
-use Rattle.task_parts.specs.Walk.{found, least_of}
+use Rattle.task_parts.specs.Walk.{found, found_by, found_in}
 use Rattle.task_parts.proofs.Tables.{is_known-shown, key_is, lookup-any}
 use Rattle.task_parts.proofs.types.check_type.Goals as goal
 
 pub returns : goal.returns
 returns c =
     let reported = λ (b : Bool). if b then [] else refused_word (file_of c.args.file) 14 (name_of c.args.name.now) in
-    c.refuse_unless.ensures ∙ ap (λ o. found (option_map refusal_of o) (reported c.contains_key-known.result)) c.fold.ensures.least
-    ∙ ap (λ b. found (least_of c.args.walk.now) (reported b)) (c.contains_key-known.ensures ∙ lookup-any (key_is c.as_slice.result.now) c.args.names.now.entries
+    c.refuse_unless.ensures ∙ ap (λ o. found (found_in o) (reported c.contains_key-known.result)) c.fold.ensures.found
+    ∙ ap (λ b. found (found_by c.args.walk.now) (reported b)) (c.contains_key-known.ensures ∙ lookup-any (key_is c.as_slice.result.now) c.args.names.now.entries
     ∙ sym (is_known-shown (λ e. e.0) (λ k. k.items) (λ e. refl) (name_of c.args.name.now) _ (c.as_slice.ensures.value ∙ c.in_ok-fold.ensures.folded) c.args.names.now.entries))

@@ -1,7 +1,7 @@
 use Rattle.std.proofs.Common.{refl}
 use Rattle.task_parts.specs.Scope.{keys_in}
 use Rattle.syntax_tree.specs.Tree.{file_of}
-use Rattle.task_parts.specs.Walk.{least_of}
+use Rattle.task_parts.specs.Walk.{found_by}
 use Rattle.syntax_tree.specs.Tree as read
 use Rattle.syntax_tree.specs.declared.name.Name.{Name}
 use Rattle.model.specs.Typing as typing
@@ -11,9 +11,9 @@ use Rattle.task_parts.proofs.types.check_types.Goals as goal
 pub loop-name-preserved : goal.loop-name-preserved
 loop-name-preserved c =
     found_at (λ (n : Name). typing.unknown_faults (file_of c.args.file) 14 (keys_in c.args.names.now.entries) (read.name_of n)) c.args.types.now c.loop-name.name-index _
-    c.loop-name-test.true (least_of c.loop-name.walk) _ _ c.in_ok-check_type.ensures c.loop-name.invariant
+    c.loop-name-test.true (found_by c.loop-name.walk) _ _ c.in_ok-check_type.ensures c.loop-name.invariant
 
 pub returns : goal.returns
 returns c =
     found_walked (typing.unknown_faults (file_of c.args.file) 14 (keys_in c.args.names.now.entries)) read.name_of c.args.types.now c.args.types.now c.loop-name.name-index
-    (least_of c.loop-name.walk) (least_of c.args.walk.now) c.loop-name.invariant c.loop-name-test.false refl
+    (found_by c.loop-name.walk) (found_by c.args.walk.now) c.loop-name.invariant c.loop-name-test.false refl

@@ -2,12 +2,12 @@ use Rattle.std.proofs.Common.{◌≡◌, drop}
 use Rattle.std.specs.List.{flat_map}
 use Rattle.task_parts.specs.Scope.{keys_in}
 use Rattle.syntax_tree.specs.Tree.{file_of}
-use Rattle.task_parts.specs.Walk.{found, least_of}
+use Rattle.task_parts.specs.Walk.{found, found_by}
 use Rattle.syntax_tree.specs.Tree as read
 use Rattle.model.specs.Typing as typing
 use Rattle.task_parts.proofs.types.check_types.Given as goal
 
 abbrev pub invariant-loop-name : goal.invariant-loop-name
 invariant-loop-name l =
-    found (least_of l.walk) (flat_map (λ n. typing.unknown_faults (file_of l.file) 14 (keys_in l.names.entries) (read.name_of n)) (drop l.name-index l.types))
-    ≡ found (least_of l.initial.walk) (flat_map (λ n. typing.unknown_faults (file_of l.file) 14 (keys_in l.names.entries) (read.name_of n)) l.types)
+    found (found_by l.walk) (flat_map (λ n. typing.unknown_faults (file_of l.file) 14 (keys_in l.names.entries) (read.name_of n)) (drop l.name-index l.types))
+    ≡ found (found_by l.initial.walk) (flat_map (λ n. typing.unknown_faults (file_of l.file) 14 (keys_in l.names.entries) (read.name_of n)) l.types)

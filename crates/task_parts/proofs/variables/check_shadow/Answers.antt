@@ -3,7 +3,7 @@ use Rattle.std.specs.Option.{option_map}
 use Rattle.task_parts.specs.TypedLists.{declared_of}
 use Rattle.task_parts.specs.Scope.{variable_entry_of}
 use Rattle.task_parts.specs.Refusals.{refusal_of}
-use Rattle.task_parts.specs.Walk.{found, least_of}
+use Rattle.task_parts.specs.Walk.{found, found_by, found_in}
 use Rattle.model.specs.Typing as typing
 use Rattle.task_parts.proofs.Tables as tables
 use Rattle.task_parts.proofs.variables.check_shadow.Goals as goal
@@ -20,5 +20,5 @@ returns c =
     let q = c.as_slice.result.now in
     let known = c.contains_key-known.ensures ∙ tables.lookup-any (tables.key_is q) entries
     ∙ sym (tables.is_known-shown variable_entry_of (λ v. v.name) (λ e. refl) x.name q (c.as_slice.ensures.value ∙ c.in_ok-fold.ensures.folded) entries) in
-    c.refuse_unless.ensures ∙ ap (λ o. found (option_map refusal_of o) (if not c.contains_key-known.result then [] else faults)) c.fold.ensures.least
-    ∙ ap (found (least_of c.args.walk.now)) (unless c.contains_key-known.result faults ∙ ap (λ b. if b then faults else []) known)
+    c.refuse_unless.ensures ∙ ap (λ o. found (found_in o) (if not c.contains_key-known.result then [] else faults)) c.fold.ensures.found
+    ∙ ap (found (found_by c.args.walk.now)) (unless c.contains_key-known.result faults ∙ ap (λ b. if b then faults else []) known)

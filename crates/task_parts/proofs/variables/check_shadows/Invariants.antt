@@ -2,12 +2,12 @@ use Rattle.std.proofs.Common.{◌≡◌, map, drop}
 use Rattle.std.specs.List.{flat_map}
 use Rattle.task_parts.specs.TypedLists.{declared_of}
 use Rattle.task_parts.specs.Scope.{variable_entry_of}
-use Rattle.task_parts.specs.Walk.{found, least_of}
+use Rattle.task_parts.specs.Walk.{found, found_by}
 use Rattle.model.specs.Typing as typing
 use Rattle.task_parts.proofs.Declared.{shadow_faults}
 use Rattle.task_parts.proofs.variables.check_shadows.Given as goal
 
 abbrev pub invariant-loop-one : goal.invariant-loop-one
 invariant-loop-one l =
-    found (least_of l.walk) (flat_map (λ x. shadow_faults (typing.names_of_variables (map variable_entry_of l.variables.entries)) (declared_of x)) (drop l.one-index l.declared))
-    ≡ found (least_of l.initial.walk) (flat_map (λ x. shadow_faults (typing.names_of_variables (map variable_entry_of l.variables.entries)) (declared_of x)) l.declared)
+    found (found_by l.walk) (flat_map (λ x. shadow_faults (typing.names_of_variables (map variable_entry_of l.variables.entries)) (declared_of x)) (drop l.one-index l.declared))
+    ≡ found (found_by l.initial.walk) (flat_map (λ x. shadow_faults (typing.names_of_variables (map variable_entry_of l.variables.entries)) (declared_of x)) l.declared)

@@ -2,7 +2,7 @@ use Rattle.std.proofs.Common.{◌++◌, ◌∙◌, ap, map, length, sym}
 use Rattle.std.proofs.lemmas.List.{length-map}
 use Rattle.task_parts.specs.TypedLists.{declared_of}
 use Rattle.task_parts.specs.Scope.{keys_in, variable_entry_of}
-use Rattle.task_parts.specs.Walk.{found, least_of}
+use Rattle.task_parts.specs.Walk.{found, found_by}
 use Rattle.model.specs.Typing as typing
 use Rattle.task_parts.proofs.Found.{found_after}
 use Rattle.task_parts.proofs.variables.check_variables.Goals as goal
@@ -15,9 +15,9 @@ returns c =
     let twice = typing.refused 16 (typing.repeated (typing.words_of xs)) in
     let shadows = typing.refused 20 (typing.known_among (typing.names_of_variables vs) (typing.words_of xs)) in
     let many = typing.refused 25 (typing.one_too_many (length vs) (typing.words_of xs)) in
-    let before = least_of c.args.walk.now in
+    let before = found_by c.args.walk.now in
     let count = c.len.ensures.len ∙ sym (length-map c.args.variables.now.entries variable_entry_of) in
-    found_after before (least_of c.check_shadows.new.walk) _ ((unknown ++ twice) ++ shadows) many
-    (found_after before (least_of c.check_repeated.new.walk) _ (unknown ++ twice) shadows
-    (found_after before (least_of c.check_all.new.walk) _ unknown twice c.in_ok-check_all.ensures c.in_ok-check_repeated.ensures) c.in_ok-check_shadows.ensures)
-    (c.limit_scope.ensures ∙ ap (λ n. found (least_of c.check_shadows.new.walk) (typing.refused 25 (typing.one_too_many n (typing.words_of xs)))) count)
+    found_after before (found_by c.check_shadows.new.walk) _ ((unknown ++ twice) ++ shadows) many
+    (found_after before (found_by c.check_repeated.new.walk) _ (unknown ++ twice) shadows
+    (found_after before (found_by c.check_all.new.walk) _ unknown twice c.in_ok-check_all.ensures c.in_ok-check_repeated.ensures) c.in_ok-check_shadows.ensures)
+    (c.limit_scope.ensures ∙ ap (λ n. found (found_by c.check_shadows.new.walk) (typing.refused 25 (typing.one_too_many n (typing.words_of xs)))) count)

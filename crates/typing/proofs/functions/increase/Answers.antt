@@ -3,7 +3,7 @@ use Rattle.std.specs.List.{flat_map}
 use Rattle.std.proofs.lemmas.List.Folds.{flat_map-map}
 use Rattle.typing.specs.Task.{file_of}
 use Rattle.task_parts.specs.Scope.{known_over}
-use Rattle.task_parts.specs.Walk.{found, least_of}
+use Rattle.task_parts.specs.Walk.{found, found_by}
 use Rattle.syntax_tree.specs.declared.tree.Increase.{Increase}
 use Rattle.syntax_tree.specs.Tree as read
 use Rattle.model.specs.Trees as tree
@@ -16,7 +16,7 @@ pub returns-clause-finds : goal.returns-clause-finds
 returns-clause-finds c =
     let a = read.action_of c.args.action.now in
     let file = file_of c.args.globals.now.file in let known = known_over c.args.globals.now c.args.variables.now.entries in
-    let before = least_of c.args.walk.now in let middle = least_of c.check_increases.new.walk in
+    let before = found_by c.args.walk.now in let middle = found_by c.check_increases.new.walk in
     let amounts = λ (i : tree.Increase). typing.amount_faults file known i.amount in
     let first : middle ≡ found before (typing.increase_faults file known a) =
     c.check_increases.ensures

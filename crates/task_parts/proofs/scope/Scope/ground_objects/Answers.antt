@@ -2,7 +2,7 @@ use Rattle.std.proofs.Common.{◌∙◌, map, take, ap, arith}
 use Rattle.std.proofs.lemmas.List.{take_all}
 use Rattle.syntax_tree.specs.Tree.{file_of}
 use Rattle.task_parts.specs.Scope.{arguments_at, known_of}
-use Rattle.task_parts.specs.Walk.{least_of}
+use Rattle.task_parts.specs.Walk.{found_by}
 use Rattle.task.specs.TaskParts as parts
 use Rattle.syntax_tree.specs.Tree as read
 use Rattle.model.specs.Trees as tree
@@ -25,7 +25,7 @@ loop-index-preserved c =
             ∙ lists.kept_full number parts.object_of 8 xs i c.loop-index-test.true c.loop-index.objects.items c.loop-index.invariant.objects (omega (arith, w.if-len-lt-MAX_ARGUMENTS.false, c.len.ensures.value))
       ];
       finds = argument_step (file_of c.args.self.now.file) known (arguments_at known c.args.predicate.0) (λ (n : Name). tree.object (read.name_of n)) xs i _ c.loop-index-test.true
-          (least_of c.loop-index.walk) _ _ c.in_ok-object.ensures.finds c.loop-index.invariant.finds;
+          (found_by c.loop-index.walk) _ _ c.in_ok-object.ensures.finds c.loop-index.invariant.finds;
     }
 
 pub returns-clause-value : goal.returns-clause-value
@@ -36,4 +36,4 @@ returns-clause-value c =
 pub returns-clause-finds : goal.returns-clause-finds
 returns-clause-finds c =
     let known = known_of c.args.self.now in
-    argument_end (file_of c.args.self.now.file) known (arguments_at known c.args.predicate.0) (λ (n : Name). tree.object (read.name_of n)) c.args.given.now c.loop-index.index c.loop-index-test.false (least_of c.loop-index.walk) _ c.loop-index.invariant.finds
+    argument_end (file_of c.args.self.now.file) known (arguments_at known c.args.predicate.0) (λ (n : Name). tree.object (read.name_of n)) c.args.given.now c.loop-index.index c.loop-index-test.false (found_by c.loop-index.walk) _ c.loop-index.invariant.finds

@@ -7,7 +7,7 @@ use Rattle.syntax_tree.specs.Tree.{name_of}
 use Rattle.syntax_tree.specs.Tree.{file_of}
 use Rattle.task_parts.specs.Refusals.{refusal_of}
 use Rattle.task.specs.TaskParts.{object_entry_of}
-use Rattle.task_parts.specs.Walk.{found, least_of}
+use Rattle.task_parts.specs.Walk.{found, found_by, found_in}
 use Rattle.task_parts.proofs.Tables.{reported_of_entry, number_in-le, keys_in-named}
 use Rattle.task_parts.proofs.scope.Scope.object.Goals.{After-number-number}
 use Rattle.task_parts.proofs.scope.Scope.object.Goals as goal
@@ -24,7 +24,7 @@ returns-clause-value c = c.number-number.ensures.value ∙ (reported c).0
 pub returns-clause-finds : goal.returns-clause-finds
 returns-clause-finds c =
     let refusals = λ (b : Bool). if b then [] else refused_word (file_of c.args.self.now.file) 17 (name_of c.args.name.now) in
-    c.number-number.ensures.finds ∙ ap (λ o. found (option_map refusal_of o) (refusals (is_some c.get_index_of-place.result))) c.fold.ensures.least ∙ ap (λ b. found (least_of c.args.walk.now) (refusals b)) (reported c).1
+    c.number-number.ensures.finds ∙ ap (λ o. found (found_in o) (refusals (is_some c.get_index_of-place.result))) c.fold.ensures.found ∙ ap (λ b. found (found_by c.args.walk.now) (refusals b)) (reported c).1
 
 pub overflow_cast-result : goal.overflow_cast-result
 overflow_cast-result c =

@@ -7,7 +7,7 @@ use Rattle.task.specs.TaskParts.{predicate_of, union_of}
 use Rattle.task_parts.specs.Scope.{known_of}
 use Rattle.syntax_tree.specs.Tree.{file_of}
 use Rattle.task_parts.specs.Refusals.{refusal_of}
-use Rattle.task_parts.specs.Walk.{found, least_of}
+use Rattle.task_parts.specs.Walk.{found, found_by, found_in}
 use Rattle.task_parts.proofs.Tables.{found_predicate, missing_predicate, other_count, same_count}
 use Rattle.task_parts.proofs.scope.Scope.predicate.Goals.{In-Some}
 use Rattle.task_parts.proofs.scope.Scope.predicate.Goals as goal
@@ -30,8 +30,8 @@ returns-then-len-count c =
     let faults = (there s).1 ∙ ap (reported s) (other_count (length (map union_of c.in-Some.predicate.now.arguments.items)) c.args.count (λ same. c.if-len-count.true (omega (arith, same, c.len.ensures, length-map c.in-Some.predicate.now.arguments.items union_of)))) in
     record {
       value = (there s).0;
-      finds = c.refuse.ensures ∙ ap (λ o. found (option_map refusal_of o) (refused_word (file_of c.args.self.now.file) 18 (name_of c.args.name.now))) c.fold.ensures.least
-          ∙ ap (found (least_of c.args.walk.now)) (sym faults);
+      finds = c.refuse.ensures ∙ ap (λ o. found (found_in o) (refused_word (file_of c.args.self.now.file) 18 (name_of c.args.name.now))) c.fold.ensures.found
+          ∙ ap (found (found_by c.args.walk.now)) (sym faults);
     }
 
 pub returns-else-len-count : goal.returns-else-len-count
@@ -39,7 +39,7 @@ unfolding reported
 returns-else-len-count c =
     let s = (goal.at.returns-else-len-count c).In-Some in
     let faults = (there s).1 ∙ ap (reported s) (same_count (length (map union_of c.in-Some.predicate.now.arguments.items)) c.args.count (omega (arith, c.if-len-count.false, c.len.ensures, length-map c.in-Some.predicate.now.arguments.items union_of))) in
-    record { value = (there s).0; finds = ap (option_map refusal_of) c.fold.ensures.least ∙ ap (found (least_of c.args.walk.now)) (sym faults) }
+    record { value = (there s).0; finds = ap found_in c.fold.ensures.found ∙ ap (found (found_by c.args.walk.now)) (sym faults) }
 
 pub returns-in-None : goal.returns-in-None
 returns-in-None c =
@@ -47,5 +47,5 @@ returns-in-None c =
     let h = missing_predicate predicate_of (λ e. refl) file name _ (c.as_slice.ensures.value ∙ c.in_ok-fold.ensures.folded) c.args.self.now.predicates.now.entries c.args.count c.in-None.ensures.index in
     record {
       value = c.len-in-None.ensures.len ∙ h.0;
-      finds = c.refuse-in-None.ensures ∙ ap (λ o. found (option_map refusal_of o) (refused_word file 17 name)) c.fold.ensures.least ∙ ap (found (least_of c.args.walk.now)) (sym h.1);
+      finds = c.refuse-in-None.ensures ∙ ap (λ o. found (found_in o) (refused_word file 17 name)) c.fold.ensures.found ∙ ap (found (found_by c.args.walk.now)) (sym h.1);
     }
