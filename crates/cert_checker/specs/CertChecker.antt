@@ -2,8 +2,8 @@
 use Rattle.std.specs.Prelude.{◌≡◌, ℕ, ◌+◌, ◌<◌, List, length, slice_get, MatchOption, Option, None, Some, IsSome}
 use Rattle.cert_checker.specs.declared.checker.Accepted.{Accepted}
 use Rattle.cert_checker.specs.declared.checker.Accepted.TheVariants.{Optimal, AtLeast, Unsolvable}
-use Rattle.task_certificates.specs.declared.refusal.Refusal.{Refusal}
-use Rattle.task_certificates.specs.declared.refusal.Refusal.TheVariants as refusal
+use Rattle.cert_checker.specs.declared.refusal.Refusal.{Refusal}
+use Rattle.cert_checker.specs.declared.refusal.Refusal.TheVariants as refusal
 use Rattle.formulas.specs.State.{instance_of}
 use Rattle.cert_checker.specs.Reasons.{reason_of}
 use Rattle.model.specs.Task.{Task, Instance}
@@ -12,10 +12,10 @@ use Rattle.model.specs.Meaning.{State, cost_of, system_of}
 use Rattle.model.specs.NumberedAtoms.{numbered_atoms}
 use Rattle.model.specs.Instances.{successors_of}
 use Rattle.model.specs.Claims.{Claim, bound, none, opened, Line, IsListedWithin}
-use Rattle.potential_functions.specs.PotentialFunctions.{PotentialFunction}
-use Rattle.potential_functions.specs.Fair.{nothing, IsFirstUnfairAt}
-use Rattle.table_functions.specs.TableFunctions.{TableFunction, functions_of, dead_ends_of}
-use Rattle.table_functions.specs.FairTables as tables
+use Rattle.lower_bounds.specs.PotentialFunctions.{PotentialFunction}
+use Rattle.lower_bounds.specs.FairPotentials.{nothing, IsFirstUnfairAt}
+use Rattle.lower_bounds.specs.TableFunctions.{TableFunction, functions_of, dead_ends_of}
+use Rattle.lower_bounds.specs.FairTables as tables
 use Rattle.certificate_definitions.specs.Certificates.{Version, one, two, three, Certificate, potentials_of, several_of, lines_of, AreAlikeFor}
 use Rattle.certificate_definitions.specs.CertificateRefusals.{Reason, limit, unfair, unfair_goal, dead_unfair, dead_unfair_goal, successor_missing, successor_dearer, IsFirst, IsListed, HasState, IsUnfairIn, IsDeadUnfairIn, IsWrong, IsWrongAt}
 

@@ -1,6 +1,6 @@
 -- What the checker knows after some of a certificate's lines.
 use Rattle.std.specs.Prelude.{◌≡◌, ◌≢◌, ℕ, ◌+◌, ◌<◌, ◌≤◌, IsTrue, List, length, All, AllPairs, Contains, slice_get, Option, None, Some}
-use Rattle.task_certificates.specs.declared.refusal.Refusal.{Refusal}
+use Rattle.cert_checker.specs.declared.refusal.Refusal.{Refusal}
 use Rattle.cert_checker.specs.FluentAtoms.{AreFluent}
 use Rattle.cert_checker.specs.CertChecker.{IsFirstRefusal, IsTrueRefusal}
 use Rattle.model.specs.Task.{Task, Instance}
@@ -8,8 +8,8 @@ use Rattle.model.specs.Meaning.{State, meets_goal, system_of}
 use Rattle.model.specs.Limits.{max_numbered_atoms}
 use Rattle.model.specs.Grounding.{exceeded_limit}
 use Rattle.model.specs.Claims.{none, Allows, Mark, opened, cut, dead, Line, IsListedWithin}
-use Rattle.table_functions.specs.TableFunctions.{Row, Table}
-use Rattle.symmetries.specs.Exchanges.{Exchange}
+use Rattle.lower_bounds.specs.TableFunctions.{Row, Table}
+use Rattle.symmetries_definitions.specs.Exchanges.{Exchange}
 use Rattle.certificate_definitions.specs.Certificates.{Certificate, StateLine, keeps_limits, lines_of, is_symmetry_for, AreAlikeFor, value_of, is_dead_end_of, AreFairFor}
 
 -- the refusal is true for any plan and any limit of kept instances

@@ -8,8 +8,8 @@ use Rattle.certificate_definitions.specs.Certificates.{Certificate}
 use Rattle.certificate_definitions.specs.CertificateChecking.{IsAccepted}
 use Rattle.certificate_reader.specs.declared.reader.CertReader.{CertReader}
 use Rattle.certificate_reader.specs.Reader.{source_of}
-use Rattle.task_certificates.specs.declared.refusal.Refusal.{Refusal}
-use Rattle.task_certificates.specs.Reading.{IsLineRefusal, IsRead}
+use Rattle.cert_checker.specs.declared.refusal.Refusal.{Refusal}
+use Rattle.cert_checker.specs.Reading.{IsLineRefusal, IsRead}
 use Rattle.cert_checker.specs.declared.checker.Accepted.{Accepted}
 use Rattle.cert_checker.specs.CertChecker.{Answers, IsFirstRefusal, IsTrueRefusal}
 

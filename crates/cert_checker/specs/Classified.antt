@@ -3,8 +3,8 @@ use Rattle.std.specs.Prelude.{◌≡◌, ℕ, Bool, List, [], length, slice_get,
 use Rattle.packed_state.specs.declared.pooled.PooledStore.{PooledStore}
 use Rattle.packed_state.specs.PooledView.{pooled_width, pooled_states}
 use Rattle.model.specs.Task.{Atom, Task}
-use Rattle.symmetries.specs.Orbits.{packed_representative}
-use Rattle.representatives.specs.Representatives.{task_of, atoms_of, exchanges_of}
+use Rattle.symmetries_definitions.specs.Orbits.{packed_representative}
+use Rattle.symmetries.specs.Representatives.{task_of, atoms_of, exchanges_of}
 use Rattle.certificate.specs.Certificate.{certificate_of, store_in}
 use Rattle.certificate_definitions.specs.Certificates.{Certificate}
 use Rattle.cert_checker.specs.declared.checker.classes.Classes.{Classes}

@@ -2,9 +2,9 @@
 use Rattle.std.specs.Prelude.{nat_le, Bool, ◌&&◌, List, length}
 use Rattle.std.specs.List.{list_all}
 use Rattle.model.specs.Task.{Atom, Task}
-use Rattle.symmetries.specs.Exchanges.{Exchange, objects_in}
-use Rattle.symmetries.specs.Symmetries.{is_symmetry}
-use Rattle.symmetries.specs.Orbits.{keeps_atoms}
+use Rattle.symmetries_definitions.specs.Exchanges.{Exchange, objects_in}
+use Rattle.symmetries_definitions.specs.Symmetries.{is_symmetry}
+use Rattle.symmetries_definitions.specs.Orbits.{keeps_atoms}
 use Rattle.certificate_definitions.specs.Certificates.{Certificate}
 use Rattle.certificate_definitions.specs.CertificateText.{swapped, line_text, longest_line}
 use Rattle.certificate_definitions.specs.CertificateNames.{named_exchange}

@@ -1,10 +1,10 @@
 -- Representatives for a ground task, as the code keeps them.
 use Rattle.std.specs.Prelude.{◌≡◌, Bool, List, length}
 use Rattle.model.specs.Task.{Atom, Task}
-use Rattle.symmetries.specs.Exchanges.{Exchange}
-use Rattle.symmetries.specs.Orbits.{packed_representative}
-use Rattle.representatives.specs.declared.representatives.Representatives.{Representatives}
-use Rattle.representatives.specs.Representatives.{task_of, atoms_of, exchanges_of}
+use Rattle.symmetries_definitions.specs.Exchanges.{Exchange}
+use Rattle.symmetries_definitions.specs.Orbits.{packed_representative}
+use Rattle.symmetries.specs.declared.representatives.Representatives.{Representatives}
+use Rattle.symmetries.specs.Representatives.{task_of, atoms_of, exchanges_of}
 
 -- the representatives by these exchanges, in the ground task that numbers these atoms
 pub record Represents (task : Task) (atoms : List Atom) (exchanges : List Exchange) (r : Representatives) : Type 0 where

@@ -2,8 +2,8 @@
 use Rattle.std.specs.Prelude.{◌≡◌, ℕ, ◌+◌, All, List, [], ◌∷◌, Some, length, slice_get}
 use Rattle.certificate.specs.declared.cert.Cert.{Cert}
 use Rattle.certificate.specs.Certificate.{certificate_of, tables_in}
-use Rattle.potential_functions.specs.PotentialFunctions.{PotentialFunction, weight}
-use Rattle.table_functions.specs.TableFunctions.{SeveralValues}
+use Rattle.lower_bounds.specs.PotentialFunctions.{PotentialFunction, weight}
+use Rattle.lower_bounds.specs.TableFunctions.{SeveralValues}
 use Rattle.table_rows.specs.declared.table.Table.{Table}
 use Rattle.table_rows.specs.Tables.{weight_count_of}
 

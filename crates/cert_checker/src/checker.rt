@@ -8,7 +8,7 @@ ghost use Rattle.model.specs.Meaning.{is_instance};
 ghost use Rattle.certificate_definitions.specs.CertificateChecking.{IsAccepted};
 ghost use Rattle.cert_checker.specs.Weights.{AreCounted};
 ghost use Rattle.certificate_reader.specs.Reader.{source_of};
-ghost use Rattle.task_certificates.specs.Reading.{CountsRefusal, IsFresh};
+ghost use Rattle.cert_checker.specs.Reading.{CountsRefusal, IsFresh};
 ghost use Rattle.certificate.specs.Certificate.{certificate_of};
 ghost use Rattle.model.specs.Limits.{max_numbered_atoms};
 ghost use Rattle.model.specs.Grounding.{exceeded_limit};
@@ -18,8 +18,8 @@ ghost use Rattle.cert_checker.specs.Exchanged.{is_said};
 ghost use Rattle.cert_checker.specs.CheckedLines.{CutsAreAllowed};
 ghost use Rattle.cert_checker.specs.CertChecker.{Answers, IsFirstRefusal, IsNoFault, IsShown, IsTrueRefusal};
 ghost use Rattle.cert_checker.specs.Checking.{Accepts, Refuses};
-ghost use Rattle.cert_checker.specs.SaidRead.{IsCheckLine};
-ghost use Rattle.progress_lines.specs.Said.{AreSaid, stream};
+ghost use Rattle.cert_checker.specs.CheckProgress.{IsCheckLine};
+ghost use Rattle.devices.specs.Progress.{AreSaid, stream};
 
 mod answer;
 mod classes;
@@ -29,14 +29,14 @@ mod symmetry;
 mod values;
 mod weights;
 
-use crate::said::say_whole;
+use crate::cert_reader::read_cert;
+use crate::check_progress::say_whole;
+use crate::refusal::Refusal;
 use certificate::{Cert, CertReader};
-use devices::{Sink, Source};
+use devices::{Sink, Source, Unheard};
 use formulas::Plan;
-use progress_lines::Unheard;
 use std::alloc::Global;
 use task::Task;
-use task_certificates::{Refusal, read_cert};
 
 /// What an accepted certificate shows.
 #[derive(Clone, Copy, Debug, PartialEq, Eq)]

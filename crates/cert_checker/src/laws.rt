@@ -8,7 +8,7 @@ ghost use Rattle.model.specs.WellTyped.{is_task};
 ghost use Rattle.certificate_definitions.specs.CertificateExamples.{AreJudged};
 ghost use Rattle.certificate_definitions.specs.ExchangeExamples.{AreExchangesJudged};
 ghost use Rattle.certificate_definitions.specs.Certificates.{Certificate, is_dead_end_of, lines_of, value_of, IsClosedFor, keeps_limits};
-ghost use Rattle.symmetries.specs.Orbits.{AreOfOneOrbit};
+ghost use Rattle.symmetries_definitions.specs.Orbits.{AreOfOneOrbit};
 ghost use Rattle.certificate_definitions.specs.CertificateRefusals.{IsPlanWithin};
 ghost use Rattle.certificate_definitions.specs.CertificateNames.{IsTextOf, are_atoms_of, are_exchanges_of, certificate_text, has_atom_names};
 ghost use Rattle.certificate_definitions.specs.CertificateChecking.{IsAccepted};

@@ -9,10 +9,10 @@ use Rattle.model.specs.NumberedAtoms.{numbered_atoms}
 use Rattle.model.specs.Grounding.{ground_system}
 use Rattle.search.specs.Outcome.{AreClassesOf}
 use Rattle.certificate_definitions.specs.Certificates.{three, are_exchanges}
-use Rattle.symmetries.specs.Exchanges.{Exchange}
-use Rattle.symmetries.specs.Symmetries.{is_symmetry}
-use Rattle.symmetries.specs.Orbits.{keeps_atoms, packed_representative}
-use Rattle.representatives.specs.Representatives.{ground_of, task_of, atoms_of, exchanges_of}
+use Rattle.symmetries_definitions.specs.Exchanges.{Exchange}
+use Rattle.symmetries_definitions.specs.Symmetries.{is_symmetry}
+use Rattle.symmetries_definitions.specs.Orbits.{keeps_atoms, packed_representative}
+use Rattle.symmetries.specs.Representatives.{ground_of, task_of, atoms_of, exchanges_of}
 use Rattle.ground_listings.specs.Exchanges.{can_be_named}
 use Rattle.ground_listings.specs.declared.search_space.SearchSpace.{SearchSpace}
 use Rattle.ground_listings.specs.declared.search_space.SearchSpace.TheVariants as space

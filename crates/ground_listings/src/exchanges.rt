@@ -3,19 +3,19 @@ ghost use Rattle.std.specs.Prelude.{◌≡◌, ◌<◌, ◌&&◌, IfOk, IsTrue, 
 ghost use Rattle.std.specs.List.{list_all};
 ghost use Rattle.grounding.specs.Ground.{task_in};
 ghost use Rattle.task.specs.Task.{task_of};
-ghost use Rattle.task_symmetries.specs.Pairs.{pairs_in};
-ghost use Rattle.symmetries.specs.Exchanges.{objects_in};
-ghost use Rattle.symmetries.specs.Symmetries.{is_symmetry};
+ghost use Rattle.symmetries.specs.ObjectPairs.{pairs_in};
+ghost use Rattle.symmetries_definitions.specs.Exchanges.{objects_in};
+ghost use Rattle.symmetries_definitions.specs.Symmetries.{is_symmetry};
 ghost use Rattle.certificate.specs.CertificateParts.{exchange_in};
-ghost use Rattle.task_symmetries.specs.Exchange.{exchange_of};
+ghost use Rattle.symmetries.specs.Exchange.{exchange_of};
 ghost use Rattle.ground_listings.specs.Exchanges.{AreExchangesFor, most_pairs};
 
-use exchanges_drafted::{MAX_EXCHANGES, drafted_exchanges};
 use faults::NoMemory;
 use grounding::Ground;
 use std::alloc::Global;
+use symmetries::{Exchange, exchanged_numbers};
+use symmetries_drafted::{MAX_EXCHANGES, drafted_exchanges};
 use task::{ObjectId, Task};
-use task_symmetries::{Exchange, exchanged_numbers};
 
 /// Up to this number of atoms a task is searched without exchanges: sixteen states cost less than finding one.
 const FEW_ATOMS: usize = 4;

@@ -6,9 +6,9 @@ ghost use Rattle.ground_listings.specs.Orbits.{IsLinked};
 use crate::orbits::Orbits;
 use faults::NoMemory;
 use packed_state::Packed;
-use representatives::Representatives;
 use search::{Place, StateListing};
 use std::alloc::Global;
+use symmetries::Representatives;
 
 /// The states of a ground task that a search lists. States with the same representative are of one class.
 ///
@@ -21,7 +21,7 @@ pub struct OrbitStore<'l, 't> {
 
 impl<'l, 't> OrbitStore<'l, 't> {
     ghost use Rattle.std.specs.Prelude.{length};
-    ghost use Rattle.representatives.specs.Representatives.{atoms_of};
+    ghost use Rattle.symmetries.specs.Representatives.{atoms_of};
     ghost use Rattle.ground_listings.specs.Orbits.{key_by};
     ghost use Rattle.ground_listings.specs.OrbitStore.{orbit_width, orbit_states, orbit_class};
 

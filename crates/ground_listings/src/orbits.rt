@@ -3,16 +3,16 @@ ghost use Rattle.std.specs.Prelude.{◌≡◌, ℕ, ◌<◌, ◌≤◌, [], ◌�
 ghost use Rattle.packed_state.specs.Packed.{bits_of};
 ghost use Rattle.packed_state.specs.PooledView.{pooled_states};
 ghost use Rattle.search.specs.Listing.{IsAlikeAt, IsPlacedBy};
-ghost use Rattle.representatives.specs.Representatives.{atoms_of};
+ghost use Rattle.symmetries.specs.Representatives.{atoms_of};
 ghost use Rattle.ground_listings.specs.Orbits.{key_by, states_in, is_current_of, IsLinked, IsPlacedIn};
 
 use crate::recent::RecentStates;
 use crate::rows::States;
 use faults::NoMemory;
 use packed_state::{Packed, PooledStore, StateStore};
-use representatives::Representatives;
 use search::Place;
 use std::alloc::Global;
+use symmetries::Representatives;
 
 /// States in the order in which they were listed, and the key of each class: the representative of its states. Each class has one
 /// current state.

@@ -12,9 +12,9 @@ use crate::starts::images_of_start;
 use faults::NoMemory;
 use grounding::Ground;
 use packed_state::PooledStore;
-use representatives::Representatives;
 use search::OwnClasses;
 use std::alloc::Global;
+use symmetries::Representatives;
 use task::ObjectId;
 
 /// A ground task, and the classes of its states. The listed states are states of the task in both cases.

@@ -1,9 +1,8 @@
 //! Images of the initial state by exchanges of objects.
 use faults::NoMemory;
 use grounding::Ground;
-use representatives::Representatives;
 use std::alloc::Global;
-use task_symmetries::{Exchange, exchanged_numbers};
+use symmetries::{Exchange, Representatives, exchanged_numbers};
 
 /// The number of images.
 const MAX_IMAGES: usize = 64;

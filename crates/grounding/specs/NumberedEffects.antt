@@ -8,7 +8,7 @@ use Rattle.model.specs.Meaning.{State, holds}
 use Rattle.model.specs.StaticallyFalse.{kept_instances}
 use Rattle.model.specs.NumberedLiterals.{NumberedChange}
 use Rattle.model.specs.Grounding.{state_of_bits}
-pub use Rattle.grounding_kept.specs.NumberedEffects.{Guard, NumberedEffect, is_adding, guard_of, numbered_effect, counted_effect, counted_effects, effects_of_instance}
+pub use Rattle.grounding_instances.specs.NumberedEffects.{Guard, NumberedEffect, is_adding, guard_of, numbered_effect, counted_effect, counted_effects, effects_of_instance}
 
 abbrev pub change_of_effect : NumberedEffect → NumberedChange
 change_of_effect e = record { atom = e.atom; value = e.value; is_unconditional = is_none e.guard }

@@ -2,15 +2,15 @@
 ghost use Rattle.std.specs.Prelude.{◌≡◌, Some, map, IfOk};
 ghost use Rattle.task.specs.TaskParts.{object_of, formula_of};
 ghost use Rattle.formulas.specs.State.{FitsFormula};
-ghost use Rattle.grounding_kept.specs.Numbering.{task_in, atoms_in};
-ghost use Rattle.grounding_kept.specs.Numbers.{numbered_of};
-ghost use Rattle.grounding_kept.specs.KeptChanges.{effect_of};
+ghost use Rattle.grounding_instances.specs.Numbering.{task_in, atoms_in};
+ghost use Rattle.grounding_instances.specs.Numbers.{numbered_of};
+ghost use Rattle.grounding_instances.specs.KeptChanges.{effect_of};
 ghost use Rattle.grounding.specs.Changes.{counting_of, conditional_of, effect_in, guard_in, GuardFits, AllGuardsFit, IsCompiled, AreCompiled};
 
 use crate::condition::Condition;
 use faults::NoMemory;
 use formulas::{Binding, copied};
-use grounding_kept::{NumberedChange, NumberedLiteral, Numbering};
+use grounding_instances::{NumberedChange, NumberedLiteral, Numbering};
 use std::alloc::Global;
 use task::Formula;
 

@@ -1,7 +1,7 @@
 //! Ground tasks.
 ghost use Rattle.std.specs.Prelude.{◌≡◌, ◌<◌, ◌^◌, [], length, map};
 ghost use Rattle.std.proofs.Props.{props};
-ghost use Rattle.grounding_kept.specs.Numbering as numbering_views;
+ghost use Rattle.grounding_instances.specs.Numbering as numbering_views;
 ghost use Rattle.grounding.specs.Conditions.{IsConditionOf};
 ghost use Rattle.grounding.specs.InPlace.{AreInPlace};
 ghost use Rattle.grounding.specs.FormulaSet.{formula-set};
@@ -17,7 +17,7 @@ use crate::often::Often;
 use crate::parts::{changes_of_all, costs, goal_condition, preconditions};
 use faults::NoMemory;
 use formulas::Instance;
-use grounding_kept::{GroundFault, KeptChanges, NumberedLiteral, Numbering};
+use grounding_instances::{GroundFault, KeptChanges, NumberedLiteral, Numbering};
 use indexmap::IndexSet;
 use std::alloc::Global;
 use task::{Atom, Task};
@@ -54,8 +54,8 @@ impl<'t> Ground<'t> {
     ghost use Rattle.model.specs.NumberedLiterals.{literals_of_number, literals_of_goal, counting_of_number};
     ghost use Rattle.model.specs.ConditionalChanges.{conditional_of_number, number_wants_unnumbered};
     ghost use Rattle.model.specs.Grounding.{ground_system};
-    ghost use Rattle.grounding_kept.specs.Numbers.{numbered_of};
-    ghost use Rattle.grounding_kept.specs.KeptChanges.{AreKept};
+    ghost use Rattle.grounding_instances.specs.Numbers.{numbered_of};
+    ghost use Rattle.grounding_instances.specs.KeptChanges.{AreKept};
     ghost use Rattle.grounding.specs.Changes.{counting_of, conditional_of};
     ghost use Rattle.grounding.specs.Ground.{numbering_in, task_in, atoms_in, IsGroundOf, ReportsLimit};
 

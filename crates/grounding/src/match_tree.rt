@@ -14,7 +14,7 @@ use crate::often::Often;
 use crate::tree_builder::TreeBuilder;
 use crate::watch_lists::WatchLists;
 use faults::NoMemory;
-use grounding_kept::NumberedLiteral;
+use grounding_instances::NumberedLiteral;
 use std::alloc::Global;
 
 /// A node of a tree. A tree is a list of its nodes in preorder.

@@ -3,14 +3,14 @@
 //! A step draws an atom that is true, and then one of the instances that watch it. In a state that has few applicable instances
 //! this finds one much sooner than drawing from all of them.
 ghost use Rattle.std.specs.Prelude.{◌<◌, length};
-ghost use Rattle.grounding_kept.specs.Numbering.{atoms_in};
+ghost use Rattle.grounding_instances.specs.Numbering.{atoms_in};
 ghost use Rattle.grounding.specs.MatchNodes.{AreWithin};
 
 use crate::changes::CountingChange;
 use crate::condition::Condition;
 use crate::watch_lists::WatchLists;
 use faults::NoMemory;
-use grounding_kept::{NumberedLiteral, Numbering};
+use grounding_instances::{NumberedLiteral, Numbering};
 use packed_state::Packed;
 use std::alloc::Global;
 

@@ -2,8 +2,8 @@
 ghost use Rattle.std.specs.Prelude.{◌≡◌, [], map, IfOk, IsTrue};
 ghost use Rattle.formulas.specs.State.{instance_of};
 ghost use Rattle.model.specs.Meaning.{is_instance, cost_of};
-ghost use Rattle.grounding_kept.specs.Numbering.{task_in, atoms_in, instances_in};
-ghost use Rattle.grounding_kept.specs.KeptChanges.{AreKept};
+ghost use Rattle.grounding_instances.specs.Numbering.{task_in, atoms_in, instances_in};
+ghost use Rattle.grounding_instances.specs.KeptChanges.{AreKept};
 ghost use Rattle.grounding.specs.Conditions.{IsConditionOf};
 ghost use Rattle.grounding.specs.InPlace.{AreInPlace};
 ghost use Rattle.grounding.specs.Changes.{AreChangesOf};
@@ -13,7 +13,7 @@ use crate::changes::{CountingChange, counting_changes};
 use crate::condition::Condition;
 use faults::NoMemory;
 use formulas::{Binding, Instance, cost};
-use grounding_kept::{KeptChanges, Numbering};
+use grounding_instances::{KeptChanges, Numbering};
 use std::alloc::Global;
 
 /// The compiled preconditions of all instances.

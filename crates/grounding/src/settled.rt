@@ -4,12 +4,12 @@ ghost use Rattle.std.specs.Prelude.{Some, true};
 ghost use Rattle.std.specs.List.{list_all};
 ghost use Rattle.task.specs.TaskParts.{object_of, formula_of};
 ghost use Rattle.formulas.specs.State.{FitsFormula, FitsFormulas};
-ghost use Rattle.grounding_kept.specs.Numbering.{task_in};
+ghost use Rattle.grounding_instances.specs.Numbering.{task_in};
 ghost use Rattle.grounding.specs.Settled as settled;
 
 use crate::outright::{is_outright, is_simple};
 use formulas::{Binding, Valuation, holds};
-use grounding_kept::Numbering;
+use grounding_instances::Numbering;
 use task::{Atom, Formula};
 
 /// The initial state as a valuation.

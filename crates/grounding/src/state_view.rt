@@ -2,10 +2,10 @@
 ghost use Rattle.std.specs.Prelude.{◌≡◌, length};
 ghost use Rattle.std.proofs.Props.{props};
 ghost use Rattle.packed_state.specs.Packed.{bits_of};
-ghost use Rattle.grounding_kept.specs.Numbering.{atoms_in};
+ghost use Rattle.grounding_instances.specs.Numbering.{atoms_in};
 
 use formulas::Valuation;
-use grounding_kept::Numbering;
+use grounding_instances::Numbering;
 use packed_state::Packed;
 use task::Atom;
 
@@ -18,7 +18,7 @@ pub(crate) struct StateView<'a, 't> {
 }
 
 impl<'a, 't> StateView<'a, 't> {
-    ghost use Rattle.grounding_kept.specs.Numbering.{task_in};
+    ghost use Rattle.grounding_instances.specs.Numbering.{task_in};
     ghost use Rattle.model.specs.Grounding.{state_of_bits};
     ghost use Rattle.grounding.specs.StateView.{facts_of};
 

@@ -5,7 +5,7 @@ ghost use Rattle.packed_state.specs.Packed.{bits_of};
 ghost use Rattle.model.specs.StaticallyFalse.{kept_instances};
 ghost use Rattle.model.specs.NumberedLiterals as model_literals;
 ghost use Rattle.model.specs.Grounding.{state_of_bits, ground_step, ground_system, applicable_numbers};
-ghost use Rattle.grounding_kept.specs.Numbers.{numbered_of};
+ghost use Rattle.grounding_instances.specs.Numbers.{numbered_of};
 ghost use Rattle.grounding.specs.ChangedBits.{with_bits};
 ghost use Rattle.grounding.specs.MatchNodes.{met, left_out, found, IsWithin, IsMet};
 ghost use Rattle.grounding.specs.NumberedEffects.{is_met, numbers_made, numbers_set};
@@ -18,7 +18,7 @@ use crate::ground::Ground;
 use crate::match_tree::Node;
 use faults::NoMemory;
 use formulas::Binding;
-use grounding_kept::NumberedLiteral;
+use grounding_instances::NumberedLiteral;
 use packed_state::Packed;
 use std::alloc::Global;
 

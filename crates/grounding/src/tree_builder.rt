@@ -1,7 +1,7 @@
 //! Builds match trees.
 ghost use Rattle.std.specs.Prelude.{◌≡◌, ◌<◌, ◌≤◌, ◌^◌, ◌∷◌, true, false, [], All, IfOk, IfSome, OnOk, length, map, take, get_or};
 ghost use Rattle.std.proofs.Props.{props};
-ghost use Rattle.grounding_kept.specs.Numbers.{numbered_of};
+ghost use Rattle.grounding_instances.specs.Numbers.{numbered_of};
 ghost use Rattle.std.specs.List.Sorted.{IsPermutation};
 ghost use Rattle.grounding.specs.MatchNodes.{above, AreWithin, IsTree, IsTreeOf, IsGroup, IsRun, IsTested, AgreesWith, Implies, Wants};
 
@@ -9,7 +9,7 @@ use crate::condition::Condition;
 use crate::match_tree::Node;
 use crate::often::Often;
 use faults::NoMemory;
-use grounding_kept::NumberedLiteral;
+use grounding_instances::NumberedLiteral;
 use std::alloc::Global;
 
 /// Tests of shared literals on a path, at most.

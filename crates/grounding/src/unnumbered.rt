@@ -4,11 +4,11 @@ ghost use Rattle.std.specs.List.{list_all};
 ghost use Rattle.task.specs.TaskParts.{atom_of};
 ghost use Rattle.formulas.specs.Literals.{literal_of};
 ghost use Rattle.model.specs.NumberedAtoms as numbered;
-ghost use Rattle.grounding_kept.specs.Numbering.{task_in, atoms_in};
+ghost use Rattle.grounding_instances.specs.Numbering.{task_in, atoms_in};
 ghost use Rattle.grounding.specs.Unnumbered as unnumbered;
 
 use formulas::Literal;
-use grounding_kept::Numbering;
+use grounding_instances::Numbering;
 use task::Atom;
 
 /// Whether each literal is of a numbered atom or true in all packed states.

@@ -5,14 +5,14 @@
 //! true, and of equally rare ones the one that the fewest instances need. An instance that is applicable in no packed state is in
 //! no list.
 ghost use Rattle.std.specs.Prelude.{◌≡◌, ◌<◌, ℕ, [], Some, None, All, IfOk, IfSome, OnOk, length, map, slice_get};
-ghost use Rattle.grounding_kept.specs.Numbers.{numbered_of};
+ghost use Rattle.grounding_instances.specs.Numbers.{numbered_of};
 ghost use Rattle.grounding.specs.Conditions.{literals_in};
 ghost use Rattle.grounding.specs.Watched.{IsWatchable, IsEither};
 
 use crate::condition::Condition;
 use crate::often::Often;
 use faults::NoMemory;
-use grounding_kept::NumberedLiteral;
+use grounding_instances::NumberedLiteral;
 use std::alloc::Global;
 
 /// The numbers of the instances that may be applicable, each in one list.

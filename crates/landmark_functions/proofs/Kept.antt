@@ -7,9 +7,9 @@ use Rattle.std.specs.Option.{option_map}
 use Rattle.std.proofs.lemmas.Bool.{and_parts, and_from}
 use Rattle.std.proofs.lemmas.List.Elements.{All-cons, All-nil}
 use Rattle.model.proofs.ListLemmas.{Contains-got}
-use Rattle.table_functions.specs.TableFunctions.{Table, is_among}
-use Rattle.table_functions.specs.Laws.{are_over}
-use Rattle.table_functions.proofs.Lists.{all-at}
+use Rattle.lower_bounds.specs.TableFunctions.{Table, is_among}
+use Rattle.lower_bounds.specs.TableLaws.{are_over}
+use Rattle.lower_bounds.proofs.TableLists.{all-at}
 use Rattle.landmark_functions.specs.LandmarkFunctions.{Zone, Landmark}
 use Rattle.landmark_functions.specs.LandmarkLines.{Share, landmark_of, functions_of, rise, is_zone, is_value, literal_count, share_count, most_zones, most_values, most_entries, AreLinesJudged}
 use Rattle.landmark_functions.specs.Laws.{is_zone_over, IsOver, KeptOnesAreOver}

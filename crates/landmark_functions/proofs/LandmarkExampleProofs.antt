@@ -12,13 +12,13 @@ use Rattle.model.specs.NumberedLiterals.{literals_of_instance}
 use Rattle.model.specs.ConditionalChanges.{conditional_change, conditional_of_instance}
 use Rattle.model.specs.Examples.{instance}
 use Rattle.model.proofs.GroundingComputes.{counting, counting-is, kept-is}
-use Rattle.potential_functions.specs.Fair.{nothing}
-use Rattle.potential_functions.specs.FairExamples.{hop_task, hop_atoms, when_task, when_atoms, token_task, token_atoms}
-use Rattle.potential_functions.proofs.FairExampleProofs.{hop, leap, hops_kept, the_one, fore, back, moves_kept}
-use Rattle.table_functions.specs.TableFunctions.{Table}
-use Rattle.table_functions.specs.FairTables.{is_asked, is_closed}
-use Rattle.table_functions.specs.TableExamples.{never_at_a, never_at_b, x, y}
-use Rattle.table_functions.proofs.TableExampleProofs.{y-unnumbered}
+use Rattle.lower_bounds.specs.FairPotentials.{nothing}
+use Rattle.lower_bounds.specs.PotentialExamples.{hop_task, hop_atoms, when_task, when_atoms, token_task, token_atoms}
+use Rattle.lower_bounds.proofs.PotentialExampleProofs.{hop, leap, hops_kept, the_one, fore, back, moves_kept}
+use Rattle.lower_bounds.specs.TableFunctions.{Table}
+use Rattle.lower_bounds.specs.FairTables.{is_asked, is_closed}
+use Rattle.lower_bounds.specs.TableExamples.{never_at_a, never_at_b, x, y}
+use Rattle.lower_bounds.proofs.TableExampleProofs.{y-unnumbered}
 use Rattle.landmark_functions.specs.LandmarkFunctions.{Zone, Landmark, LandmarkFunction, value}
 use Rattle.landmark_functions.specs.FairLandmarks.{may_break, instance_may_break, cut_of, charge, charges, IsFairAt, AreFairAt, AreOfGoal, IsFair, IsDeadFair, AreClosed}
 use Rattle.landmark_functions.specs.LandmarkExamples.{AreZonesJudged, AreTasksJudged, zone, weighing, alone, beside, not_at_c, at_neither, by_hops, at_once, never_without_tables, fire_task, fire_atoms, burning, nowhere, not_here}

@@ -14,9 +14,9 @@ use Rattle.model.specs.Grounding.{bits_of_state}
 use Rattle.model.proofs.ListLemmas.{Contains-here, Contains-there, Contains-none, Contains-cases, Contains-filter}
 use Rattle.model.proofs.StaticallyFalseLemmas.{Contains-kept}
 use Rattle.model.proofs.GroundTaskLemmas.{step-HasInitialStatics}
-use Rattle.potential_functions.specs.Fair.{nothing}
-use Rattle.table_functions.specs.TableFunctions.{has_numbered_fluents, in_state}
-use Rattle.table_functions.proofs.LowerBound.{state-bound, are_lower_bounds, are_dead_ends}
+use Rattle.lower_bounds.specs.FairPotentials.{nothing}
+use Rattle.lower_bounds.specs.TableFunctions.{has_numbered_fluents, in_state}
+use Rattle.lower_bounds.proofs.TableLowerBound.{state-bound, are_lower_bounds, are_dead_ends}
 use Rattle.landmark_functions.specs.LandmarkFunctions.{Zone, has_any, is_whole, gives, LandmarkFunction, value}
 use Rattle.landmark_functions.specs.FairLandmarks.{instance_may_break, AreFairAt}
 use Rattle.landmark_functions.specs.Laws.{is_zone_over, ZonesAreLandmarks, FairOnesAreLowerBounds, DeadFairOnesReportDeadEnds, FairTablesAreClosed}

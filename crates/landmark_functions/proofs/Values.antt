@@ -12,17 +12,17 @@ use Rattle.model.specs.NumberedLiterals.{literals_of_instance, literals_of_goal,
 use Rattle.model.specs.ConditionalChanges.{changes_in, conditional_of_instance}
 use Rattle.model.specs.Grounding.{bits_of_state}
 use Rattle.model.proofs.StaticallyFalseLemmas.{Contains-kept}
-use Rattle.potential_functions.specs.Fair.{says, may_become}
-use Rattle.potential_functions.specs.Laws.{AreNumberable}
-use Rattle.potential_functions.proofs.Falls.{bit}
-use Rattle.potential_functions.proofs.Repacked.{repacked, repacked-bit}
-use Rattle.table_functions.specs.TableFunctions.{is_among, has_rows}
-use Rattle.table_functions.specs.FairTables.{is_asked, is_closed}
-use Rattle.table_functions.specs.Laws.{IsOfAtoms}
-use Rattle.table_functions.proofs.Lists.{all-at, all-among}
-use Rattle.table_functions.proofs.Falls.{has-next}
-use Rattle.table_functions.proofs.Steps.{all_changes-are, formula-within, pair-bits, steps-within}
-use Rattle.table_functions.proofs.FairValues.{steps-in, asked, repacked-rows}
+use Rattle.lower_bounds.specs.FairPotentials.{says, may_become}
+use Rattle.lower_bounds.specs.PotentialLaws.{AreNumberable}
+use Rattle.lower_bounds.proofs.PotentialFalls.{bit}
+use Rattle.lower_bounds.proofs.Repacked.{repacked, repacked-bit}
+use Rattle.lower_bounds.specs.TableFunctions.{is_among, has_rows}
+use Rattle.lower_bounds.specs.FairTables.{is_asked, is_closed}
+use Rattle.lower_bounds.specs.TableLaws.{IsOfAtoms}
+use Rattle.lower_bounds.proofs.TableLists.{all-at, all-among}
+use Rattle.lower_bounds.proofs.TableFalls.{has-next}
+use Rattle.lower_bounds.proofs.TableSteps.{all_changes-are, formula-within, pair-bits, steps-within}
+use Rattle.lower_bounds.proofs.FairValues.{steps-in, asked, repacked-rows}
 use Rattle.landmark_functions.specs.LandmarkFunctions.{has_any, is_whole, Landmark, gives, LandmarkFunction, value}
 use Rattle.landmark_functions.specs.FairLandmarks.{IsFairAt, AreFairAt, AreClosed}
 use Rattle.landmark_functions.specs.Laws.{is_zone_over, IsOver, LandmarksAreFairValues}

@@ -10,14 +10,14 @@ use Rattle.std.proofs.lemmas.List.Sums.{sum_by-cons}
 use Rattle.model.specs.NumberedLiterals.{NumberedLiteral, NumberedChange}
 use Rattle.model.specs.ConditionalChanges.{ConditionalChange, changes_in}
 use Rattle.model.proofs.ListLemmas.{Contains-here, Contains-there}
-use Rattle.potential_functions.specs.Fair.{makes, may_become}
-use Rattle.potential_functions.proofs.Falls.{bit}
-use Rattle.potential_functions.proofs.Passing.{any-weaker}
-use Rattle.table_functions.specs.TableFunctions.{is_among, projection}
-use Rattle.table_functions.specs.FairTables.{agrees, is_open, open_changes}
-use Rattle.table_functions.proofs.Lists.{all-at, none-passes, all-among, among-here, among-there}
-use Rattle.table_functions.proofs.Rows.{HoldWithin, projection-bit}
-use Rattle.table_functions.proofs.Falls.{IsStepWithin}
+use Rattle.lower_bounds.specs.FairPotentials.{makes, may_become}
+use Rattle.lower_bounds.proofs.PotentialFalls.{bit}
+use Rattle.lower_bounds.proofs.Passing.{any-weaker}
+use Rattle.lower_bounds.specs.TableFunctions.{is_among, projection}
+use Rattle.lower_bounds.specs.FairTables.{agrees, is_open, open_changes}
+use Rattle.lower_bounds.proofs.TableLists.{all-at, none-passes, all-among, among-here, among-there}
+use Rattle.lower_bounds.proofs.TableRows.{HoldWithin, projection-bit}
+use Rattle.lower_bounds.proofs.TableFalls.{IsStepWithin}
 use Rattle.landmark_functions.specs.LandmarkFunctions.{Zone, is_in, has_any, is_whole, Landmark, gives}
 use Rattle.landmark_functions.specs.FairLandmarks.{makes_one, may_take_effect, may_break, charge}
 

@@ -8,9 +8,9 @@ use Rattle.model.specs.Meaning.{cost_of}
 use Rattle.model.specs.StaticallyFalse.{kept_instances}
 use Rattle.model.specs.NumberedLiterals.{NumberedLiteral, NumberedChange, literals_of_instance, literals_of_goal}
 use Rattle.model.specs.ConditionalChanges.{ConditionalChange, changes_in, conditional_of_instance}
-use Rattle.potential_functions.specs.Fair.{makes, nothing}
-use Rattle.table_functions.specs.TableFunctions.{Table}
-use Rattle.table_functions.specs.FairTables.{is_asked, is_closed}
+use Rattle.lower_bounds.specs.FairPotentials.{makes, nothing}
+use Rattle.lower_bounds.specs.TableFunctions.{Table}
+use Rattle.lower_bounds.specs.FairTables.{is_asked, is_closed}
 use Rattle.landmark_functions.specs.LandmarkFunctions.{Zone, is_in, has_any, Landmark, LandmarkFunction}
 
 -- ---- instances that may break a zone

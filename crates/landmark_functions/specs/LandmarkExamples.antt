@@ -4,10 +4,10 @@ use Rattle.std.specs.Prelude.{◌≡◌, ℕ, Bool, true, false, List, [], ◌�
 use Rattle.std.specs.FinSet.{from_list}
 use Rattle.model.specs.Task.{Atom, atom, not, by_number, Task}
 use Rattle.model.specs.Examples.{ground, lifted, instance, root, fact, deletes, all}
-use Rattle.table_functions.specs.FairTables.{is_instance_shut_out}
-use Rattle.potential_functions.specs.FairExamples.{hop_task, hop_atoms, when_task, when_atoms, token_task, token_atoms}
-use Rattle.table_functions.specs.TableFunctions.{Table}
-use Rattle.table_functions.specs.TableExamples.{is_true, is_false, becomes, becomes_when, becomes_never, never_at_a, never_at_b, at_a, at_b, x, y}
+use Rattle.lower_bounds.specs.FairTables.{is_instance_shut_out}
+use Rattle.lower_bounds.specs.PotentialExamples.{hop_task, hop_atoms, when_task, when_atoms, token_task, token_atoms}
+use Rattle.lower_bounds.specs.TableFunctions.{Table}
+use Rattle.lower_bounds.specs.TableExamples.{is_true, is_false, becomes, becomes_when, becomes_never, never_at_a, never_at_b, at_a, at_b, x, y}
 use Rattle.landmark_functions.specs.LandmarkFunctions.{Zone, is_whole, Landmark, LandmarkFunction, value, is_dead_by, value_of_state}
 use Rattle.landmark_functions.specs.FairLandmarks.{may_break, instance_may_break, cut_of, charges, AreOfGoal, IsFair, IsDeadFair, AreClosed}
 

@@ -8,7 +8,7 @@ use Rattle.std.specs.List.{list_all, list_any}
 use Rattle.model.specs.Task.{Atom, Task}
 use Rattle.model.specs.Meaning.{State}
 use Rattle.model.specs.NumberedLiterals.{NumberedLiteral}
-use Rattle.table_functions.specs.TableFunctions.{Table, is_among, has_rows, in_state}
+use Rattle.lower_bounds.specs.TableFunctions.{Table, is_among, has_rows, in_state}
 
 -- ---- zones
 

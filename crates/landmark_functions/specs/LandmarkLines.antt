@@ -4,7 +4,7 @@ use Rattle.std.specs.Prelude.{◌≡◌, ℕ, ◌+◌, nat_le, nat_lt, Bool, tru
 use Rattle.std.specs.Fmt.{decimal}
 use Rattle.std.specs.List.{list_all, flat_map, filter_map}
 use Rattle.std.specs.Option.{option_map}
-use Rattle.table_functions.specs.TableFunctions.{Table, is_among}
+use Rattle.lower_bounds.specs.TableFunctions.{Table, is_among}
 use Rattle.landmark_functions.specs.LandmarkFunctions.{Zone, Landmark, LandmarkFunction}
 
 -- ---- values over numbered zones

@@ -8,10 +8,10 @@ use Rattle.model.specs.Meaning.{State, meets_goal, system_of}
 use Rattle.model.specs.Fluents.{HasInitialStatics}
 use Rattle.model.specs.Grounding.{bits_of_state}
 use Rattle.model.specs.NumberedLiterals.{literals_of_goal}
-use Rattle.potential_functions.specs.Laws.{AreNumberable}
-use Rattle.table_functions.specs.TableFunctions.{Table, TableFunction, has_numbered_fluents}
-use Rattle.table_functions.specs.FairTables as fair_tables
-use Rattle.table_functions.specs.Laws.{AreAllNumbered, are_over, IsFairValueAt, AreLowerBounds, AreDeadEnds}
+use Rattle.lower_bounds.specs.PotentialLaws.{AreNumberable}
+use Rattle.lower_bounds.specs.TableFunctions.{Table, TableFunction, has_numbered_fluents}
+use Rattle.lower_bounds.specs.FairTables as fair_tables
+use Rattle.lower_bounds.specs.TableLaws.{AreAllNumbered, are_over, IsFairValueAt, AreLowerBounds, AreDeadEnds}
 use Rattle.landmark_functions.specs.LandmarkFunctions.{Zone, has_any, is_whole, Landmark, LandmarkFunction, value}
 use Rattle.landmark_functions.specs.LandmarkLines.{NumberedLandmarks, functions_of, keep_limits}
 use Rattle.landmark_functions.specs.FairLandmarks.{cut_of, AreFairAt, IsFair, IsDeadFair, AreClosed}

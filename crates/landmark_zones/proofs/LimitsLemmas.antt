@@ -9,7 +9,7 @@ use Rattle.std.proofs.lemmas.List.{length-drop, length-map, length-take-le, drop
 use Rattle.std.proofs.lemmas.List.Sorted.{searched}
 use Rattle.std.proofs.lemmas.List.Sums.{sum_by-cons}
 use Rattle.std.proofs.lemmas.Option.{slice_get_within, get_or_from_slice_get}
-use Rattle.table_functions.specs.TableFunctions.{is_among}
+use Rattle.lower_bounds.specs.TableFunctions.{is_among}
 use Rattle.landmark_functions.specs.LandmarkFunctions.{Zone}
 use Rattle.landmark_functions.specs.LandmarkLines as lines
 use Rattle.landmark_functions.specs.LandmarkLines.{rise, literal_count, share_count}

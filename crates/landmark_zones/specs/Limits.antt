@@ -1,7 +1,7 @@
 -- Parts of the limits of a text.
 use Rattle.std.specs.Prelude.{ℕ, Bool, not, List}
 use Rattle.std.specs.List.{list_all}
-use Rattle.table_functions.specs.TableFunctions.{is_among}
+use Rattle.lower_bounds.specs.TableFunctions.{is_among}
 
 -- none of the numbers is one of the atoms
 abbrev pub are_others : (atoms numbers : List ℕ) → Bool

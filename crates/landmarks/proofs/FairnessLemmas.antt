@@ -11,8 +11,8 @@ use Rattle.model.specs.Meaning.{cost_of}
 use Rattle.model.specs.StaticallyFalse.{kept_instances}
 use Rattle.model.specs.NumberedLiterals.{literals_of_instance, literals_of_goal}
 use Rattle.model.specs.ConditionalChanges.{conditional_of_instance}
-use Rattle.potential_functions.specs.Fair.{nothing}
-use Rattle.table_functions.specs.TableFunctions.{Table, is_among}
+use Rattle.lower_bounds.specs.FairPotentials.{nothing}
+use Rattle.lower_bounds.specs.TableFunctions.{Table, is_among}
 use Rattle.landmark_functions.specs.LandmarkFunctions.{Landmark, LandmarkFunction}
 use Rattle.landmark_functions.specs.FairLandmarks.{charge, charges, AreFairAt, IsFair, IsDeadFair}
 use Rattle.landmark_functions.specs.LandmarkLines.{Share, NumberedLandmarks, share_count}

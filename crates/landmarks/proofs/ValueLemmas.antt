@@ -6,7 +6,7 @@ use Rattle.std.specs.Option.{option_map_or}
 use Rattle.std.proofs.lemmas.Bool.{and_parts, ltb-true}
 use Rattle.std.proofs.lemmas.List.Sums.{sum_by-cons}
 use Rattle.model.proofs.ListLemmas.{Contains-got}
-use Rattle.table_functions.proofs.Lists.{all-at}
+use Rattle.lower_bounds.proofs.TableLists.{all-at}
 use Rattle.landmark_functions.specs.LandmarkFunctions.{Zone, Landmark}
 use Rattle.landmark_functions.specs.LandmarkLines.{landmark_of}
 use Rattle.landmark_functions.specs.Laws.{is_zone_over}

@@ -6,8 +6,8 @@ use Rattle.model.specs.StaticallyFalse.{kept_instances}
 use Rattle.model.specs.NumberedLiterals.{NumberedLiteral, literals_of_number}
 use Rattle.model.specs.ConditionalChanges.{conditional_of_number}
 use Rattle.model.specs.Grounding.{ground_system}
-use Rattle.table_functions.specs.TableFunctions.{Table, is_among}
-use Rattle.table_functions.specs.FairTables.{is_asked}
+use Rattle.lower_bounds.specs.TableFunctions.{Table, is_among}
+use Rattle.lower_bounds.specs.FairTables.{is_asked}
 use Rattle.landmark_functions.specs.LandmarkFunctions.{Zone, has_any, Landmark, LandmarkFunction}
 use Rattle.landmark_functions.specs.FairLandmarks.{charge, IsFair, IsDeadFair}
 use Rattle.landmark_functions.specs.LandmarkLines.{Share, NumberedLandmarks, landmark_of}

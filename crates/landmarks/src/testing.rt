@@ -4,7 +4,7 @@ ghost use Rattle.std.specs.List.{filter_map, list_all};
 ghost use Rattle.grounding.specs.Ground.{atoms_in, task_in};
 ghost use Rattle.grounding.specs.Views.{numbered_of};
 ghost use Rattle.model.specs.StaticallyFalse.{kept_instances};
-ghost use Rattle.table_functions.specs.TableFunctions as tables;
+ghost use Rattle.lower_bounds.specs.TableFunctions as tables;
 ghost use Rattle.landmark_functions.specs.LandmarkLines.{landmark_of, share_count};
 ghost use Rattle.landmark_zones.specs.Landmarks.{landmarks_of, share_of};
 ghost use Rattle.landmarks.specs.Breaking.{AreSorted};

@@ -4,10 +4,10 @@ use Rattle.model.specs.Task.{Atom, Task, Instance}
 use Rattle.model.specs.StaticallyFalse.{kept_instances}
 use Rattle.model.specs.NumberedLiterals.{literals_of_goal}
 use Rattle.model.specs.Grounding.{ground_system}
-use Rattle.potential_functions.specs.PotentialFunctions.{PotentialFunction, score, or_zero, IsInRange}
-use Rattle.potential_functions.specs.Fair.{goal_gives_at_most, AreFairAt, IsFairAt}
-use Rattle.potential_functions.specs.Settled.{initial_value}
-use Rattle.potential_functions.proofs.Settling.{potentials, IsNoneBetter, IsTried}
+use Rattle.lower_bounds.specs.PotentialFunctions.{PotentialFunction, score, or_zero, IsInRange}
+use Rattle.lower_bounds.specs.FairPotentials.{goal_gives_at_most, AreFairAt, IsFairAt}
+use Rattle.lower_bounds.specs.Settled.{initial_value}
+use Rattle.lower_bounds.proofs.Settling.{potentials, IsNoneBetter, IsTried}
 use Rattle.potentials.specs.Potentials.{potentials_of}
 use Rattle.potentials_improved.specs.declared.climb.Climb.{Climb}
 use Rattle.potentials_improved.specs.declared.climb.Next.{Next}

@@ -3,7 +3,7 @@ use Rattle.std.specs.Prelude.{◌≡◌, List}
 use Rattle.model.specs.Task.{Atom, Task}
 use Rattle.grounding.specs.declared.ground.Ground.{Ground}
 use Rattle.grounding.specs.Ground.{task_in, atoms_in}
-use Rattle.potential_functions.specs.PotentialFunctions.{PotentialFunction}
+use Rattle.lower_bounds.specs.PotentialFunctions.{PotentialFunction}
 use Rattle.potentials_improved.specs.declared.allowance.Allowance.{Ghosts}
 use Rattle.potentials_improved.specs.declared.fair_at.FairAt.{FairAt}
 use Rattle.potentials.specs.Potentials.{potentials_of}

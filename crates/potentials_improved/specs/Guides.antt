@@ -5,7 +5,7 @@ use Rattle.model.specs.Meaning.{cost_of}
 use Rattle.model.specs.Grounding.{ground_system}
 use Rattle.search.specs.Estimates.{IsConsistent, value_by}
 use Rattle.search.specs.DeadEnds.{DetectsDeadEnds}
-use Rattle.potential_functions.specs.PotentialFunctions.{PotentialFunction, score, is_dead_by}
+use Rattle.lower_bounds.specs.PotentialFunctions.{PotentialFunction, score, is_dead_by}
 
 -- If no instance may lose more than it costs, the values are a consistent estimate. If none may lose anything, states with a value
 -- of at least 1 are dead ends.

@@ -6,7 +6,7 @@ use Rattle.model.specs.StaticallyFalse.{kept_instances}
 use Rattle.model.specs.NumberedLiterals.{counting_of_number}
 use Rattle.grounding.specs.declared.ground.Ground.{Ground}
 use Rattle.grounding.specs.Ground.{task_in, atoms_in}
-use Rattle.potential_functions.specs.Fair.{touches}
+use Rattle.lower_bounds.specs.FairPotentials.{touches}
 use Rattle.potentials_drafted.specs.declared.tables.Tables.{Tables}
 use Rattle.potentials_drafted.specs.declared.incidence.Incidence.{Incidence}
 use Rattle.potentials_drafted.specs.Incidence.{row_of}

@@ -3,9 +3,9 @@ ghost use Rattle.std.specs.Prelude.{◌≡◌, ◌<◌, ◌↔◌, ℕ, List, So
 ghost use Rattle.grounding.specs.Ground.{task_in, atoms_in};
 ghost use Rattle.model.specs.Task.{Atom, Task, Instance};
 ghost use Rattle.model.specs.StaticallyFalse.{kept_instances};
-ghost use Rattle.potential_functions.specs.PotentialFunctions.{PotentialFunction};
-ghost use Rattle.potential_functions.specs.Fair.{IsFairAt, AreFairAt};
-ghost use Rattle.potential_functions.specs.Laws.{AreNumberable};
+ghost use Rattle.lower_bounds.specs.PotentialFunctions.{PotentialFunction};
+ghost use Rattle.lower_bounds.specs.FairPotentials.{IsFairAt, AreFairAt};
+ghost use Rattle.lower_bounds.specs.PotentialLaws.{AreNumberable};
 ghost use Rattle.potentials.specs.Potentials.{potentials_of};
 ghost use Rattle.potentials.specs.Fairness.{ReportsAt};
 

@@ -4,8 +4,8 @@ ghost use Rattle.packed_state.specs.Packed.{bits_of};
 ghost use Rattle.grounding.specs.Ground.{task_in, atoms_in};
 ghost use Rattle.model.specs.Runs.{run, cost_of_all};
 ghost use Rattle.model.specs.Grounding.{ground_system};
-ghost use Rattle.potential_functions.specs.PotentialFunctions as potential;
-ghost use Rattle.potential_functions.specs.Laws.{AreLowerBounds};
+ghost use Rattle.lower_bounds.specs.PotentialFunctions as potential;
+ghost use Rattle.lower_bounds.specs.PotentialLaws.{AreLowerBounds};
 ghost use Rattle.potentials_improved.specs.FairPotentials.{potentials_in, ground_in};
 
 use crate::allowance::Allowance;
@@ -26,8 +26,8 @@ pub struct Costs;
 
 impl Allowance for Costs {
     ghost use Rattle.model.specs.Meaning.{cost_of};
-    ghost use Rattle.potential_functions.specs.Laws.{AreLowerBounds};
-    ghost use Rattle.potential_functions.proofs.LowerBound.{are_lower_bounds};
+    ghost use Rattle.lower_bounds.specs.PotentialLaws.{AreLowerBounds};
+    ghost use Rattle.lower_bounds.proofs.PotentialLowerBound.{are_lower_bounds};
 
     ghost allowance = { cost_of };
 
@@ -82,7 +82,7 @@ impl Estimate for FairAt<'_, '_, Costs> {
     ghost use Rattle.std.proofs.Common.{le_refl};
     ghost use Rattle.grounding.specs.Ground.{task_in, atoms_in};
     ghost use Rattle.model.specs.Grounding.{ground_system};
-    ghost use Rattle.potential_functions.specs.PotentialFunctions as potential;
+    ghost use Rattle.lower_bounds.specs.PotentialFunctions as potential;
     ghost use Rattle.potentials_improved.specs.FairPotentials.{potentials_in, ground_in};
 
     ghost width_of = { λ estimate. length (atoms_in (ground_in estimate)) };

@@ -16,9 +16,9 @@ use std::alloc::Global;
 pub struct DeadEnds;
 
 impl Allowance for DeadEnds {
-    ghost use Rattle.potential_functions.specs.Fair.{nothing};
-    ghost use Rattle.potential_functions.specs.Laws.{DetectDeadEnds};
-    ghost use Rattle.potential_functions.proofs.LowerBound.{detect_dead_ends};
+    ghost use Rattle.lower_bounds.specs.FairPotentials.{nothing};
+    ghost use Rattle.lower_bounds.specs.PotentialLaws.{DetectDeadEnds};
+    ghost use Rattle.lower_bounds.proofs.PotentialLowerBound.{detect_dead_ends};
 
     ghost allowance = { λ task. nothing };
 
@@ -66,7 +66,7 @@ impl DeadEnd for FairAt<'_, '_, DeadEnds> {
     ghost use Rattle.std.proofs.Common.{le_refl};
     ghost use Rattle.grounding.specs.Ground.{task_in, atoms_in};
     ghost use Rattle.model.specs.Grounding.{ground_system};
-    ghost use Rattle.potential_functions.specs.PotentialFunctions.{is_dead_by};
+    ghost use Rattle.lower_bounds.specs.PotentialFunctions.{is_dead_by};
     ghost use Rattle.potentials_improved.specs.FairPotentials.{potentials_in, ground_in};
 
     ghost width_of = { λ test. length (atoms_in (ground_in test)) };

@@ -2,8 +2,8 @@
 ghost use Rattle.std.specs.Prelude.{◌≡◌, ◌≤ℤ◌, ◌↔◌, pos, Bool, List, false, All, IsTrue, length};
 ghost use Rattle.std.proofs.Props.{props};
 ghost use Rattle.grounding.specs.Ground.{task_in, atoms_in};
-ghost use Rattle.potential_functions.specs.PotentialFunctions.{is_dead_by};
-ghost use Rattle.potential_functions.specs.Fair.{AreFairAt};
+ghost use Rattle.lower_bounds.specs.PotentialFunctions.{is_dead_by};
+ghost use Rattle.lower_bounds.specs.FairPotentials.{AreFairAt};
 ghost use Rattle.potentials.specs.Potentials.{potentials_of};
 ghost use Rattle.potentials_improved.specs.Guides.{Guides};
 

@@ -2,8 +2,8 @@
 ghost use Rattle.std.specs.Prelude.{◌≡◌, ℕ, IfOk, length};
 ghost use Rattle.grounding.specs.declared.ground.Ground.{Ground};
 ghost use Rattle.grounding.specs.Ground.{task_in, atoms_in};
-ghost use Rattle.potential_functions.specs.Fair.{AreFairAt};
-ghost use Rattle.potential_functions.specs.Settled.{IsImprovedAt};
+ghost use Rattle.lower_bounds.specs.FairPotentials.{AreFairAt};
+ghost use Rattle.lower_bounds.specs.Settled.{IsImprovedAt};
 ghost use Rattle.potentials.specs.Potentials.{potentials_of};
 ghost use Rattle.potentials_improved.specs.Groundwork.{ground_under};
 

@@ -6,8 +6,7 @@ use planner_main::run;
 use std::alloc::Global;
 use std::process::Abort;
 use std::test::Fail;
-use test_devices::Table;
-use test_texts::HOP;
+use test_support::{HOP, Table};
 
 /// The text of two hops.
 pub(crate) const TWO_HOPS: &[u8] = b"(hop a b)\n(hop b c)\n; cost = 6\n";

@@ -5,7 +5,7 @@ use indexmap::IndexSet;
 use std::alloc::{AllocError, Global};
 use std::test::Fail;
 use task::Atom;
-use test_texts::{Application, atom};
+use test_support::{Application, atom};
 
 /// A constant, and the weights of the atoms.
 pub(crate) type Weights = (i64, &'static [i64]);

@@ -1,15 +1,13 @@
 //! Tests of the checker: with endless certificates, and when no instance may be kept.
-use cert_checker::{Accepted, check};
+use cert_checker::RefusalCode::{CertForm, Limit, NotFluent, Repeated};
+use cert_checker::{Accepted, Refusal, RefusalCode, check};
 use certificate::CertReader;
 use devices::Memory;
 use std::alloc::{AllocError, Global};
 use std::process::Abort;
 use std::test::Fail;
 use task::Task;
-use task_certificates::RefusalCode::{CertForm, Limit, NotFluent, Repeated};
-use task_certificates::{Refusal, RefusalCode};
-use test_devices::Endless;
-use test_texts::{GO, PAIRS, Texts, UNTIED, on_task};
+use test_support::{Endless, GO, PAIRS, Texts, UNTIED, on_task};
 
 /// A certificate that there is no plan.
 const NO_PLAN: &[u8] =

@@ -1,11 +1,11 @@
 //! Tests of explanations of a plan whose task's quantified variables have no names.
-use explained_plans::{VariableNames, explain_plan, report_details};
+use explain_plans::{VariableNames, explain_plan, report_details};
 use plan_file::read_plan;
 use std::alloc::Global;
 use std::process::Abort;
 use std::test::Fail;
 use task::Task;
-use test_texts::{Texts, on_task};
+use test_support::{Texts, on_task};
 
 /// A task in which nothing has been seen.
 const UNSEEN: Texts = [

@@ -9,7 +9,7 @@ use packed_state::Packed;
 use std::alloc::Global;
 use std::process::Abort;
 use std::test::Fail;
-use test_texts::{Texts, on_task};
+use test_support::{Texts, on_task};
 
 /// A lamp, and a way from the first place to the second that is visible when the lamp is lit.
 const LAMP: Texts = [

@@ -5,7 +5,7 @@ use cert_checker::{
     solving_list_stays_listed, written_certificates_read_back,
 };
 use certificate::{MAX_ATOMS, MAX_STATE_LINES, NUMBER_LIMIT, texts_are_certificates_one_for_one};
-use explained_plans::false_parts_report;
+use explain_plans::false_parts_report;
 use formulas::{MAX_STEPS, formula_examples_are_judged, one_state, sure_literals_hold};
 use grounding::{
     atoms_are_numbered, ground_task_is_bisimilar, ground_task_solves_alike,

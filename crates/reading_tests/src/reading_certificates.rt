@@ -3,7 +3,7 @@ use certificate::{CertFault, CertReader, TextFault};
 use devices::Source;
 use std::alloc::Global;
 use std::test::Fail;
-use test_devices::Endless;
+use test_support::Endless;
 
 /// The fault with this code at this line.
 const fn at_line(code: TextFault, line: u64) -> CertFault {

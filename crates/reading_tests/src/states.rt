@@ -5,7 +5,7 @@ use std::alloc::Global;
 use std::process::Abort;
 use std::test::Fail;
 use task::{PredicateId, Task};
-use test_texts::{Application, Texts, atom, atoms, instance, on_task};
+use test_support::{Application, Texts, atom, atoms, instance, on_task};
 
 /// Three places, with roads from the first to itself and to the second, and from the second to the third.
 const WALK: Texts = [

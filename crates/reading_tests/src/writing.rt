@@ -7,8 +7,7 @@ use std::alloc::{AllocError, Global};
 use std::process::Abort;
 use std::test::Fail;
 use task::Task;
-use test_devices::{FailsAt, InPieces};
-use test_texts::{Application, GO, on_task};
+use test_support::{Application, FailsAt, GO, InPieces, on_task};
 
 /// The number of atoms of the certificates: the two of `GO`, and others, for which the task has no names.
 const ATOMS: u32 = 12;

@@ -7,9 +7,9 @@ ghost use Rattle.potentials_improved.specs.FairPotentials.{potentials_in};
 ghost use Rattle.solver.specs.Guidance.{estimate_by, reports_dead};
 ghost use Rattle.solver.specs.Guided.{IsGuidanceFor, IsSearched};
 ghost use Rattle.ground_listings.specs.Exchanges.{AreExchangesFor};
-ghost use Rattle.task_symmetries.specs.Exchange.{exchange_of};
+ghost use Rattle.symmetries.specs.Exchange.{exchange_of};
 ghost use Rattle.solver.specs.Improved.{AreSettledOrHigh, AreDeadSettledOrHigh};
-ghost use Rattle.progress_lines.specs.Said.{GoesOn};
+ghost use Rattle.devices.specs.Progress.{GoesOn};
 ghost use Rattle.solver.specs.Said.{HasEnded, IsTrueLine, IsTrueReport, is_open, report_of};
 ghost use Rattle.model.specs.NumberedAtoms.{numbered_atoms};
 ghost use Rattle.ground_listings.specs.SearchSpace.{ground_in, IsSearchSpace};
@@ -31,18 +31,16 @@ use crate::reports::{RaisedBy, Report, say};
 use crate::searched::Searched;
 use crate::setting::{Session, Setting};
 use certificate::{Cert, Claim, Listed, Mark};
-use devices::Sink;
+use devices::{Sink, Unheard};
 use faults::{NoMemory, Refused};
 use formulas::Plan;
 use ground_listings::{SearchSpace, exchanges_of, plan_of};
 use grounding::{Ground, GroundLimit};
 use potentials_improved::{DeadFair, Fair, Groundwork};
-use progress_lines::Unheard;
-use representatives::Representatives;
 use search::{EstimateWithDeadEnds, Outcome};
 use std::alloc::Global;
+use symmetries::{Exchange, Representatives};
 use task::Task;
-use task_symmetries::Exchange;
 
 /// The answer to a task.
 #[derive(Drop)]

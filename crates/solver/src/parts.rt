@@ -7,7 +7,7 @@ ghost use Rattle.search.specs.UnderWay.{store_in, nodes_of};
 ghost use Rattle.solver.specs.Attempts.{IfDone};
 ghost use Rattle.solver.specs.Improved.{AreSettledOrHigh, AreDeadSettledOrHigh};
 ghost use Rattle.ground_listings.specs.SearchSpace.{ground_in, system_of, IsSearchSpace};
-ghost use Rattle.progress_lines.specs.Said.{GoesOn};
+ghost use Rattle.devices.specs.Progress.{GoesOn};
 ghost use Rattle.solver.specs.Said.{IsTrueLine};
 ghost use Rattle.solver.specs.Solver.{IsTrueAnswer};
 ghost use Rattle.solver.specs.Stopped.{IsStopped};
@@ -19,12 +19,12 @@ use crate::by_tables::solve_by_tables;
 use crate::searched::{Searched, Stretch, begin_by, finish_by, go_on_by};
 use crate::setting::{Session, Setting};
 use crate::stopped::Stopped;
+use cost_partitioning::Effort;
 use devices::Sink;
 use faults::NoMemory;
 use ground_listings::GroundListing;
 use potentials::Potentials;
 use search::{Guide, Search};
-use tables_drafted::Effort;
 
 /// A pause of a search by potentials, at which tables are drafted.
 #[derive(Clone, Copy)]

@@ -2,13 +2,12 @@
 ghost use Rattle.std.specs.Prelude.{◌≡◌, IfOk, OnOk};
 ghost use Rattle.std.specs.String.{string_bytes};
 ghost use Rattle.devices.specs.Devices.{IsWritten};
-ghost use Rattle.progress_lines.specs.Said.{GoesOn};
+ghost use Rattle.devices.specs.Progress.{GoesOn};
 ghost use Rattle.solver.specs.Said.{IsTrueLine, IsTrueReport, line_of};
 ghost use Rattle.model.specs.Task.{Task};
 
-use devices::Sink;
+use devices::{Sink, say_line};
 use faults::NoMemory;
-use progress_lines::say_line;
 use std::alloc::{AllocError, Global};
 
 /// A report of progress.

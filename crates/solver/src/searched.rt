@@ -8,7 +8,7 @@ ghost use Rattle.search.specs.Outcome.{is_expanded};
 ghost use Rattle.solver.specs.Guided as guided;
 ghost use Rattle.solver.specs.Guided.{AreMarksOf, CanBeMarked, IsMarkOf, IsSearched};
 ghost use Rattle.ground_listings.specs.SearchSpace.{ground_in, system_of, IsSearchSpace};
-ghost use Rattle.progress_lines.specs.Said.{GoesOn};
+ghost use Rattle.devices.specs.Progress.{GoesOn};
 ghost use Rattle.solver.specs.Said.{IsTrueLine};
 ghost use Rattle.solver.specs.Stretches.{IsBetweenTurns, IsStretch, IsUnderWay};
 

@@ -4,6 +4,7 @@ ghost use Rattle.ground_listings.specs.GroundListing.{listed_width};
 ghost use Rattle.solver.specs.Stopped.{IsStopped};
 ghost use Rattle.tables.specs.Several.{width_of};
 
+use cost_partitioning::Effort;
 use faults::NoMemory;
 use ground_listings::GroundListing;
 use packed_state::Packed;
@@ -11,7 +12,6 @@ use potentials::Potentials;
 use search::{Node, StateListing};
 use std::alloc::Global;
 use tables::TableFunctions;
-use tables_drafted::Effort;
 
 /// The number of sample states, at most.
 const MAX_SAMPLES: usize = 32;

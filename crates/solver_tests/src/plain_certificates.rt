@@ -16,7 +16,7 @@ use solver::{Answer, Exceeded, Limits, solve};
 use std::alloc::Global;
 use std::test::Fail;
 use task::Task;
-use test_texts::on_task;
+use test_support::on_task;
 
 /// Potentials with this constant and these weights.
 fn weighing(alloc: Global, constant: i64, weights: &[i64]) -> Result<Option<Potentials>, NoMemory> {

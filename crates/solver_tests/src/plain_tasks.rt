@@ -1,6 +1,6 @@
 //! The tasks whose certificates are compared over both stores of states.
 use crate::unlike_tasks::{FOUR_UNLIKE_BALLS, UNLIKE_LAMPS, UNLIKE_PAIRS};
-use test_texts::{
+use test_support::{
     DONE, EACH_BOX, FORK, FOUR_BLOCKS, GO, HOP, PATH, SLIDE, SNAP, SOME_BOX, SPIN, STILL, SWAP,
     TIE, TRIP, Texts, UNTIED,
 };

@@ -2,8 +2,8 @@
 ghost use Rattle.std.specs.Prelude.{◌≡◌, length};
 ghost use Rattle.std.proofs.Props.{props};
 ghost use Rattle.grounding.specs.Ground.{task_in, atoms_in};
-ghost use Rattle.table_functions.specs.FairTables.{AreFair};
-ghost use Rattle.table_functions.specs.Laws.{AreAllNumbered};
+ghost use Rattle.lower_bounds.specs.FairTables.{AreFair};
+ghost use Rattle.lower_bounds.specs.TableLaws.{AreAllNumbered};
 ghost use Rattle.tables.specs.Several.{several_of, width_of};
 ghost use Rattle.table_guides.specs.Guides.{Guides};
 
@@ -61,7 +61,7 @@ impl Guide for FairTables<'_, '_, '_> {
     ghost use Rattle.model.specs.Grounding.{ground_system};
     ghost use Rattle.search.proofs.Consistent.{admissible};
     ghost use Rattle.search.proofs.DeadEnds.{reports_dead_ends};
-    ghost use Rattle.table_functions.specs.TableFunctions.{functions_of, dead_ends_of, greatest_value, is_dead_by};
+    ghost use Rattle.lower_bounds.specs.TableFunctions.{functions_of, dead_ends_of, greatest_value, is_dead_by};
     ghost use Rattle.tables.specs.Several.{Knows};
     ghost use Rattle.table_guides.specs.FairTables.{functions_in, ground_in};
 

@@ -1,7 +1,7 @@
 -- Adding a row by its atoms.
 use Rattle.std.specs.Prelude.{◌≡◌, ◌≢◌, true, false, [], ◌∷◌, ◌++◌, All}
 use Rattle.std.specs.List.{list_all, Any}
-use Rattle.table_functions.specs.TableFunctions.{Row, Table, is_among}
+use Rattle.lower_bounds.specs.TableFunctions.{Row, Table, is_among}
 use Rattle.table_rows.specs.declared.by_atoms.Added.{Added}
 use Rattle.table_rows.specs.declared.by_atoms.Added.TheVariants.{New, OutsideScope, Repeated}
 

@@ -3,7 +3,7 @@ use Rattle.std.specs.Prelude.{◌≡◌, ℕ, Bool, true, false, List, map, Opti
 use Rattle.std.specs.List.{list_all}
 use Rattle.packed_state.specs.declared.packed.Packed.{Packed}
 use Rattle.packed_state.specs.Packed.{bits_of}
-use Rattle.table_functions.specs.TableFunctions.{is_among}
+use Rattle.lower_bounds.specs.TableFunctions.{is_among}
 
 -- the set has the indices of the atoms, or one is not in the scope
 abbrev pub IsSetOf : List ℕ → List ℕ → Option Packed → Type 0

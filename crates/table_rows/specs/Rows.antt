@@ -1,7 +1,7 @@
 -- Rows of a table in memory: a bit for each atom of the scope, and all weights in one list.
 use Rattle.std.specs.Prelude.{ℕ, nat_lt, ◌==◌, Bool, true, ◌&&◌, ℤ, List, [], ◌∷◌, Option, take, drop, if◌then◌else◌}
 use Rattle.std.specs.List.{position}
-use Rattle.table_functions.specs.TableFunctions.{Row}
+use Rattle.lower_bounds.specs.TableFunctions.{Row}
 
 -- each number is above the one before it
 abbrev pub are_rising : List ℕ → Bool

@@ -1,8 +1,8 @@
 -- Views of tables in memory.
 use Rattle.std.specs.Prelude.{◌≡◌, ℕ, Bool, List, [], ◌∷◌, ◌++◌, MatchBool, IsTrue, is_some, None}
 use Rattle.packed_state.specs.PooledView.{pooled_states}
-use Rattle.table_functions.specs.TableFunctions as model
-use Rattle.table_functions.specs.TableFunctions.{Row, row_of}
+use Rattle.lower_bounds.specs.TableFunctions as model
+use Rattle.lower_bounds.specs.TableFunctions.{Row, row_of}
 use Rattle.table_rows.specs.declared.table.Table.{Table}
 use Rattle.table_rows.specs.Rows.{rows_from}
 

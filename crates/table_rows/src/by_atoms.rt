@@ -1,7 +1,7 @@
 //! Rows given by their atoms.
 ghost use Rattle.std.specs.Prelude.{◌≡◌, ◌<◌, IsTrue, IfOk, OnErr, OnOk, Some, length, slice_get};
 ghost use Rattle.packed_state.specs.Packed.{bits_of};
-ghost use Rattle.table_functions.specs.TableFunctions.{Row};
+ghost use Rattle.lower_bounds.specs.TableFunctions.{Row};
 ghost use Rattle.table_rows.specs.Rows.{are_rising};
 ghost use Rattle.table_rows.specs.Tables.{table_of, weight_count_of};
 

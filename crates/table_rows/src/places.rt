@@ -11,7 +11,7 @@ use packed_state::Packed;
 use std::alloc::Global;
 
 /// The index of the atom in the scope, if it is there.
-pub fn place_in(scope: &[u32], atom: u32) -> Option<u32>
+pub(crate) fn place_in(scope: &[u32], atom: u32) -> Option<u32>
     requires { length scope.now < 2 ^ 32 }
     ensures { result ≡ model.place_in scope.now atom }
 {

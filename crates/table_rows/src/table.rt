@@ -25,7 +25,7 @@ pub struct Table {
 impl Table {
     ghost use Rattle.std.specs.Prelude.{[], IfOk, IfSome, OnErr, MatchOption, None, Some, slice_get};
     ghost use Rattle.packed_state.specs.Packed.{bits_of};
-    ghost use Rattle.table_functions.specs.TableFunctions.{Row, row_of, weight_at};
+    ghost use Rattle.lower_bounds.specs.TableFunctions.{Row, row_of, weight_at};
     ghost use Rattle.table_rows.specs.Tables.{table_of, sets_of, weight_count_of, IsInserted};
 
     /// An empty table over this scope, rising, whose rows will have `count` weights.

@@ -6,12 +6,12 @@ use Rattle.std.proofs.lemmas.Bool.{cases_eq, cases_lt}
 use Rattle.std.proofs.lemmas.List.{get_or-set_same, get_or-set_other, get_or_past, get_or_default, get_or-replicate, length-map, length-replicate, length-set}
 use Rattle.std.proofs.lemmas.Option.{slice_get_within}
 use Rattle.model.proofs.ListLemmas.{Contains-here, Contains-there, map-Contains}
-use Rattle.potential_functions.specs.PotentialFunctions.{IsInRange}
-use Rattle.potential_functions.proofs.Ranges.{zero-range}
-use Rattle.table_functions.specs.TableFunctions.{Row, Table, given_by, weight_at}
-use Rattle.table_losses.specs.Fates.{IsLoss}
-use Rattle.table_losses.specs.Losses.{indexed_of}
-use Rattle.table_losses.proofs.FateLemmas.{row-range}
+use Rattle.lower_bounds.specs.PotentialFunctions.{IsInRange}
+use Rattle.lower_bounds.proofs.Ranges.{zero-range}
+use Rattle.lower_bounds.specs.TableFunctions.{Row, Table, given_by, weight_at}
+use Rattle.table_rows.specs.Fates.{IsLoss}
+use Rattle.table_rows.specs.Losses.{indexed_of}
+use Rattle.table_rows.proofs.FateLemmas.{row-range}
 use Rattle.tables.specs.AllTables.{tables_of}
 use Rattle.tables.specs.RowSums.{row_at, given_rows, lacking, AreSums, AreAdded, IsSmall}
 use Rattle.tables.specs.declared.row_sums.RowSums.{RowSums}

@@ -3,9 +3,9 @@ use Rattle.std.proofs.Common.{◌≡◌, ◌∙◌, ℕ, zero, suc, ◌+◌, ◌
 use Rattle.std.specs.Prelude.{All, slice_get}
 use Rattle.std.proofs.lemmas.List.Elements.{All-append, All-cons, All-nil}
 use Rattle.std.proofs.lemmas.Option.{slice_get-get_or}
-use Rattle.potential_functions.specs.PotentialFunctions.{PotentialFunction}
-use Rattle.table_functions.specs.TableFunctions.{Table, TableFunction, SeveralValues, over_tables, functions_of}
-use Rattle.table_losses.proofs.FateLemmas.{take-at}
+use Rattle.lower_bounds.specs.PotentialFunctions.{PotentialFunction}
+use Rattle.lower_bounds.specs.TableFunctions.{Table, TableFunction, SeveralValues, over_tables, functions_of}
+use Rattle.table_rows.proofs.FateLemmas.{take-at}
 use Rattle.tables.specs.Unfair.{function_in}
 
 abbrev pub function_at : List Table → PotentialFunction → ℕ → TableFunction

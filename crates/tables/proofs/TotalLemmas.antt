@@ -10,12 +10,12 @@ use Rattle.model.specs.ConditionalChanges.{conditional_of_number}
 use Rattle.model.specs.NumberedLiterals.{NumberedLiteral, NumberedChange, literals_of_number}
 use Rattle.model.specs.StaticallyFalse.{kept_instances}
 use Rattle.model.specs.Task.{Atom, Task}
-use Rattle.table_functions.specs.TableFunctions.{Table, sum_over}
+use Rattle.lower_bounds.specs.TableFunctions.{Table, sum_over}
 use Rattle.packed_state.specs.Packed.{bits_of}
-use Rattle.table_functions.specs.FairTables.{ConditionalChange, changes_in, touches_scope, is_closed, table_loses}
-use Rattle.table_losses.specs.Fates.{IsLoss}
-use Rattle.table_losses.specs.Losses.{LosesByEach}
-use Rattle.table_losses.proofs.LossLemmas.{loses-nothing}
+use Rattle.lower_bounds.specs.FairTables.{ConditionalChange, changes_in, touches_scope, is_closed, table_loses}
+use Rattle.table_rows.specs.Fates.{IsLoss}
+use Rattle.table_rows.specs.Losses.{LosesByEach}
+use Rattle.table_rows.proofs.LossLemmas.{loses-nothing}
 use Rattle.tables.specs.AllTables.{tables_of, count_of}
 use Rattle.tables.specs.ByAtom.{AreMarked, LosesByAll}
 use Rattle.tables.specs.RowSums.{AreAdded, IsSmall}

@@ -8,10 +8,10 @@ use Rattle.std.proofs.lemmas.Option.{slice_get_within}
 use Rattle.model.specs.Task.{Atom, Task, Instance}
 use Rattle.model.specs.Meaning.{cost_of}
 use Rattle.model.specs.StaticallyFalse.{kept_instances}
-use Rattle.potential_functions.specs.Fair.{nothing}
-use Rattle.table_functions.specs.TableFunctions.{TableFunction, SeveralValues, functions_of, dead_ends_of}
-use Rattle.table_functions.specs.FairTables.{is_asked, is_instance_shut_out, IsFair, IsFairAt, IsFairAtGoals, IsFirstUnfairAt}
-use Rattle.table_losses.proofs.FateLemmas.{row-there}
+use Rattle.lower_bounds.specs.FairPotentials.{nothing}
+use Rattle.lower_bounds.specs.TableFunctions.{TableFunction, SeveralValues, functions_of, dead_ends_of}
+use Rattle.lower_bounds.specs.FairTables.{is_asked, is_instance_shut_out, IsFair, IsFairAt, IsFairAtGoals, IsFirstUnfairAt}
+use Rattle.table_rows.proofs.FateLemmas.{row-there}
 use Rattle.tables.specs.Fairness.{AreInstancesFairAt}
 use Rattle.tables.specs.Reports.{goals_report, instance_report, first_report}
 use Rattle.tables.specs.Several.{ReportsValues}

@@ -3,10 +3,10 @@ use Rattle.std.specs.Prelude.{◌≡◌, ℕ, ◌*◌, ◌<◌, Bool, true, ℤ,
 use Rattle.std.specs.List.{list_all}
 use Rattle.packed_state.specs.Sets.{has}
 use Rattle.model.specs.NumberedLiterals.{NumberedLiteral}
-use Rattle.table_functions.specs.TableFunctions.{Table, is_among, sum_over}
-use Rattle.table_functions.specs.FairTables.{ConditionalChange, is_closed, table_loses}
-use Rattle.table_losses.specs.declared.lists.Lists.{Lists}
-use Rattle.table_losses.specs.Lists.{list_at}
+use Rattle.lower_bounds.specs.TableFunctions.{Table, is_among, sum_over}
+use Rattle.lower_bounds.specs.FairTables.{ConditionalChange, is_closed, table_loses}
+use Rattle.table_rows.specs.declared.lists.Lists.{Lists}
+use Rattle.table_rows.specs.Lists.{list_at}
 
 -- the first `count` tables are listed at each atom of their scope, and no others
 pub record IsByAtom (tables : List Table) (count : ℕ) (l : Lists) : Type 0 where

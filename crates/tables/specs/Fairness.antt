@@ -6,9 +6,9 @@ use Rattle.model.specs.Task.{Atom, Task, Instance}
 use Rattle.model.specs.Meaning.{cost_of}
 use Rattle.model.specs.StaticallyFalse.{kept_instances}
 use Rattle.potentials.specs.Potentials.{potentials_of}
-use Rattle.potential_functions.specs.Fair.{nothing}
-use Rattle.table_functions.specs.TableFunctions.{TableFunction}
-use Rattle.table_functions.specs.FairTables.{is_asked, IsFairAt}
+use Rattle.lower_bounds.specs.FairPotentials.{nothing}
+use Rattle.lower_bounds.specs.TableFunctions.{TableFunction}
+use Rattle.lower_bounds.specs.FairTables.{is_asked, IsFairAt}
 use Rattle.tables.specs.AllTables.{tables_of, count_of}
 use Rattle.tables.specs.declared.fairness.TableValue.{TableValue}
 use Rattle.tables.specs.declared.fairness.Allowance.{Allowance}

@@ -2,7 +2,7 @@
 use Rattle.std.specs.Prelude.{◌≡◌, ℕ, ◌<◌, Bool, false, List, Option, None, Some, length, slice_get, slice_index_or}
 use Rattle.packed_state.specs.Packed.{bits_of}
 use Rattle.packed_state.specs.Sets.{has}
-use Rattle.table_functions.specs.TableFunctions.{Table, row_in}
+use Rattle.lower_bounds.specs.TableFunctions.{Table, row_in}
 use Rattle.tables.specs.Projections.{AreProjections}
 use Rattle.tables.specs.RowSums.{AreSums}
 use Rattle.tables.specs.declared.known_rows.KnownRows.{KnownRows}

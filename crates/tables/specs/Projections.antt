@@ -2,7 +2,7 @@
 use Rattle.std.specs.Prelude.{◌≡◌, ℕ, Bool, true, false, List, [], Some, length, map, slice_get, slice_index_or}
 use Rattle.packed_state.specs.Packed.{bits_of}
 use Rattle.packed_state.specs.Sets.{has}
-use Rattle.table_functions.specs.TableFunctions.{Table, row_in}
+use Rattle.lower_bounds.specs.TableFunctions.{Table, row_in}
 use Rattle.tables.specs.declared.projections.Projections.{Projections}
 
 -- the projection to this table's scope

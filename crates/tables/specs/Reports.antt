@@ -1,6 +1,6 @@
 -- Reports on the first unfair value.
 use Rattle.std.specs.Prelude.{ℕ, nat_lt, if◌then◌else◌, length, Option, None, Some}
-use Rattle.table_functions.specs.TableFunctions.{SeveralValues}
+use Rattle.lower_bounds.specs.TableFunctions.{SeveralValues}
 use Rattle.tables.specs.declared.several.ValuesFairness.{ValuesFairness}
 use Rattle.tables.specs.declared.several.ValuesFairness.TheVariants as reported
 use Rattle.tables.specs.declared.unfair.Unfair.{Unfair}

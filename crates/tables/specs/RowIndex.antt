@@ -1,6 +1,6 @@
 -- An index of a table's rows.
 use Rattle.std.specs.Prelude.{ℕ, List}
-use Rattle.table_functions.specs.TableFunctions.{Table}
+use Rattle.lower_bounds.specs.TableFunctions.{Table}
 use Rattle.table_rows.specs.Tables.{table_of}
 use Rattle.tables.specs.declared.row_index.RowIndex.{RowIndex}
 

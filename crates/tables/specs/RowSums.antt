@@ -1,6 +1,6 @@
 -- Rows of tables, and the sums of their weights.
 use Rattle.std.specs.Prelude.{◌≡◌, ℕ, suc, ◌<◌, ℤ, pos, neg_ℤ, ◌+ℤ◌, ◌≤ℤ◌, List, [], ◌∷◌, Option, None, Some, IfSome, length, slice_get, slice_index_or}
-use Rattle.table_functions.specs.TableFunctions.{Row, Table, given_by}
+use Rattle.lower_bounds.specs.TableFunctions.{Row, Table, given_by}
 use Rattle.tables.specs.declared.row_sums.RowSums.{RowSums}
 
 -- the row with this number, if one is given

@@ -3,7 +3,7 @@ use Rattle.std.specs.Prelude.{◌≡◌, ℕ, zero, suc, ◌==◌, ◌&&◌, Boo
 use Rattle.std.specs.Global.{Vec}
 use Rattle.std.specs.List.{list_any}
 use Rattle.std.specs.Option.{option_map_or}
-use Rattle.table_functions.specs.TableFunctions.{Table}
+use Rattle.lower_bounds.specs.TableFunctions.{Table}
 use Rattle.tables.specs.declared.scope_places.ScopePlace.{ScopePlace}
 use Rattle.tables.specs.declared.scope_places.ScopePlaces.{ScopePlaces}
 

@@ -3,12 +3,12 @@ use Rattle.std.specs.Prelude.{◌≡◌, ℕ, ◌+◌, Bool, ℤ, pos, All, List
 use Rattle.model.specs.Task.{Atom, Task}
 use Rattle.model.specs.Meaning.{cost_of}
 use Rattle.packed_state.specs.Packed.{bits_of}
-use Rattle.potential_functions.specs.PotentialFunctions.{score}
+use Rattle.lower_bounds.specs.PotentialFunctions.{score}
 use Rattle.potentials.specs.Potentials.{potentials_of}
 use Rattle.potentials.specs.declared.potentials.Potentials.{Potentials}
-use Rattle.potential_functions.specs.Fair.{nothing}
-use Rattle.table_functions.specs.TableFunctions.{TableFunction, SeveralValues, functions_of, dead_ends_of}
-use Rattle.table_functions.specs.FairTables.{IsFair, IsFairAtGoals, IsFirstUnfair, IsFirstDeadUnfair, AreFair}
+use Rattle.lower_bounds.specs.FairPotentials.{nothing}
+use Rattle.lower_bounds.specs.TableFunctions.{TableFunction, SeveralValues, functions_of, dead_ends_of}
+use Rattle.lower_bounds.specs.FairTables.{IsFair, IsFairAtGoals, IsFirstUnfair, IsFirstDeadUnfair, AreFair}
 use Rattle.tables.specs.AllTables.{tables_of, count_of}
 use Rattle.tables.specs.Fairness.{AreInstancesFairAt}
 use Rattle.tables.specs.KnownRows.{IsKnown}

@@ -2,7 +2,7 @@
 use Rattle.std.specs.Prelude.{◌≡◌, ◌+◌, ◌^◌, ◌<◌, IsTrue, All, List, length}
 use Rattle.potentials.specs.Potentials.{potentials_of}
 use Rattle.potentials.specs.declared.potentials.Potentials.{Potentials}
-use Rattle.table_functions.specs.Laws.{are_over}
+use Rattle.lower_bounds.specs.TableLaws.{are_over}
 use Rattle.tables.specs.AllTables.{tables_of, count_of}
 use Rattle.tables.specs.declared.tables.IndexedTables.{IndexedTables}
 

@@ -6,8 +6,8 @@ use Rattle.model.specs.NumberedLiterals.{NumberedLiteral, NumberedChange, litera
 use Rattle.model.specs.StaticallyFalse.{kept_instances}
 use Rattle.model.specs.Task.{Atom, Task, Instance}
 use Rattle.packed_state.specs.Packed.{bits_of}
-use Rattle.table_functions.specs.TableFunctions.{Table, sum_over}
-use Rattle.table_functions.specs.FairTables.{ConditionalChange, changes_in, is_closed, is_instance_shut_out, table_loses}
+use Rattle.lower_bounds.specs.TableFunctions.{Table, sum_over}
+use Rattle.lower_bounds.specs.FairTables.{ConditionalChange, changes_in, is_closed, is_instance_shut_out, table_loses}
 use Rattle.tables.specs.AllTables.{tables_of, count_of}
 use Rattle.tables.specs.ByAtom.{AreMarked, LosesByAll}
 use Rattle.tables.specs.declared.losses.Losses.{Losses}

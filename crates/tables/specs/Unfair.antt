@@ -2,9 +2,9 @@
 use Rattle.std.specs.Prelude.{ℕ, ◌+◌, ◌<◌, nat_lt, if◌then◌else◌, IsTrue, List, length, get_or, Option, None, Some}
 use Rattle.model.specs.Task.{Atom, Task, Instance}
 use Rattle.model.specs.Meaning.{cost_of}
-use Rattle.potential_functions.specs.Fair.{nothing}
-use Rattle.table_functions.specs.TableFunctions.{TableFunction, SeveralValues}
-use Rattle.table_functions.specs.FairTables.{is_asked, IsFairAt, IsFirstUnfairAt}
+use Rattle.lower_bounds.specs.FairPotentials.{nothing}
+use Rattle.lower_bounds.specs.TableFunctions.{TableFunction, SeveralValues}
+use Rattle.lower_bounds.specs.FairTables.{is_asked, IsFairAt, IsFirstUnfairAt}
 use Rattle.tables.specs.Fairness.{AreInstancesFairAt}
 use Rattle.tables.specs.declared.unfair.Unfair.{Unfair}
 

@@ -2,7 +2,7 @@
 ghost use Rattle.std.specs.Prelude.{◌≡◌, ℕ, List, [], IfOk, length};
 ghost use Rattle.packed_state.specs.Packed.{bits_of};
 ghost use Rattle.packed_state.specs.Sets.{set_of};
-ghost use Rattle.table_functions.specs.TableFunctions.{Table, has_rows};
+ghost use Rattle.lower_bounds.specs.TableFunctions.{Table, has_rows};
 ghost use Rattle.tables.specs.AllTables.{tables_of, count_of};
 ghost use Rattle.tables.specs.KnownRows.{AreKnown, IsKnown};
 ghost use Rattle.tables.specs.Projections.{AreProjections};

@@ -1,7 +1,7 @@
 //! What is known of one state.
 ghost use Rattle.std.specs.Prelude.{◌≡◌, ◌<◌, IfOk, pos, length, slice_index_or, slice_set};
 ghost use Rattle.packed_state.specs.Packed.{bits_of};
-ghost use Rattle.potential_functions.specs.PotentialFunctions.{score};
+ghost use Rattle.lower_bounds.specs.PotentialFunctions.{score};
 ghost use Rattle.potentials.specs.Potentials.{potentials_of};
 ghost use Rattle.tables.specs.Several.{width_of, state_of, AreScores, Knows};
 

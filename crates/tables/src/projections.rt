@@ -2,7 +2,7 @@
 ghost use Rattle.std.specs.Prelude.{◌≡◌, ◌≢◌, ℕ, [], ◌*◌, ◌/◌, ◌<◌, IfOk, IsTrue, Some, true, length, map, slice_get, slice_set};
 ghost use Rattle.packed_state.specs.Packed.{bits_of};
 ghost use Rattle.packed_state.specs.Sets.{has, set_of};
-ghost use Rattle.table_functions.specs.TableFunctions.{Table};
+ghost use Rattle.lower_bounds.specs.TableFunctions.{Table};
 ghost use Rattle.tables.specs.AllTables.{tables_of};
 ghost use Rattle.tables.specs.KnownRows.{IsPlaceOfRow};
 ghost use Rattle.tables.specs.Projections.{set_at, AreProjections, AreMoved};

@@ -2,7 +2,7 @@
 ghost use Rattle.std.specs.Prelude.{◌≡◌, ◌<◌, ◌≤◌, ◌^◌, IsTrue, IfOk, IfSome, MatchOption, None, Some, length, slice_get};
 ghost use Rattle.std.proofs.Props.{props};
 ghost use Rattle.packed_state.specs.Packed.{bits_of};
-ghost use Rattle.table_functions.specs.TableFunctions.{row_of};
+ghost use Rattle.lower_bounds.specs.TableFunctions.{row_of};
 ghost use Rattle.tables.specs.Keys.{AreKeys, HasKey};
 ghost use Rattle.table_rows.specs.Rows as rows_in_memory;
 ghost use Rattle.table_rows.specs.Tables.{table_of, sets_of};

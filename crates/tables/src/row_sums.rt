@@ -1,7 +1,7 @@
 //! Rows of tables, and the sums of their weights.
 ghost use Rattle.std.specs.Prelude.{◌≡◌, ℕ, ◌<◌, All, IfOk, IfSome, None, Some, length, replicate, slice_get, slice_index_or, slice_set};
-ghost use Rattle.table_functions.specs.TableFunctions.{Table};
-ghost use Rattle.table_losses.specs.Fates.{IsLoss};
+ghost use Rattle.lower_bounds.specs.TableFunctions.{Table};
+ghost use Rattle.table_rows.specs.Fates.{IsLoss};
 ghost use Rattle.tables.specs.AllTables.{tables_of, count_of};
 ghost use Rattle.tables.specs.RowSums.{AreAdded, AreSums, IsSmall};
 

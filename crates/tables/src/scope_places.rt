@@ -1,12 +1,12 @@
 //! Where atoms occur in the scopes of tables.
 ghost use Rattle.std.specs.Prelude.{◌≡◌, ℕ, ◌<◌, ◌^◌, ◌++◌, ◌∷◌, [], ◌==◌, All, List, if◌then◌else◌, IfOk, IsTrue, OnOk, length, map};
-ghost use Rattle.table_functions.specs.Laws.{are_over};
-ghost use Rattle.table_losses.specs.Losses.{indexed_of};
+ghost use Rattle.lower_bounds.specs.TableLaws.{are_over};
+ghost use Rattle.table_rows.specs.Losses.{indexed_of};
 ghost use Rattle.tables.specs.ScopePlaces.{places_of, scopes_of, AreScopePlaces};
 
 use faults::NoMemory;
 use std::alloc::Global;
-use table_losses::IndexedTable;
+use table_rows::IndexedTable;
 
 /// An index in the scope of a table.
 #[derive(Clone, Copy, Debug)]

@@ -1,9 +1,9 @@
 //! Tables with indexes of their scopes and rows.
 ghost use Rattle.std.specs.Prelude.{◌≡◌, ◌<◌, ◌^◌, IsTrue, All, IfOk, length, map};
 ghost use Rattle.std.proofs.Props.{props};
-ghost use Rattle.table_functions.specs.Laws.{are_over};
-ghost use Rattle.table_losses.specs.declared.indexed.IndexedTable as declared;
-ghost use Rattle.table_losses.specs.Losses.{indexed_of, indexed_count_of};
+ghost use Rattle.lower_bounds.specs.TableLaws.{are_over};
+ghost use Rattle.table_rows.specs.declared.indexed.IndexedTable as declared;
+ghost use Rattle.table_rows.specs.Losses.{indexed_of, indexed_count_of};
 ghost use Rattle.tables.specs.RowIndex.{indexed_in};
 ghost use Rattle.tables.specs.ByAtom.{IsByAtom};
 ghost use Rattle.tables.specs.ScopePlaces.{scopes_of, AreScopePlaces};
@@ -14,8 +14,7 @@ use faults::NoMemory;
 use grounding::{CountingChange, NumberedLiteral};
 use packed_state::Packed;
 use std::alloc::Global;
-use table_losses::{IndexedTable, Lists};
-use table_rows::Table;
+use table_rows::{IndexedTable, Lists, Table};
 
 /// Tables whose rows have a weight for each value. Tables and indices in scopes are listed by atom, rows by key.
 #[derive(Drop)]
@@ -39,12 +38,12 @@ impl<'a> IndexedTables<'a> {
     ghost use Rattle.grounding.specs.Views.{numbered_of};
     ghost use Rattle.model.specs.NumberedLiterals as numbered;
     ghost use Rattle.packed_state.specs.Packed.{bits_of};
-    ghost use Rattle.potential_functions.specs.PotentialFunctions.{IsInRange};
-    ghost use Rattle.table_functions.specs.TableFunctions as functions;
-    ghost use Rattle.table_functions.specs.TableFunctions.{Row, sum_over};
+    ghost use Rattle.lower_bounds.specs.PotentialFunctions.{IsInRange};
+    ghost use Rattle.lower_bounds.specs.TableFunctions as functions;
+    ghost use Rattle.lower_bounds.specs.TableFunctions.{Row, sum_over};
     ghost use Rattle.table_rows.specs.declared.table.Table as in_memory;
     ghost use Rattle.table_rows.specs.Tables.{table_of, weight_count_of};
-    ghost use Rattle.table_functions.specs.FairTables as model;
+    ghost use Rattle.lower_bounds.specs.FairTables as model;
     ghost use Rattle.tables.specs.AllTables.{tables_of, count_of};
     ghost use Rattle.tables.specs.ByAtom.{AreMarked};
     ghost use Rattle.tables.specs.ScopePlaces.{places_of};

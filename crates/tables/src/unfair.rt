@@ -5,7 +5,7 @@ ghost use Rattle.model.specs.NumberedLiterals.{literals_of_number};
 ghost use Rattle.model.specs.ConditionalChanges.{conditional_of_number};
 ghost use Rattle.model.specs.Task.{Instance};
 ghost use Rattle.model.specs.StaticallyFalse.{kept_instances};
-ghost use Rattle.table_functions.specs.FairTables.{IsFairAt};
+ghost use Rattle.lower_bounds.specs.FairTables.{IsFairAt};
 ghost use Rattle.tables.specs.AllTables.{tables_of, count_of};
 ghost use Rattle.tables.specs.Several.{several_of, width_of};
 ghost use Rattle.tables.specs.TotalLosses.{AreLossesByAll, IsKnownAfter};

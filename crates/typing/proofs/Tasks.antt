@@ -13,16 +13,16 @@ use Rattle.model.proofs.Tests.{passes_got}
 use Rattle.typing.specs.declared.names.Declarations.{Declarations}
 use Rattle.typing.specs.declared.names.DeclaredObjects.{DeclaredObjects}
 use Rattle.typing.specs.declared.names.Start.{Start}
-use Rattle.task_parts.specs.declared.type_names.TypeTable.{TypeTable}
+use Rattle.typing_names.specs.declared.type_names.TypeTable.{TypeTable}
 use Rattle.typing.specs.Declarations.{type_faults_of, domain_faults, contents_faults, stated_faults_in, AreContents, AreTypesOf}
 use Rattle.task.specs.TaskParts.{task_of_parts}
 use Rattle.task.specs.declared.parts.TaskParts.{TaskParts}
 use Rattle.typing.specs.Task.{PairFault, ReportsAll, ReportsFaults}
-use Rattle.task_parts.specs.Scope.{narrow_atoms_in}
-use Rattle.task_parts.proofs.Reports.{reports_here, reports_later}
-use Rattle.task_parts.proofs.Empty.{nil_left, nil_right, not_refused, and_true}
+use Rattle.typing_names.specs.Scope.{narrow_atoms_in}
+use Rattle.typing_names.proofs.Reports.{reports_here, reports_later}
+use Rattle.typing_names.proofs.Empty.{nil_left, nil_right, not_refused, and_true}
 use Rattle.typing.proofs.ParentChains.{all_whole, descends_on_chain, type_at, among_Contains, Contains_among}
-use Rattle.task_parts.proofs.Declared.{names_are}
+use Rattle.typing_names.proofs.Declared.{names_are}
 use Rattle.typing.proofs.Declaring.{parents_low, none_comes_back}
 use Rattle.typing.proofs.WellTyped.{Fits, declared_count, arities_fit, schemas_fit, facts_fit, own_faults, formula_fits}
 

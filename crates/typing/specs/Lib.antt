@@ -1,4 +1,4 @@
-pub use Rattle.task_parts.specs.Refusals
+pub use Rattle.typing_names.specs.Refusals
 pub mod Task
 pub mod Chains
 pub mod DeclaredObjects

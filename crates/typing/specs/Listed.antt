@@ -4,8 +4,8 @@ use Rattle.std.specs.List.Sorted.{IsPermutation}
 use Rattle.std.specs.Global.{Vec}
 use Rattle.task.specs.TaskParts.{predicate_of}
 use Rattle.task.specs.declared.atoms.TypeId.{TypeId}
-use Rattle.task_parts.specs.Refusals.{refusal_of}
-use Rattle.task_parts.specs.declared.fault.TaskRefusal.{TaskRefusal}
+use Rattle.typing_names.specs.Refusals.{refusal_of}
+use Rattle.typing_names.specs.declared.fault.TaskRefusal.{TaskRefusal}
 use Rattle.typing.specs.Declarations.{AreTypesOf, known_in, type_faults_of}
 use Rattle.typing.specs.DeclaredObjects.{AreObjectsOf}
 use Rattle.typing.specs.declared.listed.Names.{Names}

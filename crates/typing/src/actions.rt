@@ -1,10 +1,10 @@
 //! The actions of a domain.
 ghost use Rattle.std.specs.Prelude.{◌≡◌, [], map, IfErr, IfOk, OnOk};
 ghost use Rattle.task.specs.TaskParts as parts;
-ghost use Rattle.task_parts.specs.Scope.{known_outside, known_over};
+ghost use Rattle.typing_names.specs.Scope.{known_outside, known_over};
 ghost use Rattle.typing.specs.Task.{file_of, ReportsAll};
-ghost use Rattle.task_parts.specs.Walk.{Finds};
-ghost use Rattle.syntax_tree.specs.Tree as read;
+ghost use Rattle.typing_names.specs.Walk.{Finds};
+ghost use Rattle.pddl_tree_parts.specs.Tree as read;
 ghost use Rattle.model.specs.Trees.{domain_file};
 ghost use Rattle.model.specs.Typing as typing;
 ghost use Rattle.std.specs.List.{flat_map};
@@ -14,12 +14,12 @@ use crate::functions::increase;
 use crate::{PairFault, TaskFile};
 use faults::NoMemory;
 use indexmap::IndexMap;
+use pddl_tree_parts::{Action, Domain};
 use std::alloc::Global;
-use syntax_tree::{Action, Domain};
 use task::{Schema, TypeUnion};
-use task_parts::domain::{declare, put};
-use task_parts::formulas::{enter, formula};
-use task_parts::{Globals, Walk};
+use typing_names::domain::{declare, put};
+use typing_names::formulas::{enter, formula};
+use typing_names::{Globals, Walk};
 
 /// The schema of an action with these parameters, given the variables in scope.
 fn body(

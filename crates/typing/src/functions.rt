@@ -3,10 +3,10 @@ ghost use Rattle.std.specs.Prelude.{◌≡◌, [], ◌++◌, drop, if◌then◌e
 ghost use Rattle.std.specs.List.{flat_map};
 ghost use Rattle.std.specs.Option.{option_map_or};
 ghost use Rattle.task.specs.TaskParts as parts;
-ghost use Rattle.task_parts.specs.Scope.{keys_in, known_over};
+ghost use Rattle.typing_names.specs.Scope.{keys_in, known_over};
 ghost use Rattle.typing.specs.Task.{file_of, ReportsAll};
-ghost use Rattle.task_parts.specs.Walk.{Finds};
-ghost use Rattle.syntax_tree.specs.Tree as read;
+ghost use Rattle.typing_names.specs.Walk.{Finds};
+ghost use Rattle.pddl_tree_parts.specs.Tree as read;
 ghost use Rattle.model.specs.Trees.{problem_file};
 ghost use Rattle.model.specs.Task as task;
 ghost use Rattle.model.specs.Typing as typing;
@@ -15,11 +15,11 @@ use crate::declarations::declared;
 use crate::{PairFault, TaskFile};
 use faults::{Code, NoMemory};
 use indexmap::IndexMap;
+use pddl_tree_parts as tree;
+use pddl_tree_parts::{Action, Amount, Domain, Name, Problem};
 use std::alloc::Global;
-use syntax_tree as tree;
-use syntax_tree::{Action, Amount, Domain, Name, Problem};
 use task::{Increase, Predicate, TypeUnion};
-use task_parts::{Globals, TypeTable, Walk, declares_cost};
+use typing_names::{Globals, TypeTable, Walk, declares_cost};
 
 /// Refuses the metric if the total cost is not declared.
 fn check_metric(walk: &mut Walk, has_cost: bool, metric: Option<&Name<'_>>)

@@ -17,4 +17,4 @@ pub use laws::{examples_are_typed, supertypes_are_those_above};
 pub use listed::listed_faults;
 pub use names::DeclaredObjects;
 pub use resolver::FromTrees;
-pub use task_parts::{MAX_LISTED, PairFault, PairRefusal, TaskFault, TaskFile, TaskRefusal};
+pub use typing_names::{MAX_LISTED, PairFault, PairRefusal, TaskFault, TaskFile, TaskRefusal};

@@ -1,8 +1,8 @@
 //! All faults of a pair that are found before one of them hides what comes after it.
 ghost use Rattle.std.specs.Prelude.{◌≡◌, ◌++◌, List, [], IfErr, IfOk, OnOk};
-ghost use Rattle.syntax_tree.specs.Tree.{domain_of, file_of, problem_of};
-ghost use Rattle.task_parts.specs.Scope.{known_outside, known_over};
-ghost use Rattle.task_parts.specs.Walk.{Finds};
+ghost use Rattle.pddl_tree_parts.specs.Tree.{domain_of, file_of, problem_of};
+ghost use Rattle.typing_names.specs.Scope.{known_outside, known_over};
+ghost use Rattle.typing_names.specs.Walk.{Finds};
 ghost use Rattle.typing.specs.Task.{ReportsAll};
 ghost use Rattle.typing.specs.Listed.{AreFaultsOf, AreListed, AreNamesOf, faults_listed, known_in_names, use_faults};
 ghost use Rattle.model.specs.Trees.{problem_file};
@@ -14,11 +14,11 @@ use crate::statements::walked_init;
 use crate::{PairFault, TaskFile, TaskRefusal, chains, declarations, functions, objects};
 use faults::{NoMemory, Refused};
 use indexmap::IndexMap;
+use pddl_tree_parts::{Domain, Problem};
 use std::alloc::Global;
-use syntax_tree::{Domain, Problem};
 use task::{Predicate, TypeUnion};
-use task_parts::formulas::formula;
-use task_parts::{Globals, TypeTable, Walk};
+use typing_names::formulas::formula;
+use typing_names::{Globals, TypeTable, Walk};
 
 /// The faults of a pair: those of the first phase of typing that has any, up to [`MAX_LISTED`](crate::MAX_LISTED), and none if the
 /// pair is well-typed. The actions, the initial state and the goal are a single phase here, since they do not depend on each

@@ -3,10 +3,10 @@ ghost use Rattle.std.specs.Prelude.{◌≡◌, ◌≤◌, [], length, IfErr, IfO
 
 use crate::{PairFault, TaskFile, actions, declarations, functions, statements};
 use indexmap::IndexMap;
+use pddl_tree_parts::{Domain, Problem};
 use std::alloc::Global;
-use syntax_tree::{Domain, Problem};
 use task::{Atom, Formula, Predicate, Schema, TypeId};
-use task_parts::{Globals, TypeTable};
+use typing_names::{Globals, TypeTable};
 
 /// The constants, and all objects with the constants first.
 #[derive(Drop)]
@@ -39,7 +39,7 @@ impl Declarations {
     ghost use Rattle.typing.specs.Task.{ReportsAll};
     ghost use Rattle.typing.specs.Declarations.{domain_faults, known_by, known_in, stated_faults_in, AreDeclared, AreSchemasOf, AreTypesOf, Starts};
     ghost use Rattle.typing.specs.DeclaredObjects.{AreObjectsOf};
-    ghost use Rattle.syntax_tree.specs.Tree.{domain_of, problem_of};
+    ghost use Rattle.pddl_tree_parts.specs.Tree.{domain_of, problem_of};
     ghost use Rattle.model.specs.Trees.{problem_file};
     ghost use Rattle.model.specs.Typing.{action_faults};
 
@@ -120,9 +120,9 @@ impl Declarations {
 
 impl Start {
     ghost use Rattle.typing.specs.Task.{file_of, ReportsAll};
-    ghost use Rattle.task_parts.specs.Scope.{known_outside};
+    ghost use Rattle.typing_names.specs.Scope.{known_outside};
     ghost use Rattle.typing.specs.Declarations.{stated_faults_in, Starts};
-    ghost use Rattle.syntax_tree.specs.Tree.{problem_of};
+    ghost use Rattle.pddl_tree_parts.specs.Tree.{problem_of};
 
     /// The problem's initial state and goal, given the names visible in it.
     fn stated_in(

@@ -1,12 +1,12 @@
 //! The domain's constants and the problem's objects, and their types.
 ghost use Rattle.std.specs.Prelude.{◌≡◌, ◌≤◌, [], ◌++◌, length, map, take, IfErr, IfOk, OnOk};
 ghost use Rattle.task.specs.TaskParts as parts;
-ghost use Rattle.task_parts.specs.TypedLists.{declared_of};
+ghost use Rattle.typing_names.specs.TypedLists.{declared_of};
 ghost use Rattle.typing.specs.DeclaredObjects.{AreMade, AreObjects};
-ghost use Rattle.task_parts.specs.Scope.{keys_in};
+ghost use Rattle.typing_names.specs.Scope.{keys_in};
 ghost use Rattle.typing.specs.Task.{ReportsAll};
-ghost use Rattle.task_parts.specs.Walk.{Finds};
-ghost use Rattle.syntax_tree.specs.Tree as read;
+ghost use Rattle.typing_names.specs.Walk.{Finds};
+ghost use Rattle.pddl_tree_parts.specs.Tree as read;
 ghost use Rattle.model.specs.Trees.{domain_file, problem_file};
 ghost use Rattle.model.specs.Typing as typing;
 
@@ -14,13 +14,13 @@ use crate::names::DeclaredObjects;
 use crate::{PairFault, TaskFile};
 use faults::NoMemory;
 use indexmap::IndexMap;
+use pddl_tree_parts::{Domain, Group, Problem};
 use std::alloc::Global;
-use syntax_tree::{Domain, Group, Problem};
 use task::{MAX_OBJECTS, TypeId};
-use task_parts::domain::declare;
-use task_parts::typed_lists::{Declared, add, limit};
-use task_parts::types::check_all;
-use task_parts::{TypeTable, Walk};
+use typing_names::domain::declare;
+use typing_names::typed_lists::{Declared, add, limit};
+use typing_names::types::check_all;
+use typing_names::{TypeTable, Walk};
 
 /// The declared objects.
 fn table(

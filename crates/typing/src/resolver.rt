@@ -4,14 +4,14 @@ ghost use Rattle.task.specs.Task.{task_of};
 ghost use Rattle.typing.specs.Task.{ReportsAll, ReportsFault, ReportsFaults, ReportsLeastFault, ReportsLeastOf};
 ghost use Rattle.model.specs.Task as task;
 ghost use Rattle.model.specs.TypingFaults as typing_faults;
-ghost use Rattle.syntax_tree.specs.Tree.{domain_of, problem_of};
+ghost use Rattle.pddl_tree_parts.specs.Tree.{domain_of, problem_of};
 ghost use Rattle.model.specs.Typing.{task_of_trees, ListsNoFault, TypingFault};
 
 use crate::names::Declarations;
 use crate::{PairFault, TaskFault, chains, objects};
 use faults::Refused;
+use pddl_tree_parts::{Domain, Problem};
 use std::alloc::Global;
-use syntax_tree::{Domain, Problem};
 use task::{Task, TaskParts};
 
 /// A task can be built from trees.

@@ -2,9 +2,9 @@
 ghost use Rattle.std.specs.Prelude.{◌≡◌, [], ◌∷◌, ◌++◌, drop, if◌then◌else◌, map, IfErr, IfOk, OnOk};
 ghost use Rattle.task.specs.TaskParts as parts;
 ghost use Rattle.typing.specs.Task.{file_of, ReportsAll};
-ghost use Rattle.task_parts.specs.Scope.{known_of, known_outside, known_over, narrow_atoms_in};
-ghost use Rattle.task_parts.specs.Walk.{found, found_by, Finds};
-ghost use Rattle.syntax_tree.specs.Tree as read;
+ghost use Rattle.typing_names.specs.Scope.{known_of, known_outside, known_over, narrow_atoms_in};
+ghost use Rattle.typing_names.specs.Walk.{found, found_by, Finds};
+ghost use Rattle.pddl_tree_parts.specs.Tree as read;
 ghost use Rattle.model.specs.Trees as tree;
 ghost use Rattle.model.specs.Typing as typing;
 ghost use Rattle.std.specs.List.{flat_map};
@@ -12,11 +12,11 @@ ghost use Rattle.std.specs.List.{flat_map};
 use crate::{PairFault, TaskFile};
 use faults::{Code, NoMemory};
 use indexmap::IndexMap;
+use pddl_tree_parts::{Fact, InitialCost, InitialValue, Problem};
 use std::alloc::Global;
-use syntax_tree::{Fact, InitialCost, InitialValue, Problem};
 use task::{Atom, Formula, TypeUnion};
-use task_parts::formulas::formula;
-use task_parts::{Globals, Scope, Walk};
+use typing_names::formulas::formula;
+use typing_names::{Globals, Scope, Walk};
 
 /// The statements of `:init`: the atoms that are true, and the values of functions.
 #[derive(Drop)]

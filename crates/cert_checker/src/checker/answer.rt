@@ -13,11 +13,11 @@ ghost use Rattle.model.specs.Claims.{ClaimHolds};
 ghost use Rattle.certificate_definitions.specs.Certificates.{Certificate, IsClosedFor};
 
 use crate::checker::Accepted;
+use crate::refusal::{Refusal, RefusalCode};
 use certificate::Claim;
 use formulas::Plan;
 use std::alloc::Global;
 use task::Task;
-use task_certificates::{Refusal, RefusalCode};
 use validator::{Verdict, validate};
 
 /// The answer to a true claim: a statement on all plans, or that the given plan is optimal.

@@ -4,9 +4,9 @@ ghost use Rattle.std.specs.List.{list_all};
 ghost use Rattle.grounding.specs.Ground.{task_in, atoms_in};
 ghost use Rattle.packed_state.specs.Packed.{bits_of};
 ghost use Rattle.packed_state.specs.PooledView.{pooled_width};
-ghost use Rattle.symmetries.specs.Orbits.{keeps_atoms};
-ghost use Rattle.task_symmetries.specs.Exchange.{exchange_of};
-ghost use Rattle.representatives.specs.Representatives.{atoms_of};
+ghost use Rattle.symmetries_definitions.specs.Orbits.{keeps_atoms};
+ghost use Rattle.symmetries.specs.Exchange.{exchange_of};
+ghost use Rattle.symmetries.specs.Representatives.{atoms_of};
 ghost use Rattle.certificate.specs.Certificate.{certificate_of, store_in};
 ghost use Rattle.cert_checker.specs.Classified.{key_by, keys_in, AreOfOneWidth, AreCheapestUpTo, IsKeptFor, AreClassified};
 ghost use Rattle.cert_checker.specs.CheapestPlaces.{costs_of};
@@ -16,9 +16,8 @@ use certificate::Cert;
 use faults::NoMemory;
 use grounding::Ground;
 use packed_state::{Packed, PooledStore, StateStore};
-use representatives::Representatives;
 use std::alloc::Global;
-use task_symmetries::Exchange;
+use symmetries::{Exchange, Representatives};
 
 /// The cheapest listed state of each class. States with the same representative are alike and form a class.
 #[derive(Drop)]

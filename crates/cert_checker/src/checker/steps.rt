@@ -5,7 +5,7 @@ ghost use Rattle.task.specs.Task.{task_of};
 ghost use Rattle.packed_state.specs.Packed.{bits_of};
 ghost use Rattle.grounding.specs.Ground.{task_in, atoms_in, IsGroundOf};
 ghost use Rattle.certificate_reader.specs.Lines.{claim_of};
-ghost use Rattle.task_symmetries.specs.Exchange.{exchange_of};
+ghost use Rattle.symmetries.specs.Exchange.{exchange_of};
 ghost use Rattle.packed_state.specs.PooledView.{pooled_width};
 ghost use Rattle.certificate.specs.Certificate.{certificate_of, store_in};
 ghost use Rattle.cert_checker.specs.CertChecker.{IsFirstRefusal, IsTrueRefusal};
@@ -22,20 +22,20 @@ ghost use Rattle.model.specs.Grounding.{applicable_numbers};
 ghost use Rattle.certificate_definitions.specs.Certificates.{is_dead_end_of, lines_of, AreAlikeFor, AreFairFor};
 ghost use Rattle.cert_checker.specs.Weights.{AreCounted};
 ghost use Rattle.certificate_definitions.specs.CertificateRefusals.{state_line};
-ghost use Rattle.task_certificates.specs.declared.refusal.Refusal.TheVariants as Refusal;
+ghost use Rattle.cert_checker.specs.declared.refusal.Refusal.TheVariants as Refusal;
 
 use crate::checker::classes::classes_by;
 use crate::checker::packed::PackedListing;
 use crate::checker::symmetry::symmetric_exchanges;
 use crate::checker::values::fair_values;
+use crate::refusal::{Refusal, RefusalCode};
 use certificate::{Cert, Claim, Mark};
 use grounding::{Ground, GroundFault};
 use packed_state::Packed;
 use std::alloc::Global;
+use symmetries::Exchange;
 use tables::KnownState;
 use task::Task;
-use task_certificates::{Refusal, RefusalCode};
-use task_symmetries::Exchange;
 
 /// Grounds the task and checks, in this order: the exchanges are symmetries; the values are fair, that for dead ends dead-fair;
 /// a state alike the initial one is listed at cost 0; each state line is right.

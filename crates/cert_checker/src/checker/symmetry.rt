@@ -4,29 +4,28 @@ ghost use Rattle.std.specs.List.{list_all};
 ghost use Rattle.std.specs.Option.{option_map};
 ghost use Rattle.task.specs.Task.{task_of};
 ghost use Rattle.grounding.specs.Ground.{task_in, atoms_in};
-ghost use Rattle.task_symmetries.specs.Exchange.{exchange_of};
-ghost use Rattle.task_symmetries.specs.Pairs.{exchange_among, pairs_in};
-ghost use Rattle.task_symmetries.specs.SymmetryTest.{task_tested};
-ghost use Rattle.symmetries.specs.Exchanges.{objects_in};
-ghost use Rattle.symmetries.specs.Orbits.{keeps_atoms};
+ghost use Rattle.symmetries.specs.Exchange.{exchange_of};
+ghost use Rattle.symmetries.specs.ObjectPairs.{exchange_among, pairs_in};
+ghost use Rattle.symmetries.specs.SymmetryTest.{task_tested};
+ghost use Rattle.symmetries_definitions.specs.Exchanges.{objects_in};
+ghost use Rattle.symmetries_definitions.specs.Orbits.{keeps_atoms};
 ghost use Rattle.certificate.specs.Certificate.{certificate_of};
 ghost use Rattle.certificate_definitions.specs.CertificateRefusals.{exchange_line};
 ghost use Rattle.cert_checker.specs.CheckedLines.{AreSymmetries, IsFirstGrounded, IsTrueAnyway};
 ghost use Rattle.cert_checker.specs.Exchanged.{is_said, is_symmetry_by};
 ghost use Rattle.cert_checker.specs.FluentAtoms.{AreFluent};
 ghost use Rattle.cert_checker.specs.Represented.{Represents};
-ghost use Rattle.task_certificates.specs.declared.refusal.Refusal.TheVariants as Refusal;
-ghost use Rattle.task_certificates.specs.declared.refusal.RefusalCode.TheVariants.{NotSymmetry};
+ghost use Rattle.cert_checker.specs.declared.refusal.Refusal.TheVariants as Refusal;
+ghost use Rattle.cert_checker.specs.declared.refusal.RefusalCode.TheVariants.{NotSymmetry};
 ghost use Rattle.model.specs.NumberedAtoms.{numbered_atoms};
 
+use crate::refusal::{Refusal, RefusalCode};
 use certificate::Cert;
 use faults::NoMemory;
 use grounding::Ground;
-use representatives::Representatives;
 use std::alloc::Global;
+use symmetries::{Exchange, Representatives, SymmetryTest, exchanged_numbers};
 use task::{ObjectId, Task};
-use task_certificates::{Refusal, RefusalCode};
-use task_symmetries::{Exchange, SymmetryTest, exchanged_numbers};
 
 /// The certificate's exchanges, if each is a symmetry of the task and maps numbered atoms to numbered atoms.
 pub(super) fn symmetric_exchanges(

@@ -8,7 +8,7 @@ ghost use Rattle.certificate.specs.CertificateParts.{potential_of};
 ghost use Rattle.certificate.specs.declared.header.Potential as header;
 ghost use Rattle.certificate_definitions.specs.Certificates as certificates;
 ghost use Rattle.certificate_definitions.specs.Certificates.{has_tables, AreFairFor};
-ghost use Rattle.potential_functions.specs.PotentialFunctions.{PotentialFunction, AreInRange};
+ghost use Rattle.lower_bounds.specs.PotentialFunctions.{PotentialFunction, AreInRange};
 ghost use Rattle.tables.specs.Several.{several_of};
 ghost use Rattle.cert_checker.specs.FluentAtoms.{AreFluent};
 ghost use Rattle.cert_checker.specs.CheckedLines.{IsFirstSymmetric, IsTrueAnyway};
@@ -16,13 +16,13 @@ ghost use Rattle.cert_checker.specs.Weights.{HaveTheirWeights, AreCounted, AreWi
 ghost use Rattle.model.specs.NumberedAtoms.{numbered_atoms};
 
 use crate::checker::weights::{at_width, dead_fair_potentials, fair_potentials, kept_instance};
+use crate::refusal::{Refusal, RefusalCode};
 use certificate::{Cert, Potential, Version};
 use faults::NoMemory;
 use grounding::Ground;
 use potentials::Potentials;
 use std::alloc::Global;
 use tables::{IndexedTables, TableFunctions, ValuesFairness};
-use task_certificates::{Refusal, RefusalCode};
 
 /// The certificate's values, if they are fair for the ground task, and that for dead ends dead-fair. The ground task numbers the
 /// certificate's atoms first.

@@ -13,16 +13,16 @@ ghost use Rattle.cert_checker.specs.CheckedLines.{IsFirstSymmetric, IsTrueAnyway
 ghost use Rattle.cert_checker.specs.Weights.{HasItsWeights};
 ghost use Rattle.model.specs.StaticallyFalse.{kept_instances};
 ghost use Rattle.model.specs.NumberedAtoms.{numbered_atoms};
-ghost use Rattle.potential_functions.specs.PotentialFunctions.{AreInRange};
-ghost use Rattle.potential_functions.specs.Fair.{AreFair, AreDeadFair};
+ghost use Rattle.lower_bounds.specs.PotentialFunctions.{AreInRange};
+ghost use Rattle.lower_bounds.specs.FairPotentials.{AreFair, AreDeadFair};
 
+use crate::refusal::{Refusal, RefusalCode};
 use certificate::{Cert, Potential};
 use faults::NoMemory;
 use formulas::{Instance, copied};
 use grounding::Ground;
 use potentials::{Fairness, Potentials};
 use std::alloc::Global;
-use task_certificates::{Refusal, RefusalCode};
 
 /// The certificate's potentials, if they are fair for the ground task, which numbers the certificate's atoms first.
 pub(super) fn fair_potentials(

@@ -4,15 +4,15 @@ ghost use Rattle.std.specs.String.{string_bytes};
 ghost use Rattle.typing.specs.Task.{file_of, refusal_of};
 ghost use Rattle.file_answers.specs.FurtherFaults.{AreFurther, IsFaultOfTexts, IsReportedAt, SayFault, further_text};
 ghost use Rattle.file_answers.specs.Explanations.{IsExplainedAlone, IsFaultExplained};
-ghost use Rattle.source_text.specs.Files.{file_view, name_in, text_in};
+ghost use Rattle.explain_hints.specs.Files.{file_view, name_in, text_in};
 ghost use Rattle.model.specs.Files.{of_task};
 
 use crate::explaining::of_plan::joined;
 use crate::explanation::{Explanation, FurtherFault};
 use crate::files::faults_of_files;
-use explained_faults::{FileRefusal, explain_fault};
+use explain_faults::{FileRefusal, explain_fault};
+use explain_hints::{File, NamedTexts};
 use faults::{Code, NoMemory};
-use source_text::{File, NamedTexts};
 use std::alloc::Global;
 use typing::{TaskFile, TaskRefusal};
 

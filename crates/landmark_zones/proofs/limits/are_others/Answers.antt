@@ -1,7 +1,7 @@
 use Rattle.std.proofs.Common.{◌≡◌, ◌∙◌, ◌+◌, ℕ, Bool, List, not, drop, get_or, sym, ap}
 use Rattle.std.specs.Prelude.{◌&&◌, ◌<◌, length}
 use Rattle.std.proofs.lemmas.Option.{slice_get-get_or}
-use Rattle.table_functions.specs.TableFunctions.{is_among}
+use Rattle.lower_bounds.specs.TableFunctions.{is_among}
 use Rattle.landmark_zones.specs.Limits.{are_others}
 use Rattle.landmark_zones.proofs.LimitsLemmas.{one-decides, found-among}
 use Rattle.landmark_zones.proofs.limits.are_others.Goals as goal

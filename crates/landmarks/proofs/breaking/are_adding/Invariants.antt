@@ -1,7 +1,7 @@
 use Rattle.std.proofs.Common.{◌≡◌, true, drop, map}
 use Rattle.grounding.specs.Changes.{conditional_of}
 use Rattle.model.specs.ConditionalChanges.{changes_in}
-use Rattle.potential_functions.specs.Fair.{makes}
+use Rattle.lower_bounds.specs.FairPotentials.{makes}
 use Rattle.landmarks.proofs.breaking.are_adding.Given as goal
 
 -- the remaining ones decide

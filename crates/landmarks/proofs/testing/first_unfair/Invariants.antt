@@ -1,6 +1,6 @@
 use Rattle.std.proofs.Common.{ℕ, ◌<◌, List}
 use Rattle.grounding.specs.Ground.{atoms_in, task_in}
-use Rattle.table_functions.specs.TableFunctions.{Table}
+use Rattle.lower_bounds.specs.TableFunctions.{Table}
 use Rattle.landmark_zones.specs.Landmarks.{landmarks_of}
 use Rattle.landmarks.specs.Fairness.{AreAsked, IsFairValue}
 use Rattle.landmarks.proofs.testing.first_unfair.Given as goal

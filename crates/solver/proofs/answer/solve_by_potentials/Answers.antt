@@ -3,7 +3,7 @@ use Rattle.grounding.specs.declared.ground.Ground.{Ground}
 use Rattle.grounding.specs.Ground.{task_in, atoms_in}
 use Rattle.model.specs.Runs.{System}
 use Rattle.model.specs.Grounding.{ground_system}
-use Rattle.potential_functions.specs.PotentialFunctions.{PotentialFunction, score, is_dead_by}
+use Rattle.lower_bounds.specs.PotentialFunctions.{PotentialFunction, score, is_dead_by}
 use Rattle.potentials_improved.specs.FairPotentials as fair
 use Rattle.potentials_improved.specs.Potentials.{potentials_of}
 use Rattle.potentials_improved.specs.FairPotentials.{potentials_in}

@@ -2,10 +2,10 @@ use Rattle.std.proofs.Common.{◌≤◌, length, sym, subst}
 use Rattle.certificate.specs.CertificateParts.{bounds_of}
 use Rattle.grounding.specs.Ground.{task_in, atoms_in}
 use Rattle.model.specs.Grounding.{ground_system}
-use Rattle.potential_functions.specs.PotentialFunctions.{PotentialFunction}
-use Rattle.potential_functions.specs.Settled.{initial_value}
+use Rattle.lower_bounds.specs.PotentialFunctions.{PotentialFunction}
+use Rattle.lower_bounds.specs.Settled.{initial_value}
 use Rattle.potentials.specs.Potentials.{potentials_of}
-use Rattle.table_functions.specs.FairTables.{AreFair}
+use Rattle.lower_bounds.specs.FairTables.{AreFair}
 use Rattle.solver.specs.declared.searched.Searched.{Searched}
 use Rattle.solver.specs.Attempts.{IfDone}
 use Rattle.solver.specs.Guidance.{by_tables, estimate_by, reports_dead}

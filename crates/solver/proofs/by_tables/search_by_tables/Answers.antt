@@ -7,10 +7,10 @@ use Rattle.grounding.specs.declared.ground.Ground.{Ground}
 use Rattle.grounding.specs.Ground.{task_in, atoms_in}
 use Rattle.ground_listings.specs.SearchSpace.{ground_in}
 use Rattle.model.specs.Grounding.{ground_system}
-use Rattle.potential_functions.specs.Settled.{initial_value}
+use Rattle.lower_bounds.specs.Settled.{initial_value}
 use Rattle.potentials.specs.Potentials.{potentials_of}
-use Rattle.table_functions.specs.FairTables.{AreFair}
-use Rattle.table_functions.specs.TableFunctions.{SeveralValues, functions_of, greatest_value}
+use Rattle.lower_bounds.specs.FairTables.{AreFair}
+use Rattle.lower_bounds.specs.TableFunctions.{SeveralValues, functions_of, greatest_value}
 use Rattle.table_rows.specs.Tables.{table_of}
 use Rattle.tables.specs.declared.several.TableFunctions.{TableFunctions}
 use Rattle.tables.specs.Several.{several_of, width_of}

@@ -3,9 +3,9 @@ use Rattle.grounding.specs.declared.ground.Ground.{Ground}
 use Rattle.grounding.specs.Ground.{task_in, atoms_in}
 use Rattle.model.specs.Runs.{System}
 use Rattle.model.specs.Grounding.{ground_system}
-use Rattle.table_functions.specs.FairTables.{AreFair}
-use Rattle.table_functions.specs.Laws.{AreAllNumbered}
-use Rattle.table_functions.specs.TableFunctions.{SeveralValues}
+use Rattle.lower_bounds.specs.FairTables.{AreFair}
+use Rattle.lower_bounds.specs.TableLaws.{AreAllNumbered}
+use Rattle.lower_bounds.specs.TableFunctions.{SeveralValues}
 use Rattle.table_guides.proofs.GuideLemmas.{all_numbered}
 use Rattle.table_guides.specs.FairTables.{functions_in}
 use Rattle.tables.specs.Several.{several_of, ReportsValues}

@@ -3,7 +3,7 @@ use Rattle.grounding.specs.Ground.{task_in}
 use Rattle.ground_listings.specs.SearchSpace.{ground_in}
 use Rattle.ground_listings.specs.GroundListing.{listed_states}
 use Rattle.search.specs.UnderWay.{store_in}
-use Rattle.progress_lines.specs.Said.{GoesOn}
+use Rattle.devices.specs.Progress.{GoesOn}
 use Rattle.solver.specs.Said.{IsTrueLine}
 use Rattle.solver.specs.Stretches.{IsUnderWay}
 use Rattle.solver.proofs.searched.go_on_by.Given as goal

@@ -1,10 +1,10 @@
 use Rattle.std.proofs.Common.{◌∙◌, ◌++◌, ◌∷◌, [], map, Some, sym, ap}
 use Rattle.std.proofs.lemmas.List.{map_push}
 use Rattle.std.proofs.lemmas.Option.{slice_get-get_or}
-use Rattle.table_losses.specs.Losses.{indexed_of}
+use Rattle.table_rows.specs.Losses.{indexed_of}
 use Rattle.tables.specs.RowIndex.{indexed_in}
 use Rattle.table_rows.specs.Tables.{table_of}
-use Rattle.table_losses.proofs.FateLemmas.{taken-more}
+use Rattle.table_rows.proofs.FateLemmas.{taken-more}
 use Rattle.tables.proofs.tables.row_indexes.Goals as goal
 
 pub loop-indexed-preserved : goal.loop-indexed-preserved

@@ -1,5 +1,5 @@
 use Rattle.std.proofs.Common.{◌≡◌, map, take}
-use Rattle.table_losses.specs.Losses.{indexed_of}
+use Rattle.table_rows.specs.Losses.{indexed_of}
 use Rattle.tables.specs.RowIndex.{indexed_in}
 use Rattle.tables.proofs.tables.row_indexes.Given as goal
 

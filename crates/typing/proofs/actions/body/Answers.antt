@@ -3,12 +3,12 @@ use Rattle.std.specs.List.{flat_map}
 use Rattle.std.proofs.lemmas.List.{append_assoc}
 use Rattle.typing.specs.Task.{file_of}
 use Rattle.task.specs.TaskParts as parts
-use Rattle.task_parts.specs.Scope.{known_over}
-use Rattle.task_parts.specs.Walk.{found, found_by}
-use Rattle.syntax_tree.specs.Tree as read
+use Rattle.typing_names.specs.Scope.{known_over}
+use Rattle.typing_names.specs.Walk.{found, found_by}
+use Rattle.pddl_tree_parts.specs.Tree as read
 use Rattle.model.specs.Trees as tree
 use Rattle.model.specs.Typing as typing
-use Rattle.task_parts.proofs.Found.{found_after}
+use Rattle.typing_names.proofs.Found.{found_after}
 use Rattle.typing.proofs.actions.body.Goals.{In_ok-effect}
 use Rattle.typing.proofs.actions.body.Goals as goal
 

@@ -1,9 +1,9 @@
 use Rattle.std.proofs.Common.{◌≡◌, ◌∙◌, map, ap}
 use Rattle.task.specs.TaskParts as parts
-use Rattle.task_parts.specs.Scope.{known_outside}
-use Rattle.task_parts.specs.Walk.{found, found_by, nothing}
-use Rattle.task_parts.proofs.Reports as printing
-use Rattle.syntax_tree.specs.Tree as read
+use Rattle.typing_names.specs.Scope.{known_outside}
+use Rattle.typing_names.specs.Walk.{found, found_by, nothing}
+use Rattle.typing_names.proofs.Reports as printing
+use Rattle.pddl_tree_parts.specs.Tree as read
 use Rattle.model.specs.Typing as typing
 use Rattle.typing.proofs.actions.schemas.Goals as goal
 

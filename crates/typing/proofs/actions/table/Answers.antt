@@ -1,13 +1,13 @@
 use Rattle.std.proofs.Common.{map}
-use Rattle.task_parts.specs.Walk.{found_by}
+use Rattle.typing_names.specs.Walk.{found_by}
 use Rattle.task.specs.TaskParts as parts
-use Rattle.task_parts.specs.Scope.{known_outside}
-use Rattle.syntax_tree.specs.Tree as read
+use Rattle.typing_names.specs.Scope.{known_outside}
+use Rattle.pddl_tree_parts.specs.Tree as read
 use Rattle.model.specs.Trees.{domain_file}
 use Rattle.model.specs.Typing as typing
 use Rattle.typing.proofs.TableSteps as tables
-use Rattle.task_parts.proofs.Found as finding
-use Rattle.syntax_tree.specs.declared.tree.Action.{Action}
+use Rattle.typing_names.proofs.Found as finding
+use Rattle.pddl_tree_parts.specs.declared.tree.Action.{Action}
 use Rattle.typing.proofs.actions.table.Goals as goal
 
 pub loop-action-preserved : goal.loop-action-preserved

@@ -3,12 +3,12 @@ use Rattle.std.specs.List.{flat_map}
 use Rattle.std.proofs.lemmas.List.Folds.{flat_map-map}
 use Rattle.std.proofs.lemmas.Result.{IfOk-weaker, on_ok_weaker}
 use Rattle.task.specs.TaskParts as parts
-use Rattle.task_parts.specs.Scope.{known_outside}
-use Rattle.task_parts.specs.Walk.{Finds, found, found_by}
-use Rattle.task_parts.proofs.Empty as empty
-use Rattle.task_parts.proofs.Found as finding
-use Rattle.syntax_tree.specs.Tree as read
-use Rattle.syntax_tree.specs.declared.tree.Action.{Action}
+use Rattle.typing_names.specs.Scope.{known_outside}
+use Rattle.typing_names.specs.Walk.{Finds, found, found_by}
+use Rattle.typing_names.proofs.Empty as empty
+use Rattle.typing_names.proofs.Found as finding
+use Rattle.pddl_tree_parts.specs.Tree as read
+use Rattle.pddl_tree_parts.specs.declared.tree.Action.{Action}
 use Rattle.model.specs.Trees as tree
 use Rattle.model.specs.Trees.{domain_file}
 use Rattle.model.specs.Typing as typing

@@ -1,6 +1,6 @@
 use Rattle.std.proofs.Common.{◌∙◌, Bool, [], ap, if◌then◌else◌}
-use Rattle.task_parts.specs.TypedLists.{declared_of}
-use Rattle.task_parts.specs.Walk.{found, found_by}
+use Rattle.typing_names.specs.TypedLists.{declared_of}
+use Rattle.typing_names.specs.Walk.{found, found_by}
 use Rattle.model.specs.Typing as typing
 use Rattle.typing.proofs.ChainSteps.{back_fault}
 use Rattle.typing.proofs.chains.check_cycle.Goals as goal

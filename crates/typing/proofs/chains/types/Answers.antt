@@ -1,17 +1,17 @@
 use Rattle.std.proofs.Common.{◌≡◌, ◌≤◌, ◌∙◌, [], ◌∷◌, ◌++◌, codes, map, length, ap, sym, subst, arith}
 use Rattle.std.proofs.lemmas.List.{length-map}
 use Rattle.std.proofs.lemmas.Result.{IfErr-weaker, IfOk-weaker}
-use Rattle.syntax_tree.specs.Tree.{domain_of, problem_of, group_of}
+use Rattle.pddl_tree_parts.specs.Tree.{domain_of, problem_of, group_of}
 use Rattle.typing.specs.Chains.{cycles}
 use Rattle.typing.specs.Task.{ReportsAll}
-use Rattle.task_parts.specs.TypedLists.{declared_of}
+use Rattle.typing_names.specs.TypedLists.{declared_of}
 use Rattle.typing.specs.Declarations.{type_faults_of, AreTypesOf}
 use Rattle.model.specs.Trees.{domain_file}
 use Rattle.model.specs.Trees as tree
 use Rattle.model.specs.Typing as typing
-use Rattle.task_parts.proofs.Empty as empty
+use Rattle.typing_names.proofs.Empty as empty
 use Rattle.model.specs.Typing.{first_filled}
-use Rattle.task_parts.proofs.Reports.{reports_here, reports_later}
+use Rattle.typing_names.proofs.Reports.{reports_here, reports_later}
 use Rattle.faults.proofs.Results.{passed_on}
 use Rattle.typing.proofs.chains.types.Goals.{In_ok-names}
 use Rattle.typing.proofs.chains.types.Goals as goal

@@ -1,6 +1,6 @@
 use Rattle.typing.specs.Task.{file_of}
-use Rattle.task_parts.specs.Scope.{known_over}
-use Rattle.task_parts.specs.Walk.{found_by}
+use Rattle.typing_names.specs.Scope.{known_over}
+use Rattle.typing_names.specs.Walk.{found_by}
 use Rattle.typing.proofs.EffectTrees.{both_by_parts, both_faults_by_parts}
 use Rattle.typing.proofs.effects.+effects.Goals as goal
 

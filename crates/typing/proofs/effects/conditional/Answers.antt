@@ -2,12 +2,12 @@ use Rattle.std.proofs.Common.{◌∙◌, map, ap, sym}
 use Rattle.std.specs.List.{flat_map}
 use Rattle.std.proofs.lemmas.List.Folds.{flat_map-map}
 use Rattle.typing.specs.Task.{file_of}
-use Rattle.task_parts.specs.Scope.{known_over}
-use Rattle.task_parts.specs.Walk.{found, found_by}
-use Rattle.syntax_tree.specs.Tree as read
+use Rattle.typing_names.specs.Scope.{known_over}
+use Rattle.typing_names.specs.Walk.{found, found_by}
+use Rattle.pddl_tree_parts.specs.Tree as read
 use Rattle.model.specs.Task as task
 use Rattle.model.specs.Typing as typing
-use Rattle.task_parts.proofs.Found.{found_after, map-map}
+use Rattle.typing_names.proofs.Found.{found_after, map-map}
 use Rattle.typing.proofs.effects.conditional.Goals as goal
 
 pub returns-clause-value : goal.returns-clause-value

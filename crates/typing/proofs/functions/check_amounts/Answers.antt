@@ -1,11 +1,11 @@
 use Rattle.std.proofs.Common.{refl}
 use Rattle.typing.specs.Task.{file_of}
-use Rattle.task_parts.specs.Scope.{known_over}
-use Rattle.task_parts.specs.Walk.{found_by}
-use Rattle.syntax_tree.specs.declared.tree.Increase.{Increase}
-use Rattle.syntax_tree.specs.Tree as read
+use Rattle.typing_names.specs.Scope.{known_over}
+use Rattle.typing_names.specs.Walk.{found_by}
+use Rattle.pddl_tree_parts.specs.declared.tree.Increase.{Increase}
+use Rattle.pddl_tree_parts.specs.Tree as read
 use Rattle.model.specs.Typing as typing
-use Rattle.task_parts.proofs.Found as finding
+use Rattle.typing_names.proofs.Found as finding
 use Rattle.typing.proofs.functions.check_amounts.Goals as goal
 
 pub loop-increase-preserved : goal.loop-increase-preserved

@@ -1,10 +1,10 @@
 use Rattle.std.proofs.Common.{◌≡◌, ◌∙◌, ◌∷◌, ◌+◌, ap, sym, map, drop}
 use Rattle.std.proofs.lemmas.List.{drop_more, drop_all}
 use Rattle.typing.specs.Task.{file_of}
-use Rattle.task_parts.specs.Walk.{found, found_by}
-use Rattle.syntax_tree.specs.declared.tree.TaskFile.{TaskFile}
-use Rattle.syntax_tree.specs.declared.tree.Increase.{Increase}
-use Rattle.syntax_tree.specs.Tree as read
+use Rattle.typing_names.specs.Walk.{found, found_by}
+use Rattle.pddl_tree_parts.specs.declared.tree.TaskFile.{TaskFile}
+use Rattle.pddl_tree_parts.specs.declared.tree.Increase.{Increase}
+use Rattle.pddl_tree_parts.specs.Tree as read
 use Rattle.model.specs.Typing as typing
 use Rattle.typing.proofs.functions.refuse_increases.Goals as goal
 

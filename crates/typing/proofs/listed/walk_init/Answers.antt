@@ -1,6 +1,6 @@
 use Rattle.std.proofs.Common.{◌∙◌, ap}
-use Rattle.syntax_tree.specs.Tree.{file_of, problem_of}
-use Rattle.task_parts.specs.Walk.{found, found_by}
+use Rattle.pddl_tree_parts.specs.Tree.{file_of, problem_of}
+use Rattle.typing_names.specs.Walk.{found, found_by}
 use Rattle.model.specs.Typing.{init_faults}
 use Rattle.typing.proofs.listed.walk_init.Goals as goal
 

@@ -1,8 +1,8 @@
 use Rattle.std.proofs.Common.{◌∙◌, ap}
-use Rattle.syntax_tree.specs.Tree.{file_of, problem_of}
-use Rattle.task_parts.specs.Scope.{known_outside, known_over}
-use Rattle.task_parts.specs.Walk.{found, found_by}
-use Rattle.task_parts.proofs.Found.{found_after}
+use Rattle.pddl_tree_parts.specs.Tree.{file_of, problem_of}
+use Rattle.typing_names.specs.Scope.{known_outside, known_over}
+use Rattle.typing_names.specs.Walk.{found, found_by}
+use Rattle.typing_names.proofs.Found.{found_after}
 use Rattle.model.specs.Typing.{formula_faults, init_faults}
 use Rattle.typing.proofs.listed.walk_statements.Goals as goal
 

@@ -1,13 +1,13 @@
 use Rattle.std.proofs.Common.{◌≡◌, ◌≤◌, ◌∙◌, [], ◌++◌, map, length, None, ap, arith}
-use Rattle.task_parts.specs.Walk.{found, found_by, nothing}
+use Rattle.typing_names.specs.Walk.{found, found_by, nothing}
 use Rattle.task.specs.TaskParts as parts
-use Rattle.task_parts.specs.TypedLists.{declared_of}
-use Rattle.task_parts.specs.Scope.{keys_in}
+use Rattle.typing_names.specs.TypedLists.{declared_of}
+use Rattle.typing_names.specs.Scope.{keys_in}
 use Rattle.model.specs.Typing as typing
 use Rattle.std.proofs.lemmas.List.{length-map}
-use Rattle.task_parts.proofs.Found as finding
-use Rattle.task_parts.proofs.Reports as printing
-use Rattle.task_parts.proofs.Empty as empty
+use Rattle.typing_names.proofs.Found as finding
+use Rattle.typing_names.proofs.Reports as printing
+use Rattle.typing_names.proofs.Empty as empty
 use Rattle.typing.proofs.objects.all.Goals as goal
 
 pub returns : goal.returns

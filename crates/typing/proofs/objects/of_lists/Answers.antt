@@ -1,11 +1,11 @@
 use Rattle.std.proofs.Common.{◌≡◌, ◌∙◌, List, ◌++◌, map, length, take, ap, subst, arith, IfErr, IfOk}
 use Rattle.std.proofs.Math.Seq.{take-append_seam}
 use Rattle.std.proofs.lemmas.List.{length-append, length-map}
-use Rattle.syntax_tree.specs.Tree as read
-use Rattle.task_parts.specs.Scope.{keys_in}
+use Rattle.pddl_tree_parts.specs.Tree as read
+use Rattle.typing_names.specs.Scope.{keys_in}
 use Rattle.typing.specs.DeclaredObjects.{AreMade}
 use Rattle.typing.specs.Task.{ReportsAll}
-use Rattle.task_parts.specs.TypedLists.{declared_of}
+use Rattle.typing_names.specs.TypedLists.{declared_of}
 use Rattle.model.specs.Trees.{domain_file, problem_file}
 use Rattle.model.specs.Typing as typing
 use Rattle.typing.proofs.objects.of_lists.Goals.{After-as_slice}

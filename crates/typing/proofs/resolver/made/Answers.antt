@@ -1,16 +1,16 @@
 use Rattle.std.proofs.Common.{◌≡◌, List, [], ◌∙◌, map, ap, sym, subst}
-use Rattle.syntax_tree.specs.Tree.{domain_of, problem_of, name_of}
+use Rattle.pddl_tree_parts.specs.Tree.{domain_of, problem_of, name_of}
 use Rattle.task.specs.TaskParts.{task_of_parts}
 use Rattle.typing.specs.Task.{ReportsFaults, ReportsAll}
 use Rattle.typing.specs.Declarations.{domain_faults, known_by, stated_faults_in, AreContents, AreDeclared, AreTypesOf, Starts}
 use Rattle.typing.specs.DeclaredObjects.{AreObjects, AreObjectsOf}
 use Rattle.typing.specs.declared.names.Declarations.{Declarations}
 use Rattle.typing.specs.declared.names.DeclaredObjects.{DeclaredObjects}
-use Rattle.task_parts.specs.declared.type_names.TypeTable.{TypeTable}
+use Rattle.typing_names.specs.declared.type_names.TypeTable.{TypeTable}
 use Rattle.model.specs.Task.{Name}
 use Rattle.model.specs.Trees.{problem_file, Domain, Problem}
 use Rattle.model.specs.Typing.{object_faults, objects_faults, declared_objects, declared_constants, known_in_problem, object_in, type_names}
-use Rattle.task_parts.proofs.Reports.{reports_here, reports_later}
+use Rattle.typing_names.proofs.Reports.{reports_here, reports_later}
 use Rattle.typing.proofs.Tasks.{made_by_phases, reported_of_types, reported_of_contents, parts_of, IsMade}
 use Rattle.typing.proofs.Costs.{is_some-map}
 use Rattle.faults.proofs.Results.{passed_on}

@@ -1,8 +1,8 @@
 use Rattle.std.proofs.Common.{◌≡◌, ◌∙◌, ◌∷◌, ◌+◌, ap, sym, map, drop, if◌then◌else◌}
 use Rattle.std.proofs.lemmas.List.{drop_more, drop_all}
 use Rattle.typing.specs.Task.{file_of}
-use Rattle.task_parts.specs.Walk.{found, found_by}
-use Rattle.syntax_tree.specs.Tree as read
+use Rattle.typing_names.specs.Walk.{found, found_by}
+use Rattle.pddl_tree_parts.specs.Tree as read
 use Rattle.model.specs.Typing as typing
 use Rattle.typing.proofs.Costs.{equals_end}
 use Rattle.typing.proofs.statements.check_all_equals.Goals as goal

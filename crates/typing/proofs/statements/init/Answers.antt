@@ -1,12 +1,12 @@
 use Rattle.std.proofs.Common.{◌≡◌, ◌∙◌, [], map, ap}
 use Rattle.std.specs.List.{flat_map}
 use Rattle.typing.specs.Task.{file_of}
-use Rattle.task_parts.specs.Scope.{known_over, narrow_atoms_in}
-use Rattle.task_parts.specs.Walk.{found, found_by, nothing}
+use Rattle.typing_names.specs.Scope.{known_over, narrow_atoms_in}
+use Rattle.typing_names.specs.Walk.{found, found_by, nothing}
 use Rattle.task.specs.TaskParts as parts
-use Rattle.syntax_tree.specs.Tree as read
+use Rattle.pddl_tree_parts.specs.Tree as read
 use Rattle.model.specs.Typing as typing
-use Rattle.task_parts.proofs.Reports as printing
+use Rattle.typing_names.proofs.Reports as printing
 use Rattle.typing.proofs.statements.init.Goals as goal
 
 pub returns : goal.returns

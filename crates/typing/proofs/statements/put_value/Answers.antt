@@ -1,8 +1,8 @@
 use Rattle.std.proofs.Common.{◌≡◌, ◌∙◌, map, ap, sym}
 use Rattle.indexmap.proofs.CallerLemmas.{insert_entry-new}
-use Rattle.task_parts.specs.Walk.{found, found_by}
+use Rattle.typing_names.specs.Walk.{found, found_by}
 use Rattle.task.specs.TaskParts as parts
-use Rattle.syntax_tree.specs.Tree.{file_of, name_of}
+use Rattle.pddl_tree_parts.specs.Tree.{file_of, name_of}
 use Rattle.std.proofs.lemmas.List.{map_push}
 use Rattle.model.specs.Task as task
 use Rattle.model.specs.Meaning.{value_in}

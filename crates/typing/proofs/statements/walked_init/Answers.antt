@@ -1,10 +1,10 @@
 use Rattle.std.proofs.Common.{◌≡◌, ◌∙◌, [], map, drop, ap}
 use Rattle.std.specs.List.{flat_map}
 use Rattle.typing.specs.Task.{file_of}
-use Rattle.task_parts.specs.Scope.{known_of, narrow_atoms_in}
-use Rattle.task_parts.specs.Walk.{found, found_by}
-use Rattle.task_parts.proofs.Found.{found_after}
-use Rattle.syntax_tree.specs.Tree as read
+use Rattle.typing_names.specs.Scope.{known_of, narrow_atoms_in}
+use Rattle.typing_names.specs.Walk.{found, found_by}
+use Rattle.typing_names.proofs.Found.{found_after}
+use Rattle.pddl_tree_parts.specs.Tree as read
 use Rattle.model.specs.Typing as typing
 use Rattle.typing.proofs.statements.walked_init.Goals as goal
 

@@ -1,10 +1,10 @@
 use Rattle.std.proofs.Common.{◌≡◌, ◌∙◌, List, length, refl, sym, ap, subst, arith, ℤ}
 use Rattle.std.specs.Prelude.{All}
-use Rattle.potential_functions.specs.PotentialFunctions.{IsInRange}
-use Rattle.table_functions.specs.TableFunctions.{Row}
+use Rattle.lower_bounds.specs.PotentialFunctions.{IsInRange}
+use Rattle.lower_bounds.specs.TableFunctions.{Row}
 use Rattle.table_rows.specs.Tables.{table_of, weight_count_of}
 use Rattle.table_rows.proofs.TableLemmas.{rows-weighed}
-use Rattle.table_losses.proofs.FateLemmas.{row-there}
+use Rattle.table_rows.proofs.FateLemmas.{row-there}
 use Rattle.tables.specs.AllTables.{tables_of, count_of}
 use Rattle.tables.specs.RowSums.{AreAdded}
 use Rattle.tables.proofs.RowSumsLemmas.{as-losses, all-small, all-ranged, few-tables, sums-on, some-missing}

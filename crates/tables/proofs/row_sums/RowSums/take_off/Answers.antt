@@ -1,11 +1,11 @@
 use Rattle.std.proofs.Common.{◌≡◌, ◌∙◌, ◌<◌, None, Some, List, length, get_or, refl, sym, ap, subst, arith, ℤ}
 use Rattle.std.specs.Prelude.{All, IfSome}
 use Rattle.std.proofs.lemmas.Option.{slice_get_read, get_or_from_slice_get}
-use Rattle.potential_functions.specs.PotentialFunctions.{IsInRange}
-use Rattle.table_functions.specs.TableFunctions.{Row}
+use Rattle.lower_bounds.specs.PotentialFunctions.{IsInRange}
+use Rattle.lower_bounds.specs.TableFunctions.{Row}
 use Rattle.table_rows.specs.Tables.{table_of, weight_count_of}
 use Rattle.table_rows.proofs.TableLemmas.{rows-weighed}
-use Rattle.table_losses.proofs.FateLemmas.{row-there}
+use Rattle.table_rows.proofs.FateLemmas.{row-there}
 use Rattle.tables.specs.AllTables.{tables_of, count_of}
 use Rattle.tables.specs.RowSums.{AreAdded}
 use Rattle.tables.proofs.RowSumsLemmas.{as-losses, all-small, all-ranged, few-tables, sums-off, lacking-most}

@@ -2,7 +2,7 @@ use Rattle.std.proofs.Common.{◌≡◌, ◌∙◌, ◌<◌, Some, length, pos, 
 use Rattle.std.specs.Prelude.{slice_get}
 use Rattle.std.proofs.lemmas.Option.{slice_get_read}
 use Rattle.packed_state.specs.Packed.{bits_of}
-use Rattle.potential_functions.specs.PotentialFunctions.{score}
+use Rattle.lower_bounds.specs.PotentialFunctions.{score}
 use Rattle.potentials.specs.Potentials.{potentials_of}
 use Rattle.potentials.specs.declared.potentials.Potentials.{Potentials}
 use Rattle.tables.specs.AllTables.{tables_of, count_of}

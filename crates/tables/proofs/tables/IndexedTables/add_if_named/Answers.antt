@@ -10,12 +10,12 @@ use Rattle.model.specs.ConditionalChanges.{ConditionalChange, conditional_of_num
 use Rattle.model.specs.NumberedLiterals.{NumberedLiteral, literals_of_number}
 use Rattle.model.proofs.ListLemmas.{Contains-got}
 use Rattle.packed_state.specs.Packed.{bits_of}
-use Rattle.table_functions.specs.TableFunctions.{Table}
-use Rattle.table_functions.specs.FairTables.{is_closed}
-use Rattle.table_losses.specs.Fates.{IsLoss}
-use Rattle.table_losses.specs.Losses.{indexed_of, indexed_count_of, AreLossesByTable}
-use Rattle.table_losses.specs.declared.indexed.IndexedTable.{IndexedTable}
-use Rattle.table_losses.proofs.FateLemmas.{row-there}
+use Rattle.lower_bounds.specs.TableFunctions.{Table}
+use Rattle.lower_bounds.specs.FairTables.{is_closed}
+use Rattle.table_rows.specs.Fates.{IsLoss}
+use Rattle.table_rows.specs.Losses.{indexed_of, indexed_count_of, AreLossesByTable}
+use Rattle.table_rows.specs.declared.indexed.IndexedTable.{IndexedTable}
+use Rattle.table_rows.proofs.FateLemmas.{row-there}
 use Rattle.tables.specs.AllTables.{tables_of, count_of}
 use Rattle.tables.specs.RowSums.{AreAdded}
 use Rattle.tables.specs.TotalLosses.{IsShutOut, AreTotals, StandsAfter}

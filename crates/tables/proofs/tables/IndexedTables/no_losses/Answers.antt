@@ -3,8 +3,8 @@ use Rattle.std.specs.Prelude.{replicate}
 use Rattle.grounding.specs.Ground.{task_in, atoms_in}
 use Rattle.model.specs.NumberedLiterals.{NumberedChange}
 use Rattle.packed_state.specs.Packed.{bits_of}
-use Rattle.table_functions.specs.FairTables.{changes_in}
-use Rattle.table_losses.proofs.PlacingLemmas.{changes-in}
+use Rattle.lower_bounds.specs.FairTables.{changes_in}
+use Rattle.table_rows.proofs.PlacingLemmas.{changes-in}
 use Rattle.tables.specs.AllTables.{tables_of}
 use Rattle.tables.specs.ByAtom.{AreMarked}
 use Rattle.tables.proofs.TotalLemmas.{known-first}

@@ -1,9 +1,9 @@
 use Rattle.std.proofs.Common.{◌≡◌, ◌∙◌, [], ◌++◌, map, ap}
-use Rattle.syntax_tree.specs.Tree.{domain_of, problem_of}
-use Rattle.task_parts.specs.Scope.{known_outside}
-use Rattle.task_parts.specs.Walk.{found, found_by, nothing}
-use Rattle.task_parts.proofs.Found.{found_after}
-use Rattle.task_parts.proofs.Reports as printing
+use Rattle.pddl_tree_parts.specs.Tree.{domain_of, problem_of}
+use Rattle.typing_names.specs.Scope.{known_outside}
+use Rattle.typing_names.specs.Walk.{found, found_by, nothing}
+use Rattle.typing_names.proofs.Found.{found_after}
+use Rattle.typing_names.proofs.Reports as printing
 use Rattle.typing.specs.Listed.{known_in_names, use_faults}
 use Rattle.model.specs.Trees.{problem_file}
 use Rattle.model.specs.Typing.{action_faults, formula_faults, init_faults, known_in_domain, known_in_problem}

@@ -1,10 +1,10 @@
 use Rattle.std.proofs.Common.{◌≡◌, [], ◌∷◌, ◌∙◌, map, ap, sym, subst}
-use Rattle.syntax_tree.specs.Tree.{domain_of, problem_of}
+use Rattle.pddl_tree_parts.specs.Tree.{domain_of, problem_of}
 use Rattle.typing.specs.Task.{ReportsAll}
 use Rattle.task.specs.TaskParts as parts
 use Rattle.typing.specs.Declarations.{domain_faults, known_in}
 use Rattle.model.specs.Typing.{declaration_faults, function_faults, action_faults, known_in_domain, predicates_of, predicate_in, schema_in, type_names, first_filled}
-use Rattle.task_parts.proofs.Reports.{reports_here, reports_later}
+use Rattle.typing_names.proofs.Reports.{reports_here, reports_later}
 use Rattle.faults.proofs.Results.{passed_on}
 use Rattle.typing.proofs.names.Declarations.declared.Goals.{In_ok-predicates, In_ok-functions}
 use Rattle.typing.proofs.names.Declarations.declared.Goals as goal
