@@ -153,12 +153,14 @@ fn comes_of(texts: &NamedTexts<'_>, fault: FileRefusal, other: FileRefusal) -> b
 }
 
 /// Whether a fault seems to follow from another. Each type of a cycle is refused. A term is of a wrong type if the terms of its list are
-/// in the wrong order, or if it is a variable in the scope of a declaration that is refused.
+/// in the wrong order, or if it is a variable in the scope of a declaration that is refused. An unknown variable may be the one that a
+/// variable declared twice was meant to be.
 fn follows(texts: &NamedTexts<'_>, fault: FileRefusal, other: FileRefusal) -> bool {
     match (fault.code, other.code) {
         (Code::TypeCycle, Code::TypeCycle) => true,
         (Code::WrongType, Code::WrongType) => are_in_one_list(texts, fault, other),
-        (Code::WrongType, Code::UnknownType | Code::Duplicate | Code::Shadowed) => {
+        (Code::WrongType, Code::UnknownType | Code::Duplicate | Code::Shadowed)
+        | (Code::UnknownName, Code::Duplicate) => {
             word_of(texts, fault).starts_with(b"?") && are_in_one_scope(texts, fault, other)
         }
         _ => false,
