@@ -12,7 +12,7 @@ use Rattle.search.specs.declared.nodes.Node.{Node}
 use Rattle.search.specs.Estimates.{IsAdmissible, IsConsistent}
 use Rattle.search.specs.DeadEnds.{DetectsDeadEnds, ReportsDeadEnds}
 use Rattle.search.specs.Outcome.{AreOfOneClass, AreOwnClasses, AreClassesOf, is_expanded, is_marked_dead, line_of, lines_of, IsReachableAt, ReachingCostsAtLeast, AreFound, AreExpandedWithin}
-use Rattle.search.specs.Nodes.{Waiting, Found, found_of, IsWaiting, total_of, AreNodes, IsFoundWithin, AreOpen, parent_of, begins, follows, IsPath, IsReachedIn, IsWay, dearest}
+use Rattle.search.specs.Nodes.{OpenListEntry, Found, found_of, IsWaiting, total_of, AreNodes, IsFoundWithin, HaveSuccessorsFound, parent_of, begins, follows, IsPath, IsReachedIn, IsWay, dearest}
 use Rattle.search.proofs.Consistent.{are_bounds}
 use Rattle.search.proofs.DeadEnds.{are_dead_ends}
 use Rattle.search.proofs.NodesLemmas.{run-push}
@@ -49,10 +49,10 @@ rest_of opened = 0
 rest_of (cut rest) = rest
 rest_of dead = 0
 
-open_if : (expanded reported : Bool) (estimate : ℕ) → (if expanded then opened else (if reported then dead else cut estimate)) ≡ opened → expanded ≡ true
-open_if true reported estimate is = refl
-open_if false true estimate is = absurd (cc)
-open_if false false estimate is = absurd (cc)
+successors_found_if : (expanded reported : Bool) (estimate : ℕ) → (if expanded then opened else (if reported then dead else cut estimate)) ≡ opened → expanded ≡ true
+successors_found_if true reported estimate is = refl
+successors_found_if false true estimate is = absurd (cc)
+successors_found_if false false estimate is = absurd (cc)
 
 cut_if : (expanded reported : Bool) (estimate rest : ℕ) → (if expanded then opened else (if reported then dead else cut estimate)) ≡ cut rest → (expanded ≡ false) × (reported ≡ false) × (rest ≡ estimate)
 cut_if true reported estimate rest is = absurd (cc)
@@ -76,7 +76,7 @@ pub record AreListed {S : Type 0} (t : System S ℕ) (class_of : S → S) (value
   pub marked : (k : ℕ) (n : Found S) → slice_get nodes k ≡ Some n → is_marked_dead n.node ≡ is_dead n.state
 
 -- what holds of them at any time suffices
-pub are_listed : {S : Type 0} (t : System S ℕ) (class_of : S → S) (value : S → ℕ) (is_dead : S → Bool) (nodes : List (Found S)) (open_list : List Waiting) → AreNodes t class_of value is_dead nodes open_list → AreListed t class_of value is_dead nodes
+pub are_listed : {S : Type 0} (t : System S ℕ) (class_of : S → S) (value : S → ℕ) (is_dead : S → Bool) (nodes : List (Found S)) (open_list : List OpenListEntry) → AreNodes t class_of value is_dead nodes open_list → AreListed t class_of value is_dead nodes
 are_listed {S} t class_of value is_dead nodes open_list are = record {
   root = are.root;
   distinct = are.distinct;
@@ -100,24 +100,24 @@ module _ {S : Type 0} (t : System S ℕ) (class_of : S → S) (value : S → ℕ
       (line_of value is_dead n.state n.node, at-line value is_dead states all k n.state n.node parts.0 parts.1, is, within)
 
   module _ (listed : AreListed t class_of value is_dead (found_of states all)) where
-    pub closed : (claim : Claim) → AreOpen t class_of (found_of states all)
+    pub closed : (claim : Claim) → HaveSuccessorsFound t class_of (found_of states all)
         → ((k : ℕ) (n : Found S) → slice_get (found_of states all) k ≡ Some n → IsWaiting is_dead n → Allows claim (total_of value n))
         → IsClosed t (AreOfOneClass class_of) value is_dead claim (lines_of value is_dead states all)
-    closed claim are_open allowed = record {
+    closed claim successors_found allowed = record {
       initial_listed = let (n, at, is, free) = listed.root in listed_within t.initial 0 (0, n, at, ap class_of is, omega (arith, free));
       successors_listed = λ line a next at mark step.
           let (k, s, r, is_s, is_r, is) = line-at value is_dead states all line at in
           let there = node_at k s r is_s is_r in
-          let expanded : is_expanded r ≡ true = open_if (is_expanded r) (is_dead s) (value s) (ap (λ (l : Line S). l.mark) is ∙ mark) in
+          let expanded : is_expanded r ≡ true = successors_found_if (is_expanded r) (is_dead s) (value s) (ap (λ (l : Line S). l.mark) is ∙ mark) in
           let same : s ≡ line.state = ap (λ (l : Line S). l.state) is in
           let same_cost : r.cost ≡ line.cost = ap (λ (l : Line S). l.cost) is in
           subst (λ c. IsListedWithin (AreOfOneClass class_of) (lines_of value is_dead states all) next (c + t.cost a)) same_cost
           (listed_within next (r.cost + t.cost a)
-          (are_open k (record { state = s; node = r }) there expanded a next (ap (λ (x : S). t.step x a) same ∙ step)));
+          (successors_found k (record { state = s; node = r }) there expanded a next (ap (λ (x : S). t.step x a) same ∙ step)));
       open_goals_allowed = λ line at mark goal.
           let (k, s, r, is_s, is_r, is) = line-at value is_dead states all line at in
           let there = node_at k s r is_s is_r in
-          let expanded : is_expanded r ≡ true = open_if (is_expanded r) (is_dead s) (value s) (ap (λ (l : Line S). l.mark) is ∙ mark) in
+          let expanded : is_expanded r ≡ true = successors_found_if (is_expanded r) (is_dead s) (value s) (ap (λ (l : Line S). l.mark) is ∙ mark) in
           let same : s ≡ line.state = ap (λ (l : Line S). l.state) is in
           absurd (false≢true (sym (listed.no_goal k (record { state = s; node = r }) there expanded) ∙ ap t.meets_goal same ∙ goal));
       cuts_allowed = λ line rest at mark.
@@ -164,7 +164,7 @@ module _ {S : Type 0} (t : System S ℕ) (class_of : S → S) (value : S → ℕ
         let lines = lines_of value is_dead states all in
         claim-of_closed t (AreOfOneClass class_of) classes value is_dead claim lines (are_bounds t value lines admissible) (are_dead_ends t is_dead lines reports) is_closed
 
-  module _ (open_list : List Waiting) (nodes : AreNodes t class_of value is_dead (found_of states all) open_list) where
+  module _ (open_list : List OpenListEntry) (nodes : AreNodes t class_of value is_dead (found_of states all) open_list) where
     listing : AreListed t class_of value is_dead (found_of states all)
     listing = are_listed t class_of value is_dead (found_of states all) open_list nodes
 
@@ -200,23 +200,23 @@ module _ {S : Type 0} (t : System S ℕ) (class_of : S → S) (value : S → ℕ
         )
 
     -- no list that solves costs less than the sum of the node whose turn came: each has to pass through one that waits
-    pub no_plan_cheaper : AreClassesOf t class_of → IsAdmissible t value → ReportsDeadEnds t is_dead → (one : Found S) → AreOpen t class_of (found_of states all)
+    pub no_plan_cheaper : AreClassesOf t class_of → IsAdmissible t value → ReportsDeadEnds t is_dead → (one : Found S) → HaveSuccessorsFound t class_of (found_of states all)
         → ((k : ℕ) (n : Found S) → slice_get (found_of states all) k ≡ Some n → IsWaiting is_dead n → total_of value one ≤ total_of value n)
         → CostsAtLeast t (total_of value one)
-    no_plan_cheaper classes admissible reports one are_open least =
+    no_plan_cheaper classes admissible reports one successors_found least =
         let sum = total_of value one in
-        claimed listing classes admissible reports (bound sum) (closed listing (bound sum) are_open (λ k n at waits. least k n at waits))
+        claimed listing classes admissible reports (bound sum) (closed listing (bound sum) successors_found (λ k n at waits. least k n at waits))
 
     -- a goal state whose turn came is reached by a cheapest list
-    pub optimal : AreClassesOf t class_of → IsAdmissible t value → ReportsDeadEnds t is_dead → (i : ℕ) (one : Found S) (steps : List ℕ) (max_states : ℕ) → AreOpen t class_of (found_of states all) → slice_get (found_of states all) i ≡ Some one
+    pub optimal : AreClassesOf t class_of → IsAdmissible t value → ReportsDeadEnds t is_dead → (i : ℕ) (one : Found S) (steps : List ℕ) (max_states : ℕ) → HaveSuccessorsFound t class_of (found_of states all) → slice_get (found_of states all) i ≡ Some one
         → ((k : ℕ) (n : Found S) → slice_get (found_of states all) k ≡ Some n → IsWaiting is_dead n → total_of value one ≤ total_of value n)
         → t.meets_goal one.state ≡ true → IsPath all i steps → length steps ≤ length all → length states ≤ max_states
         → IsOptimal t steps × (cost_of_all t steps ≡ one.node.cost) × AreFound t class_of value is_dead (bound one.node.cost) max_states states all
         × (length steps ≤ max_states) × AreExpandedWithin value one.node.cost states all
-    optimal classes admissible reports i one steps max_states are_open occurs least goal path short within =
+    optimal classes admissible reports i one steps max_states successors_found occurs least goal path short within =
         let nothing_left : value one.state ≤ 0 = admissible one.state one.state [] refl goal in
-        let is_closed = closed listing (bound one.node.cost) are_open (λ k n at waits. omega (arith, least k n at waits, nothing_left)) in
-        let holds = no_plan_cheaper classes admissible reports one are_open least in
+        let is_closed = closed listing (bound one.node.cost) successors_found (λ k n at waits. omega (arith, least k n at waits, nothing_left)) in
+        let holds = no_plan_cheaper classes admissible reports one successors_found least in
         let (runs, no_more) = path_runs i steps one path occurs in
         let solves : Solves t steps = (one.state, runs, goal) in
         let costs : cost_of_all t steps ≡ one.node.cost = omega (arith, no_more, holds steps solves) in (
@@ -228,9 +228,9 @@ module _ {S : Type 0} (t : System S ℕ) (class_of : S → S) (value : S → ℕ
         )
 
     -- where no state waits, none solves
-    pub unsolvable : AreClassesOf t class_of → IsAdmissible t value → ReportsDeadEnds t is_dead → (max_states : ℕ) → AreOpen t class_of (found_of states all)
+    pub unsolvable : AreClassesOf t class_of → IsAdmissible t value → ReportsDeadEnds t is_dead → (max_states : ℕ) → HaveSuccessorsFound t class_of (found_of states all)
         → ((k : ℕ) (n : Found S) → slice_get (found_of states all) k ≡ Some n → IsWaiting is_dead n → ⊥) → length states ≤ max_states
         → IsUnsolvable t × AreFound t class_of value is_dead none max_states states all
-    unsolvable classes admissible reports max_states are_open none_waits within =
-        let is_closed = closed listing none are_open (λ k n at waits. none_waits k n at waits) in
+    unsolvable classes admissible reports max_states successors_found none_waits within =
+        let is_closed = closed listing none successors_found (λ k n at waits. none_waits k n at waits) in
         (claimed listing classes admissible reports none is_closed, found_states listing none max_states within is_closed)

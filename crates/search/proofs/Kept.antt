@@ -4,7 +4,7 @@ use Rattle.std.specs.Prelude.{slice_get, All}
 use Rattle.std.proofs.lemmas.List.Elements.{All-weaker}
 use Rattle.model.specs.Runs.{System}
 use Rattle.search.specs.Outcome.{AreOfOneClass}
-use Rattle.search.specs.Nodes.{Waiting, place_of, IsEntryOf, has_been_expanded, parent_of, begins, follows, IsWay, HasWay, Found, Leads, IsFoundWithin, IsOpen}
+use Rattle.search.specs.Nodes.{OpenListEntry, place_of, IsEntryOf, has_been_expanded, parent_of, begins, follows, IsWay, HasWay, Found, Leads, IsFoundWithin, HasSuccessorsFound}
 
 -- The node's place has one of its class still, which costs no more: another one only where it costs less and the node has never been
 -- expanded.
@@ -31,8 +31,8 @@ module _ {S : Type 0} (nodes after : List (Found S)) where
         let is = kept k n at in
         (k, is.now, is.there, is.alike ∙ alike, omega (arith, is.cheaper, within))
 
-    pub open_kept : (t : System S ℕ) (n : Found S) → IsOpen t class_of nodes n → IsOpen t class_of after n
-    open_kept t n is_open a next step = found_kept next (n.node.cost + t.cost a) (is_open a next step)
+    pub successors_kept : (t : System S ℕ) (n : Found S) → HasSuccessorsFound t class_of nodes n → HasSuccessorsFound t class_of after n
+    successors_kept t n is_open a next step = found_kept next (n.node.cost + t.cost a) (is_open a next step)
 
     -- a node's parent may be reached more cheaply, and is the same state
     pub leads_kept : (t : System S ℕ) (value : S → ℕ) (is_dead : S → Bool) (n : Found S) → Leads t value is_dead nodes n → Leads t value is_dead after n
@@ -51,7 +51,7 @@ module _ {S : Type 0} (nodes after : List (Found S)) where
         }
 
     -- an entry's state stays where it is, or its place is reached at less now
-    entry_kept : (value : S → ℕ) (is_dead : S → Bool) (w : Waiting) → IsEntryOf value is_dead nodes w → IsEntryOf value is_dead after w
+    entry_kept : (value : S → ℕ) (is_dead : S → Bool) (w : OpenListEntry) → IsEntryOf value is_dead nodes w → IsEntryOf value is_dead after w
     entry_kept value is_dead w of =
         let is = kept (place_of w) of.found of.occurs in
         record {
@@ -62,5 +62,5 @@ module _ {S : Type 0} (nodes after : List (Found S)) where
           estimate = λ sums. of.estimate (omega (arith, sums, of.no_dearer, is.cheaper)) ∙ sym (ap value (is.same_cost (omega (arith, sums, of.no_dearer, is.cheaper))));
         }
 
-    pub entries_kept : (value : S → ℕ) (is_dead : S → Bool) (open_list : List Waiting) → All (IsEntryOf value is_dead nodes) open_list → All (IsEntryOf value is_dead after) open_list
+    pub entries_kept : (value : S → ℕ) (is_dead : S → Bool) (open_list : List OpenListEntry) → All (IsEntryOf value is_dead nodes) open_list → All (IsEntryOf value is_dead after) open_list
     entries_kept value is_dead open_list all = All-weaker (IsEntryOf value is_dead nodes) (IsEntryOf value is_dead after) (entry_kept value is_dead) open_list all

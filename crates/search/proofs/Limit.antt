@@ -10,7 +10,7 @@ use Rattle.model.specs.Runs.{System, CostsAtLeast, IsReachable}
 use Rattle.search.specs.declared.nodes.Node.{Node}
 use Rattle.search.specs.Outcome.{PrecedesPlans, is_initial, is_next, AreMoreReachable}
 use Rattle.packed_state.specs.Store.{AreDistinct}
-use Rattle.search.specs.Nodes.{Waiting, parent_of, Found, found_of, AreNodes, IsTurn}
+use Rattle.search.specs.Nodes.{OpenListEntry, parent_of, Found, found_of, AreNodes, IsTurn}
 use Rattle.search.proofs.Lists.{get-push_new, get-push_other, get_exists}
 use Rattle.search.proofs.Linked.{get-found_of}
 use Rattle.search.proofs.NodesLemmas.{run-push}
@@ -42,7 +42,7 @@ reachable-of_precedes : {S A : Type 0} (t : System S A) (value : S → ℕ) (is_
 reachable-of_precedes t value is_dead s (is_initial is) = ([], ap Some (sym is))
 reachable-of_precedes t value is_dead s (is_next actions before a runs no_goal alive no_dearer step) = (actions ++ a ∷ [], run-push t t.initial actions a before s runs step)
 
-module _ {S : Type 0} (t : System S ℕ) (class_of : S → S) (value : S → ℕ) (is_dead : S → Bool) (states : List S) (all : List Node) (open_list : List Waiting)
+module _ {S : Type 0} (t : System S ℕ) (class_of : S → S) (value : S → ℕ) (is_dead : S → Bool) (states : List S) (all : List Node) (open_list : List OpenListEntry)
     (one_each : length all ≡ length states) (nodes : AreNodes t class_of value is_dead (found_of states all) open_list) where
   node_there : (k : ℕ) (x : S) → slice_get states k ≡ Some x → (n : Found S) × (slice_get (found_of states all) k ≡ Some n) × (n.state ≡ x)
   node_there k x at =

@@ -10,9 +10,9 @@ use Rattle.search.specs.declared.nodes.NodeStatus.{NodeStatus}
 use Rattle.search.specs.declared.nodes.NodeStatus.TheVariants.{Reopened, Expanded}
 use Rattle.search.specs.Estimates.{IsConsistent}
 use Rattle.search.specs.DeadEnds.{DetectsDeadEnds}
-use Rattle.search.specs.Nodes.{Waiting, entry, IsWaiting, total_of, IsEntryOf, has_been_expanded_status, parent_of, follows, HasWay, Found, Leads, dearest, AreNodes, IsOpen, AreOpen, AreOpenBut, IsTurn, marked}
+use Rattle.search.specs.Nodes.{OpenListEntry, entry, IsWaiting, total_of, IsEntryOf, has_been_expanded_status, parent_of, follows, HasWay, Found, Leads, dearest, AreNodes, HasSuccessorsFound, HaveSuccessorsFound, HaveSuccessorsFoundBut, IsTurn, marked}
 use Rattle.search.specs.Outcome.{AreOwnClasses, is_expanded, is_marked_dead, IsReachableAt, ReachingCostsAtLeast}
-use Rattle.search.proofs.Kept.{AreKept, way_kept, open_kept, leads_kept, entries_kept}
+use Rattle.search.proofs.Kept.{AreKept, way_kept, successors_kept, leads_kept, entries_kept}
 
 -- what holds of the found states however far the search is with them
 pub record AreReached {S : Type 0} (t : System S ℕ) (value : S → ℕ) (is_dead : S → Bool) (nodes : List (Found S)) : Type 0 where
@@ -76,7 +76,7 @@ module _ {S : Type 0} (status : NodeStatus) (lasting : has_been_expanded_status 
       no_dearer = leads.no_dearer;
     }
 
-    pub reached_marked : (open_list : List Waiting) → AreNodes t class_of value is_dead nodes open_list → length after ≡ length nodes → AreReached t value is_dead after
+    pub reached_marked : (open_list : List OpenListEntry) → AreNodes t class_of value is_dead nodes open_list → length after ≡ length nodes → AreReached t value is_dead after
     reached_marked open_list old long =
         let still : (n : Found S) → Leads t value is_dead nodes n → Leads t value is_dead after n = leads_kept nodes after class_of (kept_marked class_of) t value is_dead in
         record {
@@ -103,7 +103,7 @@ module _ {S : Type 0} (status : NodeStatus) (lasting : has_been_expanded_status 
 -- its turn begins
 module _ {S : Type 0} (nodes after : List (Found S)) (i : ℕ) (one : Found S) (stood : slice_get nodes i ≡ Some one) (waited : is_expanded one.node ≡ false)
     (here : slice_get after i ≡ Some (marked Expanded one)) (others : (k : ℕ) → k ≢ i → slice_get after k ≡ slice_get nodes k) (long : length after ≡ length nodes)
-    (t : System S ℕ) (class_of : S → S) (value : S → ℕ) (is_dead : S → Bool) (open_list open_list' : List Waiting) (old : AreNodes t class_of value is_dead nodes open_list) (alive : is_dead one.state ≡ false) where
+    (t : System S ℕ) (class_of : S → S) (value : S → ℕ) (is_dead : S → Bool) (open_list open_list' : List OpenListEntry) (old : AreNodes t class_of value is_dead nodes open_list) (alive : is_dead one.state ≡ false) where
   each : (P : ℕ → Found S → Type 0) → P i (marked Expanded one) → ((k : ℕ) (n : Found S) → k ≢ i → slice_get nodes k ≡ Some n → P k n) → (k : ℕ) (n : Found S) → slice_get after k ≡ Some n → P k n
   each = each_marked Expanded refl nodes after i one stood here others
 
@@ -155,10 +155,10 @@ module _ {S : Type 0} (nodes after : List (Found S)) (i : ℕ) (one : Found S) (
         (λ k n _ at expanded. old.ordered consistent k i n one at stood expanded (waited, alive));
   }
 
-  pub open_but_marked : AreOpen t class_of nodes → AreOpenBut t class_of after i
-  open_but_marked all = each (λ k n. is_expanded n.node ≡ true → k ≢ i → IsOpen t class_of after n)
+  pub successors_but_marked : HaveSuccessorsFound t class_of nodes → HaveSuccessorsFoundBut t class_of after i
+  successors_but_marked all = each (λ k n. is_expanded n.node ≡ true → k ≢ i → HasSuccessorsFound t class_of after n)
       (λ _ other. absurd (other refl))
-      (λ k n _ at expanded _. open_kept nodes after class_of kept t n (all k n at expanded))
+      (λ k n _ at expanded _. successors_kept nodes after class_of kept t n (all k n at expanded))
 
 -- its turn is taken back: it waits again
 module _ {S : Type 0} (t : System S ℕ) (class_of : S → S) (value : S → ℕ) (is_dead : S → Bool) (nodes after : List (Found S)) (i : ℕ) (turn : IsTurn t value nodes i)
@@ -174,10 +174,10 @@ module _ {S : Type 0} (t : System S ℕ) (class_of : S → S) (value : S → ℕ
       → (k : ℕ) (n : Found S) → slice_get after k ≡ Some n → is_expanded n.node ≡ true → P k n
   expanded_back P elsewhere = back (λ k n. is_expanded n.node ≡ true → P k n) (λ expanded. absurd (false≢true expanded)) elsewhere
 
-  pub open_unmarked : AreOpenBut t class_of nodes i → AreOpen t class_of after
-  open_unmarked all = expanded_back (λ k n. IsOpen t class_of after n) (λ k n other at expanded. open_kept nodes after class_of kept_back t n (all k n at expanded other))
+  pub successors_unmarked : HaveSuccessorsFoundBut t class_of nodes i → HaveSuccessorsFound t class_of after
+  successors_unmarked all = expanded_back (λ k n. HasSuccessorsFound t class_of after n) (λ k n other at expanded. successors_kept nodes after class_of kept_back t n (all k n at expanded other))
 
-  pub nodes_unmarked : (open_list : List Waiting) → AreNodes t class_of value is_dead nodes open_list → length after ≡ length nodes
+  pub nodes_unmarked : (open_list : List OpenListEntry) → AreNodes t class_of value is_dead nodes open_list → length after ≡ length nodes
       → AreNodes t class_of value is_dead after (entry turn.found.node.cost (value turn.found.state) i ∷ open_list)
   nodes_unmarked open_list old long =
       let one = turn.found in
@@ -212,10 +212,10 @@ module _ {S : Type 0} (t : System S ℕ) (class_of : S → S) (value : S → ℕ
       }
 
 -- its turn ends: it is open as the others are
-pub open_all : {S : Type 0} (t : System S ℕ) (class_of : S → S) (nodes : List (Found S)) (i : ℕ) (one : Found S) → slice_get nodes i ≡ Some one → IsOpen t class_of nodes one
-    → AreOpenBut t class_of nodes i → AreOpen t class_of nodes
-open_all {S} t class_of nodes i one occurs is_open others k n at expanded =
+pub successors_found_all : {S : Type 0} (t : System S ℕ) (class_of : S → S) (nodes : List (Found S)) (i : ℕ) (one : Found S) → slice_get nodes i ≡ Some one → HasSuccessorsFound t class_of nodes one
+    → HaveSuccessorsFoundBut t class_of nodes i → HaveSuccessorsFound t class_of nodes
+successors_found_all {S} t class_of nodes i one occurs is_open others k n at expanded =
     elim (cases_eq k i) [
-      | inl e ↦ subst (λ (x : Found S). IsOpen t class_of nodes x) (same_Some one n (sym occurs ∙ ap (slice_get nodes) (sym e) ∙ at)) is_open
+      | inl e ↦ subst (λ (x : Found S). HasSuccessorsFound t class_of nodes x) (same_Some one n (sym occurs ∙ ap (slice_get nodes) (sym e) ∙ at)) is_open
       | inr other ↦ others k n at expanded other
     ]

@@ -11,23 +11,23 @@ use Rattle.std.proofs.lemmas.Option.{same_Some}
 use Rattle.std.proofs.lemmas.List.Sums.{sum_by-append}
 use Rattle.model.specs.Runs.{System, run, CostsAtLeast}
 use Rattle.search.specs.declared.nodes.NodeStatus.{NodeStatus}
-use Rattle.search.specs.declared.nodes.NodeStatus.TheVariants.{Open, Reopened, Expanded, Dead}
+use Rattle.search.specs.declared.nodes.NodeStatus.TheVariants.{Waiting, Reopened, Expanded, Dead}
 use Rattle.search.specs.Estimates.{IsConsistent}
 use Rattle.search.specs.Outcome.{is_expanded_status, is_expanded, is_marked_dead, IsReachableAt, ReachingCostsAtLeast}
-use Rattle.search.specs.Nodes.{Waiting, entry, IsWaiting, total_of, IsEntryOf, has_been_expanded_status, parent_of, begins, follows, IsWay, HasWay, Found, Leads, dearest, AreNodes, IsOpen, AreOpenBut, IsTurn, Updates}
+use Rattle.search.specs.Nodes.{OpenListEntry, entry, IsWaiting, total_of, IsEntryOf, has_been_expanded_status, parent_of, begins, follows, IsWay, HasWay, Found, Leads, dearest, AreNodes, HasSuccessorsFound, HaveSuccessorsFoundBut, IsTurn, Updates}
 use Rattle.search.specs.Progress.{Continues, IsListed}
-use Rattle.search.proofs.Kept.{AreKept, way_kept, found_kept, open_kept, leads_kept, entries_kept}
+use Rattle.search.proofs.Kept.{AreKept, way_kept, found_kept, successors_kept, leads_kept, entries_kept}
 
 -- What holds of the nodes after a step of an expansion, by which the state is reached by the action.
-pub record Stepped {S : Type 0} (t : System S ℕ) (class_of : S → S) (value : S → ℕ) (is_dead : S → Bool) (nodes after : List (Found S)) (open_list : List Waiting) (i : ℕ) (a : ℕ) (s : S) : Type 0 where
+pub record Stepped {S : Type 0} (t : System S ℕ) (class_of : S → S) (value : S → ℕ) (is_dead : S → Bool) (nodes after : List (Found S)) (open_list : List OpenListEntry) (i : ℕ) (a : ℕ) (s : S) : Type 0 where
   pub sound : AreNodes t class_of value is_dead after open_list
   pub turn : IsTurn t value after i
-  pub others : AreOpenBut t class_of after i
+  pub others : HaveSuccessorsFoundBut t class_of after i
   pub continues : Continues class_of nodes after i
   pub listed : IsListed t class_of after i a s
 
 -- the open list once a state is reached by a way that is new: its entry joins the others, unless the state is reported dead
-abbrev pub IsJoined : Bool → Waiting → List Waiting → List Waiting → Type 0
+abbrev pub IsJoined : Bool → OpenListEntry → List OpenListEntry → List OpenListEntry → Type 0
 IsJoined true w open_list open_list' = open_list' ≡ open_list
 IsJoined false w open_list open_list' = IsPermutation (w ∷ open_list) open_list'
 
@@ -49,7 +49,7 @@ module _ {S A : Type 0} (t : System S A) where
 
 -- what is expanded now has been expanded
 pub expanded_been : (status : NodeStatus) → is_expanded_status status ≡ true → has_been_expanded_status status ≡ true
-expanded_been Open expanded = absurd (false≢true expanded)
+expanded_been Waiting expanded = absurd (false≢true expanded)
 expanded_been Reopened expanded = refl
 expanded_been Expanded expanded = refl
 expanded_been Dead expanded = absurd (false≢true expanded)
@@ -101,12 +101,12 @@ module _ {S : Type 0} (class_of : S → S) (nodes after : List (Found S)) (j : �
   each_expanded P held k n at expanded = held k n (expanded_before k n at expanded) expanded
 
   -- what the open list has once the updated node's entry has joined it, or has not since its state is reported dead
-  pub record HasJoined (value : S → ℕ) (is_dead : S → Bool) (open_list open_list' : List Waiting) : Type 0 where
-    pub keeps : (w : Waiting) → Contains open_list w → Contains open_list' w
+  pub record HasJoined (value : S → ℕ) (is_dead : S → Bool) (open_list open_list' : List OpenListEntry) : Type 0 where
+    pub keeps : (w : OpenListEntry) → Contains open_list w → Contains open_list' w
     pub queued : IsWaiting is_dead m → Contains open_list' (entry m.node.cost (value m.state) j)
     pub entries : All (IsEntryOf value is_dead after) open_list'
 
-  pub has_joined : (value : S → ℕ) (is_dead : S → Bool) (open_list open_list' : List Waiting) → All (IsEntryOf value is_dead nodes) open_list
+  pub has_joined : (value : S → ℕ) (is_dead : S → Bool) (open_list open_list' : List OpenListEntry) → All (IsEntryOf value is_dead nodes) open_list
       → IsJoined (is_dead m.state) (entry m.node.cost (value m.state) j) open_list open_list' → HasJoined value is_dead open_list open_list'
   has_joined value is_dead open_list open_list' entries =
       let one = entry m.node.cost (value m.state) j in
@@ -127,7 +127,7 @@ module _ {S : Type 0} (class_of : S → S) (nodes after : List (Found S)) (j : �
       ] refl
 
   -- a state that an action leads to from the node whose turn it is joins the others, or is now reached at a lower cost
-  module _ (t : System S ℕ) (value : S → ℕ) (is_dead : S → Bool) (i : ℕ) (turn : IsTurn t value nodes i) (open_list : List Waiting) (old : AreNodes t class_of value is_dead nodes open_list)
+  module _ (t : System S ℕ) (value : S → ℕ) (is_dead : S → Bool) (i : ℕ) (turn : IsTurn t value nodes i) (open_list : List OpenListEntry) (old : AreNodes t class_of value is_dead nodes open_list)
       (parent : parent_of m.node ≡ i) (cost : m.node.cost ≡ turn.found.node.cost + t.cost m.node.action) where
     -- a node that costs no more than the one whose turn it is is not the updated one
     not_here : (k : ℕ) (n : Found S) → slice_get nodes k ≡ Some n → n.node.cost ≤ turn.found.node.cost → k ≢ j
@@ -145,8 +145,8 @@ module _ {S : Type 0} (class_of : S → S) (nodes after : List (Found S)) (j : �
       greatest = λ consistent. each_expanded (λ k n. total_of value n ≤ total_of value turn.found) (turn.greatest consistent);
     }
 
-    open_but_still : AreOpenBut t class_of nodes i → AreOpenBut t class_of after i
-    open_but_still all = each_expanded (λ k n. k ≢ i → IsOpen t class_of after n) (λ k n at expanded other. open_kept nodes after class_of kept_updated t n (all k n at expanded other))
+    successors_but_still : HaveSuccessorsFoundBut t class_of nodes i → HaveSuccessorsFoundBut t class_of after i
+    successors_but_still all = each_expanded (λ k n. k ≢ i → HasSuccessorsFound t class_of after n) (λ k n at expanded other. successors_kept nodes after class_of kept_updated t n (all k n at expanded other))
 
     -- costs do not fall along a way, so that the one to the node whose turn it is does not come to the updated one
     way_still : (k : ℕ) (way : List ℕ) → IsWay nodes k way → ((n : Found S) → slice_get nodes k ≡ Some n → n.node.cost ≤ turn.found.node.cost) → IsWay after k way
@@ -175,7 +175,7 @@ module _ {S : Type 0} (class_of : S → S) (nodes after : List (Found S)) (j : �
           | inr other ↦ (path ++ n.node.action ∷ [], follows n path elsewhere (updates.others k other ∙ at) leads refl)
         ]
 
-    nodes_updated : (open_list' : List Waiting) → m.node.cost ≤ length after * dearest → t.step turn.found.state m.node.action ≡ Some m.state
+    nodes_updated : (open_list' : List OpenListEntry) → m.node.cost ≤ length after * dearest → t.step turn.found.state m.node.action ≡ Some m.state
         → (IsConsistent t value → value turn.found.state ≤ t.cost m.node.action + value m.state)
         → is_marked_dead m.node ≡ is_dead m.state → HasJoined value is_dead open_list open_list' → AreNodes t class_of value is_dead after open_list'
     nodes_updated open_list' affordable step falls reported joined =
@@ -223,7 +223,7 @@ module _ {S : Type 0} (class_of : S → S) (nodes after : List (Found S)) (j : �
         }
 
     -- all that a step keeps
-    pub stepped : (open_list' : List Waiting) → AreOpenBut t class_of nodes i → m.node.cost ≤ length after * dearest → t.step turn.found.state m.node.action ≡ Some m.state
+    pub stepped : (open_list' : List OpenListEntry) → HaveSuccessorsFoundBut t class_of nodes i → m.node.cost ≤ length after * dearest → t.step turn.found.state m.node.action ≡ Some m.state
         → (IsConsistent t value → value turn.found.state ≤ t.cost m.node.action + value m.state)
         → is_marked_dead m.node ≡ is_dead m.state → IsJoined (is_dead m.state) (entry m.node.cost (value m.state) j) open_list open_list'
         → Stepped t class_of value is_dead nodes after open_list' i m.node.action m.state
@@ -231,7 +231,7 @@ module _ {S : Type 0} (class_of : S → S) (nodes after : List (Found S)) (j : �
         record {
           sound = nodes_updated open_list' affordable step falls reported (has_joined value is_dead open_list open_list' old.entries joins);
           turn = turn_still;
-          others = open_but_still others;
+          others = successors_but_still others;
           continues = record {
             found = found_kept nodes after class_of kept_updated;
             stays = λ n at. stays ∙ sym turn.occurs ∙ at;

@@ -9,30 +9,30 @@ use Rattle.model.proofs.ListLemmas.{Contains-cases, Contains-none}
 use Rattle.search.specs.declared.nodes.Node.{Node}
 use Rattle.search.specs.declared.turns.Turn.{Turn}
 use Rattle.search.specs.Outcome.{AreEstimates}
-use Rattle.search.specs.Nodes.{Waiting, place_of, sum_of, estimate_of, entry, IsCurrent, IsWaiting, IsEntryOf, Found, found_of}
+use Rattle.search.specs.Nodes.{OpenListEntry, place_of, sum_of, estimate_of, entry, IsCurrent, IsWaiting, IsEntryOf, Found, found_of}
 use Rattle.search.specs.OpenList.{IsNoted, AreNoted}
 use Rattle.search.specs.Progress.{AreNotedWith}
 use Rattle.search.proofs.Lists.{get-set_here, get-set_other, get_exists}
 use Rattle.search.proofs.Linked.{found_of-get, get-found_of}
 
 -- there are as many places as before
-pub long_one : (all : List Node) (w : Waiting) (old new : List ℕ) → IsNoted all w old new → length new ≡ length old
+pub long_one : (all : List Node) (w : OpenListEntry) (old new : List ℕ) → IsNoted all w old new → length new ≡ length old
 long_one all w old new (inl (now, is)) = ap length is ∙ length-set old (place_of w) (estimate_of w)
 long_one all w old new (inr (stale, same)) = ap length same
 
-long_all : (all : List Node) (ws : List Waiting) (old new : List ℕ) → AreNoted all ws old new → length new ≡ length old
+long_all : (all : List Node) (ws : List OpenListEntry) (old new : List ℕ) → AreNoted all ws old new → length new ≡ length old
 long_all all [] old new same = ap length same
 long_all all (w ∷ ws) old new (between, one, rest) = long_all all ws between new rest ∙ long_one all w old between one
 
 module _ {S : Type 0} (value : S → ℕ) (is_dead : S → Bool) (states : List S) (all : List Node) where
-  abbrev IsRightEntry : Waiting → Type 0
+  abbrev IsRightEntry : OpenListEntry → Type 0
   IsRightEntry w = IsEntryOf value is_dead (found_of states all) w
 
   -- at this place is the estimate of the state that is found there
   abbrev IsRight : List ℕ → ℕ → Type 0
   IsRight estimates k = (n : Found S) → slice_get (found_of states all) k ≡ Some n → slice_get estimates k ≡ Some (value n.state)
 
-  right_entry : (w : Waiting) → IsRightEntry w → IsCurrent all w → (n : Found S) → slice_get (found_of states all) (place_of w) ≡ Some n → estimate_of w ≡ value n.state
+  right_entry : (w : OpenListEntry) → IsRightEntry w → IsCurrent all w → (n : Found S) → slice_get (found_of states all) (place_of w) ≡ Some n → estimate_of w ≡ value n.state
   right_entry w of (node, occurs, sums, waits) n at =
       let same : n ≡ of.found = same_Some n of.found (sym at ∙ of.occurs) in
       let same_node : node ≡ of.found.node = same_Some node of.found.node (sym occurs ∙ (found_of-get states all (place_of w) of.found of.occurs).1) in
@@ -40,7 +40,7 @@ module _ {S : Type 0} (value : S → ℕ) (is_dead : S → Bool) (states : List 
       of.estimate current ∙ ap (λ (x : Found S). value x.state) (sym same)
 
   -- what is right stays right
-  keeps_one : (w : Waiting) (old new : List ℕ) → IsRightEntry w → IsNoted all w old new → (k : ℕ) → IsRight old k → IsRight new k
+  keeps_one : (w : OpenListEntry) (old new : List ℕ) → IsRightEntry w → IsNoted all w old new → (k : ℕ) → IsRight old k → IsRight new k
   keeps_one w old new of (inl (now, is)) k right n at =
       elim (cases_eq k (place_of w)) [
         | inl here ↦
@@ -52,32 +52,32 @@ module _ {S : Type 0} (value : S → ℕ) (is_dead : S → Bool) (states : List 
       ]
   keeps_one w old new of (inr (stale, same)) k right n at = ap (λ (es : List ℕ). slice_get es k) same ∙ right n at
 
-  keeps : (ws : List Waiting) (old new : List ℕ) → All IsRightEntry ws → AreNoted all ws old new → (k : ℕ) → IsRight old k → IsRight new k
+  keeps : (ws : List OpenListEntry) (old new : List ℕ) → All IsRightEntry ws → AreNoted all ws old new → (k : ℕ) → IsRight old k → IsRight new k
   keeps [] old new of same k right = λ n at. ap (λ (es : List ℕ). slice_get es k) same ∙ right n at
   keeps (w ∷ ws) old new of (between, one, rest) k right =
       keeps ws between new (All-tail IsRightEntry w ws of) rest k (keeps_one w old between (All-head IsRightEntry w ws of) one k right)
 
   -- where an entry is current, what is at its place is right
-  right_one : (w : Waiting) (old new : List ℕ) → IsRightEntry w → IsCurrent all w → length old ≡ length all → IsNoted all w old new → IsRight new (place_of w)
+  right_one : (w : OpenListEntry) (old new : List ℕ) → IsRightEntry w → IsCurrent all w → length old ≡ length all → IsNoted all w old new → IsRight new (place_of w)
   right_one w old new of (node, occurs, sums, waits) long (inl (now, is)) n at =
       let (x, there) = get_exists old (place_of w) (omega (arith, slice_get_within all (place_of w) node occurs, long)) in
       ap (λ (es : List ℕ). slice_get es (place_of w)) is ∙ get-set_here old (place_of w) (estimate_of w) x there ∙ ap Some (right_entry w of now n at)
   right_one w old new of current long (inr (stale, same)) n at = absurd (stale current)
 
-  right_all : (ws : List Waiting) (old new : List ℕ) → All IsRightEntry ws → AreNoted all ws old new → length old ≡ length all
-      → (w : Waiting) → Contains ws w → IsCurrent all w → IsRight new (place_of w)
+  right_all : (ws : List OpenListEntry) (old new : List ℕ) → All IsRightEntry ws → AreNoted all ws old new → length old ≡ length all
+      → (w : OpenListEntry) → Contains ws w → IsCurrent all w → IsRight new (place_of w)
   right_all [] old new of noted long w among current = absurd (Contains-none w among)
   right_all (x ∷ ws) old new of (between, one, rest) long w among current =
       elim (Contains-cases x ws w among) [
         | inl same ↦
-            let now : IsCurrent all x = subst (λ (y : Waiting). IsCurrent all y) (sym same) current in
+            let now : IsCurrent all x = subst (λ (y : OpenListEntry). IsCurrent all y) (sym same) current in
             let here : IsRight between (place_of x) = right_one x old between (All-head IsRightEntry x ws of) now long one in
-            keeps ws between new (All-tail IsRightEntry x ws of) rest (place_of w) (subst (λ (y : Waiting). IsRight between (place_of y)) same here)
+            keeps ws between new (All-tail IsRightEntry x ws of) rest (place_of w) (subst (λ (y : OpenListEntry). IsRight between (place_of y)) same here)
         | inr later ↦ right_all ws between new (All-tail IsRightEntry x ws of) rest (long_one all x old between one ∙ long) w later current
       ]
 
   -- so the estimates of all states that wait are noted, where one of them is that whose turn it is
-  pub are_estimates : (turn : Turn) (one : Found S) → slice_get (found_of states all) turn.id.0 ≡ Some one → turn.estimate ≡ value one.state → (open_list : List Waiting)
+  pub are_estimates : (turn : Turn) (one : Found S) → slice_get (found_of states all) turn.id.0 ≡ Some one → turn.estimate ≡ value one.state → (open_list : List OpenListEntry)
       → ((k : ℕ) (n : Found S) → slice_get (found_of states all) k ≡ Some n → IsWaiting is_dead n → k ≢ turn.id.0 → Contains open_list (entry n.node.cost (value n.state) k))
       → All (IsEntryOf value is_dead (found_of states all)) open_list → (estimates : List ℕ) → AreNotedWith all turn open_list estimates
       → AreEstimates value is_dead states all estimates

@@ -12,25 +12,25 @@ use Rattle.model.proofs.ListLemmas.{Contains-cases, Contains-got}
 use Rattle.search.specs.declared.nodes.Node.{Node}
 use Rattle.search.specs.declared.turns.Turn.{Turn}
 use Rattle.search.specs.Outcome.{is_expanded}
-use Rattle.search.specs.Nodes.{Waiting, sum_of, estimate_of, place_of, IsEntry, IsCurrent, parent_of, IsPath, begins, follows, IsReachedIn}
+use Rattle.search.specs.Nodes.{OpenListEntry, sum_of, estimate_of, place_of, IsEntry, IsCurrent, parent_of, IsPath, begins, follows, IsReachedIn}
 use Rattle.search.specs.OpenList.{by_sum}
 use Rattle.search.specs.Progress.{TakesNext, IsLeastWith}
 use Rattle.search.proofs.Lists.{get_there}
 use Rattle.search.proofs.OpenListLemmas.{IsFirst}
 
 -- what is not below another in the open list's order has no greater sum
-sum-le : (x w : Waiting) → is_lt (by_sum x w) ≡ false → sum_of x ≤ sum_of w
+sum-le : (x w : OpenListEntry) → is_lt (by_sum x w) ≡ false → sum_of x ≤ sum_of w
 sum-le x w above = grind (arith, nat_tests)
 
 -- of equal sum it has no greater estimate
-estimate-le : (x w : Waiting) → is_lt (by_sum x w) ≡ false → sum_of w ≡ sum_of x → estimate_of x ≤ estimate_of w
+estimate-le : (x w : OpenListEntry) → is_lt (by_sum x w) ≡ false → sum_of w ≡ sum_of x → estimate_of x ≤ estimate_of w
 estimate-le x w above same = grind (arith, nat_tests)
 
 -- and of equal estimate it comes no later
-place-le : (x w : Waiting) → is_lt (by_sum x w) ≡ false → sum_of w ≡ sum_of x → estimate_of w ≡ estimate_of x → place_of x ≤ place_of w
+place-le : (x w : OpenListEntry) → is_lt (by_sum x w) ≡ false → sum_of w ≡ sum_of x → estimate_of w ≡ estimate_of x → place_of x ≤ place_of w
 place-le x w above same near = grind (arith, nat_tests)
 
-first-of : (x : Waiting) (open_list : List Waiting) → IsFirst x open_list → (w : Waiting) → Contains open_list w → is_lt (by_sum x w) ≡ false
+first-of : (x : OpenListEntry) (open_list : List OpenListEntry) → IsFirst x open_list → (w : OpenListEntry) → Contains open_list w → is_lt (by_sum x w) ≡ false
 first-of x open_list first w at = All-contains (λ y. is_lt (by_sum x y) ≡ false) open_list w first at
 
 -- what holds of all in a list holds of all in another that has no more
@@ -39,15 +39,15 @@ All-among P old new among all k d below =
     All-contains P old (get_or new k d) all (among (get_or new k d) (Contains-got new k (get_or new k d) (get_there new k d below)))
 
 -- the open list, from which only entries that are stale have gone
-pub record KeepsCurrent (initial now : List Waiting) (all : List Node) : Type 0 where
-  pub kept : (w : Waiting) → Contains now w → Contains initial w
+pub record KeepsCurrent (initial now : List OpenListEntry) (all : List Node) : Type 0 where
+  pub kept : (w : OpenListEntry) → Contains now w → Contains initial w
   pub entries : All (IsEntry (length all)) now
-  pub current : (w : Waiting) → Contains initial w → IsCurrent all w → Contains now w
+  pub current : (w : OpenListEntry) → Contains initial w → IsCurrent all w → Contains now w
 
-popped-cases : (old new : List Waiting) (x w : Waiting) → IsPermutation old (x ∷ new) → Contains old w → (x ≡ w) ⊎ Contains new w
+popped-cases : (old new : List OpenListEntry) (x w : OpenListEntry) → IsPermutation old (x ∷ new) → Contains old w → (x ≡ w) ⊎ Contains new w
 popped-cases old new x w moved at = Contains-cases x new w (Contains-permutation old (x ∷ new) w moved at)
 
-module _ (initial old new : List Waiting) (all : List Node) (x : Waiting) (keeps : KeepsCurrent initial old all) (moved : IsPermutation old (x ∷ new)) where
+module _ (initial old new : List OpenListEntry) (all : List Node) (x : OpenListEntry) (keeps : KeepsCurrent initial old all) (moved : IsPermutation old (x ∷ new)) where
   both : All (λ w. Contains initial w × IsEntry (length all) w) (x ∷ new)
   both = All-permutation (λ w. Contains initial w × IsEntry (length all) w) old (x ∷ new) moved
       (λ k d below. (keeps.kept (get_or old k d) (Contains-got old k (get_or old k d) (get_there old k d below)), keeps.entries k d below))
@@ -59,7 +59,7 @@ module _ (initial old new : List Waiting) (all : List Node) (x : Waiting) (keeps
   left : All (λ w. Contains initial w × IsEntry (length all) w) new
   left = All-tail (λ w. Contains initial w × IsEntry (length all) w) x new both
 
-  pub kept-popped : (w : Waiting) → Contains new w → Contains initial w
+  pub kept-popped : (w : OpenListEntry) → Contains new w → Contains initial w
   kept-popped w at = (All-contains (λ w. Contains initial w × IsEntry (length all) w) new w left at).0
 
   -- a stale entry goes
@@ -94,7 +94,7 @@ module _ (initial old new : List Waiting) (all : List Node) (x : Waiting) (keeps
   }
 
 -- the least of a sum and those of the current entries, of which one is taken
-pub least_taken : (old new : List Waiting) (all : List Node) (turn : Turn) → TakesNext old new all turn → (sum least : ℕ) → least ≤ sum → least ≤ turn.sum → (sum ≤ least) ⊎ (turn.sum ≤ least) → IsLeastWith sum old all least
+pub least_taken : (old new : List OpenListEntry) (all : List Node) (turn : Turn) → TakesNext old new all turn → (sum least : ℕ) → least ≤ sum → least ≤ turn.sum → (sum ≤ least) ⊎ (turn.sum ≤ least) → IsLeastWith sum old all least
 least_taken old new all turn takes sum least below below_turn reached = record {
   no_greater = below;
   at_most_each = λ w at current. omega (arith, below_turn, takes.sum, takes.least w at current);
@@ -106,14 +106,14 @@ least_taken old new all turn takes sum least below below_turn reached = record {
 }
 
 -- or where none is current
-pub least_alone : (open_list : List Waiting) (all : List Node) (sum : ℕ) → ((w : Waiting) → Contains open_list w → ¬ IsCurrent all w) → IsLeastWith sum open_list all sum
+pub least_alone : (open_list : List OpenListEntry) (all : List Node) (sum : ℕ) → ((w : OpenListEntry) → Contains open_list w → ¬ IsCurrent all w) → IsLeastWith sum open_list all sum
 least_alone open_list all sum none = record { no_greater = omega arith; at_most_each = λ w at current. absurd (none w at current); of_one = inl refl }
 
 -- what was read of the entry's state
-pub current-read : (all : List Node) (w : Waiting) (r : Node) → place_of w < length all → r ≡ get_or all (place_of w) r → is_expanded r ≡ false → r.cost + estimate_of w ≡ sum_of w → IsCurrent all w
+pub current-read : (all : List Node) (w : OpenListEntry) (r : Node) → place_of w < length all → r ≡ get_or all (place_of w) r → is_expanded r ≡ false → r.cost + estimate_of w ≡ sum_of w → IsCurrent all w
 current-read all w r within read waits same = (r, slice_get_read all (length all) (place_of w) r refl within read, same, waits)
 
-pub stale-read : (all : List Node) (w : Waiting) (r : Node) → place_of w < length all → r ≡ get_or all (place_of w) r → (is_expanded r ≡ true) ⊎ (r.cost + estimate_of w ≢ sum_of w) → ¬ IsCurrent all w
+pub stale-read : (all : List Node) (w : OpenListEntry) (r : Node) → place_of w < length all → r ≡ get_or all (place_of w) r → (is_expanded r ≡ true) ⊎ (r.cost + estimate_of w ≢ sum_of w) → ¬ IsCurrent all w
 stale-read all w r within read cases (node, occurs, sums, waits) =
     let same : r ≡ node = same_Some r node (sym (slice_get_read all (length all) (place_of w) r refl within read) ∙ occurs) in
     elim cases [

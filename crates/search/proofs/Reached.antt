@@ -11,13 +11,13 @@ use Rattle.search.specs.declared.listing.Place.{Place}
 use Rattle.search.specs.declared.listing.Place.TheVariants.{New, Listed, Alike}
 use Rattle.search.specs.declared.nodes.Node.{Node}
 use Rattle.search.specs.declared.nodes.NodeStatus.{NodeStatus}
-use Rattle.search.specs.declared.nodes.NodeStatus.TheVariants.{Open, Reopened, Expanded, Dead}
+use Rattle.search.specs.declared.nodes.NodeStatus.TheVariants.{Waiting, Reopened, Expanded, Dead}
 use Rattle.search.specs.declared.progress.Progress.{Progress}
 use Rattle.search.specs.Estimates.{IsConsistent}
 use Rattle.search.specs.DeadEnds.{IsValueUnlessDead}
 use Rattle.search.specs.Listing.{IsAlikeAt, IsPlacedBy}
 use Rattle.search.specs.Outcome.{AreOfOneClass, is_expanded_status, is_dead_status, is_expanded, is_marked_dead}
-use Rattle.search.specs.Nodes.{Waiting, entry, has_been_expanded_status, has_been_expanded, status_again, parent_of, Found, found_of, dearest, AreNodes, AreOpenBut, IsTurn}
+use Rattle.search.specs.Nodes.{OpenListEntry, entry, has_been_expanded_status, has_been_expanded, status_again, parent_of, Found, found_of, dearest, AreNodes, HaveSuccessorsFoundBut, IsTurn}
 use Rattle.search.specs.OpenList.{waiting_in, IsOpenList}
 use Rattle.search.specs.Progress.{IsPlaceAmong, IsFreeFor, IsReachedWithin, IsReachedCheaper, TakesPlace}
 use Rattle.search.proofs.Lists.{get-push_new}
@@ -39,7 +39,7 @@ pub record IsChild {S : Type 0} (t : System S ℕ) (value : S → ℕ) (is_dead 
 again_marks : {S : Type 0} (value : S → ℕ) (is_dead : S → Bool) (s : S) (before : NodeStatus) (estimate : Option ℕ) → IsValueUnlessDead value is_dead s estimate
     → (is_expanded_status (status_again before estimate) ≡ false) × (is_dead_status (status_again before estimate) ≡ is_dead s)
 again_marks value is_dead s before None dead = (refl, sym dead)
-again_marks value is_dead s Open (Some estimate) of = (refl, sym of.0)
+again_marks value is_dead s Waiting (Some estimate) of = (refl, sym of.0)
 again_marks value is_dead s Reopened (Some estimate) of = (refl, sym of.0)
 again_marks value is_dead s Expanded (Some estimate) of = (refl, sym of.0)
 again_marks value is_dead s Dead (Some estimate) of = (refl, sym of.0)
@@ -47,23 +47,23 @@ again_marks value is_dead s Dead (Some estimate) of = (refl, sym of.0)
 -- it has been expanded if it was
 again_expanded : {S : Type 0} (value : S → ℕ) (is_dead : S → Bool) (s : S) (before : NodeStatus) (estimate : Option ℕ) → IsValueUnlessDead value is_dead s estimate → is_dead_status before ≡ is_dead s
     → has_been_expanded_status before ≡ true → has_been_expanded_status (status_again before estimate) ≡ true
-again_expanded value is_dead s Open estimate of marked expanded = absurd (false≢true expanded)
+again_expanded value is_dead s Waiting estimate of marked expanded = absurd (false≢true expanded)
 again_expanded value is_dead s Dead estimate of marked expanded = absurd (false≢true expanded)
 again_expanded value is_dead s Reopened None dead marked expanded = absurd (false≢true (marked ∙ dead))
 again_expanded value is_dead s Reopened (Some estimate) of marked expanded = refl
 again_expanded value is_dead s Expanded None dead marked expanded = absurd (false≢true (marked ∙ dead))
 again_expanded value is_dead s Expanded (Some estimate) of marked expanded = refl
 
-module _ {S : Type 0} (t : System S ℕ) (class_of : S → S) (value : S → ℕ) (is_dead : S → Bool) (states : List S) (all : List Node) (open_list : List Waiting) (i : ℕ)
+module _ {S : Type 0} (t : System S ℕ) (class_of : S → S) (value : S → ℕ) (is_dead : S → Bool) (states : List S) (all : List Node) (open_list : List OpenListEntry) (i : ℕ)
     (one_each : length all ≡ length states)
-    (nodes : AreNodes t class_of value is_dead (found_of states all) open_list) (turn : IsTurn t value (found_of states all) i) (others : AreOpenBut t class_of (found_of states all) i) (s : S) where
+    (nodes : AreNodes t class_of value is_dead (found_of states all) open_list) (turn : IsTurn t value (found_of states all) i) (others : HaveSuccessorsFoundBut t class_of (found_of states all) i) (s : S) where
   -- all that the step keeps
-  abbrev IsStepped : List S → List Node → List Waiting → ℕ → Type 0
+  abbrev IsStepped : List S → List Node → List OpenListEntry → ℕ → Type 0
   IsStepped states' all' open_list' a = (length all' ≡ length states') × Stepped t class_of value is_dead (found_of states all) (found_of states' all') open_list' i a s
 
   module _ (now : Node) (child : IsChild t value is_dead turn.found i s now) where
     -- the state comes last
-    stepped_last : (¬ Contains states s) → (open_list' : List Waiting) → IsJoined (is_dead s) (entry now.cost (value s) (length states)) open_list open_list'
+    stepped_last : (¬ Contains states s) → (open_list' : List OpenListEntry) → IsJoined (is_dead s) (entry now.cost (value s) (length states)) open_list open_list'
         → Stepped t class_of value is_dead (found_of states all) (found_of (states ++ s ∷ []) (all ++ now ∷ [])) open_list' i now.action s
     stepped_last is_new open_list' joins =
         let m : Found S = record { state = s; node = now } in
@@ -75,7 +75,7 @@ module _ {S : Type 0} (t : System S ℕ) (class_of : S → S) (value : S → ℕ
         (stepped class_of (found_of states all) (found_of states all ++ m ∷ []) (length (found_of states all)) m updates t value is_dead i turn open_list nodes child.parent child.cost open_list' others
         (omega (arith, child.cost, child.affordable, nodes.cheap i turn.found turn.occurs, length-append (found_of states all) (m ∷ []))) child.step child.falls child.reported joins')
 
-    stepped_new : (¬ Contains states s) → (states' : List S) (all' : List Node) (place : ℕ) (open_list' : List Waiting)
+    stepped_new : (¬ Contains states s) → (states' : List S) (all' : List Node) (place : ℕ) (open_list' : List OpenListEntry)
         → states' ≡ states ++ s ∷ [] → all' ≡ all ++ now ∷ [] → place ≡ length states
         → IsJoined (is_dead s) (entry now.cost (value s) place) open_list open_list' → IsStepped states' all' open_list' now.action
     stepped_new is_new states' all' place open_list' is_states is_all at_end joins =
@@ -91,7 +91,7 @@ module _ {S : Type 0} (t : System S ℕ) (class_of : S → S) (value : S → ℕ
     module _ (j : ℕ) (n : Found S) (stood : slice_get (found_of states all) j ≡ Some n) (alike : AreOfOneClass class_of s n.state)
         (same : has_been_expanded n.node ≡ true → (s ≡ n.state) × (has_been_expanded now ≡ true)) (cheaper : now.cost < n.node.cost)
         (only : (k : ℕ) (x : Found S) → slice_get (found_of states all) k ≡ Some x → x.state ≡ s → k ≡ j) where
-      stepped_at : (open_list' : List Waiting) → IsJoined (is_dead s) (entry now.cost (value s) j) open_list open_list'
+      stepped_at : (open_list' : List OpenListEntry) → IsJoined (is_dead s) (entry now.cost (value s) j) open_list open_list'
           → Stepped t class_of value is_dead (found_of states all) (set (found_of states all) j (record { state = s; node = now })) open_list' i now.action s
       stepped_at open_list' joins =
           let m : Found S = record { state = s; node = now } in
@@ -100,7 +100,7 @@ module _ {S : Type 0} (t : System S ℕ) (class_of : S → S) (value : S → ℕ
           (omega (arith, cheaper, nodes.cheap j n stood, mul-le-mul_right dearest updates.longer)) child.step child.falls child.reported joins
 
       -- it was there
-      stepped_cheaper : s ≡ n.state → (states' : List S) (all' : List Node) (open_list' : List Waiting) → states' ≡ states → all' ≡ set all j now
+      stepped_cheaper : s ≡ n.state → (states' : List S) (all' : List Node) (open_list' : List OpenListEntry) → states' ≡ states → all' ≡ set all j now
           → IsJoined (is_dead s) (entry now.cost (value s) j) open_list open_list' → IsStepped states' all' open_list' now.action
       stepped_cheaper is states' all' open_list' is_states is_all joins =
           let after : found_of states' all' ≡ set (found_of states all) j (record { state = s; node = now }) =
@@ -113,7 +113,7 @@ module _ {S : Type 0} (t : System S ℕ) (class_of : S → S) (value : S → ℕ
           )
 
       -- it takes the place
-      stepped_replaced : (states' : List S) (all' : List Node) (open_list' : List Waiting) → states' ≡ set states j s → all' ≡ set all j now
+      stepped_replaced : (states' : List S) (all' : List Node) (open_list' : List OpenListEntry) → states' ≡ set states j s → all' ≡ set all j now
           → IsJoined (is_dead s) (entry now.cost (value s) j) open_list open_list' → IsStepped states' all' open_list' now.action
       stepped_replaced states' all' open_list' is_states is_all joins =
           let after : found_of states' all' ≡ set (found_of states all) j (record { state = s; node = now }) =
@@ -212,7 +212,7 @@ match_each false f h it = h it
 module _ {S Store : Type 0} (t : System S ℕ) (class_of : S → S) (value : S → ℕ) (is_dead : S → Bool) (states_of : Store → List S) (states : List S) (old new : Progress Store) (i max_states : ℕ)
     (one_each : length old.nodes.items ≡ length states)
     (nodes : AreNodes t class_of value is_dead (found_of states old.nodes.items) (waiting_in old.open_list)) (turn : IsTurn t value (found_of states old.nodes.items) i)
-    (others : AreOpenBut t class_of (found_of states old.nodes.items) i)
+    (others : HaveSuccessorsFoundBut t class_of (found_of states old.nodes.items) i)
     (is_current : ℕ → Type 0) (s : S) (now : Node) (child : IsChild t value is_dead turn.found i s now) (estimate : Option ℕ) (of : IsValueUnlessDead value is_dead s estimate) where
   pub record IsTaken : Type 0 where
     pub each : length new.nodes.items ≡ length (states_of new.store)

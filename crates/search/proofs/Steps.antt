@@ -18,14 +18,14 @@ use Rattle.search.specs.declared.turns.Turn.{Turn}
 use Rattle.search.specs.Estimates.{IsAdmissible}
 use Rattle.search.specs.DeadEnds.{ReportsDeadEnds, IsValueUnlessDead}
 use Rattle.search.specs.Outcome.{AreClassesOf, is_expanded_status, is_dead_status, is_expanded, is_marked_dead, IsReachableAt, ReachingCostsAtLeast}
-use Rattle.search.specs.Nodes.{Waiting, place_of, sum_of, estimate_of, entry, IsEntry, IsWaiting, total_of, IsEntryOf, status_of_reached, begins, HasWay, Found, found_of, dearest, work_left, Leads, AreNodes, IsFoundWithin, IsOpen, AreOpen, AreOpenBut, IsTurn, IsCurrent, marked_as, marked}
+use Rattle.search.specs.Nodes.{OpenListEntry, place_of, sum_of, estimate_of, entry, IsEntry, IsWaiting, total_of, IsEntryOf, status_of_reached, begins, HasWay, Found, found_of, dearest, work_left, Leads, AreNodes, IsFoundWithin, HasSuccessorsFound, HaveSuccessorsFound, HaveSuccessorsFoundBut, IsTurn, IsCurrent, marked_as, marked}
 use Rattle.search.specs.declared.open_list.OpenList.{OpenList}
 use Rattle.search.specs.OpenList.{waiting_in, IsOpenList, JoinsBy}
 use Rattle.search.specs.Progress.{Continues, IsListed, TakesNext}
 use Rattle.search.proofs.Lists.{get-set_here, get-set_other}
 use Rattle.search.proofs.Linked.{length-found_of, found_of-get, found_of-set}
 use Rattle.search.proofs.Closed.{no_plan_cheaper}
-use Rattle.search.proofs.Marked.{nodes_marked, turn_marked, open_but_marked}
+use Rattle.search.proofs.Marked.{nodes_marked, turn_marked, successors_but_marked}
 use Rattle.search.proofs.Ways.{cheapest_way}
 use Rattle.search.proofs.Work.{work_marked}
 use Rattle.search.proofs.NodesLemmas.{IsJoined}
@@ -55,12 +55,12 @@ value_fits value is_dead s None cost reported small = tt
 value_fits value is_dead s (Some estimate) cost (alive, is, fits) small = omega (arith, fits, small)
 
 -- the sums fit
-pub turn_limits : {S : Type 0} (t : System S ℕ) (class_of : S → S) (value : S → ℕ) (is_dead : S → Bool) (nodes : List (Found S)) (open_list : List Waiting) → AreNodes t class_of value is_dead nodes open_list
+pub turn_limits : {S : Type 0} (t : System S ℕ) (class_of : S → S) (value : S → ℕ) (is_dead : S → Bool) (nodes : List (Found S)) (open_list : List OpenListEntry) → AreNodes t class_of value is_dead nodes open_list
     → (i max_states : ℕ) (turn : IsTurn t value nodes i) → length nodes ≤ max_states → max_states ≤ 16777216 → turn.found.node.cost + 4294967295 ≤ 72057598316118015
 turn_limits t class_of value is_dead nodes open_list old i max_states turn within limit = omega (arith, old.cheap i turn.found turn.occurs, within, limit)
 
 -- the initial state alone
-module _ {S : Type 0} (t : System S ℕ) (class_of : S → S) (value : S → ℕ) (is_dead : S → Bool) (states : List S) (all : List Node) (open_list open_list' : List Waiting) (s : S) (place : ℕ)
+module _ {S : Type 0} (t : System S ℕ) (class_of : S → S) (value : S → ℕ) (is_dead : S → Bool) (states : List S) (all : List Node) (open_list open_list' : List OpenListEntry) (s : S) (place : ℕ)
     (status : NodeStatus) (parent : ShortId) (action : ℕ) (waits : is_expanded_status status ≡ false) (reported : is_dead_status status ≡ is_dead s) where
   one_node : Found S
   one_node = record { state = s; node = record { cost = 0; status = status; parent = parent; action = action } }
@@ -156,7 +156,7 @@ module _ {S : Type 0} (t : System S ℕ) (class_of : S → S) (nodes : List (Fou
             ];
       }
 
-  pub left_end : (rest : List ℕ) → rest ≡ [] → AreLeft t class_of nodes i rest → IsOpen t class_of nodes one
+  pub left_end : (rest : List ℕ) → rest ≡ [] → AreLeft t class_of nodes i rest → HasSuccessorsFound t class_of nodes one
   left_end rest none left a next step =
       elim (left.complete one occurs a next step) [
         | inl found ↦ found
@@ -181,7 +181,7 @@ occurs_still class_of states states' all all' i n s at continues occurs =
     (found_of-get states' all' i n (continues.stays n at)).0 ∙ sym (found_of-get states all i n at).0 ∙ occurs
 
 -- the state whose turn it is: it waits, and of those that wait none has a lesser sum; the others are in the open list that is left
-pub record IsNext {S : Type 0} (value : S → ℕ) (is_dead : S → Bool) (states : List S) (all : List Node) (open_list' : List Waiting) (turn : Turn) : Type 0 where
+pub record IsNext {S : Type 0} (value : S → ℕ) (is_dead : S → Bool) (states : List S) (all : List Node) (open_list' : List OpenListEntry) (turn : Turn) : Type 0 where
   pub found : Found S
   pub occurs : slice_get (found_of states all) turn.id.0 ≡ Some found
   pub state : slice_get states turn.id.0 ≡ Some found.state
@@ -193,7 +193,7 @@ pub record IsNext {S : Type 0} (value : S → ℕ) (is_dead : S → Bool) (state
   pub estimate : turn.estimate ≡ value found.state
 
 -- whose turn it is
-module _ {S : Type 0} (t : System S ℕ) (class_of : S → S) (value : S → ℕ) (is_dead : S → Bool) (states : List S) (all : List Node) (open_list : List Waiting)
+module _ {S : Type 0} (t : System S ℕ) (class_of : S → S) (value : S → ℕ) (is_dead : S → Bool) (states : List S) (all : List Node) (open_list : List OpenListEntry)
     (one_each : length all ≡ length states) (nodes : AreNodes t class_of value is_dead (found_of states all) open_list) where
   -- the entries are of the nodes
   pub entries_of : All (IsEntry (length all)) open_list
@@ -205,11 +205,11 @@ module _ {S : Type 0} (t : System S ℕ) (class_of : S → S) (value : S → ℕ
   pub current_entry : (k : ℕ) (n : Found S) → slice_get (found_of states all) k ≡ Some n → IsWaiting is_dead n → IsCurrent all (entry n.node.cost (value n.state) k)
   current_entry k n at waits = (n.node, (found_of-get states all k n at).1, refl, waits.0)
 
-  pub none_waits : ((w : Waiting) → Contains open_list w → ¬ IsCurrent all w) → (k : ℕ) (n : Found S) → slice_get (found_of states all) k ≡ Some n → IsWaiting is_dead n → ⊥
+  pub none_waits : ((w : OpenListEntry) → Contains open_list w → ¬ IsCurrent all w) → (k : ℕ) (n : Found S) → slice_get (found_of states all) k ≡ Some n → IsWaiting is_dead n → ⊥
   none_waits none k n at waits = none (entry n.node.cost (value n.state) k) (nodes.queued k n at waits) (current_entry k n at waits)
 
   -- a current entry is that of a state that waits
-  pub entry_waits : (w : Waiting) → Contains open_list w → IsCurrent all w
+  pub entry_waits : (w : OpenListEntry) → Contains open_list w → IsCurrent all w
       → (n : Found S) × (slice_get (found_of states all) (place_of w) ≡ Some n) × IsWaiting is_dead n × (total_of value n ≡ sum_of w) × (estimate_of w ≡ value n.state)
   entry_waits w among (node, occurs, sums, waits) =
       let of = All-contains (IsEntryOf value is_dead (found_of states all)) open_list w nodes.entries among in
@@ -218,7 +218,7 @@ module _ {S : Type 0} (t : System S ℕ) (class_of : S → S) (value : S → ℕ
       let estimate = of.estimate current in
       (of.found, of.occurs, (ap (λ (r : Node). is_expanded r) (sym same) ∙ waits, of.alive current), omega (arith, current, estimate), estimate)
 
-  pub at_turn : (open_list' : List Waiting) (turn : Turn) → TakesNext open_list open_list' all turn → IsNext value is_dead states all open_list' turn
+  pub at_turn : (open_list' : List OpenListEntry) (turn : Turn) → TakesNext open_list open_list' all turn → IsNext value is_dead states all open_list' turn
   at_turn open_list' turn takes =
       let i = turn.id.0 in
       let (one, there, waits, sum, estimate) = entry_waits takes.next takes.among takes.current in
@@ -237,25 +237,25 @@ module _ {S : Type 0} (t : System S ℕ) (class_of : S → S) (value : S → ℕ
       }
 
 -- what holds where the turn of a state has begun: of what was found, it alone is marked as expanded
-pub record HasBegun {S : Type 0} (t : System S ℕ) (class_of : S → S) (value : S → ℕ) (is_dead : S → Bool) (before : List (Found S)) (states : List S) (all : List Node) (open_list : List Waiting) (i : ℕ) (one : Found S) : Type 0 where
+pub record HasBegun {S : Type 0} (t : System S ℕ) (class_of : S → S) (value : S → ℕ) (is_dead : S → Bool) (before : List (Found S)) (states : List S) (all : List Node) (open_list : List OpenListEntry) (i : ℕ) (one : Found S) : Type 0 where
   pub one_each : length all ≡ length states
   pub nodes : AreNodes t class_of value is_dead (found_of states all) open_list
   pub turn : IsTurn t value (found_of states all) i
-  pub others_open : AreOpenBut t class_of (found_of states all) i
+  pub others_successors_found : HaveSuccessorsFoundBut t class_of (found_of states all) i
   pub occurs : slice_get (found_of states all) i ≡ Some (marked Expanded one)
   pub less : (most : ℕ) → work_left most (found_of states all) < work_left most before
 
 -- a turn begins
-module _ {S : Type 0} (t : System S ℕ) (class_of : S → S) (classes : AreClassesOf t class_of) (value : S → ℕ) (is_dead : S → Bool) (admissible : IsAdmissible t value) (reports : ReportsDeadEnds t is_dead) (states : List S) (all : List Node) (open_list open_list' : List Waiting)
+module _ {S : Type 0} (t : System S ℕ) (class_of : S → S) (classes : AreClassesOf t class_of) (value : S → ℕ) (is_dead : S → Bool) (admissible : IsAdmissible t value) (reports : ReportsDeadEnds t is_dead) (states : List S) (all : List Node) (open_list open_list' : List OpenListEntry)
     (one_each : length all ≡ length states) (nodes : AreNodes t class_of value is_dead (found_of states all) open_list)
     (i : ℕ) (one : Found S) (occurs : slice_get (found_of states all) i ≡ Some one) (waits : IsWaiting is_dead one)
     (least : (k : ℕ) (n : Found S) → slice_get (found_of states all) k ≡ Some n → IsWaiting is_dead n → total_of value one ≤ total_of value n)
     (rest : (k : ℕ) (n : Found S) → slice_get (found_of states all) k ≡ Some n → IsWaiting is_dead n → k ≢ i → Contains open_list' (entry n.node.cost (value n.state) k))
     (entries : All (IsEntryOf value is_dead (found_of states all)) open_list') where
-  pub turn_begins : t.meets_goal one.state ≡ false → AreOpen t class_of (found_of states all) → (states' : List S) (all' : List Node)
+  pub turn_begins : t.meets_goal one.state ≡ false → HaveSuccessorsFound t class_of (found_of states all) → (states' : List S) (all' : List Node)
       → states' ≡ states → all' ≡ set all i (marked_as Expanded one.node)
       → HasBegun t class_of value is_dead (found_of states all) states' all' open_list' i one
-  turn_begins no_goal are_open states' all' is_states is_all =
+  turn_begins no_goal successors_found states' all' is_states is_all =
       let now : Node = marked_as Expanded one.node in
       let marks : found_of states (set all i now) ≡ set (found_of states all) i (marked Expanded one) = found_of-set states all i one now occurs in
       let same : found_of states' all' ≡ found_of states (set all i now) = cc in
@@ -270,11 +270,11 @@ module _ {S : Type 0} (t : System S ℕ) (class_of : S → S) (classes : AreClas
       record {
         one_each = omega (arith, count_states, count_all, one_each);
         nodes = nodes_marked (found_of states all) after i one occurs waits.0 here others long t class_of value is_dead open_list open_list' nodes waits.1 no_goal
-            (no_plan_cheaper t class_of value is_dead states all one_each open_list nodes classes admissible reports one are_open least)
-            (λ own consistent detects. cheapest_way t class_of own value is_dead consistent detects (found_of states all) are_open (total_of value one) least open_list nodes i one occurs waits.1 (omega arith))
+            (no_plan_cheaper t class_of value is_dead states all one_each open_list nodes classes admissible reports one successors_found least)
+            (λ own consistent detects. cheapest_way t class_of own value is_dead consistent detects (found_of states all) successors_found (total_of value one) least open_list nodes i one occurs waits.1 (omega arith))
             least rest entries;
         turn = turn_marked (found_of states all) after i one occurs waits.0 here others long t class_of value is_dead open_list open_list' nodes waits.1;
-        others_open = open_but_marked (found_of states all) after i one occurs waits.0 here others long t class_of value is_dead open_list open_list' nodes waits.1 are_open;
+        others_successors_found = successors_but_marked (found_of states all) after i one occurs waits.0 here others long t class_of value is_dead open_list open_list' nodes waits.1 successors_found;
         occurs = here;
         less = λ most. subst (λ (ns : List (Found S)). work_left most ns < work_left most (found_of states all)) (sym is)
             (work_marked (found_of states all) i one (marked Expanded one) most occurs waits.0 refl refl);

@@ -14,22 +14,22 @@ use Rattle.search.specs.DeadEnds.{ReportsDeadEnds}
 use Rattle.search.specs.Outcome.{AreClassesOf, AreEstimates, IsAtLimit}
 use Rattle.search.specs.OpenList.{waiting_in}
 use Rattle.search.specs.Progress.{AreNotedWith, IsStopped, IsLeastWith}
-use Rattle.search.specs.Nodes.{Waiting, sum_of, place_of, entry, IsEntry, IsEntryOf, Found, found_of, IsWaiting, total_of, AreNodes, AreOpen}
+use Rattle.search.specs.Nodes.{OpenListEntry, sum_of, place_of, entry, IsEntry, IsEntryOf, Found, found_of, IsWaiting, total_of, AreNodes, HaveSuccessorsFound}
 use Rattle.search.proofs.Linked.{found_of-get}
 use Rattle.search.proofs.Closed.{are_listed, node_at, closed, found_states, claimed}
 use Rattle.search.proofs.Consistent.{falls_along}
 use Rattle.search.proofs.Noted.{are_estimates}
 use Rattle.search.proofs.Steps.{entries_of, current_entry, entry_waits}
 
-module _ {S : Type 0} (t : System S ℕ) (class_of : S → S) (value : S → ℕ) (is_dead : S → Bool) (states : List S) (all : List Node) (open_list : List Waiting)
-    (one_each : length all ≡ length states) (nodes : AreNodes t class_of value is_dead (found_of states all) open_list) (are_open : AreOpen t class_of (found_of states all)) where
+module _ {S : Type 0} (t : System S ℕ) (class_of : S → S) (value : S → ℕ) (is_dead : S → Bool) (states : List S) (all : List Node) (open_list : List OpenListEntry)
+    (one_each : length all ≡ length states) (nodes : AreNodes t class_of value is_dead (found_of states all) open_list) (successors_found : HaveSuccessorsFound t class_of (found_of states all)) where
   -- the least sum of those that wait is a bound
   at_least : AreClassesOf t class_of → IsAdmissible t value → ReportsDeadEnds t is_dead → (max_states least : ℕ) → length states ≡ max_states
       → ((k : ℕ) (n : Found S) → slice_get (found_of states all) k ≡ Some n → IsWaiting is_dead n → least ≤ total_of value n)
       → (k : ℕ) (n : Found S) → slice_get (found_of states all) k ≡ Some n → IsWaiting is_dead n → total_of value n ≡ least → IsAtLimit t class_of value is_dead max_states least states all
   at_least classes admissible reports max_states least full no_less i one occurs waits is =
       let listed = are_listed t class_of value is_dead (found_of states all) open_list nodes in
-      let is_closed = closed t class_of value is_dead states all one_each listed (bound least) are_open no_less in
+      let is_closed = closed t class_of value is_dead states all one_each listed (bound least) successors_found no_less in
       let parts = found_of-get states all i one occurs in
       let there = node_at t class_of value is_dead states all one_each in
       record {
@@ -48,7 +48,7 @@ module _ {S : Type 0} (t : System S ℕ) (class_of : S → S) (value : S → ℕ
 
 module _ {S Store : Type 0} (t : System S ℕ) (class_of : S → S) (value : S → ℕ) (is_dead : S → Bool) (states_of : Store → List S) (p : Progress Store) (turn : Turn) (max_states : ℕ)
     (stopped : IsStopped t class_of value is_dead states_of p turn max_states) where
-  abbrev first : Waiting
+  abbrev first : OpenListEntry
   first = entry stopped.found.node.cost (value stopped.found.state) turn.id.0
 
   -- the entries of the open list are of the nodes
@@ -77,7 +77,7 @@ module _ {S Store : Type 0} (t : System S ℕ) (class_of : S → S) (value : S �
       let all = p.nodes.items in
       let open_list = first ∷ waiting_in p.open_list in
       let waiting : (k : ℕ) (n : Found S) → slice_get (found_of (states_of p.store) all) k ≡ Some n → IsWaiting is_dead n → total_of value n ≡ least → IsAtLimit t class_of value is_dead max_states least (states_of p.store) all =
-      at_least t class_of value is_dead (states_of p.store) all open_list stopped.one_each stopped.nodes stopped.are_open classes admissible reports max_states least stopped.full
+      at_least t class_of value is_dead (states_of p.store) all open_list stopped.one_each stopped.nodes stopped.successors_found classes admissible reports max_states least stopped.full
       (λ k n at waits.
       let w = entry n.node.cost (value n.state) k in
       elim (Contains-cases first (waiting_in p.open_list) w (stopped.nodes.queued k n at waits)) [

@@ -9,12 +9,12 @@ use Rattle.model.specs.Runs.{System, run, cost_of_all}
 use Rattle.search.specs.Estimates.{IsConsistent}
 use Rattle.search.specs.DeadEnds.{DetectsDeadEnds}
 use Rattle.search.specs.Outcome.{AreOwnClasses, is_expanded, ReachingCostsAtLeast}
-use Rattle.search.specs.Nodes.{Waiting, Found, IsWaiting, total_of, AreNodes, IsFoundWithin, AreOpen}
+use Rattle.search.specs.Nodes.{OpenListEntry, Found, IsWaiting, total_of, AreNodes, IsFoundWithin, HaveSuccessorsFound}
 use Rattle.search.proofs.Consistent.{falls_along}
 use Rattle.search.proofs.DeadEnds.{dead_along}
 
 module _ {S : Type 0} (t : System S ℕ) (class_of : S → S) (own : AreOwnClasses class_of) (value : S → ℕ) (is_dead : S → Bool) (consistent : IsConsistent t value) (detects : DetectsDeadEnds t is_dead)
-    (nodes : List (Found S)) (are_open : AreOpen t class_of nodes)
+    (nodes : List (Found S)) (successors_found : HaveSuccessorsFound t class_of nodes)
     (least : ℕ) (at_least : (k : ℕ) (n : Found S) → slice_get nodes k ≡ Some n → IsWaiting is_dead n → least ≤ total_of value n) where
   -- Where each state is a class of its own, a list that runs from a found state to one that is not reported dead comes to one that waits, or leads to one that is found
   -- at no more than the list costs. It comes to none that is reported dead.
@@ -33,7 +33,7 @@ module _ {S : Type 0} (t : System S ℕ) (class_of : S → S) (own : AreOwnClass
             → (least ≤ n.node.cost + cost_of_all t (a ∷ plan) + value end) ⊎ IsFoundWithin class_of nodes end (n.node.cost + cost_of_all t (a ∷ plan))) [
               | None ↦ λ _ none. absurd (cc)
               | Some next ↦ λ leads on.
-                  let (j, m, there, alike, within) = are_open k n at expanded a next leads in
+                  let (j, m, there, alike, within) = successors_found k n at expanded a next leads in
                   let is : m.state ≡ next = own m.state next alike in
                   let paid : cost_of_all t (a ∷ plan) ≡ t.cost a + cost_of_all t plan = sum_by-cons t.cost a plan in
                   elim (from_found plan end j m alive there (subst (λ (s : S). run t s plan ≡ Some end) (sym is) on)) [
@@ -44,7 +44,7 @@ module _ {S : Type 0} (t : System S ℕ) (class_of : S → S) (own : AreOwnClass
       ] refl
 
   -- a waiting state of the least sum is reached by a cheapest way
-  pub cheapest_way : (open_list : List Waiting) → AreNodes t class_of value is_dead nodes open_list → (i : ℕ) (one : Found S) → slice_get nodes i ≡ Some one → is_dead one.state ≡ false
+  pub cheapest_way : (open_list : List OpenListEntry) → AreNodes t class_of value is_dead nodes open_list → (i : ℕ) (one : Found S) → slice_get nodes i ≡ Some one → is_dead one.state ≡ false
       → total_of value one ≤ least → ReachingCostsAtLeast t one.state one.node.cost
   cheapest_way open_list old i one occurs alive is_least actions runs =
       let (root, at, is, free) = old.root in

@@ -5,37 +5,37 @@ use Rattle.model.specs.Runs.{System, CostsAtLeast}
 use Rattle.search.specs.declared.nodes.StateId.{StateId}
 use Rattle.search.specs.declared.nodes.Node.{Node}
 use Rattle.search.specs.declared.nodes.NodeStatus.{NodeStatus}
-use Rattle.search.specs.declared.nodes.NodeStatus.TheVariants.{Open, Reopened, Expanded, Dead}
+use Rattle.search.specs.declared.nodes.NodeStatus.TheVariants.{Waiting, Reopened, Expanded, Dead}
 use Rattle.search.specs.declared.nodes.ShortId.{ShortId}
 use Rattle.search.specs.Estimates.{IsConsistent}
 use Rattle.search.specs.DeadEnds.{DetectsDeadEnds}
 use Rattle.search.specs.Outcome.{AreOfOneClass, AreOwnClasses, is_expanded, is_marked_dead, IsReachableAt, ReachingCostsAtLeast, IsCut}
 
 -- an entry of the open list: the sum of a waiting state's cost and estimate, its estimate, and its place
-abbrev pub Waiting : Type 0
-Waiting = Reverse (ℕ × ℕ × StateId)
+abbrev pub OpenListEntry : Type 0
+OpenListEntry = Reverse (ℕ × ℕ × StateId)
 
-abbrev pub sum_of : Waiting → ℕ
+abbrev pub sum_of : OpenListEntry → ℕ
 sum_of w = w.0.0
 
-abbrev pub estimate_of : Waiting → ℕ
+abbrev pub estimate_of : OpenListEntry → ℕ
 estimate_of w = w.0.1
 
-abbrev pub place_of : Waiting → ℕ
+abbrev pub place_of : OpenListEntry → ℕ
 place_of w = w.0.2.0
 
-abbrev pub entry_at : ℕ → ℕ → ℕ → Waiting
+abbrev pub entry_at : ℕ → ℕ → ℕ → OpenListEntry
 entry_at sum estimate place = record { 0 = (sum, estimate, record { 0 = place }) }
 
-abbrev pub entry : ℕ → ℕ → ℕ → Waiting
+abbrev pub entry : ℕ → ℕ → ℕ → OpenListEntry
 entry cost estimate place = entry_at (cost + estimate) estimate place
 
 -- the entry's place is below this count, and its estimate is no greater than its sum
-abbrev pub IsEntry : ℕ → Waiting → Type 0
+abbrev pub IsEntry : ℕ → OpenListEntry → Type 0
 IsEntry count w = (place_of w < count) × (estimate_of w ≤ sum_of w)
 
 -- the entry is current: its state waits at the entry's cost
-abbrev pub IsCurrent : List Node → Waiting → Type 0
+abbrev pub IsCurrent : List Node → OpenListEntry → Type 0
 IsCurrent nodes w = (node : Node) × (slice_get nodes (place_of w) ≡ Some node) × (node.cost + estimate_of w ≡ sum_of w) × (is_expanded node ≡ false)
 
 -- the place in three bytes
@@ -44,12 +44,12 @@ place_in id = id.low + id.middle * 256 + id.high * 65536
 
 -- the status of a new state with this estimate; None: it is reported dead
 abbrev pub status_of_reached : Option ℕ → NodeStatus
-status_of_reached (Some estimate) = Open
+status_of_reached (Some estimate) = Waiting
 status_of_reached None = Dead
 
 -- the state was ever expanded, at least in part, so it may be the parent of others
 abbrev pub has_been_expanded_status : NodeStatus → Bool
-has_been_expanded_status Open = false
+has_been_expanded_status Waiting = false
 has_been_expanded_status Reopened = true
 has_been_expanded_status Expanded = true
 has_been_expanded_status Dead = false
@@ -59,7 +59,7 @@ has_been_expanded node = has_been_expanded_status node.status
 
 -- the status after the state is reached at a lower cost
 abbrev pub status_again : NodeStatus → Option ℕ → NodeStatus
-status_again before (Some estimate) = if has_been_expanded_status before then Reopened else Open
+status_again before (Some estimate) = if has_been_expanded_status before then Reopened else Waiting
 status_again before None = Dead
 
 -- the place of the parent
@@ -87,7 +87,7 @@ total_of value n = n.node.cost + value n.state
 
 -- The entry's state is reached at the entry's cost or a lower one. At an equal cost the entry has the state's estimate, and the state is
 -- not reported dead. An entry of a greater cost may be that of another state of the class, whose place this one took.
-pub record IsEntryOf {S : Type 0} (value : S → ℕ) (is_dead : S → Bool) (nodes : List (Found S)) (w : Waiting) : Type 0 where
+pub record IsEntryOf {S : Type 0} (value : S → ℕ) (is_dead : S → Bool) (nodes : List (Found S)) (w : OpenListEntry) : Type 0 where
   pub found : Found S
   pub occurs : slice_get nodes (place_of w) ≡ Some found
   pub no_dearer : found.node.cost + estimate_of w ≤ sum_of w
@@ -142,7 +142,7 @@ HasWay {S} nodes k = (path : List ℕ) × IsWay nodes k path
 module _ {S : Type 0} (t : System S ℕ) (class_of : S → S) (value : S → ℕ) (is_dead : S → Bool) (nodes : List (Found S)) where
   -- What holds of the found states at any time. Each waiting state has an entry of its cost and estimate. With a consistent estimate,
   -- no waiting state has a lesser sum than an expanded one.
-  pub record AreNodes (open_list : List Waiting) : Type 0 where
+  pub record AreNodes (open_list : List OpenListEntry) : Type 0 where
     pub root : (n : Found S) × (slice_get nodes 0 ≡ Some n) × (n.state ≡ t.initial) × (n.node.cost ≡ 0)
     pub linked : (k : ℕ) (n : Found S) → slice_get nodes k ≡ Some n → k ≢ 0 → Leads t value is_dead nodes n
     pub distinct : (j k : ℕ) (m n : Found S) → slice_get nodes j ≡ Some m → slice_get nodes k ≡ Some n → m.state ≡ n.state → j ≡ k
@@ -164,16 +164,16 @@ abbrev pub IsFoundWithin : {S : Type 0} → (S → S) → List (Found S) → S �
 IsFoundWithin {S} class_of nodes s cost = (k : ℕ) × (n : Found S) × (slice_get nodes k ≡ Some n) × AreOfOneClass class_of n.state s × (n.node.cost ≤ cost)
 
 -- for each successor of the found state, a state of its class is found, at no more than the cost from there
-abbrev pub IsOpen : {S : Type 0} → System S ℕ → (S → S) → List (Found S) → Found S → Type 0
-IsOpen {S} t class_of nodes n = (a : ℕ) (next : S) → t.step n.state a ≡ Some next → IsFoundWithin class_of nodes next (n.node.cost + t.cost a)
+abbrev pub HasSuccessorsFound : {S : Type 0} → System S ℕ → (S → S) → List (Found S) → Found S → Type 0
+HasSuccessorsFound {S} t class_of nodes n = (a : ℕ) (next : S) → t.step n.state a ≡ Some next → IsFoundWithin class_of nodes next (n.node.cost + t.cost a)
 
 -- this holds for each expanded state
-abbrev pub AreOpen : {S : Type 0} → System S ℕ → (S → S) → List (Found S) → Type 0
-AreOpen {S} t class_of nodes = (k : ℕ) (n : Found S) → slice_get nodes k ≡ Some n → is_expanded n.node ≡ true → IsOpen t class_of nodes n
+abbrev pub HaveSuccessorsFound : {S : Type 0} → System S ℕ → (S → S) → List (Found S) → Type 0
+HaveSuccessorsFound {S} t class_of nodes = (k : ℕ) (n : Found S) → slice_get nodes k ≡ Some n → is_expanded n.node ≡ true → HasSuccessorsFound t class_of nodes n
 
 -- and for each expanded state except that at this place
-abbrev pub AreOpenBut : {S : Type 0} → System S ℕ → (S → S) → List (Found S) → ℕ → Type 0
-AreOpenBut {S} t class_of nodes i = (k : ℕ) (n : Found S) → slice_get nodes k ≡ Some n → is_expanded n.node ≡ true → k ≢ i → IsOpen t class_of nodes n
+abbrev pub HaveSuccessorsFoundBut : {S : Type 0} → System S ℕ → (S → S) → List (Found S) → ℕ → Type 0
+HaveSuccessorsFoundBut {S} t class_of nodes i = (k : ℕ) (n : Found S) → slice_get nodes k ≡ Some n → is_expanded n.node ≡ true → k ≢ i → HasSuccessorsFound t class_of nodes n
 
 -- the state at this place is being expanded; with a consistent estimate, no expanded state has a greater sum
 pub record IsTurn {S : Type 0} (t : System S ℕ) (value : S → ℕ) (nodes : List (Found S)) (i : ℕ) : Type 0 where

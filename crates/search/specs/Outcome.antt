@@ -5,7 +5,7 @@ use Rattle.model.specs.Bisimulation.{ReachGoalsAlike}
 use Rattle.model.specs.Claims.{Claim, bound, none, Mark, opened, cut, dead, Line, IsClosed}
 use Rattle.search.specs.declared.nodes.Node.{Node}
 use Rattle.search.specs.declared.nodes.NodeStatus.{NodeStatus}
-use Rattle.search.specs.declared.nodes.NodeStatus.TheVariants.{Open, Reopened, Expanded, Dead}
+use Rattle.search.specs.declared.nodes.NodeStatus.TheVariants.{Waiting, Reopened, Expanded, Dead}
 use Rattle.search.specs.declared.best.Outcome.{Outcome}
 use Rattle.search.specs.declared.best.Outcome.TheVariants.{Found, Exhausted, States}
 use Rattle.packed_state.specs.Store.{AreDistinct}
@@ -34,7 +34,7 @@ AreClassesOf {S} t class_of = (s r : S) → AreOfOneClass class_of s r → Reach
 
 -- the state was expanded at its present cost
 abbrev pub is_expanded_status : NodeStatus → Bool
-is_expanded_status Open = false
+is_expanded_status Waiting = false
 is_expanded_status Reopened = false
 is_expanded_status Expanded = true
 is_expanded_status Dead = false
@@ -44,7 +44,7 @@ is_expanded node = is_expanded_status node.status
 
 -- the state is marked dead
 abbrev pub is_dead_status : NodeStatus → Bool
-is_dead_status Open = false
+is_dead_status Waiting = false
 is_dead_status Reopened = false
 is_dead_status Expanded = false
 is_dead_status Dead = true

@@ -11,30 +11,30 @@ use Rattle.search.specs.declared.listing.Place.TheVariants.{New, Listed, Alike}
 use Rattle.search.specs.Listing.{IsAlikeAt}
 use Rattle.search.specs.OpenList.{waiting_in, AreNoted, IsOpenList, JoinsBy}
 use Rattle.search.specs.Outcome.{AreMoreReachable}
-use Rattle.search.specs.Nodes.{Waiting, sum_of, estimate_of, place_of, entry, IsCurrent, IsWaiting, total_of, IsEntryOf, has_been_expanded, status_again, Found, found_of, work_left, AreNodes, IsFoundWithin, AreOpen, AreOpenBut, IsTurn}
+use Rattle.search.specs.Nodes.{OpenListEntry, sum_of, estimate_of, place_of, entry, IsCurrent, IsWaiting, total_of, IsEntryOf, has_been_expanded, status_again, Found, found_of, work_left, AreNodes, IsFoundWithin, HaveSuccessorsFound, HaveSuccessorsFoundBut, IsTurn}
 
 -- The state of this turn has the least sum of the waiting states, of these the least estimate, and of these the least place. It leaves the
 -- open list, and the others stay in it.
-pub record TakesNext (old new : List Waiting) (all : List Node) (turn : Turn) : Type 0 where
-  pub next : Waiting
+pub record TakesNext (old new : List OpenListEntry) (all : List Node) (turn : Turn) : Type 0 where
+  pub next : OpenListEntry
   pub occurs : place_of next ≡ turn.id.0
   pub sum : sum_of next ≡ turn.sum
   pub estimate : estimate_of next ≡ turn.estimate
   pub among : Contains old next
   pub current : IsCurrent all next
-  pub least : (w : Waiting) → Contains old w → IsCurrent all w → sum_of next ≤ sum_of w
-  pub nearest : (w : Waiting) → Contains old w → IsCurrent all w → sum_of w ≡ sum_of next → estimate_of next ≤ estimate_of w
-  pub first : (w : Waiting) → Contains old w → IsCurrent all w → sum_of w ≡ sum_of next → estimate_of w ≡ estimate_of next → place_of next ≤ place_of w
-  pub rest : (w : Waiting) → Contains old w → IsCurrent all w → place_of w ≢ turn.id.0 → Contains new w
+  pub least : (w : OpenListEntry) → Contains old w → IsCurrent all w → sum_of next ≤ sum_of w
+  pub nearest : (w : OpenListEntry) → Contains old w → IsCurrent all w → sum_of w ≡ sum_of next → estimate_of next ≤ estimate_of w
+  pub first : (w : OpenListEntry) → Contains old w → IsCurrent all w → sum_of w ≡ sum_of next → estimate_of w ≡ estimate_of next → place_of next ≤ place_of w
+  pub rest : (w : OpenListEntry) → Contains old w → IsCurrent all w → place_of w ≢ turn.id.0 → Contains new w
 
 -- the least of this sum and the sums of the current entries
-pub record IsLeastWith (sum : ℕ) (open_list : List Waiting) (all : List Node) (least : ℕ) : Type 0 where
+pub record IsLeastWith (sum : ℕ) (open_list : List OpenListEntry) (all : List Node) (least : ℕ) : Type 0 where
   pub no_greater : least ≤ sum
-  pub at_most_each : (w : Waiting) → Contains open_list w → IsCurrent all w → least ≤ sum_of w
-  pub of_one : (sum ≡ least) ⊎ ((w : Waiting) × Contains open_list w × IsCurrent all w × (sum_of w ≡ least))
+  pub at_most_each : (w : OpenListEntry) → Contains open_list w → IsCurrent all w → least ≤ sum_of w
+  pub of_one : (sum ≡ least) ⊎ ((w : OpenListEntry) × Contains open_list w × IsCurrent all w × (sum_of w ≡ least))
 
 -- the estimates of this turn's state and of the current entries are written to their places
-abbrev pub AreNotedWith : List Node → Turn → List Waiting → List ℕ → Type 0
+abbrev pub AreNotedWith : List Node → Turn → List OpenListEntry → List ℕ → Type 0
 AreNotedWith all turn open_list estimates = AreNoted all open_list (set (replicate (length all) 0) turn.id.0 turn.estimate) estimates
 
 -- the found states of a search
@@ -51,7 +51,7 @@ module _ {S Store : Type 0} (t : System S ℕ) (class_of : S → S) (value : S �
   -- a state is about to be expanded: it waits, but is no longer in the open list
   pub record IsAtTurn (turn : Turn) : Type 0 where
     pub one_each : length p.nodes.items ≡ length (states_of p.store)
-    pub open_list : List Waiting
+    pub open_list : List OpenListEntry
     pub nodes : AreNodes t class_of value is_dead (nodes_in states_of p) open_list
     pub heap : IsOpenList p.open_list
     pub found : Found S
@@ -74,14 +74,14 @@ module _ {S Store : Type 0} (t : System S ℕ) (class_of : S → S) (value : S �
     pub sum : turn.sum ≡ total_of value found
     pub estimate : turn.estimate ≡ value found.state
     pub nodes : AreNodes t class_of value is_dead (nodes_in states_of p) (entry found.node.cost (value found.state) turn.id.0 ∷ waiting_in p.open_list)
-    pub are_open : AreOpen t class_of (nodes_in states_of p)
+    pub successors_found : HaveSuccessorsFound t class_of (nodes_in states_of p)
     pub heap : IsOpenList p.open_list
 
   -- the state at this place is being expanded
   pub record IsExpanding (i : ℕ) : Type 0 where
     pub search : IsSearch
     pub turn : IsTurn t value (nodes_in states_of p) i
-    pub others_open : AreOpenBut t class_of (nodes_in states_of p) i
+    pub others_successors_found : HaveSuccessorsFoundBut t class_of (nodes_in states_of p) i
 
 -- each found class stays found, at no greater cost, and the state that is being expanded stays as it is
 pub record Continues {S : Type 0} (class_of : S → S) (old new : List (Found S)) (i : ℕ) : Type 0 where
@@ -192,7 +192,7 @@ pub record IsFull {S Store : Type 0} (t : System S ℕ) (value : S → ℕ) (is_
 -- The expansion is over.
 pub record Expands {S Store : Type 0} (t : System S ℕ) (class_of : S → S) (value : S → ℕ) (is_dead : S → Bool) (states_of : Store → List S) (old new : Progress Store) (max_states : ℕ) : Type 0 where
   pub search : IsSearch t class_of value is_dead states_of new
-  pub are_open : AreOpen t class_of (nodes_in states_of new)
+  pub successors_found : HaveSuccessorsFound t class_of (nodes_in states_of new)
   pub within : length (states_of new.store) ≤ max_states
   pub less : work_left max_states (nodes_in states_of new) < work_left max_states (nodes_in states_of old)
 

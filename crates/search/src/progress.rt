@@ -2,7 +2,7 @@
 ghost use Rattle.std.specs.Prelude.{◌≡◌, ◌≢◌, ℕ, ◌+◌, ◌<◌, ◌≤◌, ◌^◌, Bool, true, false, List, [], ◌∷◌, ◌++◌, length, slice_get, slice_set, Contains, All, MatchBool, MatchOption, IfOk, IfNone, IfSome, OnOk, OnSome, Some};
 ghost use Rattle.packed_state.specs.Packed.{bits_of};
 ghost use Rattle.search.specs.Outcome.{AreClassesOf};
-ghost use Rattle.search.specs.Nodes.{Waiting, IsEntry, IsCurrent, AreOpen, IsPath, IsReachedIn};
+ghost use Rattle.search.specs.Nodes.{OpenListEntry, IsEntry, IsCurrent, HaveSuccessorsFound, IsPath, IsReachedIn};
 ghost use Rattle.search.specs.OpenList.{waiting_in, IsOpenList, JoinsBy};
 ghost use Rattle.search.specs.Progress.{AreNotedWith, TakesNext, IsLeastWith, nodes_in, IsSearch, IsAtTurn, IsStopped, IsExpanding, IsPlaceAmong, IsReachedWithin, IsReachedCheaper, IsFreeFor, TakesPlace, IsLeftOut, Reaches, IsFull, Expands, AreWide};
 
@@ -71,7 +71,7 @@ impl<L: StateListing> Progress<L> {
         requires width { L.width_of store ≡ T.width_of system.now }
         ensures scratch { IfOk result (λ _. G.fits guide.now scratch.new) }
         ensures search { IfOk result (λ p. IsSearch (T.means system.now) (L.class_of store) (G.estimate_of guide.now) (G.is_dead guide.now) L.states p) }
-        ensures open { IfOk result (λ p. AreOpen (T.means system.now) (L.class_of store) (nodes_in L.states p)) }
+        ensures successors { IfOk result (λ p. HaveSuccessorsFound (T.means system.now) (L.class_of store) (nodes_in L.states p)) }
         ensures one { IfOk result (λ p. length (L.states p.store) ≡ 1) }
         ensures width { IfOk result (λ p. L.width_of p.store ≡ T.width_of system.now) }
         ensures class { IfOk result (λ p. L.class_of p.store ≡ L.class_of store) }
@@ -102,9 +102,9 @@ impl<L: StateListing> Progress<L> {
         ensures store { self.new.store ≡ self.old.store }
         ensures nodes { self.new.nodes.items ≡ self.old.nodes.items }
         ensures heap { OnSome result (IsOpenList self.new.open_list) }
-        ensures kept { OnSome result ((w : Waiting) →
+        ensures kept { OnSome result ((w : OpenListEntry) →
             Contains (waiting_in self.new.open_list) w → Contains (waiting_in self.old.open_list) w) }
-        ensures none { IfNone result ((w : Waiting) →
+        ensures none { IfNone result ((w : OpenListEntry) →
             Contains (waiting_in self.old.open_list) w → ¬ IsCurrent self.old.nodes.items w) }
         ensures some { IfSome result
             (λ turn. TakesNext (waiting_in self.old.open_list) (waiting_in self.new.open_list) self.old.nodes.items turn) }
@@ -301,7 +301,7 @@ impl<L: StateListing> Progress<L> {
         requires turn { IsAtTurn (T.means system.now) (L.class_of self.old.store) (G.estimate_of guide.now) (G.is_dead guide.now) L.states self.old turn }
         requires classes { AreClassesOf (T.means system.now) (L.class_of self.old.store) }
         requires scratch { G.fits guide.now buffers.old.scratch }
-        requires open { AreOpen (T.means system.now) (L.class_of self.old.store) (nodes_in L.states self.old) }
+        requires successors { HaveSuccessorsFound (T.means system.now) (L.class_of self.old.store) (nodes_in L.states self.old) }
         requires state { slice_get (L.states self.old.store) turn.id.0 ≡ Some (bits_of buffers.old.state) }
         requires no_goal { (T.means system.now).meets_goal (bits_of buffers.old.state) ≡ false }
         requires width { L.width_of self.old.store ≡ T.width_of system.now }

@@ -5,7 +5,7 @@ use Rattle.std.proofs.lemmas.Bool.{true≢false}
 use Rattle.std.proofs.lemmas.List.{length-map, map-append}
 use Rattle.search.specs.declared.nodes.Node.{Node}
 use Rattle.search.specs.declared.nodes.NodeStatus.{NodeStatus}
-use Rattle.search.specs.declared.nodes.NodeStatus.TheVariants.{Open, Reopened, Expanded, Dead}
+use Rattle.search.specs.declared.nodes.NodeStatus.TheVariants.{Waiting, Reopened, Expanded, Dead}
 use Rattle.search.specs.Outcome.{is_expanded, is_expanded_status, is_dead_status, is_marked_dead, line_of, lines_of, IsCut}
 use Rattle.search.specs.Outcome as search
 use Rattle.certificate.specs.declared.states.Listed.{Listed}
@@ -65,7 +65,7 @@ module _ {S : Type 0} (value : S → ℕ) (is_dead : S → Bool) where
       let reported : is_dead s ≡ true = sym marked ∙ ap is_dead_status is in
       sym (λ i. line_by node (is_expanded_status (is i)) (reported i) (value s))
 
-  pub waiting_listed : (s : S) (node : Node) (rest : ℕ) → (node.status ≡ Open) ⊎ (node.status ≡ Reopened) → is_marked_dead node ≡ is_dead s → (IsCut is_dead s node → rest ≡ value s)
+  pub waiting_listed : (s : S) (node : Node) (rest : ℕ) → (node.status ≡ Waiting) ⊎ (node.status ≡ Reopened) → is_marked_dead node ≡ is_dead s → (IsCut is_dead s node → rest ≡ value s)
       → record { cost = node.cost; mark = cut rest } ≡ mark_of_line (line_of value is_dead s node)
   waiting_listed s node rest waits marked is =
       let unexpanded : is_expanded node ≡ false = elim waits [

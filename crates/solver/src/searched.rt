@@ -243,7 +243,7 @@ fn listed(node: Node, estimate: u64) -> Listed
             cost,
             mark: Mark::Dead,
         },
-        NodeStatus::Open | NodeStatus::Reopened => Listed {
+        NodeStatus::Waiting | NodeStatus::Reopened => Listed {
             cost,
             mark: Mark::Cut { rest: estimate },
         },

@@ -87,7 +87,7 @@ returns-then-meets_goal g c =
     let admissible = subst (λ (u : System (List Bool) ℕ). IsAdmissible u value) c.requires.made_for (g.met.G.Guide.is_admissible c.args.guide.now) in
     let reports = subst (λ (u : System (List Bool) ℕ). ReportsDeadEnds u is_dead) c.requires.made_for (g.met.G.Guide.reports_dead_ends c.args.guide.now) in
     let best = optimal _ _ _ _ _ _ search.one_each _ search.nodes c.requires.classes admissible reports id next.found c.in_ok-steps.steps.items c.args.max_states
-    c.turns.invariant.are_open next.occurs next.least meets path short c.turns.invariant.within in
+    c.turns.invariant.successors_found next.occurs next.least meets path short c.turns.invariant.within in
     let noted = rw c.in-Some.ensures.nodes at c.in_ok-steps.ensures.estimates in (
       (
         best.0,
@@ -133,9 +133,9 @@ expand-requires-clause-turn g c =
 pub expand-requires-clause-no_goal : goal.expand-requires-clause-no_goal
 expand-requires-clause-no_goal g c = sym c.meets_goal.ensures ∙ c.if-meets_goal.false
 
-pub expand-requires-clause-open : goal.expand-requires-clause-open
-expand-requires-clause-open g c =
-    rw (same_classes g (goal.at.expand-requires-clause-open g c).In-Some) (rw (c.in-Some.ensures.store, c.in-Some.ensures.nodes) c.turns.invariant.are_open)
+pub expand-requires-clause-successors : goal.expand-requires-clause-successors
+expand-requires-clause-successors g c =
+    rw (same_classes g (goal.at.expand-requires-clause-successors g c).In-Some) (rw (c.in-Some.ensures.store, c.in-Some.ensures.nodes) c.turns.invariant.successors_found)
 
 pub expand-requires-clause-within : goal.expand-requires-clause-within
 expand-requires-clause-within g c =
@@ -170,7 +170,7 @@ turns-preserved g c =
     let listed : c.in_ok-expand.field-0 ≡ true = c.if-not-branch.false in
     let same = same_classes g (goal.at.turns-preserved g c).In-Some in
     let expands = rw (same, listed) at c.in_ok-expand.ensures.listed in
-    record { search = expands.search; are_open = expands.are_open; within = expands.within; store_classes = c.in_ok-expand.ensures.class ∙ same; store_width = c.in_ok-expand.ensures.width; buffers = c.in_ok-expand.ensures.buffers; scratch = c.in_ok-expand.ensures.scratch }
+    record { search = expands.search; successors_found = expands.successors_found; within = expands.within; store_classes = c.in_ok-expand.ensures.class ∙ same; store_width = c.in_ok-expand.ensures.width; buffers = c.in_ok-expand.ensures.buffers; scratch = c.in_ok-expand.ensures.scratch }
 
 pub returns-then-not-branch : goal.returns-then-not-branch
 returns-then-not-branch g c =
@@ -199,7 +199,7 @@ returns-in_default g c =
     let admissible = subst (λ (u : System (List Bool) ℕ). IsAdmissible u value) c.requires.made_for (g.met.G.Guide.is_admissible c.args.guide.now) in
     let reports = subst (λ (u : System (List Bool) ℕ). ReportsDeadEnds u is_dead) c.requires.made_for (g.met.G.Guide.reports_dead_ends c.args.guide.now) in
     let none = none_waits _ _ _ _ _ _ _ search.one_each search.nodes c.in_default.ensures.none in
-    let result = unsolvable _ _ _ _ _ _ search.one_each _ search.nodes c.requires.classes admissible reports c.args.max_states c.turns.invariant.are_open none c.turns.invariant.within in
+    let result = unsolvable _ _ _ _ _ _ search.one_each _ search.nodes c.requires.classes admissible reports c.args.max_states c.turns.invariant.successors_found none c.turns.invariant.within in
     let states = g.L.StateListing.states c.turns.progress.store in
     let all = c.turns.progress.nodes.items in
     let long = rw c.in_default.ensures.nodes at c.in_ok-states.ensures.estimates in (

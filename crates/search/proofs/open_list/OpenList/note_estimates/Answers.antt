@@ -2,7 +2,7 @@ use Rattle.std.proofs.Common.{◌+◌, ◌++◌, ◌∙◌, length, get_or, drop
 use Rattle.std.specs.BinaryHeap.{heap_items}
 use Rattle.std.proofs.lemmas.List.{drop_more, drop_all}
 use Rattle.std.proofs.lemmas.List.Elements.{All-head, All-tail}
-use Rattle.search.specs.Nodes.{Waiting, IsEntry, entry_at}
+use Rattle.search.specs.Nodes.{OpenListEntry, IsEntry, entry_at}
 use Rattle.search.specs.OpenList.{entry_of, IsNoted}
 use Rattle.search.proofs.Noted.{long_one}
 use Rattle.search.proofs.open_list.OpenList.note_estimates.Goals as goal
@@ -27,7 +27,7 @@ loop-word-preserved c =
     record {
       entries = All-tail P (entry_of (get_or words i (record { 0 = 0 }))) (map entry_of (drop (i + 1) words) ++ heap_items c.args.self.now.far) inv.entries;
       one_each = long_one nodes c.entry_in.result old new c.note_estimate.ensures ∙ inv.one_each;
-      noted = λ out later. inv.noted out (new, subst (λ (w : Waiting). IsNoted nodes w old new) c.entry_in.ensures c.note_estimate.ensures, later);
+      noted = λ out later. inv.noted out (new, subst (λ (w : OpenListEntry). IsNoted nodes w old new) c.entry_in.ensures c.note_estimate.ensures, later);
     }
 
 pub loop-entry-init : goal.loop-entry-init
@@ -47,7 +47,7 @@ pub loop-entry-preserved : goal.loop-entry-preserved
 loop-entry-preserved c =
     let entries = c.as_slice-entry-items.result.now in
     let i = c.loop-entry.entry-index in
-    let x : Waiting = get_or entries i (entry_at 0 0 0) in
+    let x : OpenListEntry = get_or entries i (entry_at 0 0 0) in
     let inv = rw (drop_more entries i (entry_at 0 0 0) c.loop-entry-test.true) at c.loop-entry.invariant in
     let nodes = c.args.nodes.now in
     let old = c.loop-entry.estimates in

@@ -5,7 +5,7 @@ use Rattle.std.proofs.lemmas.List.{nil_from_length}
 use Rattle.std.proofs.lemmas.List.Elements.{All-head, All-tail}
 use Rattle.std.proofs.lemmas.List.Sorted.{All-permutation}
 use Rattle.std.specs.declared.cmp.Reverse.{Reverse}
-use Rattle.search.specs.Nodes.{Waiting, sum_of}
+use Rattle.search.specs.Nodes.{OpenListEntry, sum_of}
 use Rattle.search.specs.OpenList.{by_word, entry_of}
 use Rattle.search.proofs.OpenListLemmas.{leaves_near, leaves_far, first_near, first_far, none_reported, some_reported}
 use Rattle.search.proofs.open_list.OpenList.pop.Goals.{In-None}
@@ -54,7 +54,7 @@ returns-in-None-clause-order c =
     let far' = heap_items c.pop-in-None.new.self in
     let same = sym c.in-None.ensures.unchanged.0 in
     let none = none_near (goal.at.returns-in-None-clause-order c).In-None in
-    let P : Waiting → Type 0 = λ w. 1048576 ≤ sum_of w in
+    let P : OpenListEntry → Type 0 = λ w. 1048576 ≤ sum_of w in
     some_reported (λ w moved pops was.
     let popped = pops was.far_heap in (
       record {

@@ -3,7 +3,7 @@ use Rattle.std.specs.BinaryHeap.{heap_items}
 use Rattle.std.proofs.lemmas.List.Elements.{All-cons}
 use Rattle.std.proofs.lemmas.List.Sorted.{All-permutation}
 use Rattle.std.specs.declared.cmp.Reverse.{Reverse}
-use Rattle.search.specs.Nodes.{Waiting, sum_of, estimate_of, place_of}
+use Rattle.search.specs.Nodes.{OpenListEntry, sum_of, estimate_of, place_of}
 use Rattle.search.specs.OpenList.{entry_of}
 use Rattle.search.proofs.OpenListLemmas.{entry_in_word, joins_near, joins_far}
 use Rattle.search.proofs.open_list.OpenList.push.Goals as goal
@@ -22,7 +22,7 @@ returns-in_ok-push c =
         near_heap = c.in_ok-push.ensures.heap_order was.near_heap;
         far_heap = was.far_heap;
         near = All-permutation (λ (x : Reverse ℕ). sum_of (entry_of x) < 1048576) (word ∷ near) near' c.in_ok-push.ensures.permutation
-            (All-cons (λ (x : Reverse ℕ). sum_of (entry_of x) < 1048576) word near (subst (λ (e : Waiting). sum_of e < 1048576) (sym is) c.if-sum-lt-FAR.true) was.near);
+            (All-cons (λ (x : Reverse ℕ). sum_of (entry_of x) < 1048576) word near (subst (λ (e : OpenListEntry). sum_of e < 1048576) (sym is) c.if-sum-lt-FAR.true) was.near);
         far = was.far;
       };
     }
@@ -39,7 +39,7 @@ returns-in_ok-push-2 c =
         near_heap = was.near_heap;
         far_heap = c.in_ok-push-2.ensures.heap_order was.far_heap;
         near = was.near;
-        far = All-permutation (λ (x : Waiting). 1048576 ≤ sum_of x) (w ∷ far) far' c.in_ok-push-2.ensures.permutation
-            (All-cons (λ (x : Waiting). 1048576 ≤ sum_of x) w far c.if-sum-lt-FAR.false was.far);
+        far = All-permutation (λ (x : OpenListEntry). 1048576 ≤ sum_of x) (w ∷ far) far' c.in_ok-push-2.ensures.permutation
+            (All-cons (λ (x : OpenListEntry). 1048576 ≤ sum_of x) w far c.if-sum-lt-FAR.false was.far);
       };
     }

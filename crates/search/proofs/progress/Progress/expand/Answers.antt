@@ -13,7 +13,7 @@ use Rattle.search.specs.declared.nodes.Node.{Node}
 use Rattle.search.specs.Nodes.{Found, found_of, total_of, marked_as, marked}
 use Rattle.search.proofs.Linked.{found_of-get, found_of-set, length-found_of}
 use Rattle.search.proofs.Lists.{get-set_here, get-set_other}
-use Rattle.search.proofs.Marked.{open_all, nodes_unmarked, open_unmarked}
+use Rattle.search.proofs.Marked.{successors_found_all, nodes_unmarked, successors_unmarked}
 use Rattle.search.proofs.Work.{less_then}
 use Rattle.search.proofs.Steps.{HasBegun, turn_begins, left_start, left_more, left_end, occurs_still, continues_same, continues_trans}
 use Rattle.search.proofs.progress.Progress.expand.Given.{Over}
@@ -45,7 +45,7 @@ has_begun g c =
     let all = c.args.self.now.nodes.items in
     turn_begins t (g.L.StateListing.class_of c.args.self.now.store) c.requires.classes _ _ (admissible g c) (reports g c) states all
     turn.open_list _ turn.one_each turn.nodes _ turn.found turn.occurs turn.waits turn.least turn.rest turn.entries
-    (subst (λ x. t.meets_goal x ≡ false) (is_state g c) c.requires.no_goal) c.requires.open _ _ (ap g.L.StateListing.states c.mark.ensures.store)
+    (subst (λ x. t.meets_goal x ≡ false) (is_state g c) c.requires.no_goal) c.requires.successors _ _ (ap g.L.StateListing.states c.mark.ensures.store)
     (c.mark.ensures.nodes turn.found.node (found_of-get states all _ turn.found turn.occurs).1)
 
 pub loop-action-init : goal.loop-action-init
@@ -61,7 +61,7 @@ loop-action-init g c =
       expanding = rw same (record {
         search = record { one_each = begins.one_each; nodes = rw c.mark.ensures.open_list begins.nodes; heap = rw c.mark.ensures.open_list turn.heap };
         turn = begins.turn;
-        others_open = begins.others_open;
+        others_successors_found = begins.others_successors_found;
       });
       within = rw c.mark.ensures.store c.requires.within;
       continues = continues_same (g.L.StateListing.class_of begun.store) nodes c.args.turn.id.0;
@@ -173,7 +173,7 @@ returns-then-not-branch-clause-listed g c =
       sum = sum;
       estimate = c.requires.turn.estimate ∙ ap (λ (x : Found (List Bool)). value x.state) same;
       nodes = rw (c.mark-then-not-branch.ensures.open_list, full.open_list) (nodes_unmarked t class_of value is_dead nodes after i e.turn occurs others (waiting_in c.loop-action.self.open_list) (rw same_classes at e.search.nodes) long);
-      are_open = open_unmarked t class_of value is_dead nodes after i e.turn occurs others (rw same_classes at e.others_open);
+      successors_found = successors_unmarked t class_of value is_dead nodes after i e.turn occurs others (rw same_classes at e.others_successors_found);
       heap = rw (c.mark-then-not-branch.ensures.open_list, full.open_list) e.search.heap;
     }
 
@@ -188,7 +188,7 @@ returns-clause-listed g c =
     let none = drop_all c.loop-action.action-index numbers (omega (arith, c.loop-action-test.false)) in
     rw (sym (ap g.L.StateListing.class_of c.mark.ensures.store)) (record {
       search = e.search;
-      are_open = open_all t class_of nodes c.args.turn.id.0 e.turn.found e.turn.occurs (left_end t class_of nodes c.args.turn.id.0 e.turn.found e.turn.occurs (drop c.loop-action.action-index numbers) none inv.left) e.others_open;
+      successors_found = successors_found_all t class_of nodes c.args.turn.id.0 e.turn.found e.turn.occurs (left_end t class_of nodes c.args.turn.id.0 e.turn.found e.turn.occurs (drop c.loop-action.action-index numbers) none inv.left) e.others_successors_found;
       within = inv.within;
       less = less_then _ _ _ (inv.continues.less c.args.max_states (omega (arith, inv.within, length-found_of (g.L.StateListing.states c.loop-action.self.store) c.loop-action.self.nodes.items e.search.one_each))) ((has_begun g (goal.at.returns-clause-listed g c).After-deref-action-items).less c.args.max_states);
     })

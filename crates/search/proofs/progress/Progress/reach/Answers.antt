@@ -159,13 +159,13 @@ returns-then-is_reached_within-clause-listed g c =
     let within : IsReachedWithin all cost c.in-Some.place = rw c.if-is_reached_within.true at c.is_reached_within.ensures in
     let placed_at = placed g (goal.at.returns-then-is_reached_within-clause-listed g c).In-Some in
     let step = reached_before t class_of (g.G.Guide.estimate_of c.args.guide.now) (g.G.Guide.is_dead c.args.guide.now) states all (waiting_in c.args.self.now.open_list) c.args.to.parent.0
-    e.search.one_each e.search.nodes e.turn e.others_open s (g.L.StateListing.is_current c.place.new.self) after c.args.max_states
+    e.search.one_each e.search.nodes e.turn e.others_successors_found s (g.L.StateListing.is_current c.place.new.self) after c.args.max_states
     c.args.to.action cost (omega (arith, same, c.from.ensures, c.cost.ensures)) c.in-Some.place placed_at within in
     record {
       expanding = record {
         search = record { one_each = step.1.0; nodes = step.1.1.sound; heap = e.search.heap };
         turn = step.1.1.turn;
-        others_open = step.1.1.others;
+        others_successors_found = step.1.1.others;
       };
       within = placed_within _ _ _ _ _ _ c.requires.within c.in-Some.place placed_at;
       continues = step.1.1.continues;
@@ -198,13 +198,13 @@ returns-clause-listed g c =
     (λ is_taken. match_each {B = IsLeftOut states_of old new s max_states} is_taken
     (λ takes.
     let is = taken t class_of value is_dead states_of states old new i max_states
-    e.search.one_each e.search.nodes e.turn e.others_open is_current s node (child g at.After-node-node) c.value-estimate.result c.value-estimate.ensures.value
+    e.search.one_each e.search.nodes e.turn e.others_successors_found is_current s node (child g at.After-node-node) c.value-estimate.result c.value-estimate.ensures.value
     c.requires.within place placed_at cheaper takes in
     record {
       expanding = record {
         search = record { one_each = is.each; nodes = is.stepped.sound; heap = is.heap e.search.heap };
         turn = is.stepped.turn;
-        others_open = is.stepped.others;
+        others_successors_found = is.stepped.others;
       };
       within = is.within;
       continues = is.stepped.continues;
