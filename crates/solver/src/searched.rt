@@ -75,8 +75,8 @@ fn stretch_by<'l, 't, G: Guide>(
     let system = GroundSystem(space.ground());
     match go_on(alloc, &system, guide, search, pause, limits.states())? {
         Halt::Ended(outcome) => {
-            let marks = marks(alloc, found_in(&outcome))?;
-            Ok(Stretch::Ended(Searched { outcome, marks }))
+            let searched = marked(alloc, outcome)?;
+            Ok(Stretch::Ended(searched))
         }
         Halt::Paused(search) => Ok(Stretch::Paused(search)),
     }
@@ -214,6 +214,20 @@ fn found_in<'o, 'l, 't>(
         Outcome::Exhausted { states } => states,
         Outcome::States { states, .. } => states,
     }
+}
+
+/// The outcome, with the mark of each found state.
+fn marked<'l, 't>(
+    alloc: Global,
+    outcome: Outcome<GroundListing<'l, 't>>,
+) -> Result<Searched<'l, 't>, NoMemory>
+    requires { length (guided.found_in outcome).estimates.items ≡ length (guided.found_in outcome).nodes.items }
+    ensures outcome { IfOk result (λ s. s.outcome ≡ outcome.entry) }
+    ensures marks { IfOk result (λ s. (estimate : List Bool → ℕ) (is_dead : List Bool → Bool)
+        → CanBeMarked estimate is_dead (guided.found_in outcome.entry) → AreMarksOf estimate is_dead (guided.found_in outcome.entry) s.marks.items) }
+{
+    let marks = marks(alloc, found_in(&outcome))?;
+    Ok(Searched { outcome, marks })
 }
 
 /// The marks of the found states, in order.

@@ -10,8 +10,8 @@ use Rattle.ground_listings.proofs.TaskLemmas.{classes_reach_alike}
 use Rattle.search.specs.Outcome.{AreClassesOf}
 use Rattle.search.specs.UnderWay as under_way
 use Rattle.search.specs.UnderWay.{IsTrueHalt, store_in}
-use Rattle.search.specs.declared.nodes.FoundStates.{FoundStates}
-use Rattle.solver.specs.Guided.{AreMarksOf, CanBeMarked}
+use Rattle.search.specs.declared.best.Outcome.{Outcome}
+use Rattle.solver.specs.Guided.{IsSearched}
 use Rattle.solver.specs.Stretches.{IsUnderWay}
 use Rattle.solver.proofs.AnswerLemmas.{can_be_marked, searched, most_of_limit}
 use Rattle.solver.proofs.searched.stretch_by.Given.{Over}
@@ -62,8 +62,8 @@ halts g c =
     (subst (λ (k : Ground). IsTrueHalt (means k) (listed_class (store_in c.args.search)) estimate is_dead fits listed_states listed_class listed_width (length (atoms_in k)) c.args.pause c.states.result halt) c.ground.ensures
     c.in_ok-outcome.ensures))
 
-pub marks-requires : goal.marks-requires
-marks-requires g c =
+pub marked-requires : goal.marked-requires
+marked-requires g c =
     let space = c.args.session.now.setting.space in
     let guide = c.args.session.now.guide.now in
     let estimate = g.G.Guide.estimate_of guide in
@@ -71,11 +71,11 @@ marks-requires g c =
     let outcome = c.in-Ended.outcome in
     let is =
     subst (IsTrueHalt (system_of space) (class_in space) estimate is_dead (g.G.Guide.fits guide) listed_states listed_class listed_width (length (atoms_in (ground_in space))) c.args.pause c.args.session.now.setting.limits.states) c.in-Ended.is
-    (halts g (goal.at.marks-requires g c).In_ok-outcome) in
-    subst (λ (f : FoundStates GroundListing). length f.estimates.items ≡ length f.nodes.items) (sym c.found_in.ensures) (can_be_marked space estimate is_dead c.args.session.now.setting.limits outcome is.0 is.1).estimates.0
+    (halts g (goal.at.marked-requires g c).In_ok-outcome) in
+    (can_be_marked space estimate is_dead c.args.session.now.setting.limits outcome is.0 is.1).estimates.0
 
-pub returns-in_ok-marks-in-Ended : goal.returns-in_ok-marks-in-Ended
-returns-in_ok-marks-in-Ended g c =
+pub returns-in_ok-searched-in-Ended : goal.returns-in_ok-searched-in-Ended
+returns-in_ok-searched-in-Ended g c =
     let space = c.args.session.now.setting.space in
     let guide = c.args.session.now.guide.now in
     let estimate = g.G.Guide.estimate_of guide in
@@ -83,11 +83,11 @@ returns-in_ok-marks-in-Ended g c =
     let outcome = c.in-Ended.outcome in
     let is =
     subst (IsTrueHalt (system_of space) (class_in space) estimate is_dead (g.G.Guide.fits guide) listed_states listed_class listed_width (length (atoms_in (ground_in space))) c.args.pause c.args.session.now.setting.limits.states) c.in-Ended.is
-    (halts g (goal.at.returns-in_ok-marks-in-Ended g c).In_ok-outcome) in
-    let marks = c.in_ok-marks-in-Ended.marks.items in
-    searched space estimate is_dead c.args.session.now.setting.limits outcome is.0 (g.G.Guide.system_of guide) c.requires.system (g.met.G.Guide.is_admissible guide) (g.met.G.Guide.reports_dead_ends guide) marks
-    ((subst (λ (f : FoundStates GroundListing). CanBeMarked estimate is_dead f → AreMarksOf estimate is_dead f marks) c.found_in.ensures (c.in_ok-marks-in-Ended.ensures estimate is_dead))
-    (can_be_marked space estimate is_dead c.args.session.now.setting.limits outcome is.0 is.1))
+    (halts g (goal.at.returns-in_ok-searched-in-Ended g c).In_ok-outcome) in
+    let made = c.in_ok-searched-in-Ended in
+    subst (λ (o : Outcome GroundListing). IsSearched space estimate is_dead c.args.session.now.setting.limits.states o made.searched.marks.items) (sym made.ensures.outcome)
+    (searched space estimate is_dead c.args.session.now.setting.limits outcome is.0 (g.G.Guide.system_of guide) c.requires.system (g.met.G.Guide.is_admissible guide) (g.met.G.Guide.reports_dead_ends guide) made.searched.marks.items
+    (made.ensures.marks estimate is_dead (can_be_marked space estimate is_dead c.args.session.now.setting.limits outcome is.0 is.1)))
 
 pub returns-in-Paused : goal.returns-in-Paused
 returns-in-Paused g c =
