@@ -6,7 +6,7 @@ use crate::section::{Escapes, Section};
 use crate::stream::Stream;
 use faults::NoMemory;
 use std::alloc::{AllocError, Global};
-use test_devices::Table;
+use test_support::Table;
 
 /// Why a case could not be tried.
 #[derive(Clone, Copy, Debug)]

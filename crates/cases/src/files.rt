@@ -1,7 +1,7 @@
 //! The files of a case.
 use devices::{Files, IoFault, Memory};
 use std::alloc::Global;
-use test_devices::{FailsAt, InPieces, Table};
+use test_support::{FailsAt, InPieces, Table};
 
 /// A table of files, and how reads of them behave.
 #[derive(Drop)]

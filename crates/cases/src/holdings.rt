@@ -1,7 +1,7 @@
 //! The expected contents of files after the run.
 use std::alloc::{AllocError, Global};
 use std::fmt;
-use test_devices::Table;
+use test_support::Table;
 
 /// A file that should have these bytes, or should not exist.
 #[derive(Drop)]

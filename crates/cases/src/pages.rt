@@ -4,7 +4,7 @@ use crate::Tally;
 use devices::Memory;
 use std::alloc::{AllocError, Global};
 use std::{fs, io};
-use test_devices::Table;
+use test_support::Table;
 
 /// A file that documents the commands, and its conventions.
 #[derive(Clone, Copy)]

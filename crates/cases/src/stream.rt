@@ -3,7 +3,7 @@ use crate::case::{CaseFault, number_of, read_number};
 use crate::section::{Escapes, Section};
 use devices::Memory;
 use std::alloc::{AllocError, Global};
-use test_devices::{FailsAt, InPieces};
+use test_support::{FailsAt, InPieces};
 
 /// A stream that may take its bytes in pieces, and fail.
 pub type Device = FailsAt<InPieces<Memory>>;

@@ -6,15 +6,15 @@ use Rattle.certificate_definitions.specs.CertificateNames.{IsTextOf}
 use Rattle.certificate_definitions.specs.CertificateChecking.{IsAccepted, IsLineFault}
 use Rattle.certificate_reader.specs.declared.reader.CertReader.{CertReader}
 use Rattle.certificate_reader.specs.Reader.{source_of}
-use Rattle.task_certificates.specs.declared.refusal.Refusal.{Refusal}
-use Rattle.task_certificates.specs.declared.refusal.Refusal.TheVariants as refusal
-use Rattle.task_certificates.specs.declared.refusal.RefusalCode.{RefusalCode}
-use Rattle.task_certificates.specs.declared.refusal.RefusalCode.TheVariants as code
-use Rattle.task_certificates.specs.RefusalCode.{number_of}
+use Rattle.cert_checker.specs.declared.refusal.Refusal.{Refusal}
+use Rattle.cert_checker.specs.declared.refusal.Refusal.TheVariants as refusal
+use Rattle.cert_checker.specs.declared.refusal.RefusalCode.{RefusalCode}
+use Rattle.cert_checker.specs.declared.refusal.RefusalCode.TheVariants as code
+use Rattle.cert_checker.specs.RefusalCode.{number_of}
 use Rattle.cert_checker.specs.Reasons.{reason_of}
-use Rattle.task_certificates.specs.Reading.{CountsRefusal, IsLineRefusal, IsRead, IsReportedAt}
+use Rattle.cert_checker.specs.Reading.{CountsRefusal, IsLineRefusal, IsRead, IsReportedAt}
 use Rattle.cert_checker.proofs.AcceptedLemmas.{accepted_has_no_fault}
-use Rattle.task_certificates.proofs.LimitsLemmas.{one_certificate}
+use Rattle.cert_checker.proofs.LimitsLemmas.{one_certificate}
 use Rattle.model.specs.Task.{Task, Instance}
 use Rattle.model.specs.Claims.{Claim}
 use Rattle.model.specs.Limits.{max_numbered_atoms}

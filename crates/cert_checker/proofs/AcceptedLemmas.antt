@@ -13,7 +13,7 @@ use Rattle.model.specs.Fluents.{is_fluent}
 use Rattle.model.specs.Meaning.{State}
 use Rattle.model.specs.Claims.{Claim, Allows, opened, Line, none}
 use Rattle.model.proofs.ListLemmas.{Contains-cases, Contains-filter_map, Contains-here, Contains-map, Contains-none, Contains-there, map-Contains}
-use Rattle.table_functions.specs.TableFunctions.{Row, Table, is_among}
+use Rattle.lower_bounds.specs.TableFunctions.{Row, Table, is_among}
 use Rattle.certificate_definitions.specs.Certificates.{Version, one, two, three, Certificate, IsClosedFor, StateLine, are_weights, has_tables, is_row, is_table, rise, state_of_line}
 use Rattle.certificate_definitions.specs.CertificateText.{NamedAtom, WeightedAtom, TableLine, scope, row, NamedCertificate, TextLine, version, claims, constant, swapped, atom, tabled, listed, last, AreWhole, BeginCertificate, HasLine, IsFaultAfter, IsOneTooMany, IsOtherVersion, other_version, malformed, too_long, trailing, cut_short, too_many, format_of, is_line, keeps_text_limits, line_text, longest_line, most_atoms, most_rows, most_states, most_swaps, most_tables, text_lines, text_of, version_number, whole_line}
 use Rattle.certificate_definitions.specs.CertificateNames.{AllName, IsTextOf, Names, table_lines}
@@ -26,10 +26,10 @@ use Rattle.certificate_reader.specs.Stages.{IsWithin}
 use Rattle.certificate_reader.proofs.NumbersRead.{same_number}
 use Rattle.certificate_reader.proofs.OneLine.{one_line}
 use Rattle.certificate_reader.proofs.PlaceRead.{few_atoms, leads_line}
-use Rattle.task_certificates.specs.Given.{atom_in, atoms_given, names_given, state_in, states_given, table_in, tables_given}
-use Rattle.task_certificates.proofs.NamesLemmas.{one_named}
-use Rattle.task_certificates.proofs.PlacedLemmas.{atoms_of_text, states_of_text, tables_of_text}
-use Rattle.task_certificates.proofs.SplitLemmas.{end_within, few_atoms_kept, few_weights_kept, first_line, kept_lines, line_is_first, line_short, nothing_there, split_off, text_push, within_after}
+use Rattle.cert_checker.specs.Given.{atom_in, atoms_given, names_given, state_in, states_given, table_in, tables_given}
+use Rattle.cert_checker.proofs.NamesLemmas.{one_named}
+use Rattle.cert_checker.proofs.PlacedLemmas.{atoms_of_text, states_of_text, tables_of_text}
+use Rattle.cert_checker.proofs.SplitLemmas.{end_within, few_atoms_kept, few_weights_kept, first_line, kept_lines, line_is_first, line_short, nothing_there, split_off, text_push, within_after}
 
 -- ---- lists
 

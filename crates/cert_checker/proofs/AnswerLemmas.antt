@@ -3,8 +3,8 @@ use Rattle.std.proofs.Common.{◌≡◌, ℕ, ◌≤◌, arith, List, length, Op
 use Rattle.std.specs.Prelude.{Contains, IfErr, MatchOption, OnOk, Result, Ok, Err, None, Some}
 use Rattle.std.proofs.lemmas.Option.{slice_get_within}
 use Rattle.formulas.specs.State.{instance_of}
-use Rattle.task_certificates.specs.declared.refusal.Refusal.{Refusal}
-use Rattle.task_certificates.specs.declared.refusal.Refusal.TheVariants as refusal
+use Rattle.cert_checker.specs.declared.refusal.Refusal.{Refusal}
+use Rattle.cert_checker.specs.declared.refusal.Refusal.TheVariants as refusal
 use Rattle.cert_checker.specs.Reasons.{reason_of}
 use Rattle.cert_checker.specs.CertChecker.{IsTrueRefusal, IsNoFault, IsWrongSomewhere}
 use Rattle.cert_checker.specs.CheckedLines.{IsLineClosed, IsRightUpTo}
@@ -19,7 +19,7 @@ use Rattle.model.specs.Claims.{Line}
 use Rattle.certificate_definitions.specs.Certificates.{Certificate, is_dead_end_weight, lines_of, IsClosedFor}
 use Rattle.certificate_definitions.specs.CertificateRefusals.{Reason, not_fluent, repeated, no_initial, unfair, unfair_goal, goal_open, successor_missing, successor_dearer, cut_weak, cut_not_allowed, plan_invalid, plan_dearer, limit, dead_unfair, dead_unfair_goal, not_dead, not_symmetry, IsPlanWithin, IsWrongAt}
 use Rattle.model.proofs.ListLemmas.{Contains-place}
-use Rattle.task_certificates.proofs.LimitsLemmas.{AreLimits, limits_of}
+use Rattle.cert_checker.proofs.LimitsLemmas.{AreLimits, limits_of}
 use Rattle.cert_checker.proofs.VersionLemmas.{one_weight_each, weights_of_each}
 use Rattle.certificate_definitions.proofs.CertificateRefusalsLemmas.{right, right_line}
 

@@ -16,7 +16,7 @@ use Rattle.model.specs.Claims.{Allows, Mark, opened, cut, dead, Line, IsListedWi
 use Rattle.certificate_definitions.specs.Certificates.{Version, one, two, three, Certificate, StateLine, is_dead_end_of, is_mark, is_number, is_state_line, keeps_limits, lines_of, AreAlikeFor, rise, state_of_line}
 use Rattle.certificate_definitions.specs.CertificateRefusals.{IsListed}
 use Rattle.model.proofs.ListLemmas.{Contains-cases, Contains-got, Contains-none}
-use Rattle.task_certificates.proofs.LimitsLemmas.{limits_of}
+use Rattle.cert_checker.proofs.LimitsLemmas.{limits_of}
 use Rattle.model.proofs.InstancesLemmas.{Contains-successors}
 
 -- ---- elements at their places

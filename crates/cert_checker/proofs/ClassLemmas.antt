@@ -6,7 +6,7 @@ use Rattle.std.proofs.lemmas.List.{length-map}
 use Rattle.std.proofs.lemmas.Option.{same_Some, slice_get_within}
 use Rattle.packed_state.specs.declared.pooled.PooledStore.{PooledStore}
 use Rattle.packed_state.specs.PooledView.{pooled_states, pooled_width}
-use Rattle.representatives.specs.declared.representatives.Representatives.{Representatives}
+use Rattle.symmetries.specs.declared.representatives.Representatives.{Representatives}
 use Rattle.certificate.specs.declared.cert.Cert.{Cert}
 use Rattle.certificate.specs.Certificate.{certificate_of, store_in}
 use Rattle.model.specs.Task.{Atom, Task}
@@ -14,9 +14,9 @@ use Rattle.model.specs.Meaning.{State}
 use Rattle.model.specs.Claims.{Line}
 use Rattle.model.specs.Grounding.{state_of_bits, bits_of_state}
 use Rattle.model.proofs.ListLemmas.{Contains-got, Contains-place}
-use Rattle.symmetries.specs.Exchanges.{Exchange}
-use Rattle.symmetries.specs.Orbits.{ArePackedAlike, packed_representative, representative}
-use Rattle.symmetries.proofs.PackedOrbits.{packed_states_are_alike}
+use Rattle.symmetries_definitions.specs.Exchanges.{Exchange}
+use Rattle.symmetries_definitions.specs.Orbits.{ArePackedAlike, packed_representative, representative}
+use Rattle.symmetries_definitions.proofs.PackedOrbits.{packed_states_are_alike}
 use Rattle.certificate_definitions.specs.Certificates.{Certificate, StateLine, lines_of, AreAlikeFor}
 use Rattle.certificate_definitions.specs.CertificateRefusals.{IsListed}
 use Rattle.certificate_definitions.proofs.WithoutExchanges.{alike_alone, alike_itself}

@@ -4,10 +4,10 @@ use Rattle.std.specs.Prelude.{◌&&◌, nat_le, IsTrue}
 use Rattle.std.specs.List.{list_all}
 use Rattle.std.proofs.lemmas.Bool.{and_parts, le-leb}
 use Rattle.model.specs.Task.{Task}
-use Rattle.symmetries.specs.Exchanges.{objects_in}
+use Rattle.symmetries_definitions.specs.Exchanges.{objects_in}
 use Rattle.certificate_definitions.specs.Certificates.{Certificate}
 use Rattle.certificate_definitions.specs.CertificateNames.{IsTextOf, exchange_said, object_said, two_by_two}
-use Rattle.task_certificates.proofs.ExchangesLemmas.{said_within}
+use Rattle.cert_checker.proofs.NamedExchanges.{said_within}
 use Rattle.cert_checker.specs.Exchanged.{is_said}
 
 abbrev is_within : Task → ℕ → Bool

@@ -4,9 +4,9 @@ use Rattle.std.specs.Prelude.{All, IsTrue, MatchOption, Result, Ok, Err, IfErr, 
 use Rattle.std.proofs.lemmas.List.Elements.{All-contains}
 use Rattle.std.proofs.lemmas.List.{length-take, get_or-take, take-map}
 use Rattle.std.proofs.lemmas.Option.{slice_get_within, slice_get-get_or, get_or_from_slice_get}
-use Rattle.task_certificates.specs.declared.refusal.Refusal.{Refusal}
-use Rattle.task_certificates.specs.declared.refusal.Refusal.TheVariants as refusal
-use Rattle.task_certificates.specs.declared.refusal.RefusalCode.{RefusalCode}
+use Rattle.cert_checker.specs.declared.refusal.Refusal.{Refusal}
+use Rattle.cert_checker.specs.declared.refusal.Refusal.TheVariants as refusal
+use Rattle.cert_checker.specs.declared.refusal.RefusalCode.{RefusalCode}
 use Rattle.cert_checker.specs.Reasons.{reason_of}
 use Rattle.cert_checker.specs.CertChecker.{IsFirstRefusal, IsFirstSuccessor, IsFirstToLeave}
 use Rattle.cert_checker.specs.FluentAtoms.{AreFluent}

@@ -1,3 +1,17 @@
+pub mod NamesLemmas
+pub mod NamedExchanges
+pub mod LimitsLemmas
+pub mod GivenLemmas
+pub mod ListedLemmas
+pub mod SplitLemmas
+pub mod PlacedLemmas
+pub mod AtomsLemmas
+pub mod HeaderLemmas
+pub mod TableLinesLemmas
+pub mod TabledLemmas
+pub mod ReadingLemmas
+pub mod ListingLemmas
+pub mod ReadProgressLemmas
 pub mod ExchangesLemmas
 pub mod SymmetriesLemmas
 pub mod AcceptedLemmas
@@ -23,4 +37,4 @@ pub mod PackedListingLemmas
 pub mod ValuesLemmas
 pub mod MadeLemmas
 pub mod AcceptLemmas
-pub mod SaidLemmas
+pub mod CheckProgressLemmas

@@ -7,12 +7,12 @@ use Rattle.std.proofs.lemmas.List.Elements.{All-cons}
 use Rattle.certificate.specs.declared.header.Potential.{Potential}
 use Rattle.certificate.specs.CertificateParts.{potential_of}
 use Rattle.certificate_definitions.specs.Certificates.{Version, one, two, three, is_value_count, are_potentials, are_tables, are_weights, has_tables, is_row, is_table, is_weight, rise}
-use Rattle.potential_functions.specs.PotentialFunctions.{PotentialFunction, AreInRange, IsInRange}
+use Rattle.lower_bounds.specs.PotentialFunctions.{PotentialFunction, AreInRange, IsInRange}
 use Rattle.potentials.specs.declared.potentials.Potentials.{Potentials}
 use Rattle.potentials.specs.Potentials.{potentials_of}
 use Rattle.cert_checker.specs.Weights.{AreWidened, HasItsWeights, HaveTheirWeights}
 use Rattle.cert_checker.proofs.TablesLemmas.{as_many_widened, widened_at}
-use Rattle.table_functions.specs.TableFunctions.{Row, SeveralValues, is_among}
+use Rattle.lower_bounds.specs.TableFunctions.{Row, SeveralValues, is_among}
 use Rattle.table_rows.specs.declared.table.Table.{Table}
 use Rattle.table_rows.specs.Tables.{table_of}
 use Rattle.cert_checker.proofs.VersionLemmas.{one_weight_each}

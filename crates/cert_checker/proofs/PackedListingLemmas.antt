@@ -15,7 +15,7 @@ use Rattle.cert_checker.specs.PackedLines.{packed_line, HoldsLines, IsPackedList
 use Rattle.cert_checker.proofs.CertCheckerLemmas.{entry, got_mapped, lines_within_limits, slice_get-map}
 use Rattle.cert_checker.proofs.WeightsLemmas.{alike, value-numbered}
 use Rattle.cert_checker.specs.Weights.{HasItsWeights}
-use Rattle.potential_functions.specs.PotentialFunctions.{PotentialFunction, value, value_of_state}
+use Rattle.lower_bounds.specs.PotentialFunctions.{PotentialFunction, value, value_of_state}
 use Rattle.cert_checker.proofs.GroundSuccessors.{leads_by, leads_by-successors}
 use Rattle.cert_checker.proofs.RefusalsLemmas.{AreApart}
 use Rattle.cert_checker.proofs.PackedLinesLemmas.{all_fluent, length-set_of, names_atoms, one_set, state_packed}

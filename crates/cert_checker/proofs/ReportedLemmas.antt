@@ -9,10 +9,10 @@ use Rattle.model.specs.Meaning.{cost_of}
 use Rattle.model.specs.StaticallyFalse.{kept_instances}
 use Rattle.model.specs.NumberedAtoms.{numbered_atoms}
 use Rattle.model.proofs.ListLemmas.{Contains-got}
-use Rattle.potential_functions.specs.PotentialFunctions.{PotentialFunction}
-use Rattle.potential_functions.specs.Fair.{nothing}
-use Rattle.table_functions.specs.TableFunctions.{Table, TableFunction, SeveralValues, over_tables, functions_of, dead_ends_of}
-use Rattle.table_functions.specs.FairTables.{AreFair, IsFair, IsFairAt, IsFairAtGoals, IsFirstUnfairAt, is_asked}
+use Rattle.lower_bounds.specs.PotentialFunctions.{PotentialFunction}
+use Rattle.lower_bounds.specs.FairPotentials.{nothing}
+use Rattle.lower_bounds.specs.TableFunctions.{Table, TableFunction, SeveralValues, over_tables, functions_of, dead_ends_of}
+use Rattle.lower_bounds.specs.FairTables.{AreFair, IsFair, IsFairAt, IsFairAtGoals, IsFirstUnfairAt, is_asked}
 use Rattle.tables.specs.Fairness.{AreInstancesFairAt}
 use Rattle.tables.specs.Several.{IsFirstDeadInstance, IsFirstInstance, IsUnfairAtDeadGoals, IsUnfairAtGoals}
 use Rattle.certificate_definitions.specs.Certificates.{Certificate, has_tables, several_of, AreFairFor, AreFairIn}

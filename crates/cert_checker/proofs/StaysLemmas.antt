@@ -17,11 +17,11 @@ use Rattle.model.specs.Fluents.{is_fluent}
 use Rattle.model.specs.NumberedAtoms.{numbered_atoms}
 use Rattle.model.specs.Claims.{Claim, opened, cut, dead, Line, IsClosed, ClaimHolds, IsLowerBound, AreDeadEnds, AreBoundsOf, AreDeadEndsOf}
 use Rattle.certificate_definitions.specs.Certificates.{Version, one, two, three, Certificate, potentials_of, several_of, rise, has_tables, is_row, is_table, are_tables, is_dead_end_in, is_dead_end_of, lines_of, AreAlikeFor, value_in, value_of, AreFairIn, IsClosedFor}
-use Rattle.symmetries.specs.Symmetries.{is_symmetry}
-use Rattle.symmetries.specs.Orbits.{AreOfOneOrbit}
-use Rattle.symmetries.specs.Laws.{AreDeadEndsOfAll, HaveInitialStatics, IsLowerBoundOfAll}
-use Rattle.symmetries.proofs.OrbitLemmas.{orbits_are_classes}
-use Rattle.symmetries.proofs.TaskOrbits.{alike_states_are_of_one_orbit, listings_by_exchanges_claim}
+use Rattle.symmetries_definitions.specs.Symmetries.{is_symmetry}
+use Rattle.symmetries_definitions.specs.Orbits.{AreOfOneOrbit}
+use Rattle.symmetries_definitions.specs.Laws.{AreDeadEndsOfAll, HaveInitialStatics, IsLowerBoundOfAll}
+use Rattle.symmetries_definitions.proofs.OrbitLemmas.{orbits_are_classes}
+use Rattle.symmetries_definitions.proofs.TaskOrbits.{alike_states_are_of_one_orbit, listings_by_exchanges_claim}
 use Rattle.certificate_definitions.proofs.WithoutExchanges.{alike_alone}
 use Rattle.cert_checker.proofs.CertCheckerLemmas.{entry}
 use Rattle.cert_checker.proofs.LineStates.{state_statics}
@@ -33,15 +33,15 @@ use Rattle.std.specs.FinSet.{contains}
 use Rattle.model.proofs.GroundTaskLemmas.{are_numbered, numbered-distinct, numbered-fluent}
 use Rattle.model.proofs.NumberingLemmas.{distinct-from_pairs, Contains-occurs_in}
 use Rattle.model.proofs.StaticLemmas.{contains-reachable}
-use Rattle.potential_functions.specs.PotentialFunctions.{PotentialFunction, value, value_of_state, is_dead_state}
-use Rattle.potential_functions.specs.Fair.{AreFair, AreDeadFair}
-use Rattle.potential_functions.specs.Laws.{AreNumberable}
-use Rattle.potential_functions.proofs.LowerBound.{dead_fair_ones_detect_dead_ends, fair_ones_are_lower_bounds}
-use Rattle.table_functions.specs.TableFunctions.{Table}
-use Rattle.table_functions.specs.FairTables as tables
-use Rattle.table_functions.specs.Laws.{are_over, AreOver, AreSound}
-use Rattle.table_functions.proofs.LowerBound.{fair_values_are_sound}
-use Rattle.table_functions.proofs.WithoutTables.{ground_atoms_are_all_numbered}
+use Rattle.lower_bounds.specs.PotentialFunctions.{PotentialFunction, value, value_of_state, is_dead_state}
+use Rattle.lower_bounds.specs.FairPotentials.{AreFair, AreDeadFair}
+use Rattle.lower_bounds.specs.PotentialLaws.{AreNumberable}
+use Rattle.lower_bounds.proofs.PotentialLowerBound.{dead_fair_ones_detect_dead_ends, fair_ones_are_lower_bounds}
+use Rattle.lower_bounds.specs.TableFunctions.{Table}
+use Rattle.lower_bounds.specs.FairTables as tables
+use Rattle.lower_bounds.specs.TableLaws.{are_over, AreOver, AreSound}
+use Rattle.lower_bounds.proofs.TableLowerBound.{fair_values_are_sound}
+use Rattle.lower_bounds.proofs.WithoutTables.{ground_atoms_are_all_numbered}
 use Rattle.cert_checker.proofs.VersionLemmas.{some_value}
 use Rattle.cert_checker.proofs.WeightsLemmas.{alike_itself, value-numbered}
 use Rattle.cert_checker.specs.OnListing.{StaysListed}

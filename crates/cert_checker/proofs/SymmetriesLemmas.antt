@@ -11,17 +11,17 @@ use Rattle.std.proofs.lemmas.Grind.{flat_map-append}
 use Rattle.task.specs.declared.atoms.ObjectId.{ObjectId}
 use Rattle.task.specs.TaskParts.{object_of}
 use Rattle.model.specs.Task.{Atom, Object, Task}
-use Rattle.symmetries.specs.Exchanges.{Exchange, image_of_object, objects_in, are_different}
-use Rattle.symmetries.specs.Symmetries.{declared_type, is_symmetry, keeps_types, keeps_actions, keeps_values, keeps_statics, keeps_goal}
-use Rattle.symmetries.specs.Orbits.{keeps_atoms}
-use Rattle.task_symmetries.specs.Pairs.{exchange_among, is_object, pair_of, pairs_in, two_by_two}
+use Rattle.symmetries_definitions.specs.Exchanges.{Exchange, image_of_object, objects_in, are_different}
+use Rattle.symmetries_definitions.specs.Symmetries.{declared_type, is_symmetry, keeps_types, keeps_actions, keeps_values, keeps_statics, keeps_goal}
+use Rattle.symmetries_definitions.specs.Orbits.{keeps_atoms}
+use Rattle.symmetries.specs.ObjectPairs.{exchange_among, is_object, pair_of, pairs_in, two_by_two}
 use Rattle.model.specs.NumberedAtoms.{numbered_atoms}
 use Rattle.certificate_definitions.specs.Certificates.{Certificate, is_symmetry_for}
-use Rattle.task_symmetries.specs.declared.exchange.Exchange as code
-use Rattle.task_symmetries.specs.Exchange.{exchange_of}
+use Rattle.symmetries.specs.declared.exchange.Exchange as code
+use Rattle.symmetries.specs.Exchange.{exchange_of}
 use Rattle.certificate.specs.CertificateParts.{exchange_in}
 use Rattle.cert_checker.specs.CheckedLines.{AreSymmetries}
-use Rattle.task_certificates.proofs.NamesLemmas.{got}
+use Rattle.cert_checker.proofs.NamesLemmas.{got}
 use Rattle.cert_checker.specs.Exchanged.{is_said, is_symmetry_by}
 
 -- ---- tests of two parts

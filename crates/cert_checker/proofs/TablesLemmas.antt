@@ -8,11 +8,11 @@ use Rattle.model.specs.Task.{Atom, Task, Instance}
 use Rattle.model.specs.Meaning.{cost_of}
 use Rattle.model.specs.StaticallyFalse.{kept_instances}
 use Rattle.model.specs.NumberedLiterals.{NumberedLiteral, NumberedChange, literals_of_instance, literals_of_goal}
-use Rattle.potential_functions.specs.PotentialFunctions.{PotentialFunction, given, or_zero, score}
-use Rattle.potential_functions.specs.Fair.{touches, worst, loses, loses_at_most, says, goal_gives, goal_gives_at_most}
-use Rattle.potential_functions.proofs.Sums.{sum-alike}
-use Rattle.table_functions.specs.TableFunctions.{Table, TableFunction, SeveralValues, over_tables, functions_of, dead_ends_of, greatest_value, given_by, has_rows, row_in, sum_over, value}
-use Rattle.table_functions.specs.FairTables.{ConditionalChange, changes_in, conditional_of_instance, all_give, all_lose, is_asked, is_closed, is_shut_out, table_gives, table_loses, AreFairAt, IsFair, IsFairAt, IsFairAtGoals, IsFirstUnfairAt}
+use Rattle.lower_bounds.specs.PotentialFunctions.{PotentialFunction, given, or_zero, score}
+use Rattle.lower_bounds.specs.FairPotentials.{touches, worst, loses, loses_at_most, says, goal_gives, goal_gives_at_most}
+use Rattle.lower_bounds.proofs.Sums.{sum-alike}
+use Rattle.lower_bounds.specs.TableFunctions.{Table, TableFunction, SeveralValues, over_tables, functions_of, dead_ends_of, greatest_value, given_by, has_rows, row_in, sum_over, value}
+use Rattle.lower_bounds.specs.FairTables.{ConditionalChange, changes_in, conditional_of_instance, all_give, all_lose, is_asked, is_closed, is_shut_out, table_gives, table_loses, AreFairAt, IsFair, IsFairAt, IsFairAtGoals, IsFirstUnfairAt}
 use Rattle.cert_checker.specs.Weights.{AreWidened, HasItsWeights, HaveTheirWeights}
 use Rattle.cert_checker.proofs.WeightsLemmas.{AreAlike, alike}
 

@@ -9,14 +9,14 @@ use Rattle.model.specs.Task.{Atom, Task}
 use Rattle.model.specs.Meaning.{State}
 use Rattle.model.specs.NumberedAtoms.{numbered_atoms}
 use Rattle.model.specs.Grounding.{bits_of_state, state_of_bits}
-use Rattle.potential_functions.specs.PotentialFunctions as potential
-use Rattle.potential_functions.specs.PotentialFunctions.{PotentialFunction, or_zero, score, value_of_state, is_dead_state}
-use Rattle.table_functions.specs.TableFunctions.{SeveralValues, over_tables, functions_of, dead_ends_of, greatest_value, in_state, is_dead_by, value}
-use Rattle.table_functions.proofs.LowerBound.{numbered-has}
+use Rattle.lower_bounds.specs.PotentialFunctions as potential
+use Rattle.lower_bounds.specs.PotentialFunctions.{PotentialFunction, or_zero, score, value_of_state, is_dead_state}
+use Rattle.lower_bounds.specs.TableFunctions.{SeveralValues, over_tables, functions_of, dead_ends_of, greatest_value, in_state, is_dead_by, value}
+use Rattle.lower_bounds.proofs.TableLowerBound.{numbered-has}
 use Rattle.certificate_definitions.specs.Certificates.{Certificate, has_tables, is_dead_end_in, is_dead_end_of, keeps_limits, potentials_of, several_of, value_in, value_of}
 use Rattle.cert_checker.specs.PackedLines.{IsPackedListing}
 use Rattle.cert_checker.specs.Weights.{AreWidened, HasItsWeights, HaveTheirWeights}
-use Rattle.task_certificates.proofs.LimitsLemmas.{limits_of}
+use Rattle.cert_checker.proofs.LimitsLemmas.{limits_of}
 use Rattle.cert_checker.proofs.PackedListingLemmas.{packs, value_there}
 use Rattle.cert_checker.proofs.TablesLemmas.{are_widened, dead_ends_alike, functions_alike, greatest_alike, value_alike}
 use Rattle.cert_checker.proofs.VersionLemmas.{dead_end_as, no_tables, of_three, one_for_each, one_value, value_as}

@@ -8,9 +8,9 @@ use Rattle.model.specs.Task.{Task, Instance}
 use Rattle.model.specs.Meaning.{State, cost_of}
 use Rattle.model.specs.StaticallyFalse.{kept_instances}
 use Rattle.model.specs.NumberedAtoms.{numbered_atoms}
-use Rattle.potential_functions.specs.PotentialFunctions.{PotentialFunction, value_of_state, is_dead_state}
-use Rattle.potential_functions.specs.Fair.{nothing, IsFairAt, IsFairAtGoals}
-use Rattle.table_functions.specs.TableFunctions.{Row, Table}
+use Rattle.lower_bounds.specs.PotentialFunctions.{PotentialFunction, value_of_state, is_dead_state}
+use Rattle.lower_bounds.specs.FairPotentials.{nothing, IsFairAt, IsFairAtGoals}
+use Rattle.lower_bounds.specs.TableFunctions.{Row, Table}
 use Rattle.table_rows.specs.declared.table.Table as in_memory
 use Rattle.table_rows.specs.Tables.{table_of}
 use Rattle.table_rows.proofs.TableLemmas.{rows-distinct}
@@ -18,7 +18,7 @@ use Rattle.potentials.specs.Fairness.{AreInstancesFair, AreInstancesFairAt, AreI
 use Rattle.certificate_definitions.specs.Certificates.{Version, one, two, three, Certificate, potentials_of, are_potentials, are_tables, has_tables, is_dead_end_weight, is_table, is_value_count, is_weight, keeps_limits, value_in, is_dead_end_in, ArePotentialsFair, AreFairIn}
 use Rattle.certificate_definitions.specs.CertificateRefusals.{MayLose, IsUnfairIn, IsUnfairAtGoalsIn, IsDeadUnfairIn, IsDeadUnfairAtGoalsIn}
 use Rattle.cert_checker.specs.CertChecker.{IsFirstToLoseAt, IsFirstToLoseIn, IsFirstDeadToLoseIn}
-use Rattle.task_certificates.proofs.LimitsLemmas.{limits_of}
+use Rattle.cert_checker.proofs.LimitsLemmas.{limits_of}
 
 -- what is so of version 3 is so of a version with tables, and the other way round
 pub of_three : (P : Version → Type 0) (v : Version) → has_tables v ≡ true → P three → P v

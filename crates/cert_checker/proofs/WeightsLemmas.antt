@@ -16,16 +16,16 @@ use Rattle.model.specs.NumberedAtoms.{numbered_atoms}
 use Rattle.model.specs.NumberedLiterals.{literals_of_instance, literals_of_goal, counting_of_instance}
 use Rattle.model.specs.Grounding.{bits_of_state}
 use Rattle.model.proofs.ListLemmas.{Contains-got}
-use Rattle.potential_functions.specs.PotentialFunctions.{PotentialFunction, weight, sum_below, given, or_zero, value, value_of_state, IsInRange, AreInRange}
-use Rattle.potential_functions.specs.Fair.{touches, worst, loses, instance_loses, IsFairAt, says, goal_gives, goal_gives_at_most, IsFairAtGoals, AreFairAt, AreDeadFair, IsFirstUnfairAt}
-use Rattle.potential_functions.proofs.Sums.{sum-alike}
-use Rattle.potential_functions.proofs.Ranges.{zero-range}
-use Rattle.potential_functions.proofs.Zero.{zero-dead_fair}
+use Rattle.lower_bounds.specs.PotentialFunctions.{PotentialFunction, weight, sum_below, given, or_zero, value, value_of_state, IsInRange, AreInRange}
+use Rattle.lower_bounds.specs.FairPotentials.{touches, worst, loses, instance_loses, IsFairAt, says, goal_gives, goal_gives_at_most, IsFairAtGoals, AreFairAt, AreDeadFair, IsFirstUnfairAt}
+use Rattle.lower_bounds.proofs.Sums.{sum-alike}
+use Rattle.lower_bounds.proofs.Ranges.{zero-range}
+use Rattle.lower_bounds.proofs.Zero.{zero-dead_fair}
 use Rattle.potentials.specs.Fairness.{AreInstancesFairAt}
 use Rattle.certificate.specs.declared.header.Bounds.{Bounds}
 use Rattle.certificate.specs.declared.header.Potential.{Potential}
 use Rattle.certificate.specs.CertificateParts.{bounds_of, potential_of}
-use Rattle.table_functions.specs.TableFunctions.{SeveralValues}
+use Rattle.lower_bounds.specs.TableFunctions.{SeveralValues}
 use Rattle.certificate_definitions.specs.Certificates.{Version, Certificate, potentials_of, several_of, are_potentials, is_value_count, is_weight}
 use Rattle.certificate_definitions.specs.CertificateRefusals.{MayLose}
 use Rattle.cert_checker.specs.Weights.{HasItsWeights}

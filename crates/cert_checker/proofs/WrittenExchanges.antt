@@ -11,13 +11,13 @@ use Rattle.model.specs.PlanText.{object_names}
 use Rattle.model.specs.PlanWriting.{are_lower_names, differ, is_lower_name, object_name}
 use Rattle.model.proofs.PlanWritingLemmas.{first_at}
 use Rattle.model.proofs.Tests.{passes_got}
-use Rattle.symmetries.specs.Exchanges.{Exchange, are_different, objects_in}
+use Rattle.symmetries_definitions.specs.Exchanges.{Exchange, are_different, objects_in}
 use Rattle.certificate_definitions.specs.Certificates.{are_exchanges, has_exchanges}
 use Rattle.certificate_definitions.specs.CertificateText as text
 use Rattle.certificate_definitions.specs.CertificateText.{Format, swapped, are_paired, is_line, line_text, longest_line}
 use Rattle.certificate_definitions.specs.CertificateNames.{exchange_said, is_exchange_of, named_exchange, object_said, two_by_two}
 use Rattle.cert_checker.specs.Exchanged.{is_short}
-use Rattle.task_certificates.proofs.NamesLemmas.{same_bytes}
+use Rattle.cert_checker.proofs.NamesLemmas.{same_bytes}
 use Rattle.cert_checker.proofs.SymmetriesLemmas.{within}
 
 -- ---- objects by their names

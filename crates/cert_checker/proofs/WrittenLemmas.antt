@@ -21,8 +21,8 @@ use Rattle.model.specs.Resolution.{is_same}
 use Rattle.model.specs.PlanText.{object_names}
 use Rattle.model.specs.PlanWriting.{are_lower_names, differ, is_lower_name, object_name}
 use Rattle.model.specs.Fluents.{is_fluent}
-use Rattle.potential_functions.specs.PotentialFunctions.{PotentialFunction}
-use Rattle.table_functions.specs.TableFunctions.{Row, Table, is_among}
+use Rattle.lower_bounds.specs.PotentialFunctions.{PotentialFunction}
+use Rattle.lower_bounds.specs.TableFunctions.{Row, Table, is_among}
 use Rattle.certificate_definitions.specs.Certificates.{Version, one, two, three, Certificate, IsClosedFor, are_potentials, are_tables, are_weights, has_tables, is_dead_end_weight, is_number, is_row, is_state_line, is_table, is_value_count, is_weight, keeps_limits, rise}
 use Rattle.certificate_definitions.specs.CertificateRefusals.{IsPlanWithin}
 use Rattle.model.proofs.PlanWritingLemmas.{first_at}
@@ -32,8 +32,8 @@ use Rattle.certificate_definitions.specs.CertificateNames.{AllName, AreNumbersOf
 use Rattle.certificate_definitions.specs.CertificateChecking.{IsAccepted}
 use Rattle.certificate_reader.proofs.LinesRead.{few_constants}
 use Rattle.certificate.proofs.NumbersLemmas.{potential_parts}
-use Rattle.task_certificates.proofs.LimitsLemmas.{AreLimits, limits_of, rows_are, said_kept, scopes_are}
-use Rattle.task_certificates.proofs.NamesLemmas.{few_objects}
+use Rattle.cert_checker.proofs.LimitsLemmas.{AreLimits, limits_of, rows_are, said_kept, scopes_are}
+use Rattle.cert_checker.proofs.NamesLemmas.{few_objects}
 use Rattle.cert_checker.proofs.WrittenExchanges.{exchange_lines, exchanges_back}
 use Rattle.cert_checker.specs.Exchanged.{are_short}
 

@@ -2,8 +2,7 @@
 use Rattle.std.specs.Prelude.{◌≡◌, ◌<◌, ◌≤◌, ℕ, Bool, List, length, map, slice_get, Contains, Some}
 use Rattle.certificate_definitions.specs.Certificates.{Certificate, StateLine}
 
--- For each key that one of the first so many states has there is a place: that of one of them which has it, and which costs no more
--- than any other that has it.
+-- For each key of one of the first `count` states, the place of a cheapest of them that has the key.
 pub record AreCheapest (key : List Bool → List Bool) (states : List (List Bool)) (costs : List ℕ) (count : ℕ) (keys : List (List Bool)) (places : List ℕ) : Type 0 where
   pub as_many : length places ≡ length keys
   pub few : length keys ≤ count

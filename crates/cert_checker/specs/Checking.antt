@@ -1,4 +1,4 @@
--- What the checker's answers say of the text that came.
+-- What the checker's answers say of the text that was read.
 use Rattle.std.specs.Prelude.{◌≡◌, ℕ, ◌⊎◌, List, Option, None}
 use Rattle.std.specs.Io.KnownBytes.{Consumes, IsAtEnd}
 use Rattle.model.specs.Task.{Task, Instance}
@@ -8,12 +8,12 @@ use Rattle.certificate_definitions.specs.Certificates.{Certificate}
 use Rattle.certificate_definitions.specs.CertificateChecking.{IsAccepted}
 use Rattle.certificate_reader.specs.declared.reader.CertReader.{CertReader}
 use Rattle.certificate_reader.specs.Reader.{source_of}
-use Rattle.task_certificates.specs.declared.refusal.Refusal.{Refusal}
-use Rattle.task_certificates.specs.Reading.{IsLineRefusal, IsRead}
+use Rattle.cert_checker.specs.declared.refusal.Refusal.{Refusal}
+use Rattle.cert_checker.specs.Reading.{IsLineRefusal, IsRead}
 use Rattle.cert_checker.specs.declared.checker.Accepted.{Accepted}
 use Rattle.cert_checker.specs.CertChecker.{Answers, IsFirstRefusal, IsTrueRefusal}
 
--- What came to the end is a text that is accepted, the ground task keeps its limits, and the answer is the one to the claim.
+-- The whole text was read and is accepted, the ground task keeps its limits, and the answer fits the claim.
 pub record Accepts {R : Type 0} (remaining : R → Option (List ℕ)) (task : Task) (first now : CertReader R) (plan : Option (List Instance)) (most : ℕ) (answer : Accepted) : Type 0 where
   pub text : List ℕ
   pub consumed : Consumes (remaining (source_of first)) (remaining (source_of now)) text
@@ -22,8 +22,8 @@ pub record Accepts {R : Type 0} (remaining : R → Option (List ℕ)) (task : Ta
   pub within : exceeded_limit most max_numbered_atoms task accepted.certificate.atoms ≡ None
   pub answers : Answers accepted.certificate.claim plan answer
 
--- The refusal is that of the first line at fault; or what came to the end is the text of a certificate none of whose lines
--- is at fault, and of this certificate the refusal is true, and the first.
+-- The refusal is that of the first faulty line; or the whole text was read, without fault, and the refusal is true of its
+-- certificate, and the first.
 abbrev pub Refuses : {R : Type 0} → (remaining : R → Option (List ℕ)) → Task → (first now : CertReader R) → Option (List Instance) → (most : ℕ) → Refusal → Type 0
 Refuses remaining task first now plan most refusal =
     IsLineRefusal remaining task first now refusal

@@ -1,10 +1,10 @@
--- The classes of alike states in memory, as contracts see them.
+-- Classes of alike states, as the code keeps them.
 use Rattle.std.specs.Prelude.{◌≡◌, ℕ, Bool, List, [], length, slice_get, Option, None, Some}
 use Rattle.packed_state.specs.declared.pooled.PooledStore.{PooledStore}
 use Rattle.packed_state.specs.PooledView.{pooled_width, pooled_states}
 use Rattle.model.specs.Task.{Atom, Task}
-use Rattle.symmetries.specs.Orbits.{packed_representative}
-use Rattle.representatives.specs.Representatives.{task_of, atoms_of, exchanges_of}
+use Rattle.symmetries_definitions.specs.Orbits.{packed_representative}
+use Rattle.symmetries.specs.Representatives.{task_of, atoms_of, exchanges_of}
 use Rattle.certificate.specs.Certificate.{certificate_of, store_in}
 use Rattle.certificate_definitions.specs.Certificates.{Certificate}
 use Rattle.cert_checker.specs.declared.checker.classes.Classes.{Classes}
@@ -19,30 +19,30 @@ key_by classes = packed_representative (task_of classes.representatives) (atoms_
 abbrev pub keys_in : Classes → List (List Bool)
 keys_in classes = pooled_states classes.keys
 
--- the states, the numbered atoms and the keys are of one width
+-- states, numbered atoms and keys have one width
 pub record AreOfOneWidth (classes : Classes) : Type 0 where
   pub atoms : length (atoms_of classes.representatives) ≡ pooled_width (store_in classes.cert.now)
   pub keys : pooled_width classes.keys ≡ pooled_width (store_in classes.cert.now)
 
--- the first so many of the certificate's states are in their classes
+-- the first `count` of the certificate's states are in their classes
 abbrev pub AreCheapestUpTo : Classes → ℕ → Type 0
 AreCheapestUpTo classes count =
     AreCheapest (key_by classes) (pooled_states (store_in classes.cert.now)) (costs_of (certificate_of classes.cert.now)) count (keys_in classes) classes.cheapest.items
 
--- the place that is kept for this key
+-- the place kept for this key
 abbrev pub IsKeptFor : Classes → List Bool → ℕ → Type 0
 IsKeptFor classes key place = (at : ℕ) × (slice_get (keys_in classes) at ≡ Some key) × (slice_get classes.cheapest.items at ≡ Some place)
 
 -- ---- of a certificate
 
--- These are the classes of the certificate's states, of which the store has the sets, by its exchanges, in the ground task in which
--- these atoms have numbers.
+-- The classes of the certificate's states, whose sets the store has, by its exchanges, in the ground task that numbers these
+-- atoms.
 pub record AreClassesOf (task : Task) (atoms : List Atom) (c : Certificate) (store : PooledStore) (classes : Classes) : Type 0 where
   pub represents : Represents task atoms c.exchanges classes.representatives
   pub width : pooled_width classes.keys ≡ length atoms
   pub cheapest : AreCheapest (packed_representative task atoms c.exchanges) (pooled_states store) (costs_of c) (length c.lines) (keys_in classes) classes.cheapest.items
 
--- So it is of the classes, if there are any. Where there are none, there are no exchanges.
+-- the same; without classes, the certificate has no exchanges
 pub record AreClassified (task : Task) (atoms : List Atom) (c : Certificate) (store : PooledStore) (classes : Option Classes) : Type 0 where
   pub alone : classes ≡ None → c.exchanges ≡ []
   pub by_exchanges : (found : Classes) → classes ≡ Some found → AreClassesOf task atoms c store found

@@ -1,23 +1,23 @@
--- What is found out of a certificate's exchanges.
+-- Tests of a certificate's exchanges.
 use Rattle.std.specs.Prelude.{nat_le, Bool, ◌&&◌, List, length}
 use Rattle.std.specs.List.{list_all}
 use Rattle.model.specs.Task.{Atom, Task}
-use Rattle.symmetries.specs.Exchanges.{Exchange, objects_in}
-use Rattle.symmetries.specs.Symmetries.{is_symmetry}
-use Rattle.symmetries.specs.Orbits.{keeps_atoms}
+use Rattle.symmetries_definitions.specs.Exchanges.{Exchange, objects_in}
+use Rattle.symmetries_definitions.specs.Symmetries.{is_symmetry}
+use Rattle.symmetries_definitions.specs.Orbits.{keeps_atoms}
 use Rattle.certificate_definitions.specs.Certificates.{Certificate}
 use Rattle.certificate_definitions.specs.CertificateText.{swapped, line_text, longest_line}
 use Rattle.certificate_definitions.specs.CertificateNames.{named_exchange}
 
--- Each number is that of an object of the task, or that of none, which is the count of objects.
+-- Each number is that of an object of the task; the number of objects stands for none.
 abbrev pub is_said : Task → Exchange → Bool
 is_said task e = list_all (λ o. nat_le o (length task.objects)) (objects_in e)
 
--- it is a symmetry of the task, and the image of each of these atoms is one of them
+-- it is a symmetry of the task and maps these atoms to these atoms
 abbrev pub is_symmetry_by : Task → List Atom → Exchange → Bool
 is_symmetry_by task atoms e = is_symmetry task e && keeps_atoms atoms e
 
--- the line of an exchange is no longer than a line may be
+-- no exchange's line is too long
 abbrev pub is_short : Task → Exchange → Bool
 is_short task e = nat_le (length (line_text (swapped (named_exchange task e)))) longest_line
 

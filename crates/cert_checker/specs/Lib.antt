@@ -1,3 +1,11 @@
+pub mod RefusalCode
+pub mod CertFaults
+pub mod Given
+pub mod Listed
+pub mod Tabled
+pub mod Taking
+pub mod Reading
+pub mod ReadProgress
 pub mod Reasons
 pub mod CertChecker
 pub mod Checking
@@ -11,4 +19,4 @@ pub mod Weights
 pub mod PackedLines
 pub mod PackedListing
 pub mod OnListing
-pub mod SaidRead
+pub mod CheckProgress

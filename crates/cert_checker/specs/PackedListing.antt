@@ -1,4 +1,4 @@
--- A packed listing, in the model's terms.
+-- A listing over packed states, in the model's terms.
 use Rattle.std.specs.Prelude.{◌≡◌, List, length}
 use Rattle.packed_state.specs.declared.packed.Packed.{Packed}
 use Rattle.packed_state.specs.Packed.{bits_of}
@@ -21,14 +21,14 @@ atoms_at listing = atoms_in listing.grounded.now
 abbrev pub certificate_at : PackedListing → Certificate
 certificate_at listing = certificate_of listing.cert.now
 
--- the packed state is of the ground task
+-- it is a packed state of the ground task
 abbrev pub IsPacked : PackedListing → Packed → Type 0
 IsPacked listing packed = length (bits_of packed) ≡ length (atoms_at listing)
 
--- the state that it stands for
+-- the state
 abbrev pub state_at : PackedListing → Packed → State
 state_at listing packed = state_of_bits (task_at listing) (atoms_at listing) (bits_of packed)
 
--- what is known of a state is so by the listing's values
+-- the evaluation is one by the listing's values
 abbrev pub IsKnownIn : PackedListing → KnownState → Type 0
 IsKnownIn listing known = Knows listing.values known

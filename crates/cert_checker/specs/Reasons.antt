@@ -1,11 +1,11 @@
 -- The reasons of the checker's refusals.
 use Rattle.std.specs.Prelude.{Option, Some, None}
-use Rattle.task_certificates.specs.declared.refusal.RefusalCode.{RefusalCode}
-use Rattle.task_certificates.specs.declared.refusal.RefusalCode.TheVariants.{CertForm, CertVersion, Truncated, NotFluent, Repeated, NoInitial, Unfair, UnfairGoal, GoalOpen, SuccessorMissing, SuccessorDearer, CutWeak, CutNotAllowed, PlanInvalid, PlanDearer, Limit, DeadUnfair, DeadUnfairGoal, NotDead, NotSymmetry}
+use Rattle.cert_checker.specs.declared.refusal.RefusalCode.{RefusalCode}
+use Rattle.cert_checker.specs.declared.refusal.RefusalCode.TheVariants.{CertForm, CertVersion, Truncated, NotFluent, Repeated, NoInitial, Unfair, UnfairGoal, GoalOpen, SuccessorMissing, SuccessorDearer, CutWeak, CutNotAllowed, PlanInvalid, PlanDearer, Limit, DeadUnfair, DeadUnfairGoal, NotDead, NotSymmetry}
 use Rattle.certificate_definitions.specs.CertificateRefusals.{Reason, not_fluent, repeated, no_initial, unfair_goal, goal_open, successor_missing, successor_dearer, cut_weak, cut_not_allowed, plan_invalid, plan_dearer, limit, dead_unfair_goal, not_dead, not_symmetry}
 
--- What is wrong with a certificate. Of a text that is none, nothing is said of one; that an instance is not fair, or not
--- dead-fair, is reported by a refusal that carries the instance.
+-- The fault that a code tells of a certificate. Codes of texts tell none, nor do those of instances, whose refusals carry the
+-- instance.
 abbrev pub reason_of : RefusalCode → Option Reason
 reason_of CertForm = None
 reason_of CertVersion = None

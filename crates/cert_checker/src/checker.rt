@@ -1,5 +1,4 @@
-//! The checker of certificates: it accepts exactly where the text is that of a certificate that is closed for the task,
-//! and then its claim is true of every plan.
+//! The checker: it accepts exactly the texts of certificates that are closed for the task, whose claims hold for every plan.
 ghost use Rattle.std.specs.Prelude.{◌≡◌, ℕ, List, Some, None, IsTrue, IfErr, IfOk, OnOk, length};
 ghost use Rattle.std.specs.List.{list_all};
 ghost use Rattle.std.specs.Option.{ForSome, option_map};
@@ -9,7 +8,7 @@ ghost use Rattle.model.specs.Meaning.{is_instance};
 ghost use Rattle.certificate_definitions.specs.CertificateChecking.{IsAccepted};
 ghost use Rattle.cert_checker.specs.Weights.{AreCounted};
 ghost use Rattle.certificate_reader.specs.Reader.{source_of};
-ghost use Rattle.task_certificates.specs.Reading.{CountsRefusal, IsFresh};
+ghost use Rattle.cert_checker.specs.Reading.{CountsRefusal, IsFresh};
 ghost use Rattle.certificate.specs.Certificate.{certificate_of};
 ghost use Rattle.model.specs.Limits.{max_numbered_atoms};
 ghost use Rattle.model.specs.Grounding.{exceeded_limit};
@@ -19,8 +18,8 @@ ghost use Rattle.cert_checker.specs.Exchanged.{is_said};
 ghost use Rattle.cert_checker.specs.CheckedLines.{CutsAreAllowed};
 ghost use Rattle.cert_checker.specs.CertChecker.{Answers, IsFirstRefusal, IsNoFault, IsShown, IsTrueRefusal};
 ghost use Rattle.cert_checker.specs.Checking.{Accepts, Refuses};
-ghost use Rattle.cert_checker.specs.SaidRead.{IsCheckLine};
-ghost use Rattle.progress_lines.specs.Said.{AreSaid, stream};
+ghost use Rattle.cert_checker.specs.CheckProgress.{IsCheckLine};
+ghost use Rattle.devices.specs.Progress.{AreSaid, stream};
 
 mod answer;
 mod classes;
@@ -30,19 +29,19 @@ mod symmetry;
 mod values;
 mod weights;
 
-use crate::said::say_whole;
+use crate::cert_reader::read_cert;
+use crate::check_progress::say_whole;
+use crate::refusal::Refusal;
 use certificate::{Cert, CertReader};
-use devices::{Sink, Source};
+use devices::{Sink, Source, Unheard};
 use formulas::Plan;
-use progress_lines::Unheard;
 use std::alloc::Global;
 use task::Task;
-use task_certificates::{Refusal, read_cert};
 
 /// What an accepted certificate shows.
 #[derive(Clone, Copy, Debug, PartialEq, Eq)]
 pub enum Accepted {
-    /// The plan that was given solves the task at this cost, and no plan solves it at less.
+    /// The given plan solves the task at this cost, and no plan solves it at less.
     Optimal {
         /// The plan's cost.
         cost: u64,
@@ -56,18 +55,22 @@ pub enum Accepted {
     Unsolvable,
 }
 
-/// Decides whether what comes to the reader's end is the text of a certificate that is closed for the task, and whether
-/// the plan, if one is given, solves the task at a cost of at most the claim's. Each instance of the plan is one of the
-/// task's, and nothing was read of the reader. Each line is taken as it comes, and no text is kept.
+/// Decides whether the reader's text is that of a certificate closed for the task and, if a plan is given, whether the plan
+/// solves the task at no more than the claimed cost. Nothing has been read from the reader yet, and the plan's instances are the
+/// task's. Lines are read one at a time; the text is not kept.
 ///
 /// # Errors
-/// The first that applies: the first line at fault, as [`read_cert`] reports it (40 to 44, 52 and 55); 55 where the task
-/// keeps more than `max_instances` instances once it is grounded, or would number more than 1,048,576 atoms; the first exchange that
-/// is no symmetry of the task, by its line (59); the first instance that may lose more of a value than it costs (46), or 47 where more than 0 may be left at a goal, one value after
-/// another; the first that may lose anything of what detects dead ends (56), or 57 where more than 0 of it may be left at a goal; 45 where no state alike the initial one is
-/// listed at 0; what is wrong with the successors, the cost or the cut of a listed state, or with a dead end, line by
-/// line (48 to 51, 58); what is wrong with the plan (53, 54). [`Refusal::Device`] where the device failed; [`Refusal::NoMemory`] where
-/// memory is refused.
+/// The first of these that applies:
+/// - the first faulty line, as [`read_cert`] reports it (40 to 44, 52, 55);
+/// - 55: the ground task has more than `max_instances` instances or 1,048,576 numbered atoms;
+/// - 59: the first exchange that is no symmetry of the task, with its line;
+/// - value by value, 46: the first instance that may lose more than it costs; or 47: more than 0 may be left in a goal state;
+/// - of the value for dead ends, 56: the first instance that may lose anything; or 57: more than 0 may be left in a goal state;
+/// - 45: no state alike the initial one is listed at cost 0;
+/// - line by line, 48 to 51, 58: a wrong open state, cut or dead end;
+/// - 53, 54: the plan does not solve the task, or is dearer than claimed.
+///
+/// [`Refusal::Device`]: the device failed. [`Refusal::NoMemory`]: an allocation failed.
 pub fn check<R: Source>(
     alloc: Global,
     task: &Task,
@@ -78,24 +81,24 @@ pub fn check<R: Source>(
     requires fresh { IsFresh reader.old }
     requires instances { ForSome plan (λ p. IsTrue (list_all (is_instance (task_of task.now)) (plan_of p.now))) }
 
-    // What is accepted is true of all lists of instances.
+    // The answer holds for all lists of instances.
     ensures shown { IfOk result (IsShown (task_of task.now) (option_map (λ p. plan_of p.now) plan.entry)) }
 
-    // It accepts exactly where the text is that of a closed certificate, and the plan, if one is given, costs no more
-    // than is claimed; the limits of the ground task, running out of memory and failures of the device aside.
+    // It accepts exactly the texts of closed certificates, with a plan that costs no more than claimed if one is given. Only
+    // limits of the ground task, memory and the device may prevent that.
     ensures accepted { IfOk result (Accepts R.remaining (task_of task.now) reader.old reader.new (option_map (λ p. plan_of p.now) plan.entry) max_instances) }
     ensures accepts { (text : List ℕ) → R.remaining (source_of reader.old) ≡ Some text
         → IsAccepted (task_of task.now) text (option_map (λ p. plan_of p.now) plan.entry) → IfErr result IsNoFault }
 
-    // Each refusal is true, and nothing that comes before it is wrong.
+    // Each refusal is true, and the first that applies.
     ensures refused { IfErr result (Refuses R.remaining (task_of task.now) reader.old reader.new (option_map (λ p. plan_of p.now) plan.entry) max_instances) }
     ensures failures { CountsRefusal (R.failures (source_of reader.old)) (R.failures (source_of reader.new)) result }
 {
     check_and_say(alloc, task, reader, plan, max_instances, &mut Unheard)
 }
 
-/// The same, and on the way it says how much of the certificate is read: how many lines, each time that they are twice as many, from
-/// 1,024 on; and, once all of them are, how many atoms and states it lists. That the sink fails changes no answer.
+/// [`check`], with progress: the number of lines read, at 1,024 and whenever it has doubled; at the end the numbers of atoms and
+/// listed states. A failing sink changes no answer.
 pub fn check_and_say<R: Source, E: Sink>(
     alloc: Global,
     task: &Task,
@@ -107,20 +110,20 @@ pub fn check_and_say<R: Source, E: Sink>(
     requires fresh { IsFresh reader.old }
     requires instances { ForSome plan (λ p. IsTrue (list_all (is_instance (task_of task.now)) (plan_of p.now))) }
 
-    // What is accepted is true of all lists of instances.
+    // The answer holds for all lists of instances.
     ensures shown { IfOk result (IsShown (task_of task.now) (option_map (λ p. plan_of p.now) plan.entry)) }
 
-    // It accepts exactly where the text is that of a closed certificate, and the plan, if one is given, costs no more
-    // than is claimed; the limits of the ground task, running out of memory and failures of the device aside.
+    // It accepts exactly the texts of closed certificates, with a plan that costs no more than claimed if one is given. Only
+    // limits of the ground task, memory and the device may prevent that.
     ensures accepted { IfOk result (Accepts R.remaining (task_of task.now) reader.old reader.new (option_map (λ p. plan_of p.now) plan.entry) max_instances) }
     ensures accepts { (text : List ℕ) → R.remaining (source_of reader.old) ≡ Some text
         → IsAccepted (task_of task.now) text (option_map (λ p. plan_of p.now) plan.entry) → IfErr result IsNoFault }
 
-    // Each refusal is true, and nothing that comes before it is wrong.
+    // Each refusal is true, and the first that applies.
     ensures refused { IfErr result (Refuses R.remaining (task_of task.now) reader.old reader.new (option_map (λ p. plan_of p.now) plan.entry) max_instances) }
     ensures failures { CountsRefusal (R.failures (source_of reader.old)) (R.failures (source_of reader.new)) result }
 
-    // What is said is so.
+    // Progress lines are true.
     ensures said { AreSaid (IsCheckLine (task_of task.now) (R.remaining (source_of reader.old))) E.wants_memory (stream (E.failures err.old) (E.taken err.old)) (stream (E.failures err.new) (E.taken err.new)) }
 {
     let cert = read_cert(alloc, task, reader, err)?;
@@ -128,8 +131,7 @@ pub fn check_and_say<R: Source, E: Sink>(
     judge(alloc, task, cert, plan, max_instances)
 }
 
-/// Decides whether a certificate none of whose lines is at fault is closed for the task, and whether the plan, if one is
-/// given, solves the task at a cost of at most the claim's.
+/// Decides the same for a certificate that has been read without fault.
 fn judge(
     alloc: Global,
     task: &Task,

@@ -1,12 +1,21 @@
-//! Checks certificates: exactly those are accepted that are closed for the task, so their claim holds of every plan.
+//! Checks certificates: it accepts exactly those that are closed for the task, so their claims hold for every plan.
 #![tactic(auto)]
 
+mod cert_reader;
+mod check_progress;
 mod checker;
+mod exchanges;
+mod header;
 mod laws;
-mod said;
+mod listed_states;
+mod named_atoms;
+mod read_progress;
+mod refusal;
+mod table_lines;
 
 pub use checker::{Accepted, check, check_and_say};
 pub use laws::{
     closed_certificates_are_accepted, closed_claim_holds, examples_are_judged,
     solving_list_stays_listed, written_certificates_read_back,
 };
+pub use refusal::{Refusal, RefusalCode};

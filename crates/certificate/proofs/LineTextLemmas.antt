@@ -9,12 +9,12 @@ use Rattle.std.proofs.lemmas.List.{take_all}
 use Rattle.std.proofs.lemmas.List.Folds.{flat_map-map}
 use Rattle.task.specs.TaskParts.{object_of}
 use Rattle.task.specs.declared.atoms.ObjectId.{ObjectId}
-use Rattle.symmetries.specs.Exchanges.{Exchange, objects_in}
-use Rattle.task_symmetries.specs.Pairs.{pair_of, pairs_in}
+use Rattle.symmetries_definitions.specs.Exchanges.{Exchange, objects_in}
+use Rattle.symmetries.specs.ObjectPairs.{pair_of, pairs_in}
 use Rattle.model.specs.Claims.{Claim}
 use Rattle.model.specs.Task.{Atom, Task}
 use Rattle.model.proofs.Pieces.{pieces_more}
-use Rattle.potential_functions.specs.PotentialFunctions.{PotentialFunction}
+use Rattle.lower_bounds.specs.PotentialFunctions.{PotentialFunction}
 use Rattle.certificate_definitions.specs.Certificates.{Version, one, two, three, StateLine}
 use Rattle.model.specs.PlanWriting.{object_name, object_text}
 use Rattle.certificate_definitions.specs.CertificateText.{after_blank, claims, constant, line_text, mark_text, version, weights_text, whole_line}

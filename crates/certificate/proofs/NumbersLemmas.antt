@@ -15,7 +15,7 @@ use Rattle.packed_state.specs.PooledView.{pooled_states, pooled_width}
 use Rattle.packed_state.specs.Store.{sets_in}
 use Rattle.packed_state.specs.Words.{bits_in}
 use Rattle.packed_state.proofs.PackedLemmas.{length-bits}
-use Rattle.potential_functions.specs.PotentialFunctions.{PotentialFunction}
+use Rattle.lower_bounds.specs.PotentialFunctions.{PotentialFunction}
 use Rattle.certificate_definitions.specs.Certificates.{Version, one, two, three, StateLine, are_potentials, are_tables, is_dead_end_weight, is_mark, is_number, is_state_line, is_value_count, is_weight, rise}
 use Rattle.model.proofs.ListLemmas.{Contains-cases, Contains-filter, Contains-here, Contains-none, Contains-range, Contains-there, filter-Contains}
 use Rattle.certificate_reader.proofs.NumbersRead.{rise_parts}

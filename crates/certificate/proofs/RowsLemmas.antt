@@ -5,7 +5,7 @@ use Rattle.std.specs.List.{list_all}
 use Rattle.std.proofs.lemmas.Bool.{le-leb, lt-ltb}
 use Rattle.std.proofs.lemmas.List.Elements.{All-contains}
 use Rattle.packed_state.specs.PooledView.{pooled_states}
-use Rattle.table_functions.specs.TableFunctions.{Row, is_among}
+use Rattle.lower_bounds.specs.TableFunctions.{Row, is_among}
 use Rattle.table_rows.specs.declared.table.Table as code
 use Rattle.table_rows.specs.Rows.{atoms_at, rows_from}
 use Rattle.table_rows.specs.Tables.{table_of}

@@ -8,7 +8,7 @@ use Rattle.std.proofs.lemmas.List.Folds.{flat_map-map}
 use Rattle.devices.specs.Devices.{AppendsBeginning}
 use Rattle.model.specs.Task.{Task}
 use Rattle.model.specs.Claims.{Claim}
-use Rattle.table_functions.specs.TableFunctions.{Table}
+use Rattle.lower_bounds.specs.TableFunctions.{Table}
 use Rattle.certificate_definitions.specs.Certificates.{Version, Certificate}
 use Rattle.certificate_definitions.specs.CertificateText.{TableLine, tabled, row, atom, claims, constant, last, listed, swapped, version, whole_line}
 use Rattle.certificate_definitions.specs.CertificateNames.{certificate_text, constants_of, named_exchange, table_lines}

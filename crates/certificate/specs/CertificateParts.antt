@@ -5,10 +5,10 @@ use Rattle.std.specs.List.{list_all}
 use Rattle.task.specs.declared.atoms.ObjectId.{ObjectId}
 use Rattle.task.specs.TaskParts.{atom_of}
 use Rattle.packed_state.specs.PooledView.{pooled_states}
-use Rattle.symmetries.specs.Exchanges.{Exchange}
-use Rattle.task_symmetries.specs.Pairs.{pairs_in}
-use Rattle.potential_functions.specs.PotentialFunctions.{PotentialFunction}
-use Rattle.table_functions.specs.TableFunctions.{SeveralValues}
+use Rattle.symmetries_definitions.specs.Exchanges.{Exchange}
+use Rattle.symmetries.specs.ObjectPairs.{pairs_in}
+use Rattle.lower_bounds.specs.PotentialFunctions.{PotentialFunction}
+use Rattle.lower_bounds.specs.TableFunctions.{SeveralValues}
 use Rattle.table_rows.specs.Tables.{table_of}
 use Rattle.certificate_definitions.specs.Certificates.{Certificate, StateLine, Version, are_potentials, are_tables, is_dead_end_weight, is_value_count, is_weight, rows_of}
 use Rattle.certificate_definitions.specs.CertificateNames.{weights_in}

@@ -4,8 +4,8 @@ use Rattle.std.specs.Fmt.{decimal, signed_decimal}
 use Rattle.std.specs.Io.KnownBytes.{Appends}
 use Rattle.std.specs.List.{flat_map}
 use Rattle.model.specs.Task.{Task}
-use Rattle.symmetries.specs.Exchanges.{Exchange}
-use Rattle.table_functions.specs.TableFunctions.{Row, Table}
+use Rattle.symmetries_definitions.specs.Exchanges.{Exchange}
+use Rattle.lower_bounds.specs.TableFunctions.{Row, Table}
 use Rattle.certificate_definitions.specs.Certificates.{Certificate, StateLine}
 use Rattle.certificate_definitions.specs.CertificateText.{WeightedAtom, atom, listed, row, scope, swapped, tabled, whole_line}
 use Rattle.certificate_definitions.specs.CertificateNames.{named_exchange, weighted_atoms}

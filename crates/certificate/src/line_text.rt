@@ -11,8 +11,8 @@ ghost use Rattle.certificate_definitions.specs.CertificateText.{claims, last, li
 ghost use Rattle.certificate_definitions.specs.CertificateNames.{named_atom, predicate_name, weights_in};
 ghost use Rattle.certificate.specs.declared.header.Potential as header;
 ghost use Rattle.certificate.specs.CertificateParts.{bounds_of, constants_in, weights_at};
-ghost use Rattle.symmetries.specs.Exchanges.{objects_in};
-ghost use Rattle.task_symmetries.specs.Pairs.{pairs_in};
+ghost use Rattle.symmetries_definitions.specs.Exchanges.{objects_in};
+ghost use Rattle.symmetries.specs.ObjectPairs.{pairs_in};
 ghost use Rattle.certificate.specs.Gathering.{atom_line, number_text, row_line, scope_line, state_line, swap_line, weight_text};
 
 use crate::header::Bounds;

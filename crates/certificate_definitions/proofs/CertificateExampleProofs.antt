@@ -13,8 +13,8 @@ use Rattle.model.specs.Examples.{ground, instance, tie, tie_task}
 use Rattle.model.specs.StaticallyFalse.{kept_instances}
 use Rattle.model.specs.NumberedAtoms.{numbered_atoms}
 use Rattle.model.specs.Meaning.{State, cost_of, atom_cmp, step, changes_of, meets_goal, system_of}
-use Rattle.symmetries.specs.Exchanges.{Exchange}
-use Rattle.symmetries.specs.SymmetryExamples.{swapping}
+use Rattle.symmetries_definitions.specs.Exchanges.{Exchange}
+use Rattle.symmetries_definitions.specs.SymmetryExamples.{swapping}
 use Rattle.model.specs.WellTyped.{is_atom}
 use Rattle.model.specs.Claims.{Claim, bound, Allows, opened, cut, dead, Line, IsListedWithin, IsClosed}
 use Rattle.model.specs.Claims as model
@@ -23,14 +23,14 @@ use Rattle.certificate_definitions.specs.Certificates.{two, StateLine, Certifica
 use Rattle.certificate_definitions.specs.CertificateRefusals.{IsWrongAt, unfair, unfair_goal, dead_unfair, dead_unfair_goal, not_dead}
 use Rattle.certificate_definitions.proofs.WithoutExchanges.{alike_itself, closed_wider}
 use Rattle.certificate_definitions.specs.CertificateExamples.{AreJudged, open_at, cut_at, linked, tied, claims, weighs, zeros, token_reported, start_open}
-use Rattle.table_functions.specs.TableFunctions.{Row, Table}
-use Rattle.potential_functions.specs.PotentialFunctions.{PotentialFunction, or_zero, value_of_state, is_dead_by, is_dead_state}
-use Rattle.potential_functions.specs.Fair.{IsFairAt, IsFairAtGoals, AreFair, nothing, AreDeadFair}
-use Rattle.potential_functions.specs.FairExamples.{token_task, token_atoms, one_missing, minus}
-use Rattle.potential_functions.specs.FairExamples as fair
-use Rattle.potential_functions.proofs.FairExampleProofs.{losing, is_fair_at, is_fair_within, is_unfair_at, is_unfair_within}
-use Rattle.potential_functions.proofs.FairExampleProofs as fair_proofs
-use Rattle.potential_functions.proofs.Zero.{zero-fair}
+use Rattle.lower_bounds.specs.TableFunctions.{Row, Table}
+use Rattle.lower_bounds.specs.PotentialFunctions.{PotentialFunction, or_zero, value_of_state, is_dead_by, is_dead_state}
+use Rattle.lower_bounds.specs.FairPotentials.{IsFairAt, IsFairAtGoals, AreFair, nothing, AreDeadFair}
+use Rattle.lower_bounds.specs.PotentialExamples.{token_task, token_atoms, one_missing, minus}
+use Rattle.lower_bounds.specs.PotentialExamples as fair
+use Rattle.lower_bounds.proofs.PotentialExampleProofs.{losing, is_fair_at, is_fair_within, is_unfair_at, is_unfair_within}
+use Rattle.lower_bounds.proofs.PotentialExampleProofs as fair_proofs
+use Rattle.lower_bounds.proofs.Zero.{zero-fair}
 use Rattle.model.proofs.GroundingComputes.{kept-is, numbered-is}
 use Rattle.model.proofs.Atoms.{atoms_total, same_state}
 use Rattle.model.proofs.Steps.{state_after, contains-state_after, leads}

@@ -12,13 +12,13 @@ use Rattle.model.specs.NumberedAtoms.{numbered_atoms}
 use Rattle.model.specs.Claims.{Claim, bound, none, Allows, Line}
 use Rattle.model.specs.Fluents.{is_fluent}
 use Rattle.certificate_definitions.specs.Certificates.{Version, one, two, three, Certificate, potentials_of, several_of, lines_of, is_symmetry_for, AreFairIn, IsClosedFor}
-use Rattle.symmetries.specs.Exchanges.{Exchange}
+use Rattle.symmetries_definitions.specs.Exchanges.{Exchange}
 use Rattle.certificate_definitions.specs.CertificateRefusals.{Reason, not_fluent, repeated, no_initial, unfair, unfair_goal, goal_open, successor_missing, successor_dearer, cut_weak, cut_not_allowed, plan_invalid, plan_dearer, limit, dead_unfair, dead_unfair_goal, not_dead, not_symmetry, MayLose, MayLoseByTables, IsUnfairIn, IsUnfairAtGoalsIn, IsDeadUnfairIn, IsDeadUnfairAtGoalsIn, IsWrongAt, IsWrong, IsPlanWithin}
-use Rattle.potential_functions.specs.PotentialFunctions.{PotentialFunction}
-use Rattle.potential_functions.specs.Fair.{nothing, IsFairAt, AreFairAt}
-use Rattle.table_functions.specs.TableFunctions.{TableFunction, over_tables, functions_of, dead_ends_of}
-use Rattle.table_functions.specs.FairTables as fair_tables
-use Rattle.table_functions.specs.FairTables.{is_asked}
+use Rattle.lower_bounds.specs.PotentialFunctions.{PotentialFunction}
+use Rattle.lower_bounds.specs.FairPotentials.{nothing, IsFairAt, AreFairAt}
+use Rattle.lower_bounds.specs.TableFunctions.{TableFunction, over_tables, functions_of, dead_ends_of}
+use Rattle.lower_bounds.specs.FairTables as fair_tables
+use Rattle.lower_bounds.specs.FairTables.{is_asked}
 use Rattle.model.proofs.ListLemmas.{Contains-cases, Contains-got, Contains-none}
 
 -- ---- elements at their indices

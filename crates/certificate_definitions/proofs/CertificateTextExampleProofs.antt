@@ -1,7 +1,7 @@
 -- The worked lines.
 use Rattle.std.proofs.Common.{[], ◌∷◌, ◌++◌, refl, arith}
 use Rattle.std.specs.Prelude.{pos}
-use Rattle.potential_functions.specs.FairExamples.{minus}
+use Rattle.lower_bounds.specs.PotentialExamples.{minus}
 use Rattle.certificate_definitions.specs.CertificateText.{scope, tabled}
 use Rattle.certificate_definitions.specs.CertificateChecking.{not_of_scope, repeated_row}
 use Rattle.certificate_definitions.specs.CertificateTextExamples.{AreTextsJudged, first_lines, zeros}

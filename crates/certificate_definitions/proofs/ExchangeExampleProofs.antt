@@ -17,18 +17,18 @@ use Rattle.model.proofs.GroundingComputes.{numbered-is}
 use Rattle.model.proofs.InstancesLemmas.{is_instance-of_step, Contains-all_instances}
 use Rattle.model.proofs.ListLemmas.{Contains-cases, Contains-none}
 use Rattle.model.proofs.Steps.{is_in, state_after, contains-state_after, holds-after, leads}
-use Rattle.symmetries.specs.Exchanges.{Exchange}
-use Rattle.symmetries.specs.Symmetries.{is_symmetry}
-use Rattle.symmetries.specs.Orbits.{AreAlike, keeps_atoms}
-use Rattle.symmetries.specs.SymmetryExamples.{swapping}
-use Rattle.symmetries.proofs.ImagesCompute.{images_in, images-list}
-use Rattle.potential_functions.specs.PotentialFunctions.{PotentialFunction}
-use Rattle.potential_functions.specs.Fair.{nothing}
-use Rattle.potential_functions.proofs.Zero.{zero-fair, zero-dead_fair}
-use Rattle.table_functions.specs.TableFunctions.{Row, Table}
-use Rattle.table_functions.specs.FairTables.{AreFairAt, IsFair, AreFair, is_asked}
-use Rattle.table_functions.specs.Laws.{without_tables}
-use Rattle.table_functions.proofs.WithoutTables.{potentials_are_table_functions}
+use Rattle.symmetries_definitions.specs.Exchanges.{Exchange}
+use Rattle.symmetries_definitions.specs.Symmetries.{is_symmetry}
+use Rattle.symmetries_definitions.specs.Orbits.{AreAlike, keeps_atoms}
+use Rattle.symmetries_definitions.specs.SymmetryExamples.{swapping}
+use Rattle.symmetries_definitions.proofs.ImagesCompute.{images_in, images-list}
+use Rattle.lower_bounds.specs.PotentialFunctions.{PotentialFunction}
+use Rattle.lower_bounds.specs.FairPotentials.{nothing}
+use Rattle.lower_bounds.proofs.Zero.{zero-fair, zero-dead_fair}
+use Rattle.lower_bounds.specs.TableFunctions.{Row, Table}
+use Rattle.lower_bounds.specs.FairTables.{AreFairAt, IsFair, AreFair, is_asked}
+use Rattle.lower_bounds.specs.TableLaws.{without_tables}
+use Rattle.lower_bounds.proofs.WithoutTables.{potentials_are_table_functions}
 use Rattle.certificate_definitions.specs.Certificates.{Certificate, StateLine, lines_of, is_symmetry_for, AreAlikeFor, value_of, is_dead_end_of, IsClosedFor}
 use Rattle.certificate_definitions.specs.CertificateExamples.{open_at, cut_at, zeros}
 use Rattle.certificate_definitions.specs.ExchangeExamples.{lit, light, lamps, dark, second_lit, lamp_atoms, by_exchange, one_of_two, dearer_first, AreExchangesJudged}

@@ -9,7 +9,7 @@ use Rattle.std.proofs.lemmas.List.{map-append}
 use Rattle.std.proofs.lemmas.List.Folds.{list_all-append, list_all-map}
 use Rattle.model.specs.Claims.{Claim, none}
 use Rattle.certificate_definitions.specs.Certificates.{Version, one, two, three, StateLine, is_number, is_claim}
-use Rattle.table_functions.specs.TableFunctions.{Row}
+use Rattle.lower_bounds.specs.TableFunctions.{Row}
 use Rattle.certificate_definitions.specs.CertificateText.{WeightedAtom, TableLine, scope, row, NamedCertificate, TextLine, version, claims, constant, swapped, atom, tabled, listed, last, Format, is_line, row_count, scope_count, begin_with_scope, format_of, most_swaps, most_atoms, most_tables, most_rows, most_states, text_lines, keeps_text_limits, AreWhole, BeginCertificate, Beginning, head_lines, format_in}
 use Rattle.certificate_definitions.specs.CertificateMachine.{Body, CertificatePlace, at_version, at_claim, at_constant, in_body, ended, no_format, no_body, swap_more, atom_more, scope_more, row_more, state_more, swap_follows, atom_follows, row_follows, only_if, next_place, place_from, place_after}
 use Rattle.certificate_definitions.proofs.Beginnings.{body_lines}

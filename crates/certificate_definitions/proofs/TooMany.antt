@@ -1,7 +1,7 @@
 -- Lines beyond a limit, by the state in which they occur.
 use Rattle.std.proofs.Common.{◌≡◌, ℕ, ◌<◌, List, [], ◌∷◌, length, refl, sym, ap, ◌∙◌, subst, Some, arith}
 use Rattle.std.specs.Prelude.{◌≢◌, IsTrue}
-use Rattle.table_functions.specs.TableFunctions.{Row}
+use Rattle.lower_bounds.specs.TableFunctions.{Row}
 use Rattle.certificate_definitions.specs.Certificates.{StateLine}
 use Rattle.certificate_definitions.specs.CertificateText.{WeightedAtom, TableLine, scope, row, TextLine, swapped, atom, tabled, listed, is_line, line_text, scope_count, begin_with_scope, most_swaps, most_atoms, most_tables, most_rows, most_states, IsOneTooMany, swaps, atoms, scopes, rows, states, Beginning, head_lines}
 use Rattle.certificate_definitions.specs.CertificateMachine.{Body, CertificatePlace, at_version, at_claim, at_constant, in_body, ended, place_after}

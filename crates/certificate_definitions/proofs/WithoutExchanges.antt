@@ -6,7 +6,7 @@ use Rattle.model.specs.Runs.{System}
 use Rattle.model.specs.Claims.{Claim, Line, IsListedWithin, IsClosed}
 use Rattle.model.specs.Meaning.{State}
 use Rattle.model.specs.NumberedAtoms.{numbered_atoms}
-use Rattle.symmetries.specs.Orbits.{representative, AreAlike}
+use Rattle.symmetries_definitions.specs.Orbits.{representative, AreAlike}
 use Rattle.certificate_definitions.specs.Certificates.{Certificate, AreAlikeFor}
 
 -- a state is in its own class

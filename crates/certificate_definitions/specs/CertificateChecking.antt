@@ -7,7 +7,7 @@ use Rattle.model.specs.WellTyped.{is_atom}
 use Rattle.model.specs.Fluents.{is_fluent}
 use Rattle.model.specs.Claims.{none, Mark, cut}
 use Rattle.certificate_definitions.specs.Certificates.{Certificate, StateLine, IsClosedFor}
-use Rattle.table_functions.specs.TableFunctions.{Row, is_among}
+use Rattle.lower_bounds.specs.TableFunctions.{Row, is_among}
 use Rattle.certificate_definitions.specs.CertificateRefusals.{IsPlanWithin}
 use Rattle.certificate_definitions.specs.CertificateText.{NamedAtom, WeightedAtom, scope, row, TextLine, claims, atom, tabled, listed, whole_line, text_of, BeginCertificate, IsFaultAfter}
 use Rattle.certificate_definitions.specs.CertificateNames.{Names, IsTextOf}

@@ -5,13 +5,13 @@ use Rattle.model.specs.Task.{Atom}
 use Rattle.model.specs.Examples.{ground, tie_task}
 use Rattle.model.specs.Claims.{Claim, bound, none, opened, cut, dead}
 use Rattle.model.specs.Fluents.{is_fluent, static_atoms}
-use Rattle.potential_functions.specs.PotentialFunctions.{PotentialFunction}
-use Rattle.potential_functions.specs.FairExamples.{token_task, token_atoms, potentials, minus}
-use Rattle.table_functions.specs.TableFunctions.{Table}
+use Rattle.lower_bounds.specs.PotentialFunctions.{PotentialFunction}
+use Rattle.lower_bounds.specs.PotentialExamples.{token_task, token_atoms, potentials, minus}
+use Rattle.lower_bounds.specs.TableFunctions.{Table}
 use Rattle.certificate_definitions.specs.Certificates.{Version, one, two, three, StateLine, Certificate, keeps_limits, IsClosedFor}
 use Rattle.certificate_definitions.specs.CertificateRefusals.{IsWrongAt, IsWrong, not_fluent, repeated, not_symmetry, no_initial, unfair, unfair_goal, dead_unfair, dead_unfair_goal, goal_open, successor_missing, cut_weak, cut_not_allowed, not_dead, exchange_line, atom_line, state_line}
-use Rattle.symmetries.specs.Exchanges.{Exchange}
-use Rattle.symmetries.specs.SymmetryExamples.{swapping, gripper}
+use Rattle.symmetries_definitions.specs.Exchanges.{Exchange}
+use Rattle.symmetries_definitions.specs.SymmetryExamples.{swapping, gripper}
 
 abbrev pub open_at : ℕ → List ℕ → StateLine
 open_at cost atoms = record { cost = cost; mark = opened; atoms = atoms }

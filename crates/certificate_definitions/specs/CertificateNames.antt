@@ -8,9 +8,9 @@ use Rattle.model.specs.Resolution.{is_same}
 use Rattle.model.specs.PlanText.{object_names}
 use Rattle.model.specs.PlanWriting.{object_name, are_lower_names}
 use Rattle.certificate_definitions.specs.Certificates.{Version, one, two, three, Certificate}
-use Rattle.table_functions.specs.TableFunctions.{Table}
-use Rattle.symmetries.specs.Exchanges.{Exchange, objects_in, are_different}
-use Rattle.potential_functions.specs.PotentialFunctions.{PotentialFunction}
+use Rattle.lower_bounds.specs.TableFunctions.{Table}
+use Rattle.symmetries_definitions.specs.Exchanges.{Exchange, objects_in, are_different}
+use Rattle.lower_bounds.specs.PotentialFunctions.{PotentialFunction}
 use Rattle.certificate_definitions.specs.CertificateText.{NamedAtom, WeightedAtom, TableLine, scope, row, NamedCertificate, IsCertificateText, text_lines, text_of}
 
 abbrev pub predicate_names : Task → List Name

@@ -9,13 +9,13 @@ use Rattle.model.specs.StaticallyFalse.{kept_instances}
 use Rattle.model.specs.NumberedAtoms.{numbered_atoms}
 use Rattle.model.specs.Grounding.{exceeded_limit}
 use Rattle.model.specs.Claims.{Claim, bound, none, Allows, opened, cut, dead, Line, IsListedWithin}
-use Rattle.potential_functions.specs.PotentialFunctions.{PotentialFunction}
-use Rattle.potential_functions.specs.Fair.{IsFairAt, IsFairAtGoals}
-use Rattle.table_functions.specs.TableFunctions.{TableFunction, functions_of, dead_ends_of}
-use Rattle.table_functions.specs.FairTables as fair_tables
-use Rattle.table_functions.specs.FairTables.{is_asked}
+use Rattle.lower_bounds.specs.PotentialFunctions.{PotentialFunction}
+use Rattle.lower_bounds.specs.FairPotentials.{IsFairAt, IsFairAtGoals}
+use Rattle.lower_bounds.specs.TableFunctions.{TableFunction, functions_of, dead_ends_of}
+use Rattle.lower_bounds.specs.FairTables as fair_tables
+use Rattle.lower_bounds.specs.FairTables.{is_asked}
 use Rattle.model.specs.Fluents.{is_fluent}
-use Rattle.symmetries.specs.Exchanges.{Exchange}
+use Rattle.symmetries_definitions.specs.Exchanges.{Exchange}
 use Rattle.certificate_definitions.specs.Certificates.{Version, one, two, three, Certificate, potentials_of, several_of, rows_of, lines_of, is_symmetry_for, AreAlikeFor, value_of, is_dead_end_of}
 
 -- the reasons, each with the number that is reported

@@ -5,7 +5,7 @@ use Rattle.std.specs.Fmt.{decimal, signed_decimal}
 use Rattle.std.specs.List.{flat_map, list_all, list_any}
 use Rattle.model.specs.Claims.{Claim, bound, none, Mark, opened, cut, dead}
 use Rattle.certificate_definitions.specs.Certificates.{Version, one, two, three, StateLine, is_number, is_weight, is_claim, is_state_line, rise, are_weights, has_tables, has_exchanges}
-use Rattle.table_functions.specs.TableFunctions.{Row}
+use Rattle.lower_bounds.specs.TableFunctions.{Row}
 use Rattle.model.specs.Resolution.{is_same}
 use Rattle.model.specs.PlanWriting.{is_lower_name}
 

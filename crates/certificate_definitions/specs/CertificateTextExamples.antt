@@ -3,14 +3,14 @@
 use Rattle.std.specs.Prelude.{◌≡◌, ℕ, ℤ, pos, false, true, List, [], ◌∷◌, ◌++◌, codes, Option, None, Some}
 use Rattle.model.specs.Examples.{tie_task}
 use Rattle.model.specs.Claims.{bound}
-use Rattle.potential_functions.specs.FairExamples.{potentials, minus}
+use Rattle.lower_bounds.specs.PotentialExamples.{potentials, minus}
 use Rattle.certificate_definitions.specs.Certificates.{Version, one, two, three, Certificate, keeps_limits}
 use Rattle.certificate_definitions.specs.CertificateText.{WeightedAtom, scope, row, TextLine, version, claims, constant, swapped, atom, tabled, listed, last, NamedCertificate}
 use Rattle.certificate_definitions.specs.CertificateMachine.{CertificatePlace, in_body, ended, place_from, place_after}
 use Rattle.certificate_definitions.specs.CertificateNames.{values_said, dead_ends_said, exchange_said, named_exchange}
 use Rattle.certificate_definitions.specs.CertificateChecking.{IsWrongAfter}
 use Rattle.certificate_definitions.specs.CertificateExamples.{open_at, linked, tied}
-use Rattle.symmetries.specs.SymmetryExamples.{gripper}
+use Rattle.symmetries_definitions.specs.SymmetryExamples.{gripper}
 
 abbrev pub weighs : List ℤ → (name : List ℕ) → WeightedAtom
 weighs weights name = record { weights = weights; atom = record { predicate = name; objects = [] } }

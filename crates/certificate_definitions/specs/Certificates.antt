@@ -8,14 +8,14 @@ pub use Rattle.model.specs.Fluents.{is_literal_of, touches, any_touches, is_flue
 use Rattle.model.specs.Meaning.{State, system_of}
 use Rattle.model.specs.NumberedAtoms.{numbered_atoms}
 use Rattle.model.specs.Claims.{Claim, bound, none, Mark, opened, cut, dead, Line, IsClosed}
-use Rattle.potential_functions.specs.PotentialFunctions.{PotentialFunction, value_of_state, is_dead_state}
-use Rattle.potential_functions.specs.Fair.{AreFair, AreDeadFair}
-use Rattle.table_functions.specs.TableFunctions as tables
-use Rattle.table_functions.specs.TableFunctions.{Row, Table, SeveralValues, functions_of, dead_ends_of, greatest_of_state, is_among}
-use Rattle.table_functions.specs.FairTables as fair_tables
-use Rattle.symmetries.specs.Exchanges.{Exchange}
-use Rattle.symmetries.specs.Symmetries.{is_symmetry}
-use Rattle.symmetries.specs.Orbits.{AreAlike, keeps_atoms}
+use Rattle.lower_bounds.specs.PotentialFunctions.{PotentialFunction, value_of_state, is_dead_state}
+use Rattle.lower_bounds.specs.FairPotentials.{AreFair, AreDeadFair}
+use Rattle.lower_bounds.specs.TableFunctions as tables
+use Rattle.lower_bounds.specs.TableFunctions.{Row, Table, SeveralValues, functions_of, dead_ends_of, greatest_of_state, is_among}
+use Rattle.lower_bounds.specs.FairTables as fair_tables
+use Rattle.symmetries_definitions.specs.Exchanges.{Exchange}
+use Rattle.symmetries_definitions.specs.Symmetries.{is_symmetry}
+use Rattle.symmetries_definitions.specs.Orbits.{AreAlike, keeps_atoms}
 
 -- The versions of a certificate's text. From version 2 on, states may be listed as dead ends. In version 3 a state may have
 -- several values, these may use tables, and a state may represent all states that exchanges of objects map to it.

@@ -3,8 +3,8 @@ use Rattle.std.specs.Prelude.{ℕ, false, List, [], ◌∷◌, codes, None}
 use Rattle.model.specs.Task.{Atom, variable, atom, and, forall, literal, add, by_number, Schema, Task}
 use Rattle.model.specs.Examples.{formulas, lifted, ground, root, untyped, any}
 use Rattle.model.specs.Claims.{Claim, bound}
-use Rattle.symmetries.specs.Exchanges.{Exchange}
-use Rattle.symmetries.specs.SymmetryExamples.{swapping}
+use Rattle.symmetries_definitions.specs.Exchanges.{Exchange}
+use Rattle.symmetries_definitions.specs.SymmetryExamples.{swapping}
 use Rattle.certificate_definitions.specs.Certificates.{three, StateLine, Certificate, IsClosedFor}
 use Rattle.certificate_definitions.specs.CertificateRefusals.{IsWrongAt, IsWrong, no_initial, successor_missing, successor_dearer}
 use Rattle.certificate_definitions.specs.CertificateExamples.{open_at, cut_at, zeros}

@@ -11,7 +11,7 @@ use Rattle.std.proofs.lemmas.List.{append_cancel_left, append_cancel_right}
 use Rattle.model.specs.PlanWriting.{is_lower_name}
 use Rattle.model.specs.Claims.{Mark, opened, cut, dead}
 use Rattle.certificate_definitions.specs.Certificates.{Version, one, two, three, is_number, is_mark, is_weight, are_weights, has_exchanges, has_tables, rise}
-use Rattle.table_functions.specs.TableFunctions.{Row}
+use Rattle.lower_bounds.specs.TableFunctions.{Row}
 use Rattle.certificate_definitions.specs.CertificateText.{NamedAtom, WeightedAtom, scope, row, Format, TextLine, version, claims, constant, swapped, atom, tabled, listed, last, after_blank, are_exchanged, is_weight_count, is_line, line_text, longest_line}
 use Rattle.certificate_reader.specs.Words.{IsFirstWord, IsLeading, IsNumbered, IsReadAs, are_lower, atom_rest, line_rest, mark_head, then_numbers, then_weights, then_words, with_rest}
 use Rattle.certificate_reader.proofs.WordLemmas.{one_first}

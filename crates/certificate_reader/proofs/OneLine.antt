@@ -8,7 +8,7 @@ use Rattle.std.proofs.lemmas.List.{append_cancel_left}
 use Rattle.model.specs.Claims.{Claim, bound, none, Mark, opened, cut, dead}
 use Rattle.model.specs.PlanWriting.{is_lower_name}
 use Rattle.certificate_definitions.specs.Certificates.{Version, one, two, three, StateLine, is_claim, is_number, is_weight, are_weights, has_exchanges, has_tables, rise}
-use Rattle.table_functions.specs.TableFunctions.{Row}
+use Rattle.lower_bounds.specs.TableFunctions.{Row}
 use Rattle.certificate_definitions.specs.CertificateText.{NamedAtom, WeightedAtom, scope, row, Format, TextLine, version, claims, constant, swapped, atom, tabled, listed, last, are_exchanged, are_paired, differ, is_weight_count, is_line, line_text, numbers_text, longest_line, most_atoms, version_number}
 use Rattle.certificate_reader.specs.Words.{IsLeading, IsNumbered, IsReadAs, are_lower, atom_rest, claim_rest, is_word, line_head, line_rest, mark_head, mark_rest, then_numbers, then_weights, then_words}
 use Rattle.certificate_reader.proofs.WordLemmas.{one_first}

@@ -6,8 +6,8 @@ ghost use Rattle.certificate_reader.specs.Lines.{name_of};
 ghost use Rattle.certificate_reader.specs.Words.{text_in, then_words, is_no_capital};
 
 use crate::first_word::first_word;
-use names::is_name;
 use std::alloc::{AllocError, Global};
+use tokens::is_name;
 
 /// The maximum length of a name, in bytes.
 const LONGEST_NAME: usize = 255;

@@ -1,6 +1,6 @@
 //! The stage of a reader: which line may come next.
 ghost use Rattle.std.specs.Prelude.{◌≡◌, ℕ, ◌≤◌, IsTrue, List, length};
-ghost use Rattle.table_functions.specs.TableFunctions.{Row};
+ghost use Rattle.lower_bounds.specs.TableFunctions.{Row};
 ghost use Rattle.certificate_definitions.specs.Certificates.{StateLine};
 ghost use Rattle.certificate_definitions.specs.CertificateText.{WeightedAtom, scope, row, swapped, atom, tabled, listed, is_line, longest_line};
 ghost use Rattle.certificate_definitions.specs.CertificateMachine.{format_at, in_body, no_body, no_format};

@@ -1,3 +1,4 @@
 pub mod Filling
 pub mod Readings
 pub mod WrittenFiles
+pub mod ProgressLemmas

@@ -1,3 +1,4 @@
 pub mod Devices
 pub mod Texts
 pub mod Written
+pub mod Progress

@@ -7,10 +7,10 @@ use Rattle.std.specs.String.{string_bytes}
 use Rattle.faults.specs.declared.code.Code.{Code}
 use Rattle.faults.specs.declared.refused.NoMemory.{NoMemory}
 use Rattle.faults.specs.declared.refused.Span.{Span}
-use Rattle.source_text.specs.declared.texts.File.{File}
-use Rattle.source_text.specs.declared.texts.File.TheVariants as kind
-use Rattle.source_text.specs.declared.texts.NamedText.{NamedText}
-use Rattle.source_text.specs.declared.texts.NamedTexts.{NamedTexts}
+use Rattle.explain_hints.specs.declared.texts.File.{File}
+use Rattle.explain_hints.specs.declared.texts.File.TheVariants as kind
+use Rattle.explain_hints.specs.declared.texts.NamedText.{NamedText}
+use Rattle.explain_hints.specs.declared.texts.NamedTexts.{NamedTexts}
 use Rattle.validator.specs.Verdict.{verdict_of}
 use Rattle.validator.specs.declared.verdict.Verdict.{Verdict}
 use Rattle.validator.specs.declared.verdict.Verdict.TheVariants.{NotApplicable}
@@ -19,8 +19,8 @@ use Rattle.file_answers.specs.Explanations.{IsFaultExplained, IsLocatedIf, IsOfF
 use Rattle.file_answers.specs.Files.{reported_in}
 use Rattle.file_answers.specs.FurtherFaults.{IsToldOf}
 use Rattle.file_answers.specs.declared.explanation.FurtherFault.{FurtherFault}
-use Rattle.source_text.specs.Files.{name_in}
-use Rattle.source_text.specs.Files.{text_in as bytes_in}
+use Rattle.explain_hints.specs.Files.{name_in}
+use Rattle.explain_hints.specs.Files.{text_in as bytes_in}
 use Rattle.file_answers.specs.Inputs.{IsInputFault}
 use Rattle.file_answers.specs.declared.explanation.Explanation.{Explanation}
 use Rattle.file_answers.specs.declared.explanation.Location.{Location}
@@ -34,12 +34,12 @@ use Rattle.model.specs.Runs.{IsVerdict}
 use Rattle.model.specs.Files.{IsTaskOf}
 use Rattle.model.specs.PlanText.{AllMean, AreSteps, IsPlanText, Step, placed_from}
 use Rattle.model.specs.Words.{AreParts, Part}
-use Rattle.explained_plans.specs.Explanations as plans
-use Rattle.explained_plans.specs.Explanations.{IsExplained}
-use Rattle.explained_plans.specs.StepPlaces.{IsStepPlace, span_of}
-use Rattle.explained_plans.specs.VariableNames.{VariableNames}
+use Rattle.explain_plans.specs.Explanations as plans
+use Rattle.explain_plans.specs.Explanations.{IsExplained}
+use Rattle.explain_plans.specs.StepPlaces.{IsStepPlace, span_of}
+use Rattle.explain_plans.specs.VariableNames.{VariableNames}
 use Rattle.file_answers.specs.QuantifiedNames.{IsNamedTask}
-use Rattle.explained_plans.specs.declared.explanations.PlanExplanation.{PlanExplanation}
+use Rattle.explain_plans.specs.declared.explanations.PlanExplanation.{PlanExplanation}
 
 -- the files are among these texts
 abbrev pub AreAmong : Files → NamedTexts → Type 0

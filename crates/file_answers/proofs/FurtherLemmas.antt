@@ -6,9 +6,9 @@ use Rattle.std.proofs.lemmas.List.Elements.{All-append}
 use Rattle.std.specs.List.{flat_map}
 use Rattle.std.specs.Prelude.{nat_le}
 use Rattle.std.specs.String.{string_bytes}
-use Rattle.source_text.specs.Files.{name_in, text_in}
-use Rattle.source_text.specs.declared.texts.NamedTexts.{NamedTexts}
-use Rattle.explained_faults.specs.Explained.{BeginsWith}
+use Rattle.explain_hints.specs.Files.{name_in, text_in}
+use Rattle.explain_hints.specs.declared.texts.NamedTexts.{NamedTexts}
+use Rattle.explain_faults.specs.Explained.{BeginsWith}
 use Rattle.file_answers.specs.FurtherFaults.{AreFurther, IsToldOf, further_text}
 use Rattle.file_answers.specs.declared.explanation.FurtherFault.{FurtherFault}
 use Rattle.file_answers.specs.declared.explanation.Location.{Location}

@@ -12,7 +12,7 @@ use Rattle.model.specs.Words.{is_name, longest_run}
 use Rattle.model.specs.PlanText.{object_names}
 use Rattle.model.specs.PlanWriting.{object_name, is_lower_name, are_lower_names, differ}
 use Rattle.model.proofs.Tests.{passes_got}
-use Rattle.symmetries.specs.Exchanges.{Exchange, objects_in}
+use Rattle.symmetries_definitions.specs.Exchanges.{Exchange, objects_in}
 use Rattle.certificate_definitions.specs.CertificateText.{after_blank, swapped, line_text, longest_line}
 use Rattle.certificate_definitions.specs.CertificateNames.{has_atom_names, predicate_names, named_exchange, is_exchange_of}
 use Rattle.cert_checker.specs.Exchanged.{is_short}

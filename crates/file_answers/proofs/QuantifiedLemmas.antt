@@ -5,12 +5,12 @@ use Rattle.std.proofs.lemmas.Grind.{flat_map-append}
 use Rattle.std.proofs.lemmas.List.{map_push, take_more}
 use Rattle.std.specs.Global.{Vec}
 use Rattle.std.specs.List.{flat_map}
-use Rattle.syntax_tree.specs.declared.tree.Formula.{Formula}
-use Rattle.syntax_tree.specs.declared.tree.Formula as formula
-use Rattle.syntax_tree.specs.declared.tree.Group.{Group}
-use Rattle.syntax_tree.specs.declared.name.Name.{Name}
-use Rattle.syntax_tree.specs.Tree.{formula_of, group_of, name_of}
-use Rattle.syntax_tree.proofs.Rows.{formula_of-And, formula_of-Or}
+use Rattle.pddl_tree_parts.specs.declared.tree.Formula.{Formula}
+use Rattle.pddl_tree_parts.specs.declared.tree.Formula as formula
+use Rattle.pddl_tree_parts.specs.declared.tree.Group.{Group}
+use Rattle.pddl_tree_parts.specs.declared.terms.Name.{Name}
+use Rattle.pddl_tree_parts.specs.Tree.{formula_of, group_of, name_of}
+use Rattle.pddl_tree_parts.proofs.Rows.{formula_of-And, formula_of-Or}
 use Rattle.file_answers.specs.QuantifiedNames.{declared_names, quantified_names, quantified_names_in_all}
 use Rattle.model.specs.Task as task
 use Rattle.model.specs.Trees as tree

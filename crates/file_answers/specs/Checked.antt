@@ -6,10 +6,10 @@ use Rattle.certificate_definitions.specs.CertificateNames.{IsTextOf}
 use Rattle.certificate_definitions.specs.CertificateChecking.{AreRight, IsAccepted, IsLineFault}
 use Rattle.certificate_reader.specs.declared.reader.CertReader.{CertReader}
 use Rattle.certificate_reader.specs.Reader.{source_of}
-use Rattle.task_certificates.specs.declared.refusal.Refusal.{Refusal}
-use Rattle.task_certificates.specs.declared.refusal.Refusal.TheVariants as refusal
-use Rattle.task_certificates.specs.declared.refusal.RefusalCode.TheVariants.{Limit}
-use Rattle.task_certificates.specs.RefusalCode.{number_of}
+use Rattle.cert_checker.specs.declared.refusal.Refusal.{Refusal}
+use Rattle.cert_checker.specs.declared.refusal.Refusal.TheVariants as refusal
+use Rattle.cert_checker.specs.declared.refusal.RefusalCode.TheVariants.{Limit}
+use Rattle.cert_checker.specs.RefusalCode.{number_of}
 use Rattle.cert_checker.specs.declared.checker.Accepted.{Accepted}
 use Rattle.cert_checker.specs.CertChecker.{Answers, IsFirstRefusal, IsNoFault, IsShown, IsTrueRefusal}
 use Rattle.cert_checker.specs.Checking.{Accepts, Refuses}

@@ -5,20 +5,20 @@ use Rattle.std.specs.Option.{option_map}
 use Rattle.std.specs.Str.Lossy.{utf8_lossy}
 use Rattle.std.specs.String.{string_bytes}
 use Rattle.faults.specs.declared.refused.Span.{Span}
-use Rattle.source_text.specs.Places.{IsPlace}
-use Rattle.source_text.specs.declared.place.LineColumn.{LineColumn}
-use Rattle.source_text.specs.declared.texts.NamedText.{NamedText}
-use Rattle.source_text.specs.declared.texts.File.{File}
-use Rattle.source_text.specs.declared.texts.File.TheVariants as file
-use Rattle.explained_faults.specs.Explained.{BeginsWith, heading}
-use Rattle.explained_plans.specs.Explanations.{IsExplained}
-use Rattle.explained_plans.specs.Explanations.{verdict_of as explained_verdict}
-use Rattle.explained_plans.specs.PlanLines.{reasons_text, step_reasons_text, verdict_line}
-use Rattle.explained_plans.specs.Said.{summary_text}
-use Rattle.explained_plans.specs.StepPlaces.{IsStepPlace, span_of}
-use Rattle.explained_plans.specs.declared.explanations.PlanExplanation.{PlanExplanation}
-use Rattle.explained_plans.specs.declared.explanations.PlanExplanation.TheVariants.{Solves, NotApplicable, GoalMissed}
-use Rattle.grounding_kept.specs.declared.fault.GroundLimit.TheVariants as limit
+use Rattle.explain_hints.specs.Places.{IsPlace}
+use Rattle.explain_hints.specs.declared.place.LineColumn.{LineColumn}
+use Rattle.explain_hints.specs.declared.texts.NamedText.{NamedText}
+use Rattle.explain_hints.specs.declared.texts.File.{File}
+use Rattle.explain_hints.specs.declared.texts.File.TheVariants as file
+use Rattle.explain_faults.specs.Explained.{BeginsWith, heading}
+use Rattle.explain_plans.specs.Explanations.{IsExplained}
+use Rattle.explain_plans.specs.Explanations.{verdict_of as explained_verdict}
+use Rattle.explain_plans.specs.PlanLines.{reasons_text, step_reasons_text, verdict_line}
+use Rattle.explain_tasks.specs.Summary.{summary_text}
+use Rattle.explain_plans.specs.StepPlaces.{IsStepPlace, span_of}
+use Rattle.explain_plans.specs.declared.explanations.PlanExplanation.{PlanExplanation}
+use Rattle.explain_plans.specs.declared.explanations.PlanExplanation.TheVariants.{Solves, NotApplicable, GoalMissed}
+use Rattle.grounding_instances.specs.declared.fault.GroundLimit.TheVariants as limit
 use Rattle.validator.specs.Verdict.{verdict_of}
 use Rattle.file_answers.specs.declared.explanation.Explanation.{Explanation}
 use Rattle.file_answers.specs.FurtherFaults.{EndsWith, IsToldOf, further_text}

@@ -4,19 +4,19 @@ use Rattle.std.specs.Option.{option_map}
 use Rattle.std.specs.String.{string_bytes}
 use Rattle.faults.specs.declared.code.Code.{Code}
 use Rattle.faults.specs.declared.refused.Span.{Span}
-use Rattle.source_text.specs.Files.{name_in}
-use Rattle.source_text.specs.Files.{text_in as bytes_in}
-use Rattle.source_text.specs.declared.texts.File.{File}
-use Rattle.source_text.specs.declared.texts.NamedText.{NamedText}
-use Rattle.source_text.specs.declared.texts.NamedTexts.{NamedTexts}
-use Rattle.explained_faults.specs.Explained.{BeginsWith, heading}
-use Rattle.explained_plans.specs.Explanations as plans
-use Rattle.explained_plans.specs.Explanations.{IsExplained}
-use Rattle.explained_plans.specs.VariableNames.{VariableNames}
-use Rattle.explained_plans.specs.declared.explanations.PlanExplanation.{PlanExplanation}
-use Rattle.explained_plans.specs.Said.{IsSummaryOf, summary_text}
-use Rattle.explained_plans.specs.declared.summary.Summary.{Summary}
-use Rattle.grounding_kept.specs.Numbering.{limit_of}
+use Rattle.explain_hints.specs.Files.{name_in}
+use Rattle.explain_hints.specs.Files.{text_in as bytes_in}
+use Rattle.explain_hints.specs.declared.texts.File.{File}
+use Rattle.explain_hints.specs.declared.texts.NamedText.{NamedText}
+use Rattle.explain_hints.specs.declared.texts.NamedTexts.{NamedTexts}
+use Rattle.explain_faults.specs.Explained.{BeginsWith, heading}
+use Rattle.explain_plans.specs.Explanations as plans
+use Rattle.explain_plans.specs.Explanations.{IsExplained}
+use Rattle.explain_plans.specs.VariableNames.{VariableNames}
+use Rattle.explain_plans.specs.declared.explanations.PlanExplanation.{PlanExplanation}
+use Rattle.explain_tasks.specs.Summary.{IsSummaryOf, summary_text}
+use Rattle.explain_tasks.specs.declared.summary.Summary.{Summary}
+use Rattle.grounding_instances.specs.Numbering.{limit_of}
 use Rattle.validator.specs.Verdict.{verdict_of}
 use Rattle.validator.specs.declared.verdict.Verdict.{Verdict}
 use Rattle.file_answers.specs.ExplanationLines.{Files, Named, IsLocated, IsStepAt, IsStepLocated, SayPlan, files_of, grounded_line, on_lines, place_in}

@@ -7,8 +7,8 @@ use Rattle.faults.specs.declared.code.Code.{Code}
 use Rattle.faults.specs.declared.refused.Span.{Span}
 use Rattle.faults.specs.declared.refused.Refused.TheVariants as refused
 use Rattle.typing.specs.Task.{TaskFault, file_of}
-use Rattle.source_text.specs.declared.texts.File.{File}
-use Rattle.source_text.specs.Files.{file_view}
+use Rattle.explain_hints.specs.declared.texts.File.{File}
+use Rattle.explain_hints.specs.Files.{file_view}
 use Rattle.file_answers.specs.declared.files.FileFault.{FileFault}
 use Rattle.file_answers.specs.declared.files.FileFault.TheVariants.{At, NoMemory}
 use Rattle.model.specs.Fault as reported

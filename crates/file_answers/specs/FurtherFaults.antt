@@ -1,13 +1,13 @@
 -- The faults of two files after the first, and their lines.
 use Rattle.std.specs.Prelude.{◌≡◌, ℕ, nat_le, List, [], ◌++◌, All, codes, length, flat_map, if◌then◌else◌}
 use Rattle.std.specs.String.{string_bytes}
-use Rattle.explained_faults.specs.Explained.{BeginsWith, heading}
-use Rattle.fault_help.specs.declared.refusal.FileRefusal.{FileRefusal}
-use Rattle.fault_lists.specs.FaultLists.{IsFaultOf}
-use Rattle.source_text.specs.Files.{name_in, text_in}
-use Rattle.source_text.specs.Places.{IsPlace}
-use Rattle.source_text.specs.declared.place.LineColumn.{LineColumn}
-use Rattle.source_text.specs.declared.texts.NamedTexts.{NamedTexts}
+use Rattle.explain_faults.specs.Explained.{BeginsWith, heading}
+use Rattle.explain_hints.specs.declared.refusal.FileRefusal.{FileRefusal}
+use Rattle.explain_hints.specs.Files.{name_in, text_in}
+use Rattle.typing.specs.Listed.{IsFaultOf}
+use Rattle.explain_hints.specs.Places.{IsPlace}
+use Rattle.explain_hints.specs.declared.place.LineColumn.{LineColumn}
+use Rattle.explain_hints.specs.declared.texts.NamedTexts.{NamedTexts}
 use Rattle.file_answers.specs.Files.{fault_at}
 use Rattle.file_answers.specs.declared.explanation.FurtherFault.{FurtherFault}
 use Rattle.model.specs.Trees.{Domain, Problem}

@@ -3,7 +3,7 @@ use Rattle.std.specs.Prelude.{◌≡◌, ℕ, List, [], ◌++◌, map}
 use Rattle.std.specs.List.{flat_map}
 use Rattle.model.specs.Task as task
 use Rattle.model.specs.Trees.{Action, Domain, Formula, Formulas, Group, Name, Problem, atom, equal, and, or, not, imply, exists, forall, no_formula, more_formulas}
-use Rattle.explained_plans.specs.VariableNames.{VariableNames}
+use Rattle.explain_plans.specs.VariableNames.{VariableNames}
 use Rattle.model.specs.Files.{IsTaskOf}
 
 -- the names that a quantifier declares, as written

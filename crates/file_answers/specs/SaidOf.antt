@@ -1,6 +1,6 @@
 -- Progress reports while the task of two texts is solved, or a certificate for it is checked.
 use Rattle.std.specs.Prelude.{ℕ, List, Option}
-use Rattle.cert_checker.specs.SaidRead.{IsCheckLine}
+use Rattle.cert_checker.specs.CheckProgress.{IsCheckLine}
 use Rattle.model.specs.Task.{Task}
 use Rattle.model.specs.Files.{IsTaskOf}
 use Rattle.solver.specs.Said.{IsTrueLine}

@@ -1,10 +1,10 @@
 //! From the bytes of a domain file and a problem file, and the text of a certificate, to what the certificate shows.
 ghost use Rattle.std.specs.Prelude.{◌≡◌, ℕ, List, Option, IfOk, IfErr, IfSome, IsErr, IsTrue, None};
 ghost use Rattle.task.specs.Task.{task_of};
-ghost use Rattle.cert_checker.specs.SaidRead.{IsCheckLine};
-ghost use Rattle.progress_lines.specs.Said.{AreSaid, stream};
+ghost use Rattle.cert_checker.specs.CheckProgress.{IsCheckLine};
+ghost use Rattle.devices.specs.Progress.{AreSaid, stream};
 ghost use Rattle.file_answers.specs.SaidOf.{IsCheckLineOf};
-ghost use Rattle.task_certificates.specs.Reading.{CountsRefusal, IsFresh};
+ghost use Rattle.cert_checker.specs.Reading.{CountsRefusal, IsFresh};
 ghost use Rattle.certificate_reader.specs.Reader.{source_of};
 ghost use Rattle.file_answers.specs.Checked.{IsChecked};
 ghost use Rattle.file_answers.specs.Inputs.{IsGiven, IsInputFault};
@@ -14,13 +14,11 @@ ghost use Rattle.model.specs.Files.{IsTaskOf};
 ghost use Rattle.model.specs.PlanWriting.{has_names};
 
 use crate::files::{FileFault, plan_of_file, task_of_files};
-use cert_checker::{Accepted, check_and_say};
+use cert_checker::{Accepted, Refusal, check_and_say};
 use certificate::CertReader;
-use devices::{Sink, Source};
-use progress_lines::Unheard;
+use devices::{Sink, Source, Unheard};
 use std::alloc::Global;
 use task::Task;
-use task_certificates::Refusal;
 
 /// A task read from files, with the checker's answer to a certificate for it.
 #[derive(Drop)]

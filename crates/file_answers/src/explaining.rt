@@ -10,11 +10,11 @@ mod of_task;
 
 use crate::explanation::Explanation;
 use crate::files::named_task_of_files;
+use explain_hints::{NamedText, NamedTexts};
 use faults::NoMemory;
 use of_fault::explain_refused;
 use of_plan::explain_plan_file;
 use of_task::explain_task;
-use source_text::{NamedText, NamedTexts};
 use std::alloc::Global;
 
 /// Explains a domain file and a problem file, and a plan file if one is given.

@@ -3,11 +3,11 @@ ghost use Rattle.std.specs.Prelude.{◌≡◌, ◌-◌, IfOk};
 ghost use Rattle.std.specs.String.{string_bytes};
 ghost use Rattle.file_answers.specs.ExplanationLines.{place_in};
 
-use explained_faults::FileRefusal;
-use explained_plans::Summary;
+use explain_faults::FileRefusal;
+use explain_hints::{File, LineColumn};
+use explain_tasks::Summary;
 use faults::{Code, Span};
-use grounding_kept::GroundLimit;
-use source_text::{File, LineColumn};
+use grounding_instances::GroundLimit;
 use std::alloc::{AllocError, Global};
 use validator::Verdict;
 

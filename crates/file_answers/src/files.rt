@@ -2,13 +2,13 @@
 ghost use Rattle.std.specs.Prelude.{◌≡◌, ℕ, All, List, IfOk, IfErr, IfSome, IsTrue};
 ghost use Rattle.std.specs.List.{list_all};
 ghost use Rattle.tokens.specs.Reported.{reported_by};
-ghost use Rattle.syntax_tree.specs.Tree.{domain_of, problem_of};
+ghost use Rattle.pddl_tree_parts.specs.Tree.{domain_of, problem_of};
 ghost use Rattle.task.specs.Task.{task_of};
 ghost use Rattle.formulas.specs.State.{plan_of};
 ghost use Rattle.file_answers.specs.Files.{reported_in};
 ghost use Rattle.file_answers.specs.FurtherFaults.{IsFaultOfTexts};
 ghost use Rattle.typing.specs.Task.{refusal_of};
-ghost use Rattle.explained_plans.specs.NamesView.{names_of};
+ghost use Rattle.explain_plans.specs.NamesView.{names_of};
 ghost use Rattle.file_answers.specs.QuantifiedNames.{IsNamedTask};
 ghost use Rattle.model.specs.Task as model;
 ghost use Rattle.model.specs.Files as reported;
@@ -18,17 +18,16 @@ ghost use Rattle.model.specs.Meaning.{is_instance};
 ghost use Rattle.model.specs.PlanText.{IsPlanText};
 
 use crate::quantifiers::variable_names;
-use explained_plans::VariableNames;
-use fault_lists::{FoundFaults, listed_faults};
+use explain_hints::File;
+use explain_plans::VariableNames;
 use faults::{Code, Fault, NoMemory, Refused, Span, TextRefusal};
 use formulas::Plan;
 use plan_file::read_plan;
-use source_text::File;
 use std::alloc::Global;
 use task::Task;
 use thiserror::Error;
 use tokens::scan;
-use typing::{FromTrees, TaskFault, TaskFile, TaskRefusal};
+use typing::{FromTrees, TaskFault, TaskFile, TaskRefusal, listed_faults};
 
 /// Why files have no answer.
 #[derive(Clone, Copy, Debug, PartialEq, Eq, Error)]
@@ -133,17 +132,17 @@ pub(crate) fn named_task_of_files<'a>(
     Ok(NamedTask { task, names })
 }
 
-/// The independent faults of two files, if the first one is a typing fault; otherwise none.
+/// The faults of two files that do not hide each other, if the first one is a typing fault; otherwise none.
 pub(crate) fn faults_of_files(
     alloc: Global,
     domain: &[u8],
     problem: &[u8],
-) -> Result<FoundFaults, NoMemory>
-    ensures { IfOk result (λ found. All (λ r. IsFaultOfTexts domain.now problem.now (refusal_of r)) found.gathered.items) }
+) -> Result<Vec<TaskRefusal>, NoMemory>
+    ensures { IfOk result (λ found. All (λ r. IsFaultOfTexts domain.now problem.now (refusal_of r)) found.items) }
 {
     match trees_of_files(alloc, domain, problem) {
         Ok(trees) => listed_faults(alloc, &trees.domain, &trees.problem),
-        Err(FileFault::At { .. }) => Ok(FoundFaults::new(alloc)),
+        Err(FileFault::At { .. }) => Ok(Vec::new(alloc)),
         Err(FileFault::NoMemory) => Err(NoMemory),
     }
 }

@@ -11,12 +11,12 @@ mod solving;
 mod validating;
 
 pub use checking::{Checked, check_files, check_files_and_say};
-pub use explained_faults::FileRefusal;
-pub use explained_plans::Summary;
+pub use explain_faults::FileRefusal;
+pub use explain_hints::{File, NamedText};
+pub use explain_tasks::Summary;
 pub use explaining::explain_files;
 pub use explanation::{Explanation, FurtherFault, Grounded, Location, Subject};
 pub use files::{FileFault, one_task, plan_of_file, task_of_files};
 pub use laws::{solved_certificates_are_accepted, tasks_of_files_are_well_typed};
 pub use solving::{Solved, solve_files, solve_files_and_say};
-pub use source_text::{File, NamedText};
 pub use validating::validate_files;

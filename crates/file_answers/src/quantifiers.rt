@@ -1,14 +1,14 @@
 //! The names of quantified variables, from the trees of a domain and a problem.
 ghost use Rattle.std.specs.Prelude.{◌≡◌, ◌++◌, map, IfOk, OnOk};
 ghost use Rattle.std.specs.List.{flat_map};
-ghost use Rattle.syntax_tree.specs.Tree.{domain_of, formula_of, group_of, problem_of};
-ghost use Rattle.explained_plans.specs.NamesView.{names_in, names_of};
+ghost use Rattle.pddl_tree_parts.specs.Tree.{domain_of, formula_of, group_of, problem_of};
+ghost use Rattle.explain_plans.specs.NamesView.{names_in, names_of};
 ghost use Rattle.file_answers.specs.QuantifiedNames.{declared_names, quantified_names, variable_names};
 
-use explained_plans::VariableNames;
+use explain_plans::VariableNames;
 use faults::NoMemory;
+use pddl_tree_parts::{Domain, Formula, Group, Name, Problem};
 use std::alloc::{AllocError, Global};
-use syntax_tree::{Domain, Formula, Group, Name, Problem};
 
 /// The names in the actions' preconditions and in the goal.
 pub(crate) fn variable_names<'a>(

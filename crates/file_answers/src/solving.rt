@@ -1,7 +1,7 @@
 //! From the bytes of a domain file and a problem file to an optimal plan.
 ghost use Rattle.std.specs.Prelude.{◌≡◌, ℕ, List, IfOk, IfErr, IfSome, IsTrue, None};
 ghost use Rattle.task.specs.Task.{task_of};
-ghost use Rattle.progress_lines.specs.Said.{GoesOn};
+ghost use Rattle.devices.specs.Progress.{GoesOn};
 ghost use Rattle.solver.specs.Said.{HasEnded};
 ghost use Rattle.solver.specs.Solver.{IsTrueAnswer};
 ghost use Rattle.file_answers.specs.SaidOf.{IsTrueLineOf};
@@ -11,9 +11,8 @@ ghost use Rattle.model.specs.Files.{IsTaskOf, IsTaskFault};
 ghost use Rattle.model.specs.PlanWriting.{has_names};
 
 use crate::files::{FileFault, task_of_files};
-use devices::Sink;
+use devices::{Sink, Unheard};
 use faults::NoMemory;
-use progress_lines::Unheard;
 use solver::{Answer, Limits, solve_and_say};
 use std::alloc::Global;
 use task::Task;

@@ -7,11 +7,11 @@ use Rattle.std.proofs.lemmas.List.Folds.{list_all-append}
 use Rattle.grounding.specs.declared.ground.Ground.{Ground}
 use Rattle.grounding.specs.Ground.{task_in, atoms_in}
 use Rattle.model.specs.Task.{Task}
-use Rattle.task_symmetries.specs.declared.exchange.Exchange as code
-use Rattle.task_symmetries.specs.Exchange.{exchange_of}
-use Rattle.symmetries.specs.Exchanges.{Exchange, objects_in, are_different}
-use Rattle.symmetries.specs.Symmetries.{is_symmetry}
-use Rattle.symmetries.specs.Orbits.{keeps_atoms}
+use Rattle.symmetries.specs.declared.exchange.Exchange as code
+use Rattle.symmetries.specs.Exchange.{exchange_of}
+use Rattle.symmetries_definitions.specs.Exchanges.{Exchange, objects_in, are_different}
+use Rattle.symmetries_definitions.specs.Symmetries.{is_symmetry}
+use Rattle.symmetries_definitions.specs.Orbits.{keeps_atoms}
 use Rattle.certificate_definitions.specs.Certificates.{three, has_exchanges}
 use Rattle.certificate_definitions.specs.CertificateNames.{is_exchange_of}
 use Rattle.ground_listings.specs.Exchanges.{AreExchangesFor, can_be_named, most_pairs}

@@ -8,8 +8,8 @@ use Rattle.packed_state.specs.Store.{AreDistinct, IsPlaced}
 use Rattle.packed_state.proofs.StoreLemmas.{Contains-at}
 use Rattle.search.proofs.Lists.{get-push_new, get_exists}
 use Rattle.search.specs.Listing.{IsAlikeAt, IsPlacedBy}
-use Rattle.representatives.specs.declared.representatives.Representatives.{Representatives}
-use Rattle.representatives.specs.Representatives.{atoms_of}
+use Rattle.symmetries.specs.declared.representatives.Representatives.{Representatives}
+use Rattle.symmetries.specs.Representatives.{atoms_of}
 use Rattle.ground_listings.specs.declared.orbits.Orbits.{Orbits}
 use Rattle.ground_listings.specs.States.{states_width, states_of}
 use Rattle.ground_listings.specs.RecentStates.{recent_width, IsNoted, AreNotedByKeys}

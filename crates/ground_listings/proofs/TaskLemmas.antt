@@ -6,11 +6,11 @@ use Rattle.std.specs.Option.{option_and_then}
 use Rattle.std.proofs.lemmas.List.{length-map}
 use Rattle.packed_state.specs.Store.{AreDistinct}
 use Rattle.search.specs.Outcome.{IsReachableAt}
-use Rattle.representatives.specs.declared.representatives.Representatives.{Representatives}
-use Rattle.representatives.specs.Representatives.{task_of, atoms_of, exchanges_of}
-use Rattle.symmetries.specs.Symmetries.{is_symmetry}
-use Rattle.symmetries.specs.Orbits.{keeps_atoms, ArePackedAlike}
-use Rattle.symmetries.proofs.PackedOrbits.{goals_are_reached_alike}
+use Rattle.symmetries.specs.declared.representatives.Representatives.{Representatives}
+use Rattle.symmetries.specs.Representatives.{task_of, atoms_of, exchanges_of}
+use Rattle.symmetries_definitions.specs.Symmetries.{is_symmetry}
+use Rattle.symmetries_definitions.specs.Orbits.{keeps_atoms, ArePackedAlike}
+use Rattle.symmetries_definitions.proofs.PackedOrbits.{goals_are_reached_alike}
 use Rattle.model.specs.Task.{Atom, Instance, Task}
 use Rattle.model.specs.Runs.{System, run, cost_of_all, CostsAtLeast, IsReachable, IsUnsolvable}
 use Rattle.model.specs.Meaning.{State, system_of}

@@ -1,12 +1,12 @@
--- The exchanges by which a task is searched.
+-- The exchanges modulo which a task is searched.
 use Rattle.std.specs.Prelude.{ℕ, nat_le, ◌≤◌, Bool, ◌&&◌, IsTrue, List, length}
 use Rattle.std.specs.List.{list_all}
 use Rattle.grounding.specs.declared.ground.Ground.{Ground}
 use Rattle.grounding.specs.Ground.{task_in, atoms_in}
 use Rattle.model.specs.Task.{Task}
-use Rattle.symmetries.specs.Exchanges.{Exchange}
-use Rattle.symmetries.specs.Symmetries.{is_symmetry}
-use Rattle.symmetries.specs.Orbits.{keeps_atoms}
+use Rattle.symmetries_definitions.specs.Exchanges.{Exchange}
+use Rattle.symmetries_definitions.specs.Symmetries.{is_symmetry}
+use Rattle.symmetries_definitions.specs.Orbits.{keeps_atoms}
 use Rattle.certificate_definitions.specs.Certificates.{three, are_exchanges}
 use Rattle.certificate_definitions.specs.CertificateNames.{is_exchange_of}
 

@@ -1,6 +1,6 @@
 -- A store of states by their representatives as contracts see it.
 use Rattle.std.specs.Prelude.{ℕ, Bool, List, length}
-use Rattle.representatives.specs.Representatives.{atoms_of}
+use Rattle.symmetries.specs.Representatives.{atoms_of}
 use Rattle.ground_listings.specs.declared.orbit_store.OrbitStore.{OrbitStore}
 use Rattle.ground_listings.specs.Orbits.{key_by, states_in, is_current_of}
 

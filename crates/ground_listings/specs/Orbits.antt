@@ -4,9 +4,9 @@ use Rattle.packed_state.specs.Packed.{bits_of}
 use Rattle.packed_state.specs.PooledView.{pooled_width, pooled_states}
 use Rattle.search.specs.declared.listing.Place.{Place}
 use Rattle.search.specs.declared.listing.Place.TheVariants.{New, Listed, Alike}
-use Rattle.symmetries.specs.Orbits.{packed_representative}
-use Rattle.representatives.specs.declared.representatives.Representatives.{Representatives}
-use Rattle.representatives.specs.Representatives.{task_of, atoms_of, exchanges_of}
+use Rattle.symmetries_definitions.specs.Orbits.{packed_representative}
+use Rattle.symmetries.specs.declared.representatives.Representatives.{Representatives}
+use Rattle.symmetries.specs.Representatives.{task_of, atoms_of, exchanges_of}
 use Rattle.ground_listings.specs.declared.orbits.Orbits.{Orbits}
 use Rattle.ground_listings.specs.States.{states_width, states_of}
 use Rattle.ground_listings.specs.RecentStates.{recent_width, AreNotedByKeys}

@@ -1,4 +1,4 @@
--- The states that were looked up lately as contracts see them.
+-- The cache of recent states as contracts see it.
 use Rattle.std.specs.Prelude.{◌≡◌, ℕ, Bool, List, slice_get, Some}
 use Rattle.ground_listings.specs.States.{states_width, states_of}
 use Rattle.ground_listings.specs.declared.recent.RecentStates.{RecentStates}

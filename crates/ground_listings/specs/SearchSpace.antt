@@ -1,4 +1,4 @@
--- What a search of a ground task is over, in the model's terms.
+-- Search spaces in the model's terms.
 use Rattle.std.specs.Prelude.{◌≡◌, ◌≢◌, ℕ, ◌≤◌, Bool, IsTrue, List, [], length, ⊤}
 use Rattle.std.specs.List.{list_all}
 use Rattle.grounding.specs.declared.ground.Ground.{Ground}
@@ -9,10 +9,10 @@ use Rattle.model.specs.NumberedAtoms.{numbered_atoms}
 use Rattle.model.specs.Grounding.{ground_system}
 use Rattle.search.specs.Outcome.{AreClassesOf}
 use Rattle.certificate_definitions.specs.Certificates.{three, are_exchanges}
-use Rattle.symmetries.specs.Exchanges.{Exchange}
-use Rattle.symmetries.specs.Symmetries.{is_symmetry}
-use Rattle.symmetries.specs.Orbits.{keeps_atoms, packed_representative}
-use Rattle.representatives.specs.Representatives.{ground_of, task_of, atoms_of, exchanges_of}
+use Rattle.symmetries_definitions.specs.Exchanges.{Exchange}
+use Rattle.symmetries_definitions.specs.Symmetries.{is_symmetry}
+use Rattle.symmetries_definitions.specs.Orbits.{keeps_atoms, packed_representative}
+use Rattle.symmetries.specs.Representatives.{ground_of, task_of, atoms_of, exchanges_of}
 use Rattle.ground_listings.specs.Exchanges.{can_be_named}
 use Rattle.ground_listings.specs.declared.search_space.SearchSpace.{SearchSpace}
 use Rattle.ground_listings.specs.declared.search_space.SearchSpace.TheVariants as space
@@ -21,7 +21,7 @@ abbrev pub ground_in : SearchSpace → Ground
 ground_in (space.Alone g) = g.now
 ground_in (space.Orbits r) = ground_of r.now
 
--- by which states are alike
+-- the exchanges that map states of one class to one another
 abbrev pub exchanges_in : SearchSpace → List Exchange
 exchanges_in (space.Alone g) = []
 exchanges_in (space.Orbits r) = exchanges_of r.now
@@ -35,7 +35,7 @@ abbrev pub class_in : SearchSpace → List Bool → List Bool
 class_in (space.Alone g) = λ bits. bits
 class_in (space.Orbits r) = packed_representative (task_of r.now) (atoms_of r.now) (exchanges_of r.now)
 
--- states are looked up by representatives where there is some exchange
+-- classes are orbits if there is some exchange
 abbrev pub HasExchanges : SearchSpace → Type 0
 HasExchanges (space.Alone g) = ⊤
 HasExchanges (space.Orbits r) = exchanges_of r.now ≢ []
@@ -52,6 +52,6 @@ pub record IsSearchSpace (s : SearchSpace) : Type 0 where
   pub few : length (exchanges_in s) ≤ 1048576
   pub some : HasExchanges s
 
--- From states of one class the goal is reached alike.
+-- From states of one class the goal is reached by lists of the same length and cost.
 abbrev pub ClassesReachGoalsAlike : Type 0
 ClassesReachGoalsAlike = (s : SearchSpace) → IsSearchSpace s → AreClassesOf (system_of s) (class_in s)

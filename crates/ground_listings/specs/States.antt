@@ -11,6 +11,6 @@ states_width states = states.width
 abbrev pub states_of : States → List (List Bool)
 states_of states = sets_in states.width (rows_in states.stride states.words.items states.count)
 
--- one state more can be put at the end without new memory
+-- one more state can be appended without new memory
 abbrev pub HasRoom : States → Type 0
 HasRoom states = vec_len states.words + states.stride ≤ vec_capacity states.words

@@ -1,36 +1,35 @@
-//! The exchanges of objects by which a task is searched.
+//! The exchanges of objects modulo which a task is searched.
 ghost use Rattle.std.specs.Prelude.{◌≡◌, ◌<◌, ◌&&◌, IfOk, IsTrue, OnOk, length, map, nat_le, nat_lt};
 ghost use Rattle.std.specs.List.{list_all};
 ghost use Rattle.grounding.specs.Ground.{task_in};
 ghost use Rattle.task.specs.Task.{task_of};
-ghost use Rattle.task_symmetries.specs.Pairs.{pairs_in};
-ghost use Rattle.symmetries.specs.Exchanges.{objects_in};
-ghost use Rattle.symmetries.specs.Symmetries.{is_symmetry};
+ghost use Rattle.symmetries.specs.ObjectPairs.{pairs_in};
+ghost use Rattle.symmetries_definitions.specs.Exchanges.{objects_in};
+ghost use Rattle.symmetries_definitions.specs.Symmetries.{is_symmetry};
 ghost use Rattle.certificate.specs.CertificateParts.{exchange_in};
-ghost use Rattle.task_symmetries.specs.Exchange.{exchange_of};
+ghost use Rattle.symmetries.specs.Exchange.{exchange_of};
 ghost use Rattle.ground_listings.specs.Exchanges.{AreExchangesFor, most_pairs};
 
-use exchanges_drafted::{MAX_EXCHANGES, drafted_exchanges};
 use faults::NoMemory;
 use grounding::Ground;
 use std::alloc::Global;
+use symmetries::{Exchange, exchanged_numbers};
+use symmetries_drafted::{MAX_EXCHANGES, drafted_exchanges};
 use task::{ObjectId, Task};
-use task_symmetries::{Exchange, exchanged_numbers};
 
-/// A task of at most so many atoms is searched as it is: it has at most sixteen states, and no exchange of objects saves what it
-/// costs to find.
+/// Up to this number of atoms a task is searched without exchanges: sixteen states cost less than finding one.
 const FEW_ATOMS: usize = 4;
 
-/// So many atoms may be looked at for all exchanges together, at most. Those that come after are left out.
+/// Budget: atoms times exchanges. Exchanges beyond it are left out.
 const MAX_LOOKS: usize = 4_194_304;
 
-/// So many pairs of objects fit the line of a certificate, whatever their names are.
+/// Pairs of objects that fit one line of a certificate, whatever their names.
 const MAX_PAIRS: usize = 32_767;
 
-/// Exchanges of objects that are symmetries of the task, take each numbered atom to a numbered one, and can be named in a certificate.
+/// Exchanges of objects that are symmetries of the task, map numbered atoms to numbered ones, and can be named in a certificate.
 ///
 /// # Errors
-/// Memory was refused, which says nothing of the task.
+/// Memory was refused.
 pub fn exchanges_of(alloc: Global, ground: &Ground<'_>) -> Result<Vec<Exchange>, NoMemory>
     ensures { IfOk result (λ kept. AreExchangesFor ground.now (map exchange_of kept.items)) }
 {
@@ -48,7 +47,7 @@ pub fn exchanges_of(alloc: Global, ground: &Ground<'_>) -> Result<Vec<Exchange>,
     Ok(kept)
 }
 
-/// Adds the exchange, if a certificate can have it, and it takes each numbered atom to a numbered one.
+/// Keeps the exchange if a certificate can name it and it maps numbered atoms to numbered ones.
 fn keep(
     alloc: Global,
     ground: &Ground<'_>,
@@ -68,7 +67,7 @@ fn keep(
     Ok(())
 }
 
-/// Whether a line of a certificate can name the objects of the pairs, of which there are some.
+/// Whether a line of a certificate can name these pairs.
 fn can_be_named(task: &Task, pairs: &[(ObjectId, ObjectId)]) -> bool
     ensures { result ≡ (nat_le 1 (length (pairs_in pairs.now)) && nat_le (length (pairs_in pairs.now)) most_pairs && list_all (λ o. nat_lt o (length (task_of task.now).objects)) (objects_in (pairs_in pairs.now))) }
 {
@@ -79,10 +78,10 @@ fn can_be_named(task: &Task, pairs: &[(ObjectId, ObjectId)]) -> bool
             && (second.0 as usize) < count)
 }
 
-/// The pairs of objects of all exchanges, in order.
+/// The pairs of objects of each exchange, in order.
 ///
 /// # Errors
-/// Memory was refused, which says nothing of the task.
+/// Memory was refused.
 pub(crate) fn written_exchanges(
     alloc: Global,
     exchanges: &[Exchange],

@@ -4,12 +4,12 @@ use faults::NoMemory;
 use packed_state::{Packed, PooledStore};
 use search::{OwnClasses, Place, StateListing};
 
-/// The states of a ground task that a search lists, looked up by themselves or by their representatives.
+/// The states of a ground task that a search lists, with or without exchanges.
 #[derive(Drop)]
 pub enum GroundListing<'l, 't> {
-    /// By themselves.
+    /// Each state is a class of its own.
     Alone(OwnClasses<PooledStore>),
-    /// By their representatives.
+    /// The class of a state is named by its representative.
     Orbits(OrbitStore<'l, 't>),
 }
 

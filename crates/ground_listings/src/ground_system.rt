@@ -5,8 +5,8 @@ use packed_state::Packed;
 use search::TransitionSystem;
 use std::alloc::Global;
 
-/// A ground task as a transition system: its packed states, and its kept instances by their numbers. What it means is the
-/// model's ground system of the task and its numbered atoms, which does what the task does (`GroundTaskIsBisimilar`).
+/// A ground task as a transition system over packed states, whose actions are the numbers of the kept instances. It means the
+/// model's ground system, which is bisimilar to the task (`GroundTaskIsBisimilar`).
 ///
 /// ```text
 /// let system = GroundSystem(&ground);

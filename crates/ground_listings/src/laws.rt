@@ -1,8 +1,8 @@
-//! A law of what a search of a ground task is over. It is proved; the call does nothing.
+//! A law of search spaces. It is proved; the call does nothing.
 ghost use Rattle.ground_listings.specs.SearchSpace.{ClassesReachGoalsAlike};
 
-/// From states of one class the goal is reached alike, by lists of the same length and the same cost: those that exchanges take into one
-/// another, if the exchanges are symmetries of the task.
+/// From two states of one class the goal is reached by lists of the same length and cost: exchanges map one list to the other, since
+/// they are symmetries of the task.
 pub fn classes_reach_goals_alike()
     ensures { ClassesReachGoalsAlike }
 {}

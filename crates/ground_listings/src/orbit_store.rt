@@ -1,4 +1,4 @@
-//! The states that a search lists, looked up by their representatives.
+//! A store of listed states by orbit.
 ghost use Rattle.std.specs.Prelude.{◌≡◌, [], IfOk};
 ghost use Rattle.std.proofs.Props.{props};
 ghost use Rattle.ground_listings.specs.Orbits.{IsLinked};
@@ -6,14 +6,13 @@ ghost use Rattle.ground_listings.specs.Orbits.{IsLinked};
 use crate::orbits::Orbits;
 use faults::NoMemory;
 use packed_state::Packed;
-use representatives::Representatives;
 use search::{Place, StateListing};
 use std::alloc::Global;
+use symmetries::Representatives;
 
-/// The states of a ground task that a search lists. Those with one representative are of one class.
+/// The states of a ground task that a search lists. States with the same representative are of one class.
 ///
-/// A state that is listed is found by its representative if it is the current one of its class. Those that were current before, which
-/// are few, are looked up by themselves.
+/// The current state of a class is found by its representative. The superseded ones are few, and found by themselves.
 #[derive(Drop)]
 pub struct OrbitStore<'l, 't> {
     orbits: Orbits<'l, 't>,
@@ -22,14 +21,14 @@ pub struct OrbitStore<'l, 't> {
 
 impl<'l, 't> OrbitStore<'l, 't> {
     ghost use Rattle.std.specs.Prelude.{length};
-    ghost use Rattle.representatives.specs.Representatives.{atoms_of};
+    ghost use Rattle.symmetries.specs.Representatives.{atoms_of};
     ghost use Rattle.ground_listings.specs.Orbits.{key_by};
     ghost use Rattle.ground_listings.specs.OrbitStore.{orbit_width, orbit_states, orbit_class};
 
-    /// A store without states.
+    /// An empty store.
     ///
     /// # Errors
-    /// Memory was refused, which says nothing of the task.
+    /// Memory was refused.
     pub fn new(
         alloc: Global,
         representatives: &'l Representatives<'l, 't, 'l>,

@@ -3,33 +3,33 @@ ghost use Rattle.std.specs.Prelude.{◌≡◌, ℕ, ◌<◌, ◌≤◌, [], ◌�
 ghost use Rattle.packed_state.specs.Packed.{bits_of};
 ghost use Rattle.packed_state.specs.PooledView.{pooled_states};
 ghost use Rattle.search.specs.Listing.{IsAlikeAt, IsPlacedBy};
-ghost use Rattle.representatives.specs.Representatives.{atoms_of};
+ghost use Rattle.symmetries.specs.Representatives.{atoms_of};
 ghost use Rattle.ground_listings.specs.Orbits.{key_by, states_in, is_current_of, IsLinked, IsPlacedIn};
 
 use crate::recent::RecentStates;
 use crate::rows::States;
 use faults::NoMemory;
 use packed_state::{Packed, PooledStore, StateStore};
-use representatives::Representatives;
 use search::Place;
 use std::alloc::Global;
+use symmetries::Representatives;
 
-/// States in the order in which they were listed, and the representative of each, which is the key of its class. Of the states of one
-/// class one is current.
+/// States in the order in which they were listed, and the key of each class: the representative of its states. Each class has one
+/// current state.
 #[derive(Drop)]
 pub(crate) struct Orbits<'l, 't> {
     pub(crate) representatives: &'l Representatives<'l, 't, 'l>,
-    /// The key that is looked up, or the state that is superseded.
+    /// Buffer for a key or a state.
     key: Packed,
     states: States,
     keys: PooledStore,
-    /// For each key the place of the current state of its class.
+    /// For each class, the place of its current state.
     current: Vec<u32>,
-    /// The listed states that are no longer current.
+    /// Listed states that are no longer current.
     superseded: PooledStore,
     /// The place of each of them.
     places: Vec<u32>,
-    /// The classes of the states that were looked up lately: a search comes to the same states again and again.
+    /// Cache of the classes of recent states, since a search reaches the same states again and again.
     recent: RecentStates,
 }
 
@@ -56,7 +56,7 @@ impl<'l, 't> Orbits<'l, 't> {
         })
     }
 
-    /// How many states are listed.
+    /// The number of listed states.
     pub(crate) fn len(&self) -> usize
         ensures { result ≡ length (states_in self.now) }
     {
@@ -73,7 +73,7 @@ impl<'l, 't> Orbits<'l, 't> {
         self.states.get(place as usize, into);
     }
 
-    /// Where the state is to be listed. The first state of a class is listed at once, unless it would be one too many.
+    /// Where the state is to be listed. The first state of a class is listed at once; `None` if the limit forbids it.
     pub(crate) fn place(
         &mut self,
         state: &Packed,
@@ -98,7 +98,7 @@ impl<'l, 't> Orbits<'l, 't> {
         }
     }
 
-    /// The number of the state's class. Where it has none yet, the state's key was found.
+    /// The number of the state's class. If it is not known yet, `key` holds its key afterwards.
     fn class_of(&mut self, state: &Packed) -> Option<u32>
         requires linked { IsLinked self.old }
         requires width { length (bits_of state.now) ≡ length (atoms_of self.old.representatives.now) }
@@ -122,7 +122,7 @@ impl<'l, 't> Orbits<'l, 't> {
         Some(class)
     }
 
-    /// Finds the key of the state.
+    /// Computes the key of the state, into `key`.
     fn represent(&mut self, state: &Packed)
         requires linked { IsLinked self.old }
         requires width { length (bits_of state.now) ≡ length (atoms_of self.old.representatives.now) }
@@ -140,8 +140,7 @@ impl<'l, 't> Orbits<'l, 't> {
         self.representatives.represent(&mut self.key);
     }
 
-    /// The place of the state, whose class has this number. It is not listed, if it is neither the current one of the class nor was so
-    /// before.
+    /// The place of a state of this class. It is listed if it is the current state of the class, or was.
     fn place_in_class(&self, class: u32, state: &Packed) -> Place
         requires linked { IsLinked self.now }
         requires width { length (bits_of state.now) ≡ length (atoms_of self.now.representatives.now) }
@@ -158,7 +157,7 @@ impl<'l, 't> Orbits<'l, 't> {
         }
     }
 
-    /// Lists the first state of a class, whose key was found.
+    /// Lists the first state of a class, whose key is in `key`.
     fn begin_class(&mut self, state: &Packed) -> Result<u32, NoMemory>
         requires linked { IsLinked self.old }
         requires width { length (bits_of state.now) ≡ length (atoms_of self.old.representatives.now) }
@@ -180,7 +179,7 @@ impl<'l, 't> Orbits<'l, 't> {
         Ok(place)
     }
 
-    /// Lists the state at the end. From now on it is the current one of its class, in place of the one at this place.
+    /// Appends the state. It is the current one of its class from now on; the one at `place` is superseded.
     pub(crate) fn append(&mut self, state: &Packed, place: u32) -> Result<(), NoMemory>
         requires linked { IsLinked self.old }
         requires width { length (bits_of state.now) ≡ length (atoms_of self.old.representatives.now) }
@@ -205,7 +204,7 @@ impl<'l, 't> Orbits<'l, 't> {
         Ok(())
     }
 
-    /// Lists the state in place of the current one of its class, which is at this place.
+    /// Overwrites the current state of the class, which is at `place`.
     pub(crate) fn replace(&mut self, place: u32, state: &Packed)
         requires linked { IsLinked self.old }
         requires width { length (bits_of state.now) ≡ length (atoms_of self.old.representatives.now) }

@@ -1,4 +1,4 @@
-//! The plan that numbers name.
+//! Plans from numbers of instances.
 ghost use Rattle.std.specs.Prelude.{◌≡◌, ◌<◌, ◌≤◌, [], All, length, map, IfOk};
 ghost use Rattle.std.specs.List.{AllZip};
 ghost use Rattle.formulas.specs.State.{instance_of, plan_of};
@@ -16,10 +16,10 @@ use formulas::{Instance, Plan, copied};
 use grounding::Ground;
 use std::alloc::Global;
 
-/// The plan that these numbers stand for: their instances, in order.
+/// The plan of the instances with these numbers, which solve the ground task: it solves the task at the same cost.
 ///
 /// # Errors
-/// Memory was refused, which says nothing of the task.
+/// Memory was refused.
 pub fn plan_of(alloc: Global, ground: &Ground<'_>, numbers: &[u32]) -> Result<Plan, NoMemory>
     requires atoms { atoms_in ground.now ≡ numbered_atoms (task_in ground.now) [] }
     requires solves { Solves (ground_system (task_in ground.now) (atoms_in ground.now)) numbers.now }
@@ -29,7 +29,7 @@ pub fn plan_of(alloc: Global, ground: &Ground<'_>, numbers: &[u32]) -> Result<Pl
     named_plan(alloc, ground, numbers)
 }
 
-/// The plan of the instances of these numbers, in order.
+/// The plan of the instances with these numbers.
 fn named_plan(alloc: Global, ground: &Ground<'_>, numbers: &[u32]) -> Result<Plan, NoMemory>
     requires named { All (λ number. number < length (kept_instances (task_in ground.now))) numbers.now }
     requires few { length numbers.now ≤ max_steps }
@@ -41,7 +41,7 @@ fn named_plan(alloc: Global, ground: &Ground<'_>, numbers: &[u32]) -> Result<Pla
     }
 }
 
-/// The instances of these numbers, in order.
+/// The instances with these numbers, in order.
 fn instances_of(
     alloc: Global,
     ground: &Ground<'_>,

@@ -1,4 +1,4 @@
-//! The classes of the states that were looked up lately.
+//! A cache of the classes of recently reached states.
 ghost use Rattle.std.specs.Prelude.{◌≡◌, ◌<◌, ◌≤◌, ◌⊎◌, ℕ, Bool, List, length, IfOk, IfSome};
 ghost use Rattle.packed_state.specs.Packed.{bits_of};
 ghost use Rattle.ground_listings.specs.States.{states_of};
@@ -8,18 +8,17 @@ use faults::NoMemory;
 use packed_state::Packed;
 use std::alloc::Global;
 
-/// How many states are kept at most.
+/// Places of the cache, at most.
 const MAX_PLACES: u32 = 4096;
 
-/// How many bits all of them have at most, if one alone has no more: 4 MiB.
+/// Bits of all cached states, at most: 4 MiB. A single state may have more.
 const MAX_BITS: u32 = 1 << 25;
 
-/// States of one width that were looked up lately, each with the number of its class. A state has one place here, which its words
-/// tell, and is kept until another comes to that place.
+/// A direct-mapped cache: a state's hash names its place, where it stays until another state takes it.
 #[derive(Drop)]
 pub(crate) struct RecentStates {
     states: States,
-    /// The class of the state at each place, where one was noted.
+    /// The class of the state at each place, if one was noted.
     classes: Vec<Option<u32>>,
     ghost some: { 0 < length classes.items },
     ghost each: { length (states_of states) ≡ length classes.items },
@@ -28,7 +27,7 @@ pub(crate) struct RecentStates {
 impl RecentStates {
     ghost use Rattle.ground_listings.specs.RecentStates.{recent_width, IsNoted};
 
-    /// No states yet, of sets of numbers below `width`.
+    /// An empty cache for states of this width.
     pub(crate) fn new(alloc: Global, width: u32) -> Result<RecentStates, NoMemory>
         ensures width { IfOk result (λ recent. recent_width recent ≡ width) }
         ensures none { IfOk result (λ recent. (s : List Bool) (class : ℕ) → ¬ IsNoted recent s class) }
@@ -39,7 +38,7 @@ impl RecentStates {
         Ok(RecentStates { states, classes })
     }
 
-    /// The class that was noted for exactly this state. None, if no class was, or another state has come to its place since.
+    /// The class that was noted for this state, unless another state took its place since.
     pub(crate) fn find(&self, state: &Packed) -> Option<u32>
         requires { length (bits_of state.now) ≡ recent_width self.now }
         ensures { IfSome result (λ class. IsNoted self.now (bits_of state.now) class) }
@@ -52,7 +51,7 @@ impl RecentStates {
         }
     }
 
-    /// Notes the state's class. The state that was at its place is forgotten.
+    /// Notes the state's class, in place of what was noted there.
     pub(crate) fn note(&mut self, state: &Packed, class: u32)
         requires { length (bits_of state.now) ≡ recent_width self.old }
         ensures width { recent_width self.new ≡ recent_width self.old }
@@ -64,7 +63,7 @@ impl RecentStates {
         self.classes[place] = Some(class);
     }
 
-    /// The place of the state, by the highest bits of a hash of its words.
+    /// The state's place: the highest bits of a hash of its words.
     fn place_of(&self, state: &Packed) -> usize
         ensures { result < length self.now.classes.items }
     {
@@ -77,7 +76,7 @@ impl RecentStates {
     }
 }
 
-/// How many states of this width are kept.
+/// The number of places for states of this width.
 fn places_for(width: u32) -> u32
     ensures some { 1 ≤ result }
     ensures few { result ≤ 4096 }

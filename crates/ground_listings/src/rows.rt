@@ -1,4 +1,4 @@
-//! States in the order of their places, in one vector of words.
+//! A list of states in one vector of words.
 ghost use Rattle.std.specs.Prelude.{◌≡◌, ◌+◌, ◌*◌, ◌<◌, ◌≤◌, ◌↔◌, [], ◌∷◌, ◌++◌, length, slice_get, slice_set, Some, IsTrue, IfOk, OnOk};
 ghost use Rattle.std.proofs.Props.{props};
 ghost use Rattle.packed_state.specs.Packed.{bits_of};
@@ -9,12 +9,12 @@ use faults::NoMemory;
 use packed_state::Packed;
 use std::alloc::Global;
 
-/// States of one width: the words of all of them, `stride` words each, one state after another.
+/// States of one width, `stride` words each, one after another.
 #[derive(Drop)]
 pub(crate) struct States {
     width: u32,
     stride: usize,
-    /// How many states there are. The words do not tell where a state has none.
+    /// The number of states, which the words do not tell if a state has none.
     count: usize,
     words: Vec<u64>,
     ghost rows: { AreRowsOf width stride count words.items } by { Prim.hlevel props },
@@ -23,7 +23,7 @@ pub(crate) struct States {
 impl States {
     ghost use Rattle.ground_listings.specs.States.{states_width, states_of, HasRoom};
 
-    /// No states yet, of sets of numbers below `width`.
+    /// An empty list of sets of numbers below `width`.
     pub(crate) fn new(alloc: Global, width: u32) -> States
         ensures width { states_width result ≡ width }
         ensures states { states_of result ≡ [] }
@@ -36,7 +36,7 @@ impl States {
         }
     }
 
-    /// So many states, each to be written over: which they are is left open.
+    /// A list of `count` unspecified states, to be overwritten.
     pub(crate) fn blank(alloc: Global, width: u32, count: u32) -> Result<States, NoMemory>
         requires { count ≤ 16777216 }
         ensures width { IfOk result (λ states. states_width states ≡ width) }
@@ -51,7 +51,7 @@ impl States {
         Ok(states)
     }
 
-    /// How many states there are.
+    /// The number of states.
     pub(crate) fn len(&self) -> usize
         ensures { result ≡ length (states_of self.now) }
     {
@@ -75,7 +75,7 @@ impl States {
         &self.words[start..start + self.stride]
     }
 
-    /// Copies the state at this place.
+    /// Copies the state at this place into `into`.
     pub(crate) fn get(&self, place: usize, into: &mut Packed)
         requires there { place < length (states_of self.now) }
         requires width { length (bits_of into.old) ≡ states_width self.now }
@@ -94,7 +94,7 @@ impl States {
         self.row(place) == state.words()
     }
 
-    /// Makes room for one state more.
+    /// Makes room for one more state.
     pub(crate) fn reserve_one(&mut self) -> Result<(), NoMemory>
         ensures width { states_width self.new ≡ states_width self.old }
         ensures states { states_of self.new ≡ states_of self.old }
@@ -104,7 +104,7 @@ impl States {
         Ok(())
     }
 
-    /// One state more, for which room was made.
+    /// Appends the state, for which room was made.
     pub(crate) fn push_reserved(&mut self, state: &Packed)
         requires width { length (bits_of state.now) ≡ states_width self.old }
         requires few { length (states_of self.old) < 16777216 }
@@ -116,7 +116,7 @@ impl States {
         self.count += 1;
     }
 
-    /// Puts the state in the place of the one that is there.
+    /// Overwrites the state at this place.
     pub(crate) fn set(&mut self, place: usize, state: &Packed)
         requires there { place < length (states_of self.old) }
         requires width { length (bits_of state.now) ≡ states_width self.old }
@@ -128,7 +128,7 @@ impl States {
     }
 }
 
-/// How many words the numbers below `width` need.
+/// The number of words that the numbers below `width` need.
 fn words_for(width: u32) -> usize
     ensures enough { width ≤ 64 * result }
     ensures no_more { 64 * result < width + 64 }
@@ -136,7 +136,7 @@ fn words_for(width: u32) -> usize
     width.div_ceil(64) as usize
 }
 
-/// Puts the words of a row in the place of those from `start` on.
+/// Overwrites the words from `start` on by those of the row.
 fn overwrite(words: &mut [u64], start: usize, row: &[u64])
     requires { start + length row.now ≤ length words.old }
     ensures { words.new ≡ overwritten words.old start row.now }

@@ -1,4 +1,4 @@
-//! The states that a search of a ground task lists: each for itself, or classes of them by exchanges of objects.
+//! The space that a search explores: the states of a ground task, or their orbits under exchanges of objects.
 ghost use Rattle.std.specs.Prelude.{◌≡◌, [], IfOk, length, map};
 ghost use Rattle.certificate.specs.CertificateParts.{exchange_in};
 ghost use Rattle.grounding.specs.Ground.{atoms_in};
@@ -12,17 +12,17 @@ use crate::starts::images_of_start;
 use faults::NoMemory;
 use grounding::Ground;
 use packed_state::PooledStore;
-use representatives::Representatives;
 use search::OwnClasses;
 use std::alloc::Global;
+use symmetries::Representatives;
 use task::ObjectId;
 
-/// A ground task, and by what its states are looked up while it is searched. The states themselves are the same in both cases.
+/// A ground task, and the classes of its states. The listed states are states of the task in both cases.
 #[derive(Clone, Copy)]
 pub enum SearchSpace<'l, 't> {
-    /// Each state is looked up by itself: there are no exchanges.
+    /// Each state is a class of its own.
     Alone(&'l Ground<'t>),
-    /// By their representatives, which states have in common that these exchanges take into one another.
+    /// States with the same representative by these exchanges are of one class.
     Orbits(&'l Representatives<'l, 't, 'l>),
 }
 
@@ -37,10 +37,10 @@ impl<'l, 't> SearchSpace<'l, 't> {
         }
     }
 
-    /// A listing of its states, without any.
+    /// An empty listing.
     ///
     /// # Errors
-    /// Memory was refused, which says nothing of the task.
+    /// Memory was refused.
     pub fn listing(&self, alloc: Global) -> Result<GroundListing<'l, 't>, NoMemory>
         ensures width { IfOk result (λ listing. listed_width listing ≡ length (atoms_in (ground_in self.now))) }
         ensures states { IfOk result (λ listing. listed_states listing ≡ []) }
@@ -58,11 +58,11 @@ impl<'l, 't> SearchSpace<'l, 't> {
         }
     }
 
-    /// States that lists of the task need not come to, by their true atoms, from which tables can be drafted: the initial state under
-    /// other names of objects, and each state that a search found.
+    /// More states to draft tables from, by their true atoms, which need not be reachable: images of the initial state by exchanges,
+    /// and the states of `found`. None without exchanges.
     ///
     /// # Errors
-    /// Memory was refused, which says nothing of the task.
+    /// Memory was refused.
     pub fn other_starts(
         &self,
         alloc: Global,
@@ -80,10 +80,10 @@ impl<'l, 't> SearchSpace<'l, 't> {
         }
     }
 
-    /// The exchanges, as a certificate has them: of each its pairs of objects, in order; none where each state is looked up by itself.
+    /// The exchanges as a certificate has them: the pairs of objects of each.
     ///
     /// # Errors
-    /// Memory was refused, which says nothing of the task.
+    /// Memory was refused.
     pub fn written_exchanges(
         &self,
         alloc: Global,

@@ -1,18 +1,17 @@
-//! The initial state under other names of its objects.
+//! Images of the initial state by exchanges of objects.
 use faults::NoMemory;
 use grounding::Ground;
-use representatives::Representatives;
 use std::alloc::Global;
-use task_symmetries::{Exchange, exchanged_numbers};
+use symmetries::{Exchange, Representatives, exchanged_numbers};
 
-/// So many such states are given.
+/// The number of images.
 const MAX_IMAGES: usize = 64;
 
-/// States, by their true atoms, that stand for the initial one: what all exchanges, one after another, take it to, what they take
-/// that to, and so on. So each of several objects that are alike comes in turn to where the others start.
+/// Images of the initial state, by their true atoms: its image by the product of all exchanges, the image of that, and so on. So each
+/// of several interchangeable objects comes in turn to where the others start.
 ///
 /// # Errors
-/// Memory was refused, which says nothing of the task.
+/// Memory was refused.
 pub(crate) fn images_of_start(
     alloc: Global,
     representatives: &Representatives<'_, '_, '_>,
@@ -30,7 +29,7 @@ pub(crate) fn images_of_start(
     Ok(starts)
 }
 
-/// The number of what each numbered atom becomes where all exchanges are made, one after another.
+/// The image of each numbered atom by the product of all exchanges.
 fn images_by_all(
     alloc: Global,
     ground: &Ground<'_>,
@@ -59,7 +58,7 @@ fn images_by_all(
     Ok(images)
 }
 
-/// The numbers at these places change them, if both places are there.
+/// Swaps the numbers at these places, if both exist.
 fn swap_there(numbers: &mut [u32], one: usize, other: usize) {
     if one < numbers.len() && other < numbers.len() {
         numbers.swap(one, other);

@@ -16,7 +16,7 @@ use Rattle.model.specs.NumberedAtoms.{number_of}
 use Rattle.model.specs.NumberedLiterals.{NumberedLiteral, numbered_ground_literal}
 use Rattle.model.proofs.ListLemmas.{Contains-got, Contains-place, filter_map-Contains, drop-here}
 use Rattle.model.proofs.NumberingLemmas.{got-number_of}
-use Rattle.grounding_kept.proofs.ChangesFit.{all-fit}
+use Rattle.grounding_instances.proofs.ChangesFit.{all-fit}
 use Rattle.grounding.specs.declared.changes.CountingChange.{CountingChange}
 use Rattle.grounding.specs.ChangedBits.{with_bits}
 use Rattle.grounding.specs.NumberedEffects.{Guard, NumberedEffect, guard_of, numbered_effect, counted_effect, effects_of_instance, number_made, numbers_made}

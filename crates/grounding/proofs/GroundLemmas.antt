@@ -5,7 +5,7 @@ use Rattle.std.specs.Global.{Box, Vec}
 use Rattle.std.specs.Option.{option_map, option_map_or}
 use Rattle.std.proofs.lemmas.List.{map_push, take_more}
 use Rattle.std.proofs.lemmas.Option.{slice_get-get_or, slice_get_read, slice_get-map, slice_get_within, get_or_from_slice_get}
-use Rattle.grounding_kept.specs.Numbering.{instances_in}
+use Rattle.grounding_instances.specs.Numbering.{instances_in}
 use Rattle.grounding.specs.declared.condition.Condition.{Condition}
 use Rattle.grounding.specs.declared.ground.Ground.{Ground}
 use Rattle.grounding.specs.Conditions.{literals_in}

@@ -7,8 +7,8 @@ use Rattle.std.proofs.lemmas.List.{length-map, get_or-map, take-map, drop-map}
 use Rattle.std.proofs.lemmas.Option.{slice_get-get_or}
 use Rattle.model.specs.Task.{Task, Atom, Instance}
 use Rattle.model.proofs.ListLemmas.{drop-here}
-use Rattle.grounding_kept.specs.declared.changes.NumberedChange.{NumberedChange}
-use Rattle.grounding_kept.specs.KeptChanges.{effect_of}
+use Rattle.grounding_instances.specs.declared.changes.NumberedChange.{NumberedChange}
+use Rattle.grounding_instances.specs.KeptChanges.{effect_of}
 use Rattle.grounding.specs.NumberedEffects.{NumberedEffect, effects_of_instance}
 
 -- what is first and then the rest, where so many are first

@@ -2,8 +2,8 @@
 use Rattle.std.proofs.Common.{◌≡◌, ℕ, ◌<◌, List, length, map, get_or, subst, arith}
 use Rattle.std.specs.List.{All}
 use Rattle.std.proofs.lemmas.List.{length-map, get_or-map}
-use Rattle.grounding_kept.specs.declared.numbers.NumberedLiteral.{NumberedLiteral}
-use Rattle.grounding_kept.specs.Numbers.{numbered_of}
+use Rattle.grounding_instances.specs.declared.numbers.NumberedLiteral.{NumberedLiteral}
+use Rattle.grounding_instances.specs.Numbers.{numbered_of}
 use Rattle.model.specs.NumberedLiterals as model
 
 -- one of them

@@ -11,8 +11,8 @@ use Rattle.std.proofs.Math.Seq.{take-add}
 use Rattle.std.proofs.lemmas.List.{map-append, take_more}
 use Rattle.std.proofs.lemmas.List.Folds.{list_all-append}
 use Rattle.std.proofs.lemmas.List.Elements.{All-nil, All-cons, All-push, All-append}
-use Rattle.grounding_kept.specs.declared.numbers.NumberedLiteral.{NumberedLiteral}
-use Rattle.grounding_kept.specs.Numbers.{numbered_of}
+use Rattle.grounding_instances.specs.declared.numbers.NumberedLiteral.{NumberedLiteral}
+use Rattle.grounding_instances.specs.Numbers.{numbered_of}
 use Rattle.grounding.specs.declared.condition.Condition.{Condition}
 use Rattle.grounding.specs.declared.match_tree.Node.{Node}
 use Rattle.grounding.specs.declared.match_tree.Node.TheVariants.{Test, Instance}

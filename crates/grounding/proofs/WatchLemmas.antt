@@ -5,11 +5,11 @@ use Rattle.std.specs.List.{All, range_with_len}
 use Rattle.std.proofs.lemmas.Bool.{eqb-true}
 use Rattle.std.proofs.lemmas.List.Elements.{All-nil, All-push}
 use Rattle.std.proofs.lemmas.Option.{slice_get_within}
-use Rattle.grounding_kept.specs.declared.numbering.Numbering.{Numbering}
-use Rattle.grounding_kept.specs.Numbering as numbering
-use Rattle.grounding_kept.specs.Numbering.{instances_in}
-use Rattle.grounding_kept.specs.declared.numbers.NumberedLiteral.{NumberedLiteral}
-use Rattle.grounding_kept.specs.Numbers.{numbered_of}
+use Rattle.grounding_instances.specs.declared.numbering.Numbering.{Numbering}
+use Rattle.grounding_instances.specs.Numbering as numbering
+use Rattle.grounding_instances.specs.Numbering.{instances_in}
+use Rattle.grounding_instances.specs.declared.numbers.NumberedLiteral.{NumberedLiteral}
+use Rattle.grounding_instances.specs.Numbers.{numbered_of}
 use Rattle.grounding.specs.declared.condition.Condition.{Condition}
 use Rattle.grounding.specs.declared.watch_lists.WatchLists.{WatchLists}
 use Rattle.grounding.specs.Conditions.{literals_in, can_hold_at}

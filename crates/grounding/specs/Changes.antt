@@ -33,15 +33,15 @@ guard_in o = option_map guard_of_condition o
 abbrev pub effect_in : CountingChange → NumberedEffect
 effect_in c = record { atom = c.atom; value = c.value; guard = guard_in c.condition }
 
--- its objects may stand for the variables in its formula
+-- the formula is well-typed for the binding
 abbrev pub GuardFits : Task → Option Guard → Type 0
 GuardFits t o = (g : Guard) → o ≡ Some g → FitsFormula t g.formula g.binding
 
--- so are those of each of them
+-- the same of each change
 abbrev pub AllGuardsFit : Task → List NumberedEffect → Type 0
 AllGuardsFit t effects = (k : ℕ) (e : NumberedEffect) → slice_get effects k ≡ Some e → GuardFits t e.guard
 
--- what is kept of the condition, if there is one, is that of its formula and objects
+-- the compiled condition, if there is one, is that of its formula and binding
 abbrev pub IsCompiled : Task → List Atom → Option (Box ChangeCondition) → Type 0
 IsCompiled t atoms o = (c : Box ChangeCondition) → o ≡ Some c → IsConditionOf t atoms (guard_of_condition c).formula (guard_of_condition c).binding c.value.condition
 

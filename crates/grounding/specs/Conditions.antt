@@ -2,7 +2,7 @@
 use Rattle.std.specs.Prelude.{◌≡◌, ℕ, Bool, true, false, List, map, length, slice_get, Option, None, Some}
 use Rattle.std.specs.List.{list_all}
 use Rattle.std.specs.Option.{option_map_or}
-use Rattle.grounding_kept.specs.Numbers.{numbered_of}
+use Rattle.grounding_instances.specs.Numbers.{numbered_of}
 use Rattle.grounding.specs.Unnumbered.{may_hold}
 use Rattle.grounding.specs.declared.condition.Condition.{Condition}
 use Rattle.grounding.specs.declared.condition.Beyond.{Beyond}
@@ -25,7 +25,7 @@ beyond_of true (Some true) = beyond.Nothing
 beyond_of true (Some false) = beyond.Refuted
 beyond_of true None = beyond.Formula
 
--- what is decided, by whether the literals are true
+-- the answer, by whether the literals are true; none if the formula has to be evaluated
 abbrev pub decided_by : Beyond → Bool → Option Bool
 decided_by beyond.Nothing agreed = Some agreed
 decided_by beyond.Never agreed = Some false
@@ -36,7 +36,7 @@ decided_by beyond.Formula false = Some false
 abbrev pub decided_in : Condition → List Bool → Option Bool
 decided_in c bits = decided_by c.beyond (list_all (agrees bits) (literals_in c))
 
--- whether the literals without numbers are true in the packed states
+-- whether the sure literals without numbers are true in packed states
 abbrev pub may_of : Beyond → Bool
 may_of beyond.Nothing = true
 may_of beyond.Never = false
@@ -46,7 +46,7 @@ may_of beyond.Formula = true
 abbrev pub may_hold_in : Condition → Bool
 may_hold_in c = may_of c.beyond
 
--- whether the formula holds in some packed state, as far as that is known
+-- whether some packed state may satisfy the formula
 abbrev pub can_of : Beyond → Bool
 can_of beyond.Nothing = true
 can_of beyond.Never = false
@@ -56,7 +56,7 @@ can_of beyond.Formula = true
 abbrev pub can_hold_in : Condition → Bool
 can_hold_in c = can_of c.beyond
 
--- that of this number is of such a formula
+-- the condition of this number may hold
 abbrev pub can_hold_at : List Condition → ℕ → Bool
 can_hold_at conditions n = option_map_or can_hold_in (slice_get conditions n) false
 

@@ -1,8 +1,8 @@
 -- Ground tasks of the code, in the model's terms.
 use Rattle.std.specs.Prelude.{◌≡◌, ℕ, List, None}
-use Rattle.grounding_kept.specs.declared.numbering.Numbering.{Numbering}
-use Rattle.grounding_kept.specs.Numbering as numbering
-use Rattle.grounding_kept.specs.Kept.{GroundFault}
+use Rattle.grounding_instances.specs.declared.numbering.Numbering.{Numbering}
+use Rattle.grounding_instances.specs.Numbering as numbering
+use Rattle.grounding_instances.specs.Kept.{GroundFault}
 use Rattle.grounding.specs.declared.ground.Ground.{Ground}
 use Rattle.model.specs.Task.{Task, Atom}
 use Rattle.model.specs.Limits.{max_numbered_atoms}

@@ -1,4 +1,4 @@
--- Two lists of which each item of the one belongs to the item of the other in its place.
+-- Two lists whose items are related place by place.
 use Rattle.std.specs.Prelude.{◌≡◌, ℕ, List, length, slice_get, Some}
 
 pub record AreInPlace {X Y : Type 0} (belongs : X → Y → Type 0) (xs : List X) (ys : List Y) : Type 0 where

@@ -1,5 +1,5 @@
--- What is true at the start, looked at as a valuation.
-use Rattle.grounding_kept.specs.Numbering.{task_in}
+-- The initial state as a valuation.
+use Rattle.grounding_instances.specs.Numbering.{task_in}
 use Rattle.grounding.specs.declared.settled.InitialView.{InitialView}
 use Rattle.model.specs.Meaning.{State, initial_state}
 

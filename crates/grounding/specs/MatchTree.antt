@@ -1,4 +1,4 @@
--- Match trees: a tree for each atom, and one for the instances that want none.
+-- Match trees: one for each atom, and one for the instances that need no atom.
 use Rattle.std.specs.Prelude.{◌≡◌, ℕ, ◌<◌, ◌≤◌, List, [], ◌++◌, true, false, get_or, length, filter, slice_get}
 use Rattle.std.specs.List.{All, range_with_len}
 use Rattle.std.specs.Option.{option_map_or}
@@ -21,16 +21,16 @@ nodes_of tree a = row_in tree.rows.items a
 abbrev pub numbers_of : MatchTree → ℕ → List ℕ
 numbers_of tree a = numbers_in (nodes_of tree a)
 
--- those in all trees
+-- the instances in all trees
 abbrev pub filed_in : MatchTree → List ℕ
 filed_in tree = filed_below (numbers_of tree) (length tree.rows.items) ++ numbers_in tree.unwatched.items
 
--- the trees of the first so many atoms are of the numbers in these rows, and right where their atoms are true
+-- the trees of the first `count` atoms are trees of these rows, for states in which their atoms are true
 pub record AreRows (width : ℕ) (conditions : List Condition) (row : ℕ → List ℕ) (count : ℕ) (rows : List (Vec Node)) : Type 0 where
   pub wide : length rows ≡ count
   pub trees : (a : ℕ) → a < count → IsTreeOf width conditions (λ bits. get_or bits a false ≡ true) (row a) (row_in rows a)
 
--- Each of the conditions that may hold has its number in one tree, once, and wants the atom of that tree.
+-- Each condition that may hold has its number in one tree, once, and needs the atom of that tree.
 pub record AreMatched (width : ℕ) (conditions : List Condition) (tree : MatchTree) : Type 0 where
   pub wide : length tree.rows.items ≡ width
   pub few : length (filed_in tree) ≤ length conditions

@@ -8,7 +8,7 @@ use Rattle.model.specs.Meaning.{State, holds}
 use Rattle.model.specs.StaticallyFalse.{kept_instances}
 use Rattle.model.specs.NumberedLiterals.{NumberedChange}
 use Rattle.model.specs.Grounding.{state_of_bits}
-pub use Rattle.grounding_kept.specs.NumberedEffects.{Guard, NumberedEffect, is_adding, guard_of, numbered_effect, counted_effect, counted_effects, effects_of_instance}
+pub use Rattle.grounding_instances.specs.NumberedEffects.{Guard, NumberedEffect, is_adding, guard_of, numbered_effect, counted_effect, counted_effects, effects_of_instance}
 
 abbrev pub change_of_effect : NumberedEffect → NumberedChange
 change_of_effect e = record { atom = e.atom; value = e.value; is_unconditional = is_none e.guard }
@@ -16,7 +16,7 @@ change_of_effect e = record { atom = e.atom; value = e.value; is_unconditional =
 abbrev pub is_met : Task → State → Option Guard → Bool
 is_met t s guard = option_map_or (λ (g : Guard). holds t g.formula g.binding s) guard true
 
--- the number of the atom that the effect makes true, or else false; none where it does not
+-- the number of the effect's atom, if the effect sets it to this value
 abbrev pub number_made : Task → State → Bool → NumberedEffect → Option ℕ
 number_made t s value e = if beq e.value value && is_met t s e.guard then Some e.atom else None
 

@@ -1,4 +1,4 @@
--- Formulas that say all that they say outright.
+-- Formulas that are equivalent to their sure literals.
 use Rattle.std.specs.Prelude.{Bool, true, false, ◌&&◌}
 use Rattle.model.specs.Task.{Formula, Formulas, atom, equal, and, not, forall, no_formula, more_formulas}
 
@@ -8,7 +8,7 @@ is_simple (atom a) = true
 is_simple (equal t u) = true
 is_simple _ = false
 
--- built by `and` and `forall` alone of atoms, equalities and the `not` of one of these
+-- built by `and` and `forall` alone from atoms, equalities and negations of these
 abbrev mutual
   pub is_outright : Formula → Bool
   is_outright (atom a) = true

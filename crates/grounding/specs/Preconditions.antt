@@ -1,4 +1,4 @@
--- The conditions of preconditions.
+-- Compiled preconditions.
 use Rattle.std.specs.Prelude.{◌≡◌, List, slice_get, Some}
 use Rattle.grounding.specs.declared.condition.Condition.{Condition}
 use Rattle.grounding.specs.Conditions.{IsConditionOf}

@@ -1,11 +1,11 @@
--- What a formula says beyond its sure literals, where no look at a state is needed to tell.
+-- What a formula says beyond its sure literals, as far as no state is needed to tell.
 use Rattle.std.specs.Prelude.{ℕ, Bool, true, false, not, ◌&&◌, List, [], ◌∷◌, Option, None, Some, if◌then◌else◌}
 use Rattle.model.specs.Task.{Task, Formula, Formulas, atom, equal, and, or, not as negated, imply, exists, forall, no_formula, more_formulas}
 use Rattle.model.specs.Meaning.{holds, initial_state}
 use Rattle.model.specs.Fluents.{is_fluent}
 use Rattle.grounding.specs.Outright.{is_simple, is_outright}
 
--- no atom in the formula is of a fluent predicate
+-- the formula has no atom of a fluent predicate
 abbrev mutual
   pub is_static : Task → Formula → Bool
   is_static t (atom a) = not (is_fluent t a.predicate)
@@ -25,7 +25,7 @@ abbrev mutual
 abbrev pub settled : Task → Formula → List ℕ → Option Bool
 settled t formula binding = if is_static t formula then Some (holds t formula binding (initial_state t)) else None
 
--- the same, but nothing is said beyond its literals where that is known
+-- the same, unless it is known that nothing is said beyond the literals
 abbrev pub settled_unless : Bool → Task → Formula → List ℕ → Option Bool
 settled_unless says_nothing t formula binding = if says_nothing then Some true else settled t formula binding
 
@@ -35,7 +35,7 @@ is_nothing (Some true) = true
 is_nothing (Some false) = false
 is_nothing None = false
 
--- what is said by a part, and if that is nothing by those after it
+-- the answer of the first part that says something
 abbrev pub then_said : Option Bool → Option Bool → Option Bool
 then_said said rest = if is_nothing said then rest else said
 
@@ -56,7 +56,7 @@ abbrev mutual
   all_beyond t binding no_formula = Some true
   all_beyond t binding (more_formulas first rest) = then_said (beyond t binding first) (all_beyond t binding rest)
 
--- the same of a list of formulas
+-- the same of a conjunction
 abbrev pub beyond_each : Task → List ℕ → List Formula → Option Bool
 beyond_each t binding [] = Some true
 beyond_each t binding (first ∷ rest) = then_said (beyond t binding first) (beyond_each t binding rest)

@@ -1,6 +1,6 @@
--- What is true in a packed state that is looked at as a valuation.
+-- A packed state as a valuation.
 use Rattle.packed_state.specs.Packed.{bits_of}
-use Rattle.grounding_kept.specs.Numbering.{task_in, atoms_in}
+use Rattle.grounding_instances.specs.Numbering.{task_in, atoms_in}
 use Rattle.grounding.specs.declared.state_view.StateView.{StateView}
 use Rattle.model.specs.Meaning.{State}
 use Rattle.model.specs.Grounding.{state_of_bits}

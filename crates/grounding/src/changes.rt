@@ -1,27 +1,27 @@
-//! The changes of an instance that count, by the numbers of their atoms.
+//! The changes of an instance that count, by atom numbers.
 ghost use Rattle.std.specs.Prelude.{◌≡◌, Some, map, IfOk};
 ghost use Rattle.task.specs.TaskParts.{object_of, formula_of};
 ghost use Rattle.formulas.specs.State.{FitsFormula};
-ghost use Rattle.grounding_kept.specs.Numbering.{task_in, atoms_in};
-ghost use Rattle.grounding_kept.specs.Numbers.{numbered_of};
-ghost use Rattle.grounding_kept.specs.KeptChanges.{effect_of};
+ghost use Rattle.grounding_instances.specs.Numbering.{task_in, atoms_in};
+ghost use Rattle.grounding_instances.specs.Numbers.{numbered_of};
+ghost use Rattle.grounding_instances.specs.KeptChanges.{effect_of};
 ghost use Rattle.grounding.specs.Changes.{counting_of, conditional_of, effect_in, guard_in, GuardFits, AllGuardsFit, IsCompiled, AreCompiled};
 
 use crate::condition::Condition;
 use faults::NoMemory;
 use formulas::{Binding, copied};
-use grounding_kept::{NumberedChange, NumberedLiteral, Numbering};
+use grounding_instances::{NumberedChange, NumberedLiteral, Numbering};
 use std::alloc::Global;
 use task::Formula;
 
-/// A change that counts: a numbered atom becomes true, or false, under a condition or under none.
+/// A change that counts: a numbered atom becomes true or false, perhaps under a condition.
 #[derive(Drop)]
 pub struct CountingChange<'t> {
     /// The atom's number, from 0.
     pub atom: u32,
     /// Whether it becomes true.
     pub value: bool,
-    /// None where it is `(and)`. Boxed, since few changes have one.
+    /// `None` if the condition is `(and)`. Boxed, since few changes have one.
     pub(crate) condition: Option<Box<ChangeCondition<'t>>>,
 }
 
@@ -29,21 +29,21 @@ pub struct CountingChange<'t> {
 #[derive(Drop)]
 pub(crate) struct ChangeCondition<'t> {
     pub(crate) formula: &'t Formula,
-    /// The objects of the variables in the formula's scope.
+    /// The objects of the variables in scope.
     pub(crate) binding: Binding,
-    /// The formula with these objects, over packed states.
+    /// The formula under this binding, compiled for packed states.
     pub(crate) condition: Condition,
 }
 
 impl CountingChange<'_> {
-    /// Whether it is made wherever its instance is: its condition is `(and)`, as it is written.
+    /// Whether the condition is `(and)`, as written: the change is made whenever its instance is applied.
     pub fn is_unconditional(&self) -> bool
         ensures { result ≡ (counting_of self.now).is_unconditional }
     {
         self.condition.is_none()
     }
 
-    /// The sure literals of its condition that are of numbered atoms, in order, and none where it is unconditional.
+    /// The sure literals of its condition whose atoms are numbered, in order; empty if it is unconditional.
     pub fn condition(&self) -> &[NumberedLiteral]
         ensures { map numbered_of result.now ≡ (conditional_of self.now).condition }
     {
@@ -53,7 +53,7 @@ impl CountingChange<'_> {
         }
     }
 
-    /// Whether another sure literal of its condition wants a fluent atom that has no number, so that it is never made.
+    /// Whether another sure literal of its condition needs a fluent atom without a number. Such a change is never made.
     pub fn wants_unnumbered(&self) -> bool
         ensures { result ≡ (conditional_of self.now).wants_unnumbered }
     {
@@ -64,7 +64,7 @@ impl CountingChange<'_> {
     }
 }
 
-/// These changes of an instance, with what their conditions ask of packed states.
+/// Compiles the conditions of an instance's changes for packed states.
 pub(crate) fn counting_changes<'t>(
     alloc: Global,
     numbering: &Numbering<'t>,
@@ -81,7 +81,7 @@ pub(crate) fn counting_changes<'t>(
     Ok(found)
 }
 
-/// The same of one change.
+/// Compiles the condition of one change.
 fn counting_change<'t>(
     alloc: Global,
     numbering: &Numbering<'t>,
@@ -102,7 +102,7 @@ fn counting_change<'t>(
     })
 }
 
-/// The formula, where the variables have these objects, over packed states.
+/// Compiles the formula under this binding.
 fn compiled<'t>(
     alloc: Global,
     numbering: &Numbering<'t>,

@@ -1,16 +1,16 @@
-//! What a formula asks of a packed state.
+//! Formulas compiled for packed states.
 //!
-//! Mostly it is a list of literals by their numbers, as the preconditions of STRIPS are lists of atoms (Fikes & Nilsson 1971,
-//! "STRIPS: A New Approach to the Application of Theorem Proving to Problem Solving"). What a formula says beyond is not
-//! compiled, unless it is of static atoms alone: the formula itself is looked at, and only where its literals are true.
+//! Most formulas are a list of literals, as the preconditions of STRIPS are (Fikes & Nilsson 1971, "STRIPS: A New Approach to the
+//! Application of Theorem Proving to Problem Solving"). Static parts are settled here. Anything else is evaluated as a formula,
+//! and only in states where the literals are true.
 ghost use Rattle.std.specs.Prelude.{◌≡◌, ◌<◌, true, length, map, IfOk};
 ghost use Rattle.std.specs.List.{All, list_all};
 ghost use Rattle.task.specs.TaskParts.{object_of, formula_of};
 ghost use Rattle.formulas.specs.State.{FitsFormula};
 ghost use Rattle.formulas.specs.Literals.{literal_of};
 ghost use Rattle.packed_state.specs.Packed.{bits_of};
-ghost use Rattle.grounding_kept.specs.Numbering.{task_in, atoms_in};
-ghost use Rattle.grounding_kept.specs.Numbers.{numbered_of};
+ghost use Rattle.grounding_instances.specs.Numbering.{task_in, atoms_in};
+ghost use Rattle.grounding_instances.specs.Numbers.{numbered_of};
 ghost use Rattle.model.specs.Meaning as meaning;
 ghost use Rattle.model.specs.NumberedLiterals as model_literals;
 ghost use Rattle.model.specs.Grounding.{state_of_bits};
@@ -23,35 +23,35 @@ use crate::state_view::StateView;
 use crate::unnumbered::all_may_hold;
 use faults::NoMemory;
 use formulas::{Binding, Literal, holds, sure};
-use grounding_kept::{NumberedLiteral, Numbering};
+use grounding_instances::{NumberedLiteral, Numbering};
 use packed_state::Packed;
 use smallvec::SmallVec;
 use std::alloc::Global;
 use task::Formula;
 
-/// What a formula asks of a packed state, where the variables in scope have some objects: the literals that it says
-/// outright of numbered atoms, and what is to be asked beyond them.
+/// A formula under a binding, compiled for packed states: its sure literals of numbered atoms, and how it is decided beyond
+/// them.
 #[derive(Drop)]
 pub(crate) struct Condition {
     literals: SmallVec<NumberedLiteral, 4>,
     beyond: Beyond,
 }
 
-/// What is to be asked beyond the literals.
+/// How a formula is decided in states where its literals are true.
 #[derive(Clone, Copy, Drop)]
 enum Beyond {
-    /// Nothing: the formula holds where they do.
+    /// It holds.
     Nothing,
-    /// A literal of an atom without a number is true in no packed state.
+    /// It holds in no packed state: another sure literal is of an atom without a number, and false.
     Never,
-    /// What the formula says of static atoms is false, so that it holds in no packed state.
+    /// It holds in no packed state: a static part is false.
     Refuted,
-    /// The formula itself has to be looked at.
+    /// The formula itself has to be evaluated.
     Formula,
 }
 
 impl Condition {
-    /// What the formula asks, which is well-typed for variables of some types that the objects are of.
+    /// Compiles the formula, which is well-typed for the binding.
     pub(crate) fn new(
         alloc: Global,
         numbering: &Numbering<'_>,
@@ -69,15 +69,14 @@ impl Condition {
         Ok(Condition { literals, beyond })
     }
 
-    /// The literals of numbered atoms that the formula says outright, in order.
+    /// The sure literals whose atoms are numbered, in order.
     pub(crate) fn literals(&self) -> &[NumberedLiteral]
         ensures { map numbered_of result.now ≡ literals_in self.now }
     {
         self.literals.as_slice()
     }
 
-    /// Whether the formula holds in the packed state, where that is decided without a look at the formula. No memory is
-    /// taken, and the first literal that is not true ends it.
+    /// Whether the formula holds in the packed state; `None` if the formula has to be evaluated.
     pub(crate) fn decides(&self, state: &Packed) -> Option<bool>
         requires { All (λ l. l.atom < length (bits_of state.now)) (literals_in self.now) }
         ensures { result ≡ decided_in self.now (bits_of state.now) }
@@ -88,8 +87,7 @@ impl Condition {
         self.decides_beyond()
     }
 
-    /// Whether the formula holds in the packed states in which its literals are true, where that is decided without a look at
-    /// the formula.
+    /// Whether the formula holds in packed states where its literals are true; `None` if it has to be evaluated.
     pub(crate) fn decides_beyond(&self) -> Option<bool>
         ensures { result ≡ decided_by self.now.beyond true }
     {
@@ -101,7 +99,7 @@ impl Condition {
         }
     }
 
-    /// Whether its literals of atoms without numbers are true in the packed states.
+    /// Whether its sure literals of atoms without numbers are true in packed states.
     pub(crate) fn may_hold(&self) -> bool
         ensures { result ≡ may_hold_in self.now }
     {
@@ -113,7 +111,7 @@ impl Condition {
         }
     }
 
-    /// Whether the formula may hold in a packed state.
+    /// Whether some packed state may satisfy the formula.
     pub(crate) fn can_hold(&self) -> bool
         ensures { result ≡ can_hold_in self.now }
     {
@@ -126,7 +124,7 @@ impl Condition {
     }
 }
 
-/// Whether the formula, whose condition this is, holds in the packed state.
+/// Whether the formula that `condition` was compiled from holds in the packed state.
 pub(crate) fn holds_in(
     condition: &Condition,
     numbering: &Numbering<'_>,
@@ -142,14 +140,27 @@ pub(crate) fn holds_in(
 {
     match condition.decides(state) {
         Some(decided) => decided,
-        None => {
-            let view = StateView::new(numbering, state);
-            holds(numbering.task(), formula, binding, &view)
-        }
+        None => evaluate(numbering, formula, binding, state),
     }
 }
 
-/// What is to be asked of a formula beyond its numbered literals, where these are its sure literals.
+/// Whether the formula holds in the packed state, by evaluating it.
+pub(crate) fn evaluate(
+    numbering: &Numbering<'_>,
+    formula: &Formula,
+    binding: &Binding,
+    state: &Packed,
+) -> bool
+    requires fits { FitsFormula (task_in numbering.now) (formula_of formula.now) (map object_of binding.now.items) }
+    requires width { length (bits_of state.now) ≡ length (atoms_in numbering.now) }
+    ensures { result ≡ meaning.holds (task_in numbering.now) (formula_of formula.now) (map object_of binding.now.items)
+        (state_of_bits (task_in numbering.now) (atoms_in numbering.now) (bits_of state.now)) }
+{
+    let view = StateView::new(numbering, state);
+    holds(numbering.task(), formula, binding, &view)
+}
+
+/// How a formula with these sure literals is decided beyond them.
 fn asked_beyond(
     numbering: &Numbering<'_>,
     formula: &Formula,
@@ -169,7 +180,7 @@ fn asked_beyond(
     }
 }
 
-/// Whether each of the literals is true in the packed state.
+/// Whether all literals are true in the packed state.
 fn all_agree(literals: &[NumberedLiteral], state: &Packed) -> bool
     requires { All (λ l. l.atom < length (bits_of state.now)) (map numbered_of literals.now) }
     ensures { result ≡ list_all (model_literals.agrees (bits_of state.now)) (map numbered_of literals.now) }

@@ -1,7 +1,7 @@
 //! Ground tasks.
 ghost use Rattle.std.specs.Prelude.{◌≡◌, ◌<◌, ◌^◌, [], length, map};
 ghost use Rattle.std.proofs.Props.{props};
-ghost use Rattle.grounding_kept.specs.Numbering as numbering_views;
+ghost use Rattle.grounding_instances.specs.Numbering as numbering_views;
 ghost use Rattle.grounding.specs.Conditions.{IsConditionOf};
 ghost use Rattle.grounding.specs.InPlace.{AreInPlace};
 ghost use Rattle.grounding.specs.FormulaSet.{formula-set};
@@ -17,22 +17,22 @@ use crate::often::Often;
 use crate::parts::{changes_of_all, costs, goal_condition, preconditions};
 use faults::NoMemory;
 use formulas::Instance;
-use grounding_kept::{GroundFault, KeptChanges, NumberedLiteral, Numbering};
+use grounding_instances::{GroundFault, KeptChanges, NumberedLiteral, Numbering};
 use indexmap::IndexSet;
 use std::alloc::Global;
 use task::{Atom, Task};
 
-/// A ground task: a task by the numbers of its kept instances and of its atoms. A state of it has a bit for each numbered
-/// atom.
+/// A ground task: the task over the numbers of its kept instances and of its atoms. A state has a bit for each numbered atom.
 #[derive(Drop)]
 pub struct Ground<'t> {
     pub(crate) numbering: Numbering<'t>,
-    /// That of each instance's precondition. They stand apart from the changes, since each is looked at in each state.
+    /// The compiled precondition of each instance.
     pub(crate) conditions: Vec<Condition>,
+    /// The changes of each instance that count.
     pub(crate) changes: Vec<Vec<CountingChange<'t>>>,
     pub(crate) costs: Vec<u32>,
     pub(crate) goal: Condition,
-    /// The instances by the literals that their preconditions want.
+    /// The successor generator.
     pub(crate) tree: MatchTree,
     ghost few: { length (numbering_views.instances_in numbering) < 2 ^ 32 },
     ghost preconditions: { AreInPlace (IsPrecondition (numbering_views.task_in numbering) (numbering_views.atoms_in numbering)) (numbering_views.instances_in numbering) conditions.items } by { Prim.hlevel props },
@@ -54,17 +54,17 @@ impl<'t> Ground<'t> {
     ghost use Rattle.model.specs.NumberedLiterals.{literals_of_number, literals_of_goal, counting_of_number};
     ghost use Rattle.model.specs.ConditionalChanges.{conditional_of_number, number_wants_unnumbered};
     ghost use Rattle.model.specs.Grounding.{ground_system};
-    ghost use Rattle.grounding_kept.specs.Numbers.{numbered_of};
-    ghost use Rattle.grounding_kept.specs.KeptChanges.{AreKept};
+    ghost use Rattle.grounding_instances.specs.Numbers.{numbered_of};
+    ghost use Rattle.grounding_instances.specs.KeptChanges.{AreKept};
     ghost use Rattle.grounding.specs.Changes.{counting_of, conditional_of};
     ghost use Rattle.grounding.specs.Ground.{numbering_in, task_in, atoms_in, IsGroundOf, ReportsLimit};
 
-    /// That of the task, in which `more` have the first numbers, if none of them is there twice.
+    /// Grounds the task. The atoms of `more` have the first numbers; one that is repeated counts once.
     ///
     /// # Errors
-    /// [`GroundLimit::Instances`](crate::GroundLimit::Instances) exactly where more than `max_instances` are kept;
-    /// [`GroundLimit::Atoms`](crate::GroundLimit::Atoms) exactly where no more are, and more than 1,048,576 atoms have
-    /// numbers; or memory was refused.
+    /// [`GroundLimit::Instances`](crate::GroundLimit::Instances) if and only if more than `max_instances` are kept;
+    /// [`GroundLimit::Atoms`](crate::GroundLimit::Atoms) if and only if no more are kept and more than 1,048,576 atoms are
+    /// numbered; or memory was refused.
     pub fn new(
         alloc: Global,
         task: &'t Task,
@@ -81,7 +81,7 @@ impl<'t> Ground<'t> {
         Ok(ground)
     }
 
-    /// That of these numbers, where these are the changes of its instances that count.
+    /// The ground task of this numbering, with the changes that count.
     fn of_numbering(
         alloc: Global,
         numbering: Numbering<'t>,
@@ -115,21 +115,21 @@ impl<'t> Ground<'t> {
         self.numbering.task()
     }
 
-    /// How many atoms have numbers.
+    /// The number of numbered atoms.
     pub fn width(&self) -> u32
         ensures { result ≡ length (atoms_in self.now) }
     {
         self.numbering.width()
     }
 
-    /// The kept instances, each at the place, from 0, that is its number.
+    /// The kept instances. An instance's number is its place, from 0.
     pub fn instances(&self) -> &[Instance]
         ensures { map instance_of result.now ≡ kept_instances (task_in self.now) }
     {
         self.numbering.instances()
     }
 
-    /// The numbered atoms, each at the place, from 0, that is its number.
+    /// The numbered atoms. An atom's number is its place, from 0.
     pub fn atoms(&self) -> &IndexSet<Atom>
         ensures { map atom_of result.now.keys ≡ atoms_in self.now }
     {
@@ -143,21 +143,21 @@ impl<'t> Ground<'t> {
         self.numbering.number_of(atom)
     }
 
-    /// The instance of this number, if there is one.
+    /// The instance with this number, if there is one.
     pub fn instance(&self, number: u32) -> Option<&Instance>
         ensures { option_map (λ i. instance_of i.now) result ≡ slice_get (kept_instances (task_in self.now)) number }
     {
         self.numbering.instances().get(number as usize)
     }
 
-    /// The atom of this number, if there is one.
+    /// The atom with this number, if there is one.
     pub fn atom(&self, number: u32) -> Option<&Atom>
         ensures { option_map (λ a. atom_of a.now) result ≡ slice_get (atoms_in self.now) number }
     {
         self.numbering.atoms().get_index(number as usize)
     }
 
-    /// What the instance of this number costs, and 0 where no instance has the number.
+    /// The cost of the instance with this number; 0 if there is none.
     pub fn cost(&self, number: u32) -> u32
         ensures { result ≡ (ground_system (task_in self.now) (atoms_in self.now)).cost number }
     {
@@ -167,7 +167,7 @@ impl<'t> Ground<'t> {
         }
     }
 
-    /// The sure literals of the precondition of the instance of this number, those that are of numbered atoms, in order.
+    /// The sure literals of the instance's precondition whose atoms are numbered, in order.
     pub fn literals(&self, number: u32) -> &[NumberedLiteral]
         requires { number < length (kept_instances (task_in self.now)) }
         ensures { map numbered_of result.now ≡ literals_of_number (task_in self.now) (atoms_in self.now) number }
@@ -175,8 +175,8 @@ impl<'t> Ground<'t> {
         self.conditions[number as usize].literals()
     }
 
-    /// Whether another sure literal of the precondition of the instance of this number wants a fluent atom that has no
-    /// number, so that it is applicable in no state.
+    /// Whether another sure literal of the instance's precondition needs a fluent atom without a number. Such an instance is
+    /// applicable in no state.
     pub fn wants_unnumbered(&self, number: u32) -> bool
         requires { number < length (kept_instances (task_in self.now)) }
         ensures { result ≡ number_wants_unnumbered (task_in self.now) (atoms_in self.now) number }
@@ -184,14 +184,14 @@ impl<'t> Ground<'t> {
         !self.conditions[number as usize].may_hold()
     }
 
-    /// The sure literals of the goal that are of numbered atoms, in order.
+    /// The sure literals of the goal whose atoms are numbered, in order.
     pub fn goal_literals(&self) -> &[NumberedLiteral]
         ensures { map numbered_of result.now ≡ literals_of_goal (task_in self.now) (atoms_in self.now) }
     {
         self.goal.literals()
     }
 
-    /// The changes of the instance of this number that count, in order.
+    /// The changes of the instance that count, in order.
     pub fn counting(&self, number: u32) -> &[CountingChange<'t>]
         requires { number < length (kept_instances (task_in self.now)) }
         ensures counting { map counting_of result.now ≡ counting_of_number (task_in self.now) (atoms_in self.now) number }

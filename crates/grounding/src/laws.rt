@@ -12,24 +12,23 @@ pub fn ground_task_is_bisimilar()
     ensures { GroundTaskIsBisimilar }
 {}
 
-/// What solves the ground task solves its task, at the same cost and by the instances that the numbers name, and the other
-/// way round.
+/// What solves the ground task solves its task, at the same cost and by the instances that the numbers name, and vice versa.
 pub fn ground_task_solves_alike()
     ensures { GroundTaskSolvesAlike }
 {}
 
-/// Packed states stand for the states that have the static atoms of the start and no fluent atom without a number, one for
-/// each.
+/// Packed states correspond one to one to the states with the static atoms of the initial state and no fluent atom without a
+/// number.
 pub fn packs_states()
     ensures { (task : Task) (more : List Atom) → All (λ (a : Atom). IsTrue (is_fluent task a.predicate)) more → PacksStates task (numbered_atoms task more) }
 {}
 
-/// No atom has two numbers; those that are to come first do; and which atoms have numbers.
+/// Each atom has one number at most; the atoms of `more` come first; and which atoms are numbered.
 pub fn atoms_are_numbered()
     ensures { (task : Task) (more : List Atom) → AreNumbered task more (numbered_atoms task more) }
 {}
 
-/// An instance whose precondition is statically false is applicable in no state with the static atoms of the start.
+/// An instance whose precondition is statically false is applicable in no state with the static atoms of the initial state.
 pub fn statically_false_is_not_applicable()
     ensures { StaticallyFalseIsNotApplicable }
 {}
@@ -39,13 +38,12 @@ pub fn only_counting_changes_are_made()
     ensures { OnlyCountingChangesAreMade }
 {}
 
-/// Where a formula holds in a packed state, the state agrees with its sure literals of numbered atoms.
+/// A packed state that satisfies a formula agrees with its sure literals of numbered atoms.
 pub fn numbered_literals_hold()
     ensures { NumberedLiteralsHold }
 {}
 
-/// The worked examples of grounding: what is statically false, kept and numbered, and where instances lead, as written beside
-/// them.
+/// The worked examples of grounding: what is statically false, kept and numbered, and where instances lead.
 pub fn grounding_examples_are_judged()
     ensures { AreGrounded }
 {}

@@ -1,6 +1,6 @@
 //! The ground task: what the task does, by numbers of instances and atoms, over states that are bits.
 //!
-//! A formula is looked at only where its sure literals do not decide it.
+//! A formula is evaluated only if its sure literals do not decide it.
 #![tactic(auto)]
 
 mod changes;
@@ -20,7 +20,7 @@ mod watch_lists;
 
 pub use changes::CountingChange;
 pub use ground::Ground;
-pub use grounding_kept::{GroundFault, GroundLimit, NumberedLiteral};
+pub use grounding_instances::{GroundFault, GroundLimit, NumberedLiteral};
 pub use laws::{
     atoms_are_numbered, ground_task_is_bisimilar, ground_task_solves_alike,
     grounding_examples_are_judged, numbered_literals_hold, only_counting_changes_are_made,

@@ -1,10 +1,9 @@
-//! A match tree: the instances by the literals that they want, so that a look at a state passes over few of them
-//! (successor generator: Helmert 2006, "The Fast Downward Planning System", section 5.3.1).
+//! The successor generator: decision trees over the literals of preconditions, which find the applicable instances of a state
+//! without a look at most of the others (Helmert 2006, "The Fast Downward Planning System", section 5.3.1).
 //!
-//! At the top it branches on all atoms at once: an instance is in the tree of the atom that its watch list has, which is gone
-//! through only where that atom is true. Below, a node tests a literal that several instances want, the one that is true least
-//! often, and what does not want it comes after what is below. What is left of a precondition is tested one literal after
-//! another above its instance, and what was tested on the way there is not tested again.
+//! There is a tree for each atom, with the instances that watch it; it is walked in states where that atom is true. Inside, a
+//! node tests a literal that several instances share, the rarest first. The remaining literals of an instance are tested one
+//! after another above it. No literal is tested twice on a path.
 ghost use Rattle.std.specs.Prelude.{◌≡◌, ◌<◌, IfOk, length};
 ghost use Rattle.grounding.specs.MatchNodes.{AreWithin};
 ghost use Rattle.grounding.specs.WatchLists.{row_of, AreWatched};
@@ -15,30 +14,29 @@ use crate::often::Often;
 use crate::tree_builder::TreeBuilder;
 use crate::watch_lists::WatchLists;
 use faults::NoMemory;
-use grounding_kept::NumberedLiteral;
+use grounding_instances::NumberedLiteral;
 use std::alloc::Global;
 
-/// A node of a tree. A tree is a list of its nodes, each before those below it.
+/// A node of a tree. A tree is a list of its nodes in preorder.
 #[derive(Clone, Copy, Drop)]
 pub(crate) enum Node {
-    /// Where the literal is false, those below are left out, which are the next ones, so many as the number says.
+    /// If the literal is false, skip the next `n` nodes.
     Test(NumberedLiteral, usize),
-    /// The instance of this number is met: its literals are true.
+    /// The literals of the instance with this number are true.
     Instance(u32),
 }
 
-/// The instances' numbers in trees. Those that hold in no packed state are in none.
+/// The trees. An instance that is applicable in no packed state is in none of them.
 #[derive(Drop)]
 pub(crate) struct MatchTree {
-    /// Of each atom, the tree that is gone through where it is true.
+    /// For each atom, the tree that is walked in states where it is true.
     rows: Vec<Vec<Node>>,
-    /// That of the instances that want no atom, which is gone through in each state.
+    /// The tree of the instances that need no atom to be true, which is walked in each state.
     pub(crate) unwatched: Vec<Node>,
 }
 
 impl MatchTree {
-    /// That of the instances with these conditions, whose literals are of atoms below `width`, where the literals are true so
-    /// often.
+    /// The trees of the instances with these preconditions, over atoms below `width`.
     pub(crate) fn new(
         alloc: Global,
         width: u32,
@@ -54,7 +52,7 @@ impl MatchTree {
         MatchTree::of_lists(alloc, &builder, &lists)
     }
 
-    /// That of the numbers in these lists.
+    /// The trees of these watch lists.
     fn of_lists(
         alloc: Global,
         builder: &TreeBuilder<'_>,
@@ -68,7 +66,7 @@ impl MatchTree {
         Ok(MatchTree { rows, unwatched })
     }
 
-    /// The tree that is gone through where the atom is true.
+    /// The tree of the instances that watch the atom.
     pub(crate) fn of(&self, atom: u32) -> &[Node]
         ensures { result.now ≡ nodes_of self.now atom }
     {
@@ -79,7 +77,7 @@ impl MatchTree {
     }
 }
 
-/// The trees of the lists of all atoms.
+/// The trees of all atoms.
 fn rows(
     alloc: Global,
     builder: &TreeBuilder<'_>,

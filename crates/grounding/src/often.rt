@@ -1,59 +1,77 @@
-//! How often atoms are true on random walks, so that match trees ask first for what is seldom true.
+//! How often atoms are true on random walks: match trees test rare literals first.
+//!
+//! A step draws an atom that is true, and then one of the instances that watch it. In a state that has few applicable instances
+//! this finds one much sooner than drawing from all of them.
+ghost use Rattle.std.specs.Prelude.{◌<◌, length};
+ghost use Rattle.grounding_instances.specs.Numbering.{atoms_in};
+ghost use Rattle.grounding.specs.MatchNodes.{AreWithin};
 
 use crate::changes::CountingChange;
 use crate::condition::Condition;
+use crate::watch_lists::WatchLists;
 use faults::NoMemory;
-use grounding_kept::{NumberedLiteral, Numbering};
+use grounding_instances::{NumberedLiteral, Numbering};
 use packed_state::Packed;
 use std::alloc::Global;
 
-/// How many walks there are.
+/// The number of walks.
 const WALKS: usize = 8;
 
-/// How many steps, at most, a walk takes.
+/// Steps per walk, at most.
 const STEPS: u32 = 64;
 
-/// How many instances, at most, are tried in a walk.
+/// Instances drawn per walk, at most.
 const TRIES: usize = 4_096;
 
-/// How often atoms were true after the steps of some walks.
+/// Counts of the states, on some walks, in which each atom was true.
 #[derive(Drop)]
 pub(crate) struct Often {
-    /// How many steps there were.
+    /// The number of steps of all walks.
     steps: u32,
-    /// After how many each atom was true.
+    /// For each atom, the number of steps after which it was true.
     times: Vec<u32>,
 }
 
-/// A random walk, by instances whose literals are true and what they change under no condition.
+/// A random walk. It applies instances whose sure literals are true, and their unconditional changes.
 #[derive(Drop)]
 struct Walk {
     state: Packed,
-    /// The atoms that are true in it, after a step.
+    /// Its true atoms.
     atoms: Vec<u32>,
-    /// The last number drawn.
+    /// State of the random number generator.
     chance: u64,
     often: Often,
 }
 
 impl Often {
-    /// By walks from the initial state, by instances of these conditions and changes.
+    /// Counts on walks from the initial state, by instances with these preconditions and changes.
     pub(crate) fn new(
         alloc: Global,
         numbering: &Numbering<'_>,
         conditions: &[Condition],
         changes: &[Vec<CountingChange<'_>>],
-    ) -> Result<Often, NoMemory> {
+    ) -> Result<Often, NoMemory>
+        requires within { AreWithin (length (atoms_in numbering.now)) conditions.now }
+        requires few { length conditions.now < 4294967296 }
+    {
+        let unknown = Often::unknown(alloc, numbering.width())?;
+        let lists = WatchLists::new(alloc, numbering.width(), conditions, &unknown)?;
         let initial = initial(alloc, numbering)?;
         let mut walk = Walk::new(alloc, numbering.width())?;
         for _ in 0..WALKS {
-            walk.start(&initial);
-            walk.go(conditions, changes)?;
+            walk.start(&initial)?;
+            walk.go(&lists, conditions, changes)?;
         }
         Ok(walk.often)
     }
 
-    /// After how many steps the atom was true.
+    /// No counts yet, of atoms below `width`.
+    fn unknown(alloc: Global, width: u32) -> Result<Often, NoMemory> {
+        let times = vec![in alloc; 0; width as usize]?;
+        Ok(Often { steps: 0, times })
+    }
+
+    /// The number of steps after which the atom was true.
     pub(crate) fn atom(&self, atom: u32) -> u32 {
         match self.times.get(atom as usize) {
             Some(times) => *times,
@@ -61,7 +79,7 @@ impl Often {
         }
     }
 
-    /// After how many steps the literal was true.
+    /// The number of steps after which the literal was true.
     pub(crate) fn literal(&self, literal: &NumberedLiteral) -> u32 {
         let times = self.atom(literal.atom);
         if literal.value {
@@ -71,7 +89,7 @@ impl Often {
         }
     }
 
-    /// Counts one step more, after which these atoms are true.
+    /// Counts one more step, after which these atoms are true.
     fn count(&mut self, atoms: &[u32]) {
         self.steps = self.steps.saturating_add(1);
         for &atom in atoms {
@@ -83,38 +101,35 @@ impl Often {
 }
 
 impl Walk {
-    /// One that has not begun, in a state of so many atoms.
+    /// A walk that has not begun, over `width` atoms.
     fn new(alloc: Global, width: u32) -> Result<Walk, NoMemory> {
-        let times = vec![in alloc; 0; width as usize]?;
         Ok(Walk {
             state: Packed::empty(alloc, width)?,
             atoms: Vec::new(alloc),
             chance: 1,
-            often: Often { steps: 0, times },
+            often: Often::unknown(alloc, width)?,
         })
     }
 
-    /// Goes back to the initial state.
-    fn start(&mut self, initial: &Packed) {
+    /// Returns to the initial state.
+    fn start(&mut self, initial: &Packed) -> Result<(), NoMemory> {
         if self.state.width() == initial.width() {
             self.state.copy_from(initial);
         }
+        self.state.list_numbers(&mut self.atoms)
     }
 
-    /// Takes some steps.
+    /// Walks.
     fn go(
         &mut self,
+        lists: &WatchLists,
         conditions: &[Condition],
         changes: &[Vec<CountingChange<'_>>],
     ) -> Result<(), NoMemory> {
         let last = self.often.steps.saturating_add(STEPS);
         for _ in 0..TRIES {
-            let number = self.below(conditions.len());
-            if let (Some(condition), Some(changes)) = (
-                conditions.get(number),
-                changes.get(number),
-            ) {
-                self.try_one(condition, changes)?;
+            if let Some(number) = self.draw(lists) {
+                self.try_one(number as usize, conditions, changes)?;
             }
             if self.often.steps >= last {
                 return Ok(());
@@ -123,12 +138,25 @@ impl Walk {
         Ok(())
     }
 
-    /// Takes a step by an instance of this condition and these changes, if its literals are true.
+    /// Draws a true atom, or none, and then an instance that watches it, if there is one.
+    fn draw(&mut self, lists: &WatchLists) -> Option<u32> {
+        let count = self.atoms.len().saturating_add(1);
+        let place = self.below(count);
+        let numbers = watching(lists, number_at(&self.atoms, place));
+        let place = self.below(numbers.len());
+        number_at(numbers, place)
+    }
+
+    /// Applies the instance with this number, if its literals are true.
     fn try_one(
         &mut self,
-        condition: &Condition,
-        changes: &[CountingChange<'_>],
+        number: usize,
+        conditions: &[Condition],
+        changes: &[Vec<CountingChange<'_>>],
     ) -> Result<(), NoMemory> {
+        let (Some(condition), Some(changes)) = (conditions.get(number), changes.get(number)) else {
+            return Ok(());
+        };
         if !condition.can_hold() || !are_true(condition.literals(), &self.state) {
             return Ok(());
         }
@@ -139,7 +167,7 @@ impl Walk {
         Ok(())
     }
 
-    /// The next number below this one, and 0 where that is 0: by the linear congruential generator of Knuth's MMIX.
+    /// A random number below `bound`, or 0 if that is 0, by the linear congruential generator of Knuth's MMIX.
     fn below(&mut self, bound: usize) -> usize {
         self.chance = self
             .chance
@@ -152,7 +180,23 @@ impl Walk {
     }
 }
 
-/// The atoms that are true at the start.
+/// The number at this place, if there is one.
+fn number_at(numbers: &[u32], place: usize) -> Option<u32> {
+    match numbers.get(place) {
+        Some(number) => Some(*number),
+        None => None,
+    }
+}
+
+/// The instances that watch the atom, or no atom.
+fn watching(lists: &WatchLists, atom: Option<u32>) -> &[u32] {
+    match atom {
+        Some(atom) => lists.of(atom),
+        None => &lists.unwatched,
+    }
+}
+
+/// The initial state.
 fn initial(alloc: Global, numbering: &Numbering<'_>) -> Result<Packed, NoMemory> {
     let mut state = Packed::empty(alloc, numbering.width())?;
     for (number, atom) in numbering.atoms().iter().enumerate() {
@@ -161,7 +205,7 @@ fn initial(alloc: Global, numbering: &Numbering<'_>) -> Result<Packed, NoMemory>
     Ok(state)
 }
 
-/// Whether the literals are true in the state.
+/// Whether all literals are true in the state.
 fn are_true(literals: &[NumberedLiteral], state: &Packed) -> bool {
     for literal in literals {
         if has(state, literal.atom) != literal.value {
@@ -171,7 +215,7 @@ fn are_true(literals: &[NumberedLiteral], state: &Packed) -> bool {
     true
 }
 
-/// Makes the changes under no condition that make an atom true, or else those that make one false.
+/// Makes the unconditional changes that set atoms to `value`.
 fn make(changes: &[CountingChange<'_>], value: bool, state: &mut Packed) {
     for change in changes {
         if change.value == value && change.is_unconditional() {
@@ -180,12 +224,12 @@ fn make(changes: &[CountingChange<'_>], value: bool, state: &mut Packed) {
     }
 }
 
-/// Whether the atom is true in the state. One that it has no bit for is not.
+/// Whether the atom is true in the state; not if the state has no bit for it.
 fn has(state: &Packed, atom: u32) -> bool {
     atom < state.width() && state.has(atom)
 }
 
-/// Makes the atom true in the state, or false, if it has a bit for it.
+/// Sets the atom to `value`, if the state has a bit for it.
 fn set(state: &mut Packed, atom: u32, value: bool) {
     if atom >= state.width() {
         return;

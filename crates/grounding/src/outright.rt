@@ -1,4 +1,4 @@
-//! Formulas that say all that they say outright.
+//! Formulas that are equivalent to their sure literals.
 ghost use Rattle.std.specs.Prelude.{◌≡◌, map};
 ghost use Rattle.std.specs.List.{list_all};
 ghost use Rattle.task.specs.TaskParts.{formula_of};
@@ -6,8 +6,8 @@ ghost use Rattle.grounding.specs.Outright as outright;
 
 use task::Formula;
 
-/// Whether the formula is built by `and` and `forall` alone of atoms, equalities and the `not` of one of these, so that it
-/// holds where its sure literals do.
+/// Whether the formula is built by `and` and `forall` alone from atoms, equalities and negations of these. Such a formula holds
+/// if its sure literals do.
 #[cycle(outright)]
 pub(crate) fn is_outright(formula: &Formula) -> bool
     ensures { result ≡ outright.is_outright (formula_of formula.now) }
@@ -21,7 +21,7 @@ pub(crate) fn is_outright(formula: &Formula) -> bool
     }
 }
 
-/// Whether each of the formulas is built so.
+/// Whether all formulas are built so.
 #[cycle(outright)]
 fn are_outright(parts: &[Formula]) -> bool
     ensures { result ≡ list_all outright.is_outright (map formula_of parts.now) }

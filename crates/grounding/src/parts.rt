@@ -1,9 +1,9 @@
-//! What a ground task keeps for each instance, and for the goal.
+//! What a ground task has for each instance, and for the goal.
 ghost use Rattle.std.specs.Prelude.{◌≡◌, [], map, IfOk, IsTrue};
 ghost use Rattle.formulas.specs.State.{instance_of};
 ghost use Rattle.model.specs.Meaning.{is_instance, cost_of};
-ghost use Rattle.grounding_kept.specs.Numbering.{task_in, atoms_in, instances_in};
-ghost use Rattle.grounding_kept.specs.KeptChanges.{AreKept};
+ghost use Rattle.grounding_instances.specs.Numbering.{task_in, atoms_in, instances_in};
+ghost use Rattle.grounding_instances.specs.KeptChanges.{AreKept};
 ghost use Rattle.grounding.specs.Conditions.{IsConditionOf};
 ghost use Rattle.grounding.specs.InPlace.{AreInPlace};
 ghost use Rattle.grounding.specs.Changes.{AreChangesOf};
@@ -13,10 +13,10 @@ use crate::changes::{CountingChange, counting_changes};
 use crate::condition::Condition;
 use faults::NoMemory;
 use formulas::{Binding, Instance, cost};
-use grounding_kept::{KeptChanges, Numbering};
+use grounding_instances::{KeptChanges, Numbering};
 use std::alloc::Global;
 
-/// The conditions of the instances' preconditions.
+/// The compiled preconditions of all instances.
 pub(crate) fn preconditions(
     alloc: Global,
     numbering: &Numbering<'_>,
@@ -31,7 +31,7 @@ pub(crate) fn preconditions(
     Ok(found)
 }
 
-/// The condition of the instance's precondition.
+/// The compiled precondition of the instance.
 fn precondition(
     alloc: Global,
     numbering: &Numbering<'_>,
@@ -46,7 +46,7 @@ fn precondition(
     }
 }
 
-/// The changes of each instance that count, of those that were kept when atoms were numbered.
+/// The changes of each instance that count, from those that were kept when the atoms were numbered.
 pub(crate) fn changes_of_all<'t>(
     alloc: Global,
     numbering: &Numbering<'t>,
@@ -68,7 +68,7 @@ pub(crate) fn changes_of_all<'t>(
     Ok(found)
 }
 
-/// What each instance costs.
+/// The costs of all instances.
 pub(crate) fn costs(alloc: Global, numbering: &Numbering<'_>) -> Result<Vec<u32>, NoMemory>
     ensures { IfOk result (λ found. found.items ≡ map (cost_of (task_in numbering.now)) (instances_in numbering.now)) }
 {
@@ -80,7 +80,7 @@ pub(crate) fn costs(alloc: Global, numbering: &Numbering<'_>) -> Result<Vec<u32>
     Ok(found)
 }
 
-/// The condition of the goal.
+/// The compiled goal.
 pub(crate) fn goal_condition(
     alloc: Global,
     numbering: &Numbering<'_>,

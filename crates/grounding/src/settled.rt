@@ -1,19 +1,18 @@
-//! What formulas say beyond their sure literals, as far as that is the same in all packed states: a formula without an atom of a
-//! fluent predicate holds in each of them, or in none.
+//! Formulas settled when the task is grounded: one without fluent atoms has the same truth value in all packed states.
 ghost use Rattle.std.specs.Prelude.{◌≡◌, Bool, map, if◌then◌else◌};
 ghost use Rattle.std.specs.Prelude.{Some, true};
 ghost use Rattle.std.specs.List.{list_all};
 ghost use Rattle.task.specs.TaskParts.{object_of, formula_of};
 ghost use Rattle.formulas.specs.State.{FitsFormula, FitsFormulas};
-ghost use Rattle.grounding_kept.specs.Numbering.{task_in};
+ghost use Rattle.grounding_instances.specs.Numbering.{task_in};
 ghost use Rattle.grounding.specs.Settled as settled;
 
 use crate::outright::{is_outright, is_simple};
 use formulas::{Binding, Valuation, holds};
-use grounding_kept::Numbering;
+use grounding_instances::Numbering;
 use task::{Atom, Formula};
 
-/// The initial state, as formulas are judged in it.
+/// The initial state as a valuation.
 #[derive(Drop)]
 struct InitialView<'a, 't> {
     numbering: &'a Numbering<'t>,
@@ -29,9 +28,8 @@ impl Valuation for InitialView<'_, '_> {
     }
 }
 
-/// What the formula says beyond its sure literals, where the variables in scope have these objects: `Some(true)` where it holds
-/// in each packed state in which they are true, `Some(false)` where it holds in none, and `None` where only a look at the formula
-/// tells. The formula is well-typed for variables of some types that the objects are of.
+/// What the formula, well-typed for the binding, says beyond its sure literals: `Some(true)` if it holds in each packed state in
+/// which they are true, `Some(false)` if in none, and `None` if it has to be evaluated in each state.
 #[cycle(beyond)]
 pub(crate) fn beyond(
     numbering: &Numbering<'_>,
@@ -53,7 +51,7 @@ pub(crate) fn beyond(
     }
 }
 
-/// The same of the conjunction of these formulas, as far as the first one tells that says more than its literals.
+/// [`beyond`] of a conjunction: the answer of the first part that says more than its literals.
 #[cycle(beyond)]
 fn beyond_each(numbering: &Numbering<'_>, parts: &[Formula], binding: &Binding) -> Option<bool>
     requires { FitsFormulas (task_in numbering.now) (map formula_of parts.now) (map object_of binding.now.items) }
@@ -68,7 +66,7 @@ fn beyond_each(numbering: &Numbering<'_>, parts: &[Formula], binding: &Binding) 
     Some(true)
 }
 
-/// Whether nothing is said beyond the literals.
+/// Whether the formula says nothing beyond its literals.
 fn is_nothing(said: Option<bool>) -> bool
     ensures { result ≡ settled.is_nothing said }
 {
@@ -78,7 +76,7 @@ fn is_nothing(said: Option<bool>) -> bool
     }
 }
 
-/// `Some(true)` where the formula says nothing beyond its literals, and else what is settled of it.
+/// `Some(true)` if the formula says nothing beyond its literals; otherwise what is settled of it.
 fn settled_unless(
     says_nothing: bool,
     numbering: &Numbering<'_>,
@@ -94,7 +92,7 @@ fn settled_unless(
     settled(numbering, formula, binding)
 }
 
-/// Whether the formula holds in the packed states, where it is static and so says the same in all.
+/// Whether a static formula holds, and `None` for any other.
 fn settled(numbering: &Numbering<'_>, formula: &Formula, binding: &Binding) -> Option<bool>
     requires { FitsFormula (task_in numbering.now) (formula_of formula.now) (map object_of binding.now.items) }
     ensures { result ≡ settled.settled (task_in numbering.now) (formula_of formula.now) (map object_of binding.now.items) }
@@ -106,7 +104,7 @@ fn settled(numbering: &Numbering<'_>, formula: &Formula, binding: &Binding) -> O
     Some(holds(numbering.task(), formula, binding, &view))
 }
 
-/// Whether no atom in the formula is of a fluent predicate.
+/// Whether the formula has no atom of a fluent predicate.
 #[cycle(is_static)]
 fn is_static(numbering: &Numbering<'_>, formula: &Formula) -> bool
     ensures { result ≡ settled.is_static (task_in numbering.now) (formula_of formula.now) }
@@ -125,7 +123,7 @@ fn is_static(numbering: &Numbering<'_>, formula: &Formula) -> bool
     }
 }
 
-/// Whether this is so of each of the formulas.
+/// Whether all formulas are static.
 #[cycle(is_static)]
 fn are_static(numbering: &Numbering<'_>, parts: &[Formula]) -> bool
     ensures { result ≡ list_all (settled.is_static (task_in numbering.now)) (map formula_of parts.now) }

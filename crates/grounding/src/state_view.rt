@@ -2,15 +2,14 @@
 ghost use Rattle.std.specs.Prelude.{◌≡◌, length};
 ghost use Rattle.std.proofs.Props.{props};
 ghost use Rattle.packed_state.specs.Packed.{bits_of};
-ghost use Rattle.grounding_kept.specs.Numbering.{atoms_in};
+ghost use Rattle.grounding_instances.specs.Numbering.{atoms_in};
 
 use formulas::Valuation;
-use grounding_kept::Numbering;
+use grounding_instances::Numbering;
 use packed_state::Packed;
 use task::Atom;
 
-/// The state that a packed state stands for, as formulas are judged in it: the numbered atoms whose bits are set, and the
-/// static atoms that are true at the start.
+/// The state that a packed state stands for: the numbered atoms whose bits are set, and the static atoms of the initial state.
 #[derive(Drop)]
 pub(crate) struct StateView<'a, 't> {
     numbering: &'a Numbering<'t>,
@@ -19,11 +18,11 @@ pub(crate) struct StateView<'a, 't> {
 }
 
 impl<'a, 't> StateView<'a, 't> {
-    ghost use Rattle.grounding_kept.specs.Numbering.{task_in};
+    ghost use Rattle.grounding_instances.specs.Numbering.{task_in};
     ghost use Rattle.model.specs.Grounding.{state_of_bits};
     ghost use Rattle.grounding.specs.StateView.{facts_of};
 
-    /// That of the packed state, which has a bit for each numbered atom.
+    /// The view of a packed state, which has a bit for each numbered atom.
     pub(crate) fn new(numbering: &'a Numbering<'t>, state: &'a Packed) -> StateView<'a, 't>
         requires { length (bits_of state.now) ≡ length (atoms_in numbering.now) }
         ensures { facts_of result ≡ state_of_bits (task_in numbering.now) (atoms_in numbering.now) (bits_of state.now) }

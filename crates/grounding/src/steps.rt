@@ -5,7 +5,7 @@ ghost use Rattle.packed_state.specs.Packed.{bits_of};
 ghost use Rattle.model.specs.StaticallyFalse.{kept_instances};
 ghost use Rattle.model.specs.NumberedLiterals as model_literals;
 ghost use Rattle.model.specs.Grounding.{state_of_bits, ground_step, ground_system, applicable_numbers};
-ghost use Rattle.grounding_kept.specs.Numbers.{numbered_of};
+ghost use Rattle.grounding_instances.specs.Numbers.{numbered_of};
 ghost use Rattle.grounding.specs.ChangedBits.{with_bits};
 ghost use Rattle.grounding.specs.MatchNodes.{met, left_out, found, IsWithin, IsMet};
 ghost use Rattle.grounding.specs.NumberedEffects.{is_met, numbers_made, numbers_set};
@@ -13,12 +13,12 @@ ghost use Rattle.grounding.specs.Changes.{guard_in, effect_in, GuardFits, IsComp
 ghost use Rattle.grounding.specs.Ground.{task_in, atoms_in};
 
 use crate::changes::CountingChange;
-use crate::condition::{agrees, holds_in};
+use crate::condition::{agrees, evaluate, holds_in};
 use crate::ground::Ground;
 use crate::match_tree::Node;
 use faults::NoMemory;
 use formulas::Binding;
-use grounding_kept::NumberedLiteral;
+use grounding_instances::NumberedLiteral;
 use packed_state::Packed;
 use std::alloc::Global;
 
@@ -36,7 +36,7 @@ impl Ground<'_> {
         Ok(state)
     }
 
-    /// Whether the atom of this number is true at the start.
+    /// Whether the atom with this number is in the initial state.
     fn is_initial(&self, number: u32) -> bool
         requires { number < length (atoms_in self.now) }
         ensures { Some result ≡ slice_get (ground_system (task_in self.now) (atoms_in self.now)).initial number }
@@ -47,7 +47,7 @@ impl Ground<'_> {
         }
     }
 
-    /// Whether the goal holds in the state.
+    /// Whether the state satisfies the goal.
     pub fn meets_goal(&self, state: &Packed) -> bool
         requires { length (bits_of state.now) ≡ length (atoms_in self.now) }
         ensures { result ≡ (ground_system (task_in self.now) (atoms_in self.now)).meets_goal (bits_of state.now) }
@@ -56,7 +56,7 @@ impl Ground<'_> {
         holds_in(&self.goal, &self.numbering, goal, &Binding::new(), state)
     }
 
-    /// The numbers of the instances that are applicable in the state, rising.
+    /// The numbers of the applicable instances, in ascending order.
     pub fn applicable(&self, alloc: Global, state: &Packed) -> Result<Vec<u32>, NoMemory>
         requires { length (bits_of state.now) ≡ length (atoms_in self.now) }
         ensures { IfOk result (λ found. found.items ≡ applicable_numbers (task_in self.now) (atoms_in self.now) (bits_of state.now)) }
@@ -66,9 +66,11 @@ impl Ground<'_> {
         Ok(found)
     }
 
-    /// Puts the numbers of the instances that are applicable in the state, rising, in the place of what `into` has. Where
-    /// memory was refused it has what it had. It gets room for the numbers of all instances, so that a list that is lent
-    /// again takes no more memory.
+    /// Replaces the contents of `into` by the numbers of the applicable instances, in ascending order. The list gets room for
+    /// all instances, so that no later call takes memory.
+    ///
+    /// # Errors
+    /// Memory was refused: `into` is as it was.
     pub fn list_applicable(&self, state: &Packed, into: &mut Vec<u32>) -> Result<(), NoMemory>
         requires { length (bits_of state.now) ≡ length (atoms_in self.now) }
         ensures ok { OnOk result (into.new.items ≡ applicable_numbers (task_in self.now) (atoms_in self.now) (bits_of state.now)) }
@@ -87,7 +89,7 @@ impl Ground<'_> {
         Ok(())
     }
 
-    /// Adds the instances that are found by the tree of these nodes and are applicable in the state.
+    /// Appends the applicable instances in the tree of these nodes.
     fn add_from_tree(&self, nodes: &[Node], state: &Packed, into: &mut Vec<u32>)
         requires width { length (bits_of state.now) ≡ length (atoms_in self.now) }
         requires within { All (IsWithin (length (atoms_in self.now))) nodes.now }
@@ -102,7 +104,7 @@ impl Ground<'_> {
         }
     }
 
-    /// Adds the instance that is met at the node, if it is applicable in the state. Answers how many nodes to go on by.
+    /// Visits the node, and appends its instance if it is applicable. Answers the distance to the next node to visit.
     fn visit(&self, node: &Node, state: &Packed, into: &mut Vec<u32>) -> usize
         requires width { length (bits_of state.now) ≡ length (atoms_in self.now) }
         requires within { IsWithin (length (atoms_in self.now)) node.now }
@@ -121,7 +123,7 @@ impl Ground<'_> {
         }
     }
 
-    /// Adds the instance of this number, whose literals are true in the state, if it is applicable there.
+    /// Appends the instance, whose literals are true in the state, if it is applicable.
     fn add_if_applicable(&self, number: u32, state: &Packed, into: &mut Vec<u32>)
         requires width { length (bits_of state.now) ≡ length (atoms_in self.now) }
         requires agreed { IsMet self.now.conditions.items (bits_of state.now) number }
@@ -135,7 +137,7 @@ impl Ground<'_> {
         into.push_reserved(number);
     }
 
-    /// Whether the instance of this number, whose literals are true in the state, is applicable there.
+    /// Whether the instance, whose literals are true in the state, is applicable.
     fn is_applicable(&self, number: u32, state: &Packed) -> bool
         requires width { length (bits_of state.now) ≡ length (atoms_in self.now) }
         requires agreed { IsMet self.now.conditions.items (bits_of state.now) number }
@@ -147,17 +149,15 @@ impl Ground<'_> {
         }
     }
 
-    /// The same by a look at the precondition, where its condition does not decide.
+    /// Whether the instance is applicable, by evaluating its precondition.
     fn precondition_holds(&self, number: u32, state: &Packed) -> bool
         requires within { number < length (kept_instances (task_in self.now)) }
         requires width { length (bits_of state.now) ≡ length (atoms_in self.now) }
         ensures { result ≡ is_some (ground_step (task_in self.now) (atoms_in self.now) (bits_of state.now) number) }
     {
         let instance = &self.numbering.instances()[number as usize];
-        let condition = &self.conditions[number as usize];
         match self.numbering.task().schema(instance.schema) {
-            Some(schema) => holds_in(
-                condition,
+            Some(schema) => evaluate(
                 &self.numbering,
                 &schema.precondition,
                 &instance.objects,
@@ -167,7 +167,7 @@ impl Ground<'_> {
         }
     }
 
-    /// The state that the instance of this number leads to.
+    /// The successor of the state by the instance with this number.
     pub fn successor(&self, alloc: Global, number: u32, state: &Packed) -> Result<Packed, NoMemory>
         requires width { length (bits_of state.now) ≡ length (atoms_in self.now) }
         requires applicable { IsTrue (is_some (ground_step (task_in self.now) (atoms_in self.now) (bits_of state.now) number)) }
@@ -178,8 +178,8 @@ impl Ground<'_> {
         Ok(next)
     }
 
-    /// Makes `into` the state that the instance of this number leads to: without the atoms that its changes delete, and
-    /// then with those that they add, where their conditions hold in the state before. No memory is taken.
+    /// Replaces `into` by the successor of the state: the changes whose conditions hold in the state are made, deletes before
+    /// adds. No memory is taken.
     pub fn step_into(&self, number: u32, state: &Packed, into: &mut Packed)
         requires width { length (bits_of state.now) ≡ length (atoms_in self.now) }
         requires into_width { length (bits_of into.old) ≡ length (atoms_in self.now) }
@@ -191,8 +191,7 @@ impl Ground<'_> {
         self.make(number, state, true, into);
     }
 
-    /// Makes the changes of the instance of this number that make an atom true, or else those that make one false, where
-    /// their conditions hold in the state before.
+    /// Makes the changes of the instance that set atoms to `value` and whose conditions hold in the state before.
     fn make(&self, number: u32, before: &Packed, value: bool, into: &mut Packed)
         requires within { number < length (kept_instances (task_in self.now)) }
         requires width { length (bits_of before.now) ≡ length (atoms_in self.now) }
@@ -205,7 +204,7 @@ impl Ground<'_> {
         }
     }
 
-    /// The same of one change.
+    /// Makes the change if it sets its atom to `value` and its condition holds in the state before.
     fn make_one(&self, change: &CountingChange<'_>, before: &Packed, value: bool, into: &mut Packed)
         requires fits { GuardFits (task_in self.now) (guard_in change.now.condition) }
         requires compiled { IsCompiled (task_in self.now) (atoms_in self.now) change.now.condition }
@@ -222,7 +221,7 @@ impl Ground<'_> {
         }
     }
 
-    /// Whether the condition of the change holds in the state.
+    /// Whether the change's condition holds in the state.
     fn is_met(&self, change: &CountingChange<'_>, state: &Packed) -> bool
         requires fits { GuardFits (task_in self.now) (guard_in change.now.condition) }
         requires compiled { IsCompiled (task_in self.now) (atoms_in self.now) change.now.condition }
@@ -242,7 +241,7 @@ impl Ground<'_> {
     }
 }
 
-/// Puts the number into the set, or else takes it out.
+/// Adds the number if `value` is true; otherwise removes it.
 fn set(into: &mut Packed, number: u32, value: bool)
     requires { number < length (bits_of into.old) }
     ensures { bits_of into.new ≡ slice_set (bits_of into.old) number value }
@@ -254,7 +253,7 @@ fn set(into: &mut Packed, number: u32, value: bool)
     }
 }
 
-/// How many nodes to go on by at the test of the literal: past those below it where it is false.
+/// The distance from a test of the literal to the next node to visit: past those below it if the literal is false.
 fn pass(literal: &NumberedLiteral, below: usize, state: &Packed) -> usize
     requires within { literal.now.atom < length (bits_of state.now) }
     requires below { below < 2 ^ 63 }

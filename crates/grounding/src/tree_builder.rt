@@ -1,7 +1,7 @@
-//! How match trees are built.
+//! Builds match trees.
 ghost use Rattle.std.specs.Prelude.{◌≡◌, ◌<◌, ◌≤◌, ◌^◌, ◌∷◌, true, false, [], All, IfOk, IfSome, OnOk, length, map, take, get_or};
 ghost use Rattle.std.proofs.Props.{props};
-ghost use Rattle.grounding_kept.specs.Numbers.{numbered_of};
+ghost use Rattle.grounding_instances.specs.Numbers.{numbered_of};
 ghost use Rattle.std.specs.List.Sorted.{IsPermutation};
 ghost use Rattle.grounding.specs.MatchNodes.{above, AreWithin, IsTree, IsTreeOf, IsGroup, IsRun, IsTested, AgreesWith, Implies, Wants};
 
@@ -9,14 +9,13 @@ use crate::condition::Condition;
 use crate::match_tree::Node;
 use crate::often::Often;
 use faults::NoMemory;
-use grounding_kept::NumberedLiteral;
+use grounding_instances::NumberedLiteral;
 use std::alloc::Global;
 
-/// How many literals, at most, a way through a tree tests that several instances have in common.
+/// Tests of shared literals on a path, at most.
 const LEVELS: u32 = 8;
 
-/// What trees are built of: the conditions of the instances, whose literals are of atoms below the width, and how often
-/// these are true.
+/// Builds trees of instances with these preconditions, over atoms below the width.
 #[derive(Drop)]
 pub(crate) struct TreeBuilder<'a> {
     pub(crate) width: u32,
@@ -25,24 +24,24 @@ pub(crate) struct TreeBuilder<'a> {
     ghost within: { AreWithin width conditions.now } by { Prim.hlevel props },
 }
 
-/// The nodes of the first of some instances.
+/// The nodes of the first instances of a list.
 #[derive(Drop)]
 struct Group {
     nodes: Vec<Node>,
-    /// Of how many.
+    /// The number of these instances.
     count: usize,
 }
 
-/// A literal that the first of some instances want.
+/// A literal that the first instances of a list need.
 #[derive(Clone, Copy, Drop)]
 struct Run {
     literal: NumberedLiteral,
-    /// How many want it.
+    /// The number of these instances.
     length: usize,
 }
 
 impl<'a> TreeBuilder<'a> {
-    /// That of these conditions.
+    /// A builder for these preconditions.
     pub(crate) fn new(width: u32, conditions: &'a [Condition], often: &'a Often) -> TreeBuilder<'a>
         requires { AreWithin width conditions.now }
         ensures width { result.width ≡ width }
@@ -55,7 +54,7 @@ impl<'a> TreeBuilder<'a> {
         }
     }
 
-    /// The tree of the instances of these numbers, which is right where the atom is true.
+    /// The tree of these instances for states in which the atom is true.
     pub(crate) fn of_row(
         &self,
         alloc: Global,
@@ -70,7 +69,7 @@ impl<'a> TreeBuilder<'a> {
         self.subtree(alloc, numbers, &path, LEVELS)
     }
 
-    /// The tree of the instances of these numbers.
+    /// The tree of these instances for all states.
     pub(crate) fn of_unwatched(&self, alloc: Global, numbers: &[u32]) -> Result<Vec<Node>, NoMemory>
         requires { All (λ n. n < length self.now.conditions.now) numbers.now }
         ensures { IfOk result (λ nodes. IsTreeOf self.now.width self.now.conditions.now (AgreesWith []) numbers.now nodes.items) }
@@ -78,8 +77,8 @@ impl<'a> TreeBuilder<'a> {
         self.subtree(alloc, numbers, &[], LEVELS)
     }
 
-    /// The tree of the instances of these numbers, which is right where the literals on the path to it are true, with at most
-    /// so many tests one below the other that several instances have in common.
+    /// The tree of these instances for states in which the literals on the path are true, with at most `levels` tests of shared
+    /// literals on a path.
     #[cycle(subtree)]
     fn subtree(
         &self,
@@ -96,7 +95,7 @@ impl<'a> TreeBuilder<'a> {
         Ok(nodes)
     }
 
-    /// The same, where those come one after another that have the next test in common.
+    /// [`subtree`](TreeBuilder::subtree) of instances in which those with the same first test are consecutive.
     #[cycle(subtree)]
     fn in_groups(
         &self,
@@ -118,8 +117,7 @@ impl<'a> TreeBuilder<'a> {
         Ok(nodes)
     }
 
-    /// The nodes of the first of these instances: those that want the literal which, of those of the first one, is true least
-    /// often, or the first one alone.
+    /// The nodes of the first instances: of those that need the first one's rarest literal, or of the first one alone.
     #[cycle(subtree)]
     fn group(
         &self,
@@ -144,7 +142,7 @@ impl<'a> TreeBuilder<'a> {
         }
     }
 
-    /// The nodes of these instances, which all want the literal, below its test.
+    /// The nodes of these instances, which all need the literal, below its test.
     #[cycle(subtree)]
     fn branch(
         &self,
@@ -168,7 +166,7 @@ impl<'a> TreeBuilder<'a> {
         Ok(Group { nodes, count })
     }
 
-    /// The nodes of one instance, as those of a group.
+    /// The nodes of one instance as a group.
     fn alone(&self, alloc: Global, number: u32, path: &[NumberedLiteral]) -> Result<Group, NoMemory>
         requires { number < length self.now.conditions.now }
         ensures count { IfOk result (λ group. group.count ≡ 1) }
@@ -198,8 +196,7 @@ impl<'a> TreeBuilder<'a> {
         Ok(Group { nodes, count: 1 })
     }
 
-    /// The literal off the path that of those of the first of these instances is true least often, and how many of the first
-    /// ones want it.
+    /// The rarest literal of the first instance off the path, and the number of first instances that need it.
     fn shared(&self, numbers: &[u32], path: &[NumberedLiteral]) -> Option<Run>
         requires some { 0 < length numbers.now }
         requires within { All (λ n. n < length self.now.conditions.now) numbers.now }
@@ -211,7 +208,7 @@ impl<'a> TreeBuilder<'a> {
         }
     }
 
-    /// The run of the literal, if the first instance wants it.
+    /// The run of the literal, if the first instance needs it.
     fn run_of(&self, literal: NumberedLiteral, numbers: &[u32]) -> Option<Run>
         requires within { All (λ n. n < length self.now.conditions.now) numbers.now }
         requires atom { literal.atom < self.now.width }
@@ -224,7 +221,7 @@ impl<'a> TreeBuilder<'a> {
         Some(Run { literal, length })
     }
 
-    /// The literal of the instance's that is true least often, of those off the path.
+    /// The instance's rarest literal off the path.
     fn rarest(&self, number: u32, path: &[NumberedLiteral]) -> Option<NumberedLiteral>
         requires { number < length self.now.conditions.now }
         ensures { IfSome result (λ literal. literal.atom < self.now.width) }
@@ -237,7 +234,7 @@ impl<'a> TreeBuilder<'a> {
         rarest
     }
 
-    /// The literal, if it is off the path and of a lower rank than the other one, and else the other one.
+    /// The literal, if it is off the path and of a lower rank than the other one; otherwise the other one.
     fn rarer(
         &self,
         other: Option<NumberedLiteral>,
@@ -262,14 +259,13 @@ impl<'a> TreeBuilder<'a> {
         }
     }
 
-    /// A number by which the literals come in order: the less often one is true the lower it is, and no two have the same.
+    /// Orders literals by frequency, the rarest first. No two have the same rank.
     fn rank(&self, literal: &NumberedLiteral) -> u64 {
         let often = self.often.literal(literal) as u64;
         (often << 33) | ((literal.atom as u64) << 1) | literal.value as u64
     }
 
-    /// The instances of these numbers in another order, in which those come one after another whose rarest literal off the
-    /// path is the same.
+    /// The instances in an order in which those with the same rarest literal off the path are consecutive.
     fn in_order(
         &self,
         alloc: Global,
@@ -310,7 +306,7 @@ impl<'a> TreeBuilder<'a> {
         }
     }
 
-    /// How many of the first of these instances want the literal.
+    /// The number of first instances that need the literal.
     fn run_length(&self, literal: &NumberedLiteral, numbers: &[u32]) -> usize
         requires { All (λ n. n < length self.now.conditions.now) numbers.now }
         ensures within { result ≤ length numbers.now }
@@ -338,8 +334,7 @@ fn without_ranks(alloc: Global, ranked: &[(u64, u32)]) -> Result<Vec<u32>, NoMem
     Ok(numbers)
 }
 
-/// How many tests, at most, follow one that so many instances have in common: where it is one, its other literals need no
-/// tests in common.
+/// The tests of shared literals that may follow one that `length` instances share: none if it is one instance.
 fn levels_below(levels: u32, length: usize) -> u32
     requires { 0 < levels }
     ensures { result < levels }
@@ -347,7 +342,7 @@ fn levels_below(levels: u32, length: usize) -> u32
     if length < 2 { 0 } else { levels - 1 }
 }
 
-/// Whether the literal is one of these, so that it is true where they are.
+/// Whether the literal is one of these, so that it is true if they are.
 fn is_among(literal: &NumberedLiteral, literals: &[NumberedLiteral]) -> bool
     ensures { result ≡ true → Implies (map numbered_of literals.now) (numbered_of literal.now) }
 {
@@ -367,7 +362,7 @@ fn are_same(first: &NumberedLiteral, second: &NumberedLiteral) -> bool
     first.atom == second.atom && first.value == second.value
 }
 
-/// Puts the test of the literal above the nodes, unless it is on the path.
+/// Puts a test of the literal above the nodes, unless it is on the path.
 fn put_test(
     literal: &NumberedLiteral,
     path: &[NumberedLiteral],
@@ -382,7 +377,7 @@ fn put_test(
     put_above(*literal, nodes)
 }
 
-/// Puts the test of the literal above the nodes.
+/// Puts a test of the literal above the nodes.
 fn put_above(literal: NumberedLiteral, nodes: &mut Vec<Node>) -> Result<(), NoMemory>
     ensures nodes { OnOk result (nodes.new.items ≡ above literal nodes.old.items) }
     ensures few { length nodes.old.items < 2 ^ 63 }

@@ -1,17 +1,17 @@
-//! Literals of atoms that have no number, which are true in every packed state or in none.
+//! Literals of atoms without a number. Each is true in all packed states or in none.
 ghost use Rattle.std.specs.Prelude.{◌≡◌, is_some, map};
 ghost use Rattle.std.specs.List.{list_all};
 ghost use Rattle.task.specs.TaskParts.{atom_of};
 ghost use Rattle.formulas.specs.Literals.{literal_of};
 ghost use Rattle.model.specs.NumberedAtoms as numbered;
-ghost use Rattle.grounding_kept.specs.Numbering.{task_in, atoms_in};
+ghost use Rattle.grounding_instances.specs.Numbering.{task_in, atoms_in};
 ghost use Rattle.grounding.specs.Unnumbered as unnumbered;
 
 use formulas::Literal;
-use grounding_kept::Numbering;
+use grounding_instances::Numbering;
 use task::Atom;
 
-/// Whether each of the literals has a number, or is true in every packed state.
+/// Whether each literal is of a numbered atom or true in all packed states.
 pub(crate) fn all_may_hold(numbering: &Numbering<'_>, literals: &[Literal]) -> bool
     ensures { result ≡ list_all (unnumbered.may_hold (task_in numbering.now) (atoms_in numbering.now)) (map literal_of literals.now) }
 {
@@ -23,7 +23,7 @@ pub(crate) fn all_may_hold(numbering: &Numbering<'_>, literals: &[Literal]) -> b
     true
 }
 
-/// Whether the literal has a number, or is true in every packed state. Else it is true in none.
+/// Whether the literal is of a numbered atom or true in all packed states. Any other is true in none.
 fn may_hold(numbering: &Numbering<'_>, literal: &Literal) -> bool
     ensures { result ≡ unnumbered.may_hold (task_in numbering.now) (atoms_in numbering.now) (literal_of literal.now) }
 {

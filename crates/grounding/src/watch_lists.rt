@@ -1,33 +1,33 @@
-//! Lists of instances by an atom that they want, which the match tree is built of.
+//! Watch lists: the instances by one atom that they need, from which match trees are built.
 //!
-//! An instance is in the list of one atom that its precondition wants to be true, as solvers of propositional formulas watch
-//! one literal of a clause (Moskewicz et al., 2001): of these the one that is true least often, since its list is gone through
-//! wherever it is true, and of those that are true as often the one that the fewest instances want. Those that hold in no
-//! packed state are in none.
+//! Each instance watches one atom that its precondition needs to be true, as a SAT solver watches literals of a clause (Moskewicz
+//! et al. 2001, "Chaff: Engineering an Efficient SAT Solver"): the rarest on random walks, since its list is walked whenever it is
+//! true, and of equally rare ones the one that the fewest instances need. An instance that is applicable in no packed state is in
+//! no list.
 ghost use Rattle.std.specs.Prelude.{◌≡◌, ◌<◌, ℕ, [], Some, None, All, IfOk, IfSome, OnOk, length, map, slice_get};
-ghost use Rattle.grounding_kept.specs.Numbers.{numbered_of};
+ghost use Rattle.grounding_instances.specs.Numbers.{numbered_of};
 ghost use Rattle.grounding.specs.Conditions.{literals_in};
 ghost use Rattle.grounding.specs.Watched.{IsWatchable, IsEither};
 
 use crate::condition::Condition;
 use crate::often::Often;
 use faults::NoMemory;
-use grounding_kept::NumberedLiteral;
+use grounding_instances::NumberedLiteral;
 use std::alloc::Global;
 
-/// The numbers of the instances that may hold, each in one list.
+/// The numbers of the instances that may be applicable, each in one list.
 #[derive(Drop)]
 pub(crate) struct WatchLists {
-    /// Of each atom, the instances that are watched for it.
+    /// For each atom, the instances that watch it.
     rows: Vec<Vec<u32>>,
-    /// Those that want no atom.
+    /// The instances that need no atom to be true.
     pub(crate) unwatched: Vec<u32>,
 }
 
 impl WatchLists {
     ghost use Rattle.grounding.specs.WatchLists.{row_of, IsFiled, AreWatched};
 
-    /// Those of the instances with these conditions, whose literals are of atoms below `width`.
+    /// The lists of the instances with these preconditions, over atoms below `width`.
     pub(crate) fn new(
         alloc: Global,
         width: u32,
@@ -49,7 +49,7 @@ impl WatchLists {
         Ok(lists)
     }
 
-    /// Empty lists, one for each atom below `width`.
+    /// Empty lists for the atoms below `width`.
     fn empty(alloc: Global, width: u32) -> Result<WatchLists, NoMemory>
         ensures width { IfOk result (λ lists. length lists.rows.items ≡ width) }
         ensures rows { IfOk result (λ lists. (a : ℕ) → row_of lists a ≡ []) }
@@ -63,7 +63,7 @@ impl WatchLists {
         Ok(WatchLists { rows, unwatched })
     }
 
-    /// Puts the number in the list of the atom that is watched, or else among those that watch none.
+    /// Appends the number to the list of the watched atom, or to those that watch none.
     fn file(&mut self, number: u32, watched: Option<u32>) -> Result<(), NoMemory>
         requires { IfSome watched (λ atom. atom < length self.old.rows.items) }
         ensures { OnOk result (IsFiled number watched self.old self.new) }
@@ -89,7 +89,7 @@ impl WatchLists {
         Ok(())
     }
 
-    /// The instances in the list of the atom.
+    /// The instances that watch the atom.
     pub(crate) fn of(&self, atom: u32) -> &[u32]
         ensures { result.now ≡ row_of self.now atom }
     {
@@ -100,8 +100,7 @@ impl WatchLists {
     }
 }
 
-/// The ranks of the atoms below `width`: how often each is true, times 2^32, and how many instances want it, as often as
-/// their literals say it.
+/// The ranks of the atoms below `width`: the frequency of each times 2^32, plus the number of literals that need it.
 fn ranks(
     alloc: Global,
     width: u32,
@@ -118,7 +117,7 @@ fn ranks(
     Ok(ranks)
 }
 
-/// The same of atoms that no instance wants.
+/// The ranks of atoms that no literal needs.
 fn first_ranks(alloc: Global, width: u32, often: &Often) -> Result<Vec<u64>, NoMemory>
     ensures { IfOk result (λ ranks. length ranks.items ≡ width) }
 {
@@ -129,7 +128,7 @@ fn first_ranks(alloc: Global, width: u32, often: &Often) -> Result<Vec<u64>, NoM
     Ok(ranks)
 }
 
-/// Counts the atoms that the literals want.
+/// Counts the atoms that the literals need.
 fn count_wanted(literals: &[NumberedLiteral], ranks: &mut [u64])
     requires { All (λ l. l.atom < length ranks.old) (map numbered_of literals.now) }
     ensures { length ranks.new ≡ length ranks.old }
@@ -140,7 +139,7 @@ fn count_wanted(literals: &[NumberedLiteral], ranks: &mut [u64])
     }
 }
 
-/// Of the atoms that the literals want, the one of the least rank.
+/// The atom of the least rank among those that the literals need.
 fn rarest(literals: &[NumberedLiteral], ranks: &[u64]) -> Option<u32>
     requires { All (λ l. l.atom < length ranks.now) (map numbered_of literals.now) }
     ensures { IfSome result (IsWatchable (length ranks.now) (map numbered_of literals.now)) }
@@ -152,7 +151,7 @@ fn rarest(literals: &[NumberedLiteral], ranks: &[u64]) -> Option<u32>
     watched
 }
 
-/// The literal's atom, if the literal wants it and its rank is less than that of the other one, and else the other one.
+/// The literal's atom, if the literal needs it to be true and its rank is less than the other one's; otherwise the other one.
 fn rarer(other: Option<u32>, literal: &NumberedLiteral, ranks: &[u64]) -> Option<u32>
     requires within { literal.now.atom < length ranks.now }
     requires other { IfSome other (λ atom. atom < length ranks.now) }
@@ -164,7 +163,7 @@ fn rarer(other: Option<u32>, literal: &NumberedLiteral, ranks: &[u64]) -> Option
     other
 }
 
-/// Whether the atom's rank is less than that of the other one, if there is one.
+/// Whether the atom's rank is less than the other one's, if there is another.
 fn is_rarer(atom: u32, other: Option<u32>, ranks: &[u64]) -> bool
     requires within { atom < length ranks.now }
     requires other { IfSome other (λ atom. atom < length ranks.now) }

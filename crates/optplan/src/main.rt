@@ -1,8 +1,10 @@
 //! The program `optplan`: `planner_main` over the machine's files and streams.
 #![tactic(auto)]
 
+mod looks;
+
+use crate::looks::{look_at, look_line};
 use devices::{Device, Sink, write_all};
-use file_looks::{look_at, look_line};
 use planner_main::{Order, SystemFiles, read_words, report_no_memory, run};
 use std::alloc::AllocError;
 use std::process::ExitCode;

@@ -6,5 +6,6 @@ pub mod NumberLemmas
 pub mod Equality
 pub mod StoreLemmas
 pub mod PlainLemmas
+pub mod TableLemmas
 pub mod PoolLemmas
 pub mod PoolSearch

@@ -1,16 +1,14 @@
--- Rows of words in one list, and the keys by which they are found.
-use Rattle.std.proofs.Common.{◌≡◌, ℕ, ◌+◌, ◌*◌, ◌<◌, ◌≤◌, List, [], ◌∷◌, ◌++◌, length, take, drop, add-mul, one-mul, Some, Result, Ok, Err, OnOk, OnErr, is_ok, true, refl, sym, ap, ◌∙◌, subst, inl, inr, suc, zero, false, nat_eq, eqb-true, arith}
-use Rattle.std.specs.Prelude.{slice_get, Contains, if◌then◌else◌}
-use Rattle.std.specs.List.{list_any}
-use Rattle.std.proofs.lemmas.Map.Views.{Contains-from_any}
-use Rattle.std.proofs.lemmas.Bool.{cases_eq, cases_lt, false_from_ne_true}
+-- Rows of words in one list, and the table of their places.
+use Rattle.std.proofs.Common.{◌≡◌, ℕ, ◌+◌, ◌*◌, ◌^◌, ◌<◌, ◌≤◌, List, [], ◌∷◌, ◌++◌, length, take, drop, get_or, set, add-mul, one-mul, Some, Result, Ok, Err, OnOk, OnErr, is_ok, true, refl, sym, ap, ◌∙◌, subst, inl, inr, arith}
+use Rattle.std.specs.Prelude.{slice_get}
+use Rattle.std.proofs.lemmas.Bool.{cases_lt}
 use Rattle.std.proofs.lemmas.Nat.{row_fits}
-use Rattle.std.proofs.lemmas.List.Elements.{Contains-append_left}
 use Rattle.std.proofs.lemmas.Option.{slice_get-get_or, slice_get_within, same_Some}
-use Rattle.std.proofs.lemmas.List.{take_all, take-append-le, drop_at, drop-append-le, length-drop, length-append, length_push}
+use Rattle.std.proofs.lemmas.List.{take_all, take-append-le, drop_at, drop-append-le, length-drop, length-append, get_or_append_left, get_or_push}
 use Rattle.std.proofs.lemmas.List.FromFn.{length-map-range_with_len, get_or-map-range_with_len, map-range_with_len_more, fill_by_all}
-use Rattle.packed_state.specs.Pool.{row_at, rows_in, key_of, later_key, IsFreeKey, IsMet, AreLinked}
-use Rattle.packed_state.proofs.StoreLemmas.{Contains-at, distinct_more}
+use Rattle.packed_state.specs.Pool.{row_at, rows_in, key_of, AreLinked}
+use Rattle.packed_state.specs.Table.{entry_of, IsFirstFree, IsTable}
+use Rattle.packed_state.proofs.TableLemmas.{same_table, more_table_is}
 
 -- ---- rows
 
@@ -65,64 +63,43 @@ rows_push stride words row count long wide =
 one_row : (long wide stride count : ℕ) → long ≡ count * stride → wide ≡ stride → long + wide ≡ (count + 1) * stride
 one_row long wide stride count is same = rw (is, same) (sym (add-mul count 1 stride ∙ ap (λ n. count * stride + n) (one-mul stride)))
 
--- what a list with one more has at a place that it had, and at its end
-pushed_before : (keys : List ℕ) (key place : ℕ) → place < length keys → slice_get (keys ++ key ∷ []) place ≡ slice_get keys place
-pushed_before [] key place within = absurd (omega arith)
-pushed_before (first ∷ keys) key zero within = refl
-pushed_before (first ∷ keys) key (suc place) within = pushed_before keys key place (omega arith)
-
-pushed_last : (keys : List ℕ) (key : ℕ) → slice_get (keys ++ key ∷ []) (length keys) ≡ Some key
-pushed_last [] key = refl
-pushed_last (first ∷ keys) key = pushed_last keys key
-
-met_before : (keys : List ℕ) (key start place : ℕ) → place < length keys → IsMet keys start place → IsMet (keys ++ key ∷ []) start place
-met_before keys key start place within met step free none =
-    met step (λ among. free (Contains-append_left keys (key ∷ []) (later_key start step) among)) (λ earlier before is. none earlier before (pushed_before keys key place within ∙ is))
-
-met_last : (keys : List ℕ) (start key : ℕ) → IsFreeKey keys start key → IsMet (keys ++ key ∷ []) start (length keys)
-met_last keys start key first step free none =
-    let last : slice_get (keys ++ key ∷ []) (length keys) ≡ Some (later_key start first.step) = pushed_last keys key ∙ ap Some first.is in
-    elim (cases_lt step first.step) [
-      | inl sooner ↦ free (Contains-append_left keys (key ∷ []) (later_key start step) (first.taken step sooner))
-      | inr later ↦
-          elim (cases_eq first.step step) [
-            | inl here ↦ free (Contains-at (keys ++ key ∷ []) (length keys) (later_key start step) (last ∙ ap (λ n. Some (later_key start n)) here))
-            | inr before ↦ none first.step (omega arith) last
-          ]
-    ]
-
--- one state more
-linked_push : (stride : ℕ) (words keys row : List ℕ) (key : ℕ) → AreLinked stride words keys → length row ≡ stride → length keys < 16777216 → IsFreeKey keys (key_of row) key
-    → AreLinked stride (words ++ row) (keys ++ key ∷ [])
-linked_push stride words keys row key linked wide few free =
-    let one : length (keys ++ key ∷ []) ≡ length keys + 1 = omega (arith, length_push keys key) in
+pub linked_more : (stride : ℕ) (words : List ℕ) (count : ℕ) (entries keys row words' : List ℕ) (count' : ℕ) (entries' keys' : List ℕ) (slot : ℕ) → AreLinked stride words count entries keys
+    → count < 16777216 → length row ≡ stride → IsFirstFree entries (key_of row) slot → count + 1 < length entries
+    → words' ≡ words ++ row → count' ≡ count + 1 → entries' ≡ set entries slot (entry_of (key_of row) count) → keys' ≡ keys ++ key_of row ∷ [] → AreLinked stride words' count' entries' keys'
+linked_more stride words count entries keys row words' count' entries' keys' slot linked small wide first room more one are pushed =
+    let key : ℕ → ℕ = λ n. key_of (row_at stride words' n) in
+    let kept : (n : ℕ) → n < count → key_of (row_at stride words n) ≡ key n =
+    λ n within. ap key_of (sym (ap (λ ws. row_at stride ws n) more ∙ row_kept stride words row count n linked.long within)) in
+    let last : key_of row ≡ key count = ap key_of (sym (ap (λ ws. row_at stride ws count) more ∙ row_last stride words row count linked.long wide)) in
+    let P : ℕ → Type 0 = λ k. IsFirstFree entries k slot in
     record {
-      few = omega arith;
-      long = length-append words row ∙ one_row (length words) (length row) stride (length keys) linked.long wide ∙ ap (λ n. n * stride) (sym one);
-      distinct = distinct_more keys key linked.distinct free.free;
-      met = λ place within.
-          elim (cases_lt place (length keys)) [
-            | inl before ↦
-                subst (λ start. IsMet (keys ++ key ∷ []) start place) (ap key_of (sym (row_kept stride words row (length keys) place linked.long before)))
-                (met_before keys key (key_of (row_at stride words place)) place before (linked.met place before))
-            | inr last ↦
-                let at : length keys ≡ place = omega arith in
-                let end : key_of row ≡ key_of (row_at stride (words ++ row) (length keys)) = ap key_of (sym (row_last stride words row (length keys) linked.long wide)) in
-                subst (λ n. IsMet (keys ++ key ∷ []) (key_of (row_at stride (words ++ row) n)) n) at
-                (subst (λ start. IsMet (keys ++ key ∷ []) start (length keys)) end (met_last keys (key_of row) key free))
+      few = omega (arith, one);
+      long = ap length more ∙ length-append words row ∙ one_row (length words) (length row) stride count linked.long wide ∙ ap (λ n. n * stride) (sym one);
+      counted = omega (arith, ap length pushed, length-append keys (key_of row ∷ []), linked.counted, one);
+      keyed = λ n within.
+          elim (cases_lt n count) [
+            | inl before ↦ ap (λ ks. get_or ks n 0) pushed ∙ get_or_append_left keys (key_of row ∷ []) 0 n (omega (arith, linked.counted)) ∙ linked.keyed n before ∙ kept n before
+            | inr after ↦
+                let at : n ≡ count = omega (arith, one) in
+                ap (λ ks. get_or ks n 0) pushed ∙ get_or_push keys (key_of row) 0 n (linked.counted ∙ sym at) ∙ last ∙ ap key (sym at)
           ];
+      table =
+          more_table_is key count slot entries entries' count' small (same_table (λ n. key_of (row_at stride words n)) key count entries kept linked.table) (subst P last first) room
+          (are ∙ ap (λ k. set entries slot (entry_of k count)) last) one;
     }
 
-pub linked_more : (stride : ℕ) (words keys row words' keys' : List ℕ) (key : ℕ) → AreLinked stride words keys → length row ≡ stride → length keys < 16777216
-    → IsFreeKey keys (key_of row) key → words' ≡ words ++ row → keys' ≡ keys ++ key ∷ [] → AreLinked stride words' keys'
-linked_more stride words keys row words' keys' key linked wide few free more one =
-    subst (λ (p : List ℕ × List ℕ). AreLinked stride p.0 p.1) (λ i. (sym more i, sym one i)) (linked_push stride words keys row key linked wide few free)
-
--- a key that is none of them comes last
-pub fresh_key : (keys keys' : List ℕ) (key : ℕ) → (Contains keys key → ⊥) → keys' ≡ (if list_any (nat_eq key) keys then keys else keys ++ key ∷ []) → keys' ≡ keys ++ key ∷ []
-fresh_key keys keys' key free is =
-    let none : list_any (nat_eq key) keys ≡ false = false_from_ne_true (list_any (nat_eq key) keys) (λ any. free (Contains-from_any (λ x y same. eqb-true x y same) key keys any)) in
-    is ∙ ap (λ b. if b then keys else keys ++ key ∷ []) none
+-- the same states by a larger table, which is filled by their keys
+pub linked_again : (stride : ℕ) (words : List ℕ) (count : ℕ) (entries keys : List ℕ) (count' : ℕ) (entries' : List ℕ) → AreLinked stride words count entries keys
+    → count' ≡ length keys → IsTable (λ n. get_or keys n 0) count' entries' → AreLinked stride words count' entries' keys
+linked_again stride words count entries keys count' entries' linked one table =
+    let same : count' ≡ count = one ∙ linked.counted in
+    record {
+      few = omega (arith, same, linked.few);
+      long = linked.long ∙ ap (λ n. n * stride) (sym same);
+      counted = sym one;
+      keyed = λ n within. linked.keyed n (omega (arith, same));
+      table = same_table (λ n. get_or keys n 0) (λ n. key_of (row_at stride words n)) count' entries' (λ n within. linked.keyed n (omega (arith, same))) table;
+    }
 
 pub rows_more : (stride : ℕ) (words : List ℕ) (count : ℕ) (row words' : List ℕ) (count' : ℕ) → length words ≡ count * stride → length row ≡ stride
     → words' ≡ words ++ row → count' ≡ count + 1 → rows_in stride words' count' ≡ rows_in stride words count ++ row ∷ []

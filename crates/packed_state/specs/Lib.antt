@@ -4,6 +4,7 @@ pub mod Lanes
 pub mod Packed
 pub mod Store
 pub mod PlainStore
+pub mod Table
 pub mod Pool
 pub mod PooledStore
 pub mod PooledView

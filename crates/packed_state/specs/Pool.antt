@@ -1,43 +1,28 @@
--- The words of states in one list, and the keys by which they are found.
-use Rattle.std.specs.Prelude.{◌≡◌, ℕ, ◌+◌, ◌*◌, ◌/◌, ◌%◌, ◌^◌, ◌<◌, ◌≤◌, List, length, map, take, drop, fold, bit_xor, slice_get, Some, Contains}
+-- The words of states in one list, their keys, and the table of their places.
+use Rattle.std.specs.Prelude.{◌≡◌, ℕ, ◌*◌, ◌/◌, ◌%◌, ◌^◌, ◌<◌, ◌≤◌, List, length, map, take, drop, fold, bit_xor, slice_index}
 use Rattle.std.specs.List.{range_with_len}
-use Rattle.packed_state.specs.Store.{AreDistinct}
+use Rattle.packed_state.specs.Table.{IsTable}
 
 -- the words of the state at a place, of `stride` words each
 unfoldable pub row_at : ℕ → List ℕ → ℕ → List ℕ
 row_at stride words place = take stride (drop (place * stride) words)
 
--- those of the first states
+-- the words of the first states
 unfoldable pub rows_in : ℕ → List ℕ → ℕ → List (List ℕ)
 rows_in stride words count = map (row_at stride words) (range_with_len 0 count)
 
--- one word more is mixed into a key
+-- mixes a word into a hash
 abbrev pub mixed : ℕ → ℕ → ℕ
-mixed key word = let product = bit_xor key word * 11400714819323198485 % 2 ^ 64 in bit_xor product (product / 2 ^ 32)
+mixed hash word = let product = bit_xor hash word * 11400714819323198485 % 2 ^ 64 in bit_xor product (product / 2 ^ 32)
 
--- the key of some words: nothing rests on which it is
+-- the key of some words; no contract above depends on its value
 unfoldable pub key_of : List ℕ → ℕ
-key_of words = mixed (fold mixed 0 words) 0
+key_of words = mixed (fold mixed 0 words) 0 / 2 ^ 32 % 2 ^ 32
 
--- the key some steps after another
-abbrev pub later_key : ℕ → ℕ → ℕ
-later_key key step = (key + step) % 2 ^ 64
-
--- from the one key on, the other is the first that is not among these
-pub record IsFreeKey (keys : List ℕ) (start key : ℕ) : Type 0 where
-  pub step : ℕ
-  pub is : key ≡ later_key start step
-  pub free : ¬ Contains keys key
-  pub taken : (earlier : ℕ) → earlier < step → Contains keys (later_key start earlier)
-
--- from the one key on, that of this place comes before any that is not among them
-abbrev pub IsMet : List ℕ → ℕ → ℕ → Type 0
-IsMet keys start place =
-    (step : ℕ) → ¬ Contains keys (later_key start step) → ((earlier : ℕ) → earlier < step → slice_get keys place ≡ Some (later_key start earlier) → ⊥) → ⊥
-
--- a list of the words of states, with a key for each
-pub record AreLinked (stride : ℕ) (words keys : List ℕ) : Type 0 where
-  pub few : length keys ≤ 16777216
-  pub long : length words ≡ length keys * stride
-  pub distinct : AreDistinct keys
-  pub met : (place : ℕ) → place < length keys → IsMet keys (key_of (row_at stride words place)) place
+-- the words, the keys and the table are of the same states
+pub record AreLinked (stride : ℕ) (words : List ℕ) (count : ℕ) (entries keys : List ℕ) : Type 0 where
+  pub few : count ≤ 16777216
+  pub long : length words ≡ count * stride
+  pub counted : length keys ≡ count
+  pub keyed : (n : ℕ) → n < count → slice_index keys n ≡ key_of (row_at stride words n)
+  pub table : IsTable (λ n. key_of (row_at stride words n)) count entries

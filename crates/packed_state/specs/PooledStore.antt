@@ -1,15 +1,15 @@
--- A pool, and the store above it as contracts see it.
-use Rattle.std.specs.Prelude.{ℕ, ◌+◌, ◌*◌, ◌<◌, ◌≤◌, List, length}
+-- A pool as contracts see it.
+use Rattle.std.specs.Prelude.{ℕ, ◌+◌, ◌*◌, ◌<◌, ◌≤◌, List}
 use Rattle.packed_state.specs.declared.pool.Pool.{Pool}
 use Rattle.packed_state.specs.Store.{AreStored}
 use Rattle.packed_state.specs.Pool.{rows_in, AreLinked}
 
 -- the words of its states, in the order of their places
 abbrev pub rows_of : Pool → List (List ℕ)
-rows_of pool = rows_in pool.stride pool.words.items (length pool.keys.keys)
+rows_of pool = rows_in pool.stride pool.words.items pool.table.count
 
 abbrev pub IsLinked : Pool → Type 0
-IsLinked pool = AreLinked pool.stride pool.words.items pool.keys.keys
+IsLinked pool = AreLinked pool.stride pool.words.items pool.table.count pool.table.entries.items pool.keys.items
 
 -- a pool of states of this width
 pub record IsPoolOf (width : ℕ) (pool : Pool) : Type 0 where

@@ -1,8 +1,8 @@
--- Lists of distinct states, in which a state's place can be looked up.
+-- Lists of distinct states, in which a state's place is looked up.
 use Rattle.std.specs.Prelude.{◌≡◌, ◌≤◌, ℕ, Bool, List, [], ◌∷◌, ◌++◌, length, map, slice_get, Some, Contains, MatchBool}
 use Rattle.packed_state.specs.Words.{bits_in, AreWordsOf}
 
--- no state is at two places of the list
+-- no state is in the list twice
 abbrev pub AreDistinct : {S : Type 0} → List S → Type 0
 AreDistinct {S} states = (j k : ℕ) (s : S) → slice_get states j ≡ Some s → slice_get states k ≡ Some s → j ≡ k
 
@@ -22,7 +22,7 @@ AreRows width rows = (place : ℕ) (words : List ℕ) → slice_get rows place �
 unfoldable pub sets_in : ℕ → List (List ℕ) → List (List Bool)
 sets_in width rows = map (bits_in width) rows
 
--- the rows of a store: at most 16,777,216, and no set twice
+-- the rows of a store: at most 16,777,216 distinct sets
 pub record AreStored (width : ℕ) (rows : List (List ℕ)) : Type 0 where
   pub packed : AreRows width rows
   pub few : length rows ≤ 16777216

@@ -1,30 +1,30 @@
-//! Words of two sets of one width, each with the one at its place: eight pairs at a time by the lanes of `std::simd`, and those
-//! that are left one by one, with an end at the first that decides. Fewer than eight words make no chunk.
+//! Comparing the words of two sets of one width, pair by pair: eight pairs at a time by the lanes of `std::simd`, then the rest
+//! one by one. The first pair that decides ends it.
 ghost use Rattle.std.specs.Prelude.{◌≡◌, ◌↔◌, IsTrue, length};
 ghost use Rattle.packed_state.specs.Lanes.{Pairwise, IsChanged};
 
 use std::simd::prelude::*;
 
-/// How many words a chunk has.
+/// Words per chunk.
 const LANES: usize = 8;
 
-/// What may be so of a word and the one at its place in another set.
+/// A relation of a word to the word at the same place of another set.
 pub(crate) trait Relation {
     ghost use Rattle.std.specs.Prelude.{ℕ};
 
     ghost holds: { ℕ → ℕ → Type 0 };
 
-    /// Whether it is so of two words.
+    /// Whether it holds of two words.
     fn of_words(word: u64, other: u64) -> bool
         ensures { IsTrue result ↔ holds word other };
 
-    /// Whether it is so of each two words of two chunks.
+    /// Whether it holds of each pair of words of two chunks.
     fn of_chunks(words: [u64; LANES], others: [u64; LANES]) -> bool
         requires { (length words ≡ 8) × (length others ≡ 8) }
         ensures { IsTrue result ↔ Pairwise holds words others };
 }
 
-/// Whether it is so of each two words at one place.
+/// Whether the relation holds of each pair of words.
 pub(crate) fn all<R: Relation>(words: &[u64], others: &[u64]) -> bool
     requires { length words.now ≡ length others.now }
     ensures { IsTrue result ↔ Pairwise R.holds words.now others.now }
@@ -39,7 +39,7 @@ pub(crate) fn all<R: Relation>(words: &[u64], others: &[u64]) -> bool
     all_one_by_one::<R>(rest, other_rest)
 }
 
-/// The same, without lanes.
+/// [`all`] without lanes.
 fn all_one_by_one<R: Relation>(words: &[u64], others: &[u64]) -> bool
     requires { length words.now ≡ length others.now }
     ensures { IsTrue result ↔ Pairwise R.holds words.now others.now }
@@ -52,7 +52,7 @@ fn all_one_by_one<R: Relation>(words: &[u64], others: &[u64]) -> bool
     true
 }
 
-/// The other word has no bit that the first one lacks.
+/// The first word has each bit of the other one.
 pub(crate) struct Includes;
 
 impl Relation for Includes {
@@ -103,7 +103,7 @@ impl Relation for IsSame {
     }
 }
 
-/// Takes the bits of `deletes` out of each word, and then puts those of `adds` in.
+/// Clears the bits of `deletes` in each word, then sets those of `adds`.
 pub(crate) fn change(words: &mut [u64], deletes: &[u64], adds: &[u64])
     requires deletes { length deletes.now ≡ length words.old }
     requires adds { length adds.now ≡ length words.old }

@@ -7,6 +7,7 @@ mod plain;
 mod pool;
 mod pooled;
 mod store;
+mod table;
 mod words;
 
 pub use packed::{Mask, Packed};

@@ -7,7 +7,7 @@ use crate::words;
 use faults::NoMemory;
 use std::alloc::Global;
 
-/// A set of numbers below its width. Two are equal where they have the same width and the same numbers.
+/// A set of numbers below its width. Two are equal if their widths and their numbers are.
 #[derive(Debug, Drop)]
 pub struct Packed {
     width: u32,
@@ -15,7 +15,7 @@ pub struct Packed {
     ghost packed: { AreWordsOf width words.items } by { Prim.hlevel props },
 }
 
-/// A set of numbers below its width, to compare a [`Packed`] with, or to change it by.
+/// A set of numbers below its width, with which a [`Packed`] is compared or changed.
 #[derive(Debug, Drop)]
 pub struct Mask {
     set: Packed,
@@ -47,7 +47,7 @@ impl Packed {
         Ok(set)
     }
 
-    /// The same set, of numbers below `width`.
+    /// A copy of another width, which all its numbers are below.
     pub fn with_width(&self, alloc: Global, width: u32) -> Result<Packed, NoMemory>
         requires { (number : ℕ) → IsTrue (has (bits_of self.now) number) → number < width }
         ensures { IfOk result (λ set. bits_of set ≡ at_width width (bits_of self.now)) }
@@ -57,15 +57,15 @@ impl Packed {
         Ok(Packed { width, words })
     }
 
-    /// The numbers in the set are below the width.
+    /// The width: all numbers in the set are below it.
     pub fn width(&self) -> u32
         ensures { result ≡ length (bits_of self.now) }
     {
         self.width
     }
 
-    /// The words that hold the set, as few as its width needs: bit `k % 64` of word `k / 64`, counted from the lowest, says
-    /// whether the number k is in.
+    /// The words that hold the set, as many as its width needs: bit `k % 64` of word `k / 64`, counted from the lowest, is
+    /// set if the number k is in.
     pub fn words(&self) -> &[u64]
         ensures packed { AreWordsOf (length (bits_of self.now)) result.now }
         ensures bits { bits_in (length (bits_of self.now)) result.now ≡ bits_of self.now }
@@ -73,7 +73,7 @@ impl Packed {
         &self.words
     }
 
-    /// Makes it the set that these words hold.
+    /// Replaces it by the set that these words hold.
     pub fn copy_words(&mut self, words: &[u64])
         requires { AreWordsOf (length (bits_of self.old)) words.now }
         ensures { bits_of self.new ≡ bits_in (length (bits_of self.old)) words.now }
@@ -81,7 +81,7 @@ impl Packed {
         self.words.copy_from_slice(words);
     }
 
-    /// Makes it the same set as another of its width.
+    /// Replaces it by another set of its width.
     pub fn copy_from(&mut self, other: &Packed)
         requires { length (bits_of self.old) ≡ length (bits_of other.now) }
         ensures { bits_of self.new ≡ bits_of other.now }
@@ -97,7 +97,7 @@ impl Packed {
         words::has(&self.words, number)
     }
 
-    /// The least number in the set that is not below `from`, or its width where there is none.
+    /// The least number in the set that is at least `from`, or the width if there is none.
     pub fn next(&self, from: u32) -> u32
         requires { from ≤ length (bits_of self.now) }
         ensures { IsNext (bits_of self.now) from result }
@@ -111,7 +111,7 @@ impl Packed {
         }
     }
 
-    /// Puts the number into the set.
+    /// Adds the number.
     pub fn insert(&mut self, number: u32)
         requires { number < length (bits_of self.old) }
         ensures { bits_of self.new ≡ slice_set (bits_of self.old) number true }
@@ -119,7 +119,7 @@ impl Packed {
         words::insert(&mut self.words, number);
     }
 
-    /// Takes the number out of the set.
+    /// Removes the number.
     pub fn remove(&mut self, number: u32)
         requires { number < length (bits_of self.old) }
         ensures { bits_of self.new ≡ slice_set (bits_of self.old) number false }
@@ -127,7 +127,7 @@ impl Packed {
         words::remove(&mut self.words, number);
     }
 
-    /// The numbers in the set, rising.
+    /// The numbers in the set, in ascending order.
     pub fn numbers(&self, alloc: Global) -> Result<Vec<u32>, NoMemory>
         ensures { IfOk result (λ numbers. numbers.items ≡ filter (has (bits_of self.now)) (range_with_len 0 (length (bits_of self.now)))) }
     {
@@ -136,7 +136,10 @@ impl Packed {
         Ok(numbers)
     }
 
-    /// Puts the numbers in the set, rising, in the place of what `into` has. Where memory was refused it has what it had.
+    /// Replaces the contents of `into` by the numbers in the set, in ascending order.
+    ///
+    /// # Errors
+    /// Memory was refused: `into` is as it was.
     pub fn list_numbers(&self, into: &mut Vec<u32>) -> Result<(), NoMemory>
         ensures ok { OnOk result (into.new.items ≡ filter (has (bits_of self.now)) (range_with_len 0 (length (bits_of self.now)))) }
         ensures err { OnErr result (into.new.items ≡ into.old.items) }
@@ -168,7 +171,7 @@ impl Packed {
         words::are_disjoint(&self.words, &mask.set.words)
     }
 
-    /// Takes the numbers of `deletes` out of the set, and then puts those of `adds` in.
+    /// Removes the numbers of `deletes`, then adds those of `adds`.
     pub fn change(&mut self, deletes: &Mask, adds: &Mask)
         requires deletes { length (bits_of self.old) ≡ length (mask_bits_of deletes.now) }
         requires adds { length (bits_of self.old) ≡ length (mask_bits_of adds.now) }

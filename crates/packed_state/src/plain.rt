@@ -1,4 +1,4 @@
-//! A plain store of states: an indexed hash set of their words.
+//! A plain store of states: an `IndexSet` of their words. It is what the pooled store is compared with.
 ghost use Rattle.std.specs.Prelude.{◌≡◌, ℕ, ◌<◌, ◌≤◌, List, [], length, map, slice_get, vec_items, Contains, MatchOption, IfOk, OnErr, false, is_err};
 ghost use Rattle.std.proofs.Props.{props};
 ghost use Rattle.packed_state.specs.Store.{AreStored};
@@ -23,7 +23,7 @@ impl PlainStore {
     ghost use Rattle.packed_state.specs.Store.{IsPlaced};
     ghost use Rattle.packed_state.specs.PlainStore.{plain_width, plain_states};
 
-    /// A store of sets of numbers below `width`, without any.
+    /// An empty store of sets of numbers below `width`.
     pub fn new(alloc: Global, width: u32) -> Result<PlainStore, NoMemory>
         ensures width { IfOk result (λ store. plain_width store ≡ width) }
         ensures states { IfOk result (λ store. plain_states store ≡ []) }

@@ -1,4 +1,4 @@
-//! A store of states whose words are in one vector.
+//! A store of states in one vector of words.
 ghost use Rattle.std.specs.Prelude.{◌≡◌, ◌<◌, [], length, IfOk, OnErr};
 ghost use Rattle.std.proofs.Props.{props};
 ghost use Rattle.packed_state.specs.Words.{AreWordsOf};
@@ -19,17 +19,23 @@ pub struct PooledStore {
     ghost pooled: { IsPoolOf width pool } by { Prim.hlevel props },
 }
 
+/// Slots of a new table: a power of two, since it grows by doubling, and a key names its slot by its lowest bits.
+const FIRST_SLOTS: usize = 16;
+
 impl PooledStore {
     ghost use Rattle.packed_state.specs.Store.{IsPlaced};
     ghost use Rattle.packed_state.specs.PooledStore.{rows_of};
     ghost use Rattle.packed_state.specs.PooledView.{pooled_width, pooled_states};
 
-    /// A store of sets of numbers below `width`, without any.
+    /// An empty store of sets of numbers below `width`.
+    ///
+    /// # Errors
+    /// Memory was refused.
     pub fn new(alloc: Global, width: u32) -> Result<PooledStore, NoMemory>
         ensures width { IfOk result (λ store. pooled_width store ≡ width) }
         ensures states { IfOk result (λ store. pooled_states store ≡ []) }
     {
-        let pool = Pool::new(alloc, words::words_for(width));
+        let pool = Pool::new(alloc, words::words_for(width), FIRST_SLOTS)?;
         Ok(PooledStore { width, pool })
     }
 
@@ -42,10 +48,11 @@ impl PooledStore {
         ensures err { OnErr result (rows_of self.new.pool ≡ rows_of self.old.pool) }
     {
         let place = self.pool.len() as u32;
+        self.pool.make_room()?;
         match self.pool.look_up(words) {
             Ok(place) => Ok((place, false)),
-            Err(key) => {
-                self.pool.push(words, key)?;
+            Err(vacancy) => {
+                self.pool.push(words, vacancy)?;
                 Ok((place, true))
             }
         }

@@ -1,4 +1,4 @@
-//! Words of 64 bits as sets: bit `k % 64` of word `k / 64`, counted from the lowest, stands for the number k.
+//! Words of 64 bits as sets of numbers: bit `k % 64` of word `k / 64`, counted from the lowest, stands for the number k.
 ghost use Rattle.std.specs.Prelude.{◌≡◌, ℕ, true, false, ◌+◌, ◌*◌, ◌/◌, ◌<◌, ◌≤◌, ◌↔◌, ◌==◌, ◌&&◌, ◌||◌, ◌^◌, ◌++◌, not, IsTrue, OnOk, length, slice_index};
 ghost use Rattle.std.specs.List.{filter, range_with_len};
 ghost use Rattle.packed_state.specs.Words.{word_has, numbers_of_word, BeginsWith};
@@ -6,7 +6,7 @@ ghost use Rattle.packed_state.specs.Words.{word_has, numbers_of_word, BeginsWith
 use crate::lanes::{self, Includes, IsApart, IsSame, all};
 use faults::NoMemory;
 
-/// How many words the numbers below `width` need.
+/// The number of words that the numbers below `width` need.
 pub(crate) fn words_for(width: u32) -> usize
     ensures enough { width ≤ 64 * result }
     ensures no_more { 64 * result < width + 64 }
@@ -14,7 +14,7 @@ pub(crate) fn words_for(width: u32) -> usize
     width.div_ceil(64) as usize
 }
 
-/// Whether the number is in.
+/// Whether the number is in the set.
 pub(crate) fn has(words: &[u64], number: u32) -> bool
     requires { number < 64 * length words.now }
     ensures { result ≡ word_has words.now number }
@@ -22,7 +22,7 @@ pub(crate) fn has(words: &[u64], number: u32) -> bool
     (words[number as usize / 64] >> (number % 64)) & 1 == 1
 }
 
-/// The least number that is in and not below `from`, or, where none is, one that no word has room for.
+/// The least number in the set that is at least `from`; if there is none, a number past the last word.
 pub(crate) fn next(words: &[u64], from: usize) -> usize
     requires from { from < 2 ^ 33 }
     requires few { 64 * length words.now < 2 ^ 33 }
@@ -41,7 +41,7 @@ pub(crate) fn next(words: &[u64], from: usize) -> usize
     number
 }
 
-/// Puts the number in.
+/// Adds the number.
 pub(crate) fn insert(words: &mut [u64], number: u32)
     requires within { number < 64 * length words.old }
     requires small { (place : ℕ) → slice_index words.old place < 2 ^ 64 }
@@ -51,7 +51,7 @@ pub(crate) fn insert(words: &mut [u64], number: u32)
     words[number as usize / 64] |= 1 << (number % 64);
 }
 
-/// Takes the number out.
+/// Removes the number.
 pub(crate) fn remove(words: &mut [u64], number: u32)
     requires within { number < 64 * length words.old }
     requires small { (place : ℕ) → slice_index words.old place < 2 ^ 64 }
@@ -61,7 +61,7 @@ pub(crate) fn remove(words: &mut [u64], number: u32)
     words[number as usize / 64] &= !(1 << (number % 64));
 }
 
-/// Whether each number of `part` is in.
+/// Whether each number of `part` is in the set.
 pub(crate) fn includes(words: &[u64], part: &[u64]) -> bool
     requires { length words.now ≡ length part.now }
     ensures { IsTrue result ↔ ((k : ℕ) → IsTrue (word_has part.now k) → IsTrue (word_has words.now k)) }
@@ -69,7 +69,7 @@ pub(crate) fn includes(words: &[u64], part: &[u64]) -> bool
     all::<Includes>(words, part)
 }
 
-/// Whether no number is in both.
+/// Whether the sets are disjoint.
 pub(crate) fn are_disjoint(words: &[u64], others: &[u64]) -> bool
     requires { length words.now ≡ length others.now }
     ensures { IsTrue result ↔ ((k : ℕ) → ¬ (IsTrue (word_has words.now k) × IsTrue (word_has others.now k))) }
@@ -77,14 +77,14 @@ pub(crate) fn are_disjoint(words: &[u64], others: &[u64]) -> bool
     all::<IsApart>(words, others)
 }
 
-/// Whether these are the same words.
+/// Whether the words are the same.
 pub(crate) fn are_same(words: &[u64], others: &[u64]) -> bool
     ensures { IsTrue result ↔ (words.now ≡ others.now) }
 {
     words.len() == others.len() && all::<IsSame>(words, others)
 }
 
-/// Takes the numbers of `deletes` out, and then puts those of `adds` in.
+/// Removes the numbers of `deletes`, then adds those of `adds`.
 pub(crate) fn change(words: &mut [u64], deletes: &[u64], adds: &[u64])
     requires deletes { length deletes.now ≡ length words.old }
     requires adds { length adds.now ≡ length words.old }
@@ -95,7 +95,7 @@ pub(crate) fn change(words: &mut [u64], deletes: &[u64], adds: &[u64])
     lanes::change(words, deletes, adds);
 }
 
-/// Adds the numbers that are in, rising, to those of `into`. Where memory was refused, some of them are added.
+/// Appends the numbers in the set to `into`, in ascending order. If memory is refused, only some of them.
 pub(crate) fn push_numbers(words: &[u64], into: &mut Vec<u32>) -> Result<(), NoMemory>
     requires { 64 * length words.now ≤ 2 ^ 32 }
     ensures ok { OnOk result (into.new.items ≡ into.old.items ++ filter (word_has words.now) (range_with_len 0 (64 * length words.now))) }
@@ -107,7 +107,7 @@ pub(crate) fn push_numbers(words: &[u64], into: &mut Vec<u32>) -> Result<(), NoM
     Ok(())
 }
 
-/// Adds the numbers of one word, whose lowest bit stands for `first`.
+/// Appends the numbers of one word, whose lowest bit stands for `first`.
 fn push_numbers_of_word(word: u64, first: u32, into: &mut Vec<u32>) -> Result<(), NoMemory>
     requires { first + 64 ≤ 2 ^ 32 }
     ensures ok { OnOk result (into.new.items ≡ into.old.items ++ numbers_of_word first word) }

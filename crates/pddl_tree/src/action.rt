@@ -2,20 +2,19 @@
 ghost use Rattle.std.specs.Prelude.{◌≡◌, [], IfOk, IfErr, map, Some, false};
 ghost use Rattle.model.specs.GrammarWords.{keyword, of_part};
 ghost use Rattle.model.specs.Grammar as grammar;
-ghost use Rattle.pddl_tree_values.specs.Token.{from, first, part_view};
-ghost use Rattle.pddl_tree_values.specs.Reading.{part, phrase, Reads, ReadsInto, GoesOn, Stops, closes_first};
-ghost use Rattle.syntax_tree.specs.Name.{name_of};
-ghost use Rattle.syntax_tree.specs.Tree.{action_of, formula_of};
+ghost use Rattle.pddl_tree_parts.specs.Token.{from, first, part_view};
+ghost use Rattle.pddl_tree_parts.specs.Reading.{part, phrase, Reads, ReadsInto, GoesOn, Stops, closes_first};
+ghost use Rattle.pddl_tree_parts.specs.Terms.{name_of};
+ghost use Rattle.pddl_tree_parts.specs.Tree.{action_of, formula_of};
 ghost use Rattle.pddl_tree.specs.Sections.{the_action, parts_on, part_into};
 
 use faults::Refused;
-use pddl_tree_values::{
-    Keyword, ListElement, Parsed, PartKeyword, Place, Token, WordFault, WordRefusal, action_name,
-    effect_value, formula, has_part, is_close, no_condition, no_effect, open, put, refusal,
-    replace, token_at, typed,
+use pddl_tree_parts::{
+    Action, Formula, Keyword, ListElement, Name, Parsed, PartKeyword, Place, Token, WordFault,
+    WordRefusal, action_name, effect_value, formula, has_part, is_close, no_condition, no_effect,
+    open, put, refusal, replace, token_at, typed,
 };
 use std::alloc::Global;
-use syntax_tree::{Action, Formula, Name};
 use tokens::Word;
 
 /// An action with only a name: each optional part is `(and)`.
@@ -80,7 +79,7 @@ fn part<'a>(
 }
 
 /// Reads the keyword of a part that has not occurred yet.
-#[tactic(auto, using(pddl_tree_values::proofs::Read::part_here))]
+#[tactic(auto, using(pddl_tree_parts::proofs::Read::part_here))]
 fn part_keyword(words: &[Word], at: usize, seen: &[PartKeyword]) -> Result<PartKeyword, WordRefusal>
     ensures word { IfOk result (λ part. first (from words.now at) ≡ Some (keyword (of_part (part_view part)))) }
     ensures new { IfOk result (λ part. grammar.has_part (map part_view seen.now) (part_view part) ≡ false) }

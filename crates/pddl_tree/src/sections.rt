@@ -3,21 +3,21 @@ ghost use Rattle.std.specs.Prelude.{◌≡◌, ◌+◌, [], IfOk, IfErr, map, So
 ghost use Rattle.std.specs.List.{list_all};
 ghost use Rattle.model.specs.GrammarWords.{opens, keyword, of_section};
 ghost use Rattle.model.specs.Grammar as grammar;
-ghost use Rattle.syntax_tree.specs.Name.{name_of};
-ghost use Rattle.pddl_tree_values.specs.Token.{from, first, section_view};
-ghost use Rattle.pddl_tree_values.specs.Reading.{part, phrase, Reads, ReadsInto, GoesOn, Stops, closes_first};
-ghost use Rattle.syntax_tree.specs.Tree.{file_of};
+ghost use Rattle.pddl_tree_parts.specs.Terms.{name_of};
+ghost use Rattle.pddl_tree_parts.specs.Token.{from, first, section_view};
+ghost use Rattle.pddl_tree_parts.specs.Reading.{part, phrase, Reads, ReadsInto, GoesOn, Stops, closes_first};
+ghost use Rattle.pddl_tree_parts.specs.Tree.{file_of};
 ghost use Rattle.pddl_tree.specs.Sections.{contents_of, sections_on, section_into, the_domain, IsNotNew};
 
 use crate::action::action;
 use faults::{NoMemory, Refused, Span};
-use pddl_tree_values::{
-    Key, Keyword, ListElement, Parsed, Place, SectionKeyword, Token, WordFault, WordRefusal,
-    allowed, close, functions, has_section, is_close, last, list, metric, name, no_condition, open,
-    put, refusal, replace, required, token_at, typed,
+use pddl_tree_parts::{
+    Action, Fact, Formula, Group, Key, Keyword, ListElement, Name, Parsed, Place, Predicate,
+    SectionKeyword, TaskFile, Token, WordFault, WordRefusal, allowed, close, functions,
+    has_section, is_close, last, list, metric, name, no_condition, open, put, refusal, replace,
+    required, token_at, typed,
 };
 use std::alloc::Global;
-use syntax_tree::{Action, Fact, Formula, Group, Name, Predicate, TaskFile};
 use tokens::Word;
 
 /// The contents of a file's sections. A section that the file does not have is empty.
@@ -157,7 +157,7 @@ fn section_keyword(
 }
 
 /// Parses a section, whose keyword was read, into the contents: the index after it.
-#[tactic(auto, using(pddl_tree_values::proofs::Looks::put_in))]
+#[tactic(auto, using(pddl_tree_parts::proofs::Looks::put_in))]
 fn section_rest<'a>(
     alloc: Global,
     words: &[Word<'a>],

@@ -7,8 +7,7 @@ ghost use Rattle.model.specs.Words.{is_gap};
 ghost use Rattle.model.specs.PlanText.{is_stamp};
 
 use faults::{Code, Fault, NoMemory, Refused, Span, TextRefusal};
-use names::is_name;
-use tokens::{Form, part_end};
+use tokens::{Form, is_name, part_end};
 
 /// The role that a word may have in a step.
 #[derive(Clone, Copy)]

@@ -6,12 +6,12 @@ use Rattle.devices.specs.Devices.{IsKept}
 use Rattle.certificate_definitions.specs.CertificateChecking.{IsLineFault}
 use Rattle.certificate_reader.specs.declared.reader.CertReader.{CertReader}
 use Rattle.certificate_reader.specs.Reader.{source_of}
-use Rattle.task_certificates.specs.declared.refusal.RefusalCode.{RefusalCode}
-use Rattle.task_certificates.specs.declared.refusal.RefusalCode.TheVariants.{CertForm, CertVersion, Truncated, NotFluent, Repeated, NoInitial, Unfair, UnfairGoal, GoalOpen, SuccessorMissing, SuccessorDearer, CutWeak, CutNotAllowed, PlanInvalid, PlanDearer, Limit, DeadUnfair, DeadUnfairGoal, NotDead, NotSymmetry}
-use Rattle.task_certificates.specs.declared.refusal.Refusal.{Refusal}
-use Rattle.task_certificates.specs.declared.refusal.Refusal.TheVariants as refusal
-use Rattle.task_certificates.specs.RefusalCode.{number_of}
-use Rattle.task_certificates.specs.Reading.{CountsRefusal, IsRead, IsReportedAt}
+use Rattle.cert_checker.specs.declared.refusal.RefusalCode.{RefusalCode}
+use Rattle.cert_checker.specs.declared.refusal.RefusalCode.TheVariants.{CertForm, CertVersion, Truncated, NotFluent, Repeated, NoInitial, Unfair, UnfairGoal, GoalOpen, SuccessorMissing, SuccessorDearer, CutWeak, CutNotAllowed, PlanInvalid, PlanDearer, Limit, DeadUnfair, DeadUnfairGoal, NotDead, NotSymmetry}
+use Rattle.cert_checker.specs.declared.refusal.Refusal.{Refusal}
+use Rattle.cert_checker.specs.declared.refusal.Refusal.TheVariants as refusal
+use Rattle.cert_checker.specs.RefusalCode.{number_of}
+use Rattle.cert_checker.specs.Reading.{CountsRefusal, IsRead, IsReportedAt}
 use Rattle.cert_checker.specs.declared.checker.Accepted.{Accepted}
 use Rattle.cert_checker.specs.CertChecker.{IsFirstRefusal, IsShown, IsTrueRefusal}
 use Rattle.cert_checker.specs.Checking.{Accepts, Refuses}

@@ -20,11 +20,11 @@ use Rattle.printed_answers.specs.Reported.{status_of}
 use Rattle.printed_answers.specs.declared.reports.Report.{Report}
 use Rattle.printed_answers.specs.declared.reports.Report.TheVariants as report
 use Rattle.validator.specs.Verdict.{verdict_of}
-use Rattle.task_certificates.specs.declared.refusal.Refusal.{Refusal}
+use Rattle.cert_checker.specs.declared.refusal.Refusal.{Refusal}
 use Rattle.cert_checker.specs.declared.checker.Accepted.{Accepted}
 use Rattle.planner_main.specs.Program.{IsTextIfNamed, OnTwo, OnThree, OnInputs, IsAnswerTo, IsReportOn, Refuses, fault_in, IsFaultFor, IsOneOf, IsReportedOn, IsReportedOfWords, SaysOfWords, HasFailed, HasNotFailed, CountsFailure, CountsEither, device_failure}
 use Rattle.devices.specs.Texts.{IsText, AreKept}
-use Rattle.source_text.specs.declared.texts.File.{File}
+use Rattle.explain_hints.specs.declared.texts.File.{File}
 use Rattle.file_answers.specs.declared.files.FileFault as file
 use Rattle.faults.specs.declared.code.Code.{Code}
 use Rattle.faults.specs.declared.refused.Span.{Span}

@@ -10,11 +10,11 @@ use Rattle.devices.specs.Written.{AreWritten}
 use Rattle.file_answers.specs.SaidOf.{IsCheckLineOf}
 use Rattle.devices.specs.declared.device.IoFault.TheVariants as device
 use Rattle.file_answers.specs.declared.files.FileFault.TheVariants as refusal
-use Rattle.progress_lines.specs.Said.{AreSaid, Stream, stream}
+use Rattle.devices.specs.Progress.{AreSaid, Stream, stream}
 use Rattle.solver.specs.Said.{HasEnded}
 use Rattle.solver.specs.declared.answer.Answer.{Answer}
 use Rattle.solver.specs.declared.answer.Answer.TheVariants.{Plan, Unsolvable, Unknown}
-use Rattle.progress_lines.proofs.SaidLemmas.{said_after, said_of_more, none_said}
+use Rattle.devices.proofs.ProgressLemmas.{said_after, said_of_more, none_said}
 use Rattle.planner_main.specs.Asked.{Outputs, outputs_of}
 use Rattle.printed_answers.specs.AnswerReported as answers
 use Rattle.planner_main.specs.Program.{IsReportOn, IsReportedOn, IsReported}

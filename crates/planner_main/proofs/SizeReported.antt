@@ -2,8 +2,8 @@
 use Rattle.std.proofs.Common.{◌≡◌, ℕ, List, Bool, true, false, inl, inr, sym, ap, subst, refl}
 use Rattle.std.specs.Prelude.{Option, Some, IsTrue, Result, Ok, Err, OnOk, IsErr}
 use Rattle.devices.specs.Devices.{IsWritten}
-use Rattle.progress_lines.specs.Said.{AreSaid, Stream, stream, nothing, one_more}
-use Rattle.progress_lines.proofs.SaidLemmas.{said_of_more}
+use Rattle.devices.specs.Progress.{AreSaid, Stream, stream, nothing, one_more}
+use Rattle.devices.proofs.ProgressLemmas.{said_of_more}
 use Rattle.planner_main.specs.Asked.{Outputs}
 use Rattle.planner_main.specs.Progress.{IsCertificateLine, IsWritingLine, SaysIf, line_if, size_in, size_line, size_line_for}
 use Rattle.planner_main.specs.Solution.{cert_text}

@@ -3,7 +3,7 @@ use Rattle.std.specs.Prelude.{ℕ, ◌==◌, Bool, List, [], ◌∷◌, ◌++◌
 use Rattle.std.specs.List.{list_any}
 use Rattle.std.specs.Fmt.{decimal}
 use Rattle.faults.specs.Fault.{name_in, names}
-use Rattle.source_text.specs.Files.{name_of_file}
+use Rattle.explain_hints.specs.Files.{name_of_file}
 use Rattle.model.specs.Files.{FileFault}
 
 -- the line of a fault: `fault CODE Name in FILE at S..E`

@@ -30,7 +30,7 @@ use Rattle.file_answers.specs.ExplanationLines.{Files, IsSaidOf, named_as}
 use Rattle.devices.specs.Texts.{AreKept, IsText}
 use Rattle.devices.specs.Written.{NamedText, AreWritten, AreWrittenPartly}
 use Rattle.planner_main.specs.Solution.{WritesReport}
-use Rattle.task_certificates.specs.declared.refusal.Refusal.{Refusal}
+use Rattle.cert_checker.specs.declared.refusal.Refusal.{Refusal}
 use Rattle.cert_checker.specs.declared.checker.Accepted.{Accepted}
 use Rattle.model.specs.Task.{Task, Instance}
 use Rattle.model.specs.Files.{FileFault, IsTaskOf, IsTaskFault, IsVerdictOf, IsFileFault}

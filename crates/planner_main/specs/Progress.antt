@@ -6,7 +6,7 @@ use Rattle.command_line.specs.Orders.{Asks, Asked, Wanted, to_solve, to_validate
 use Rattle.devices.specs.Devices.{IsWritten}
 use Rattle.devices.specs.Written.{AreWritten}
 use Rattle.file_answers.specs.SaidOf.{IsCheckLineOf, IsTrueLineOf}
-use Rattle.progress_lines.specs.Said.{AreSaid, Stream, stream}
+use Rattle.devices.specs.Progress.{AreSaid, Stream, stream}
 use Rattle.solver.specs.Said.{HasEnded, line_of}
 use Rattle.solver.specs.declared.reports.Report.TheVariants.{End}
 use Rattle.planner_main.specs.Asked.{Outputs, outputs_of}

@@ -4,7 +4,7 @@
 mod failures;
 mod program;
 
-pub use cert_checker::Accepted;
+pub use cert_checker::{Accepted, Refusal, RefusalCode};
 pub use command_line::{MaxCount, Order, WordsFault, read_words};
 pub use devices::{Files, SystemFiles};
 pub use failures::report_no_memory;
@@ -16,5 +16,4 @@ pub use file_answers::{
 pub use printed_answers::{Report, json_examples_are_written, json_line};
 pub use program::run;
 pub use solver::{Answer, Exceeded, Limits};
-pub use task_certificates::{Refusal, RefusalCode};
 pub use validator::Verdict;

@@ -7,7 +7,7 @@ ghost use Rattle.planner_main.specs.Program.{Reports, ReportsFor, ReportsPartly,
 ghost use Rattle.devices.specs.Texts.{AreKept};
 ghost use Rattle.devices.specs.Devices.{IsWritten};
 ghost use Rattle.planner_main.specs.Progress.{AsksForProgress, AsksForSearchProgress, Ends, HasEndedFor, HasSaidEnd, IsProgress, IsProgressOn, SaysAfter};
-ghost use Rattle.progress_lines.specs.Said.{AreSaid, stream};
+ghost use Rattle.devices.specs.Progress.{AreSaid, stream};
 
 mod acceptance;
 mod counting;

@@ -9,9 +9,9 @@ use Rattle.model.proofs.ListLemmas.{Contains-got}
 use Rattle.model.specs.Task.{Atom, Task, Instance}
 use Rattle.model.specs.StaticallyFalse.{kept_instances}
 use Rattle.model.specs.NumberedLiterals.{NumberedLiteral, NumberedChange, literals_of_instance, literals_of_number, literals_of_goal, counting_of_number}
-use Rattle.potential_functions.specs.PotentialFunctions.{PotentialFunction}
-use Rattle.potential_functions.specs.Fair.{loses_at_most, instance_loses, IsFairAt, goal_gives_at_most, IsFairAtGoals, AreFairAt, IsFirstUnfairAt}
-use Rattle.potential_functions.proofs.Numbers.{literals-named, counting-named, counting-below}
+use Rattle.lower_bounds.specs.PotentialFunctions.{PotentialFunction}
+use Rattle.lower_bounds.specs.FairPotentials.{loses_at_most, instance_loses, IsFairAt, goal_gives_at_most, IsFairAtGoals, AreFairAt, IsFirstUnfairAt}
+use Rattle.lower_bounds.proofs.Numbers.{literals-named, counting-named, counting-below}
 
 module _ (task : Task) (atoms : List Atom) (p : PotentialFunction) where
   -- ---- what the code computes

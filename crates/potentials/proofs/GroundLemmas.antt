@@ -7,7 +7,7 @@ use Rattle.grounding.specs.declared.ground.Ground.{Ground}
 use Rattle.grounding.specs.Ground.{task_in, atoms_in}
 use Rattle.model.specs.StaticallyFalse.{kept_instances}
 use Rattle.model.proofs.NumberingLemmas.{Contains-occurs_in}
-use Rattle.potential_functions.specs.Laws.{AreNumberable}
+use Rattle.lower_bounds.specs.PotentialLaws.{AreNumberable}
 
 pub few-atoms : (g : Ground) → length (atoms_in g) ≤ 1048576
 few-atoms g =

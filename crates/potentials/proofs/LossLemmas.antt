@@ -7,12 +7,12 @@ use Rattle.std.proofs.lemmas.List.Elements.{All-contains}
 use Rattle.std.proofs.lemmas.Bool.{eq-eqb, eqb-true, false_from_ne_true}
 use Rattle.std.proofs.lemmas.Int.{ints}
 use Rattle.model.specs.NumberedLiterals.{NumberedLiteral, NumberedChange}
-use Rattle.potential_functions.specs.PotentialFunctions.{weight, sum_below, IsInRange}
+use Rattle.lower_bounds.specs.PotentialFunctions.{weight, sum_below, IsInRange}
 use Rattle.model.proofs.ListLemmas.{Contains-got, Contains-map}
-use Rattle.potential_functions.specs.Fair.{says, touches, is_pair, worst, goal_gives}
-use Rattle.potential_functions.proofs.Sums.{sum-alike, sum-changed, sum-zero, sum-range}
-use Rattle.potential_functions.proofs.Ranges.{weight-range, zero-range}
-use Rattle.potential_functions.proofs.Worst.{worst_by, worst-is, worst-range}
+use Rattle.lower_bounds.specs.FairPotentials.{says, touches, is_pair, worst, goal_gives}
+use Rattle.lower_bounds.proofs.Sums.{sum-alike, sum-changed, sum-zero, sum-range}
+use Rattle.lower_bounds.proofs.Ranges.{weight-range, zero-range}
+use Rattle.lower_bounds.proofs.Worst.{worst_by, worst-is, worst-range}
 use Rattle.grounding.specs.declared.changes.CountingChange.{CountingChange}
 use Rattle.grounding.specs.Changes.{counting_of}
 use Rattle.potentials.specs.declared.swing.Swing.{Swing}

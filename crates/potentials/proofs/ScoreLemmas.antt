@@ -2,9 +2,9 @@
 use Rattle.std.proofs.Common.{◌≡◌, ℕ, ◌+◌, ◌*◌, ◌≤◌, Bool, List, length, arith, ℤ, pos, ◌+ℤ◌, neg_ℤ, ◌≤ℤ◌}
 use Rattle.std.specs.Prelude.{All}
 use Rattle.std.proofs.lemmas.Int.{ints}
-use Rattle.potential_functions.specs.PotentialFunctions.{sum_below, given, IsInRange}
-use Rattle.potential_functions.proofs.Sums.{sum-range}
-use Rattle.potential_functions.proofs.Ranges.{given-range, sum-between}
+use Rattle.lower_bounds.specs.PotentialFunctions.{sum_below, given, IsInRange}
+use Rattle.lower_bounds.proofs.Sums.{sum-range}
+use Rattle.lower_bounds.proofs.Ranges.{given-range, sum-between}
 
 -- the intermediate score is in the range of a score
 pub midway-range : (constant : ℤ) (weights : List ℤ) (before after : List Bool) (n : ℕ) (total : ℤ) → IsInRange constant → All IsInRange weights → n ≤ length before

@@ -12,9 +12,9 @@ use Rattle.packed_state.specs.Words.{bits_in, AreWordsOf}
 use Rattle.packed_state.proofs.WordLemmas.{in_word}
 use Rattle.packed_state.proofs.PackedLemmas.{bit_of}
 use Rattle.packed_state.proofs.NumberLemmas.{without_lowest}
-use Rattle.potential_functions.specs.PotentialFunctions.{weight, sum_below, given, IsInRange}
-use Rattle.potential_functions.proofs.Sums.{sum-zero, sum-alike, sum-changed, sum-range}
-use Rattle.potential_functions.proofs.Ranges.{zero-range, weight-range, given-range}
+use Rattle.lower_bounds.specs.PotentialFunctions.{weight, sum_below, given, IsInRange}
+use Rattle.lower_bounds.proofs.Sums.{sum-zero, sum-alike, sum-changed, sum-range}
+use Rattle.lower_bounds.proofs.Ranges.{zero-range, weight-range, given-range}
 use Rattle.potentials.specs.Words.{gained_at, gained_in_word}
 use Rattle.potentials.proofs.ScoreLemmas.{midway-range}
 

@@ -3,8 +3,8 @@ use Rattle.std.specs.Prelude.{ℕ, List, All}
 use Rattle.model.specs.Task.{Atom, Task, Instance}
 use Rattle.model.specs.Meaning.{cost_of}
 use Rattle.model.specs.StaticallyFalse.{kept_instances}
-use Rattle.potential_functions.specs.PotentialFunctions.{PotentialFunction}
-use Rattle.potential_functions.specs.Fair.{IsFairAt, IsFairAtGoals, AreFairAt, nothing, IsFirstUnfairAt}
+use Rattle.lower_bounds.specs.PotentialFunctions.{PotentialFunction}
+use Rattle.lower_bounds.specs.FairPotentials.{IsFairAt, IsFairAtGoals, AreFairAt, nothing, IsFirstUnfairAt}
 use Rattle.potentials.specs.declared.fairness.Allowance.{Allowance}
 use Rattle.potentials.specs.declared.fairness.Allowance.TheVariants.{Cost, Nothing}
 use Rattle.potentials.specs.declared.fairness.Fairness.{Fairness}

@@ -1,7 +1,7 @@
 -- What an instance may do to an atom, as represented in the code.
 use Rattle.std.specs.Prelude.{◌≡◌, ℕ, Bool, true, false, ◌||◌, List}
 use Rattle.model.specs.NumberedLiterals.{NumberedLiteral, NumberedChange}
-use Rattle.potential_functions.specs.Fair.{Pair, is_pair, makes}
+use Rattle.lower_bounds.specs.FairPotentials.{Pair, is_pair, makes}
 use Rattle.potentials.specs.declared.swing.Swing.{Swing}
 use Rattle.potentials.specs.declared.swing.Made.{Made}
 use Rattle.potentials.specs.declared.swing.Made.TheVariants.{Always, Sometimes}

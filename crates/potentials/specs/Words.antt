@@ -1,7 +1,7 @@
 -- The words of a packed state, as the score uses them.
 use Rattle.std.specs.Prelude.{ℕ, ◌+◌, ◌==◌, if◌then◌else◌, ℤ, pos, neg_ℤ, List}
 use Rattle.std.specs.Int.{bit_at}
-use Rattle.potential_functions.specs.PotentialFunctions.{weight, sum_below}
+use Rattle.lower_bounds.specs.PotentialFunctions.{weight, sum_below}
 
 -- The gain of this bit's atom, if the bit is set in `changed`: its weight if the bit is set in `after`, otherwise the negated
 -- weight.

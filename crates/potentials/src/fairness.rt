@@ -4,7 +4,7 @@ ghost use Rattle.grounding.specs.Ground.{task_in, atoms_in};
 ghost use Rattle.model.specs.Task.{Instance};
 ghost use Rattle.model.specs.Meaning.{cost_of};
 ghost use Rattle.model.specs.StaticallyFalse.{kept_instances};
-ghost use Rattle.potential_functions.specs.Fair.{nothing, IsFairAt, IsFairAtGoals, IsFirstUnfairAt};
+ghost use Rattle.lower_bounds.specs.FairPotentials.{nothing, IsFairAt, IsFairAtGoals, IsFirstUnfairAt};
 ghost use Rattle.potentials.specs.Potentials.{potentials_of};
 ghost use Rattle.potentials.specs.Fairness.{allowed_by, AreInstancesFairAt, ReportsAt, Reports, DetectsDead};
 

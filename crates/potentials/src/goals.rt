@@ -2,8 +2,8 @@
 ghost use Rattle.std.specs.Prelude.{◌≡◌, ◌<◌, ◌≤◌, ◌+◌, ◌*◌, ◌^◌, if◌then◌else◌, ◌≤ℤ◌, neg_ℤ, pos, All, length, map};
 ghost use Rattle.std.specs.Int.{int_max};
 ghost use Rattle.grounding.specs.Views.{numbered_of};
-ghost use Rattle.potential_functions.specs.PotentialFunctions.{IsInRange};
-ghost use Rattle.potential_functions.specs.Fair as model;
+ghost use Rattle.lower_bounds.specs.PotentialFunctions.{IsInRange};
+ghost use Rattle.lower_bounds.specs.FairPotentials as model;
 
 use crate::losses::weight_of;
 use crate::swing::says;

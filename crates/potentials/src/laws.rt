@@ -1,6 +1,6 @@
 //! A law of ground tasks, proved. The function does nothing.
 ghost use Rattle.grounding.specs.Ground.{task_in, atoms_in};
-ghost use Rattle.potential_functions.specs.Laws.{AreNumberable};
+ghost use Rattle.lower_bounds.specs.PotentialLaws.{AreNumberable};
 
 use grounding::Ground;
 

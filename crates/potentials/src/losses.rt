@@ -4,8 +4,8 @@ ghost use Rattle.grounding.specs.Views.{numbered_of};
 ghost use Rattle.grounding.specs.declared.changes.CountingChange.{CountingChange};
 ghost use Rattle.grounding.specs.Changes.{counting_of};
 ghost use Rattle.model.specs.NumberedLiterals.{NumberedChange};
-ghost use Rattle.potential_functions.specs.PotentialFunctions.{weight, IsInRange};
-ghost use Rattle.potential_functions.specs.Fair as model;
+ghost use Rattle.lower_bounds.specs.PotentialFunctions.{weight, IsInRange};
+ghost use Rattle.lower_bounds.specs.FairPotentials as model;
 
 use crate::swing::{Swing, touches};
 use grounding::{CountingChange, NumberedLiteral};

@@ -1,8 +1,8 @@
 //! Potentials.
 ghost use Rattle.std.specs.Prelude.{◌≡◌, All};
 ghost use Rattle.std.proofs.Props.{props};
-ghost use Rattle.potential_functions.specs.PotentialFunctions as potential;
-ghost use Rattle.potential_functions.specs.PotentialFunctions.{IsInRange};
+ghost use Rattle.lower_bounds.specs.PotentialFunctions as potential;
+ghost use Rattle.lower_bounds.specs.PotentialFunctions.{IsInRange};
 
 use crate::range::{are_in_range, is_in_range};
 use crate::words::gained_in_word;
@@ -24,8 +24,8 @@ impl Potentials {
     ghost use Rattle.std.specs.Prelude.{◌<◌, ◌↔◌, IsSome, IfSome, IfOk, pos, set, length, replicate};
     ghost use Rattle.grounding.specs.Ground.{task_in, atoms_in};
     ghost use Rattle.packed_state.specs.Packed.{bits_of};
-    ghost use Rattle.potential_functions.specs.PotentialFunctions.{AreInRange};
-    ghost use Rattle.potential_functions.specs.Fair.{AreFair};
+    ghost use Rattle.lower_bounds.specs.PotentialFunctions.{AreInRange};
+    ghost use Rattle.lower_bounds.specs.FairPotentials.{AreFair};
     ghost use Rattle.potentials.specs.Potentials.{potentials_of};
 
     /// Potentials with this constant and these weights, each at the index of its atom's number. `None` exactly if one of them is

@@ -1,6 +1,6 @@
 //! The range of constants and weights.
 ghost use Rattle.std.specs.Prelude.{◌↔◌, All, IsTrue};
-ghost use Rattle.potential_functions.specs.PotentialFunctions.{IsInRange};
+ghost use Rattle.lower_bounds.specs.PotentialFunctions.{IsInRange};
 
 /// The greatest constant and weight; the least is its negative.
 pub const MAX_WEIGHT: i64 = 2_147_483_647;

@@ -3,9 +3,9 @@ ghost use Rattle.std.specs.Prelude.{◌≡◌, ℕ, List, map};
 ghost use Rattle.std.specs.Bool.{beq};
 ghost use Rattle.grounding.specs.Views.{numbered_of};
 ghost use Rattle.grounding.specs.Changes.{counting_of};
-ghost use Rattle.potential_functions.specs.PotentialFunctions.{IsInRange};
-ghost use Rattle.potential_functions.specs.Fair as model;
-ghost use Rattle.potential_functions.proofs.Worst.{worst_by};
+ghost use Rattle.lower_bounds.specs.PotentialFunctions.{IsInRange};
+ghost use Rattle.lower_bounds.specs.FairPotentials as model;
+ghost use Rattle.lower_bounds.proofs.Worst.{worst_by};
 ghost use Rattle.model.specs.NumberedLiterals.{NumberedChange};
 ghost use Rattle.potentials.specs.Swing.{IsSwing, is_always};
 

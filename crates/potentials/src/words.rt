@@ -1,7 +1,7 @@
 //! Sums of weights, word by word, for packed states.
 ghost use Rattle.std.specs.Prelude.{◌≡◌, ◌+◌, ◌^◌, ◌<◌, ◌==◌, neg_ℤ, All, if◌then◌else◌};
 ghost use Rattle.std.specs.Int.{bit_at};
-ghost use Rattle.potential_functions.specs.PotentialFunctions.{weight, IsInRange};
+ghost use Rattle.lower_bounds.specs.PotentialFunctions.{weight, IsInRange};
 ghost use Rattle.potentials.specs.Words as model;
 
 use crate::losses::weight_at;

@@ -10,8 +10,8 @@ use Rattle.grounding.specs.Changes.{counting_of}
 use Rattle.potentials.proofs.ListLemmas.{map-take-more}
 use Rattle.model.specs.Task.{Atom, Task}
 use Rattle.model.specs.NumberedLiterals.{NumberedChange, counting_of_number}
-use Rattle.potential_functions.specs.Fair.{touches}
-use Rattle.potential_functions.proofs.Numbers.{counting-below}
+use Rattle.lower_bounds.specs.FairPotentials.{touches}
+use Rattle.lower_bounds.proofs.Numbers.{counting-below}
 use Rattle.potentials_drafted.specs.declared.incidence.IncidenceEntry.{IncidenceEntry}
 use Rattle.potentials_drafted.specs.declared.incidence.Incidence.{Incidence}
 use Rattle.potentials_drafted.specs.Incidence.{number_of, touches_at, row_of, IsIncidence, IsAdded}

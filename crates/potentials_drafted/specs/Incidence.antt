@@ -4,7 +4,7 @@ use Rattle.std.specs.Option.{option_map_or}
 use Rattle.std.specs.Global.{Vec}
 use Rattle.model.specs.Task.{Atom, Task}
 use Rattle.model.specs.NumberedLiterals.{NumberedChange, counting_of_number}
-use Rattle.potential_functions.specs.Fair.{touches}
+use Rattle.lower_bounds.specs.FairPotentials.{touches}
 use Rattle.potentials_drafted.specs.declared.incidence.IncidenceEntry.{IncidenceEntry}
 use Rattle.potentials_drafted.specs.declared.incidence.Incidence.{Incidence}
 

@@ -10,12 +10,12 @@ use Rattle.model.specs.Task.{Atom, Task, Instance}
 use Rattle.model.specs.Meaning.{initial_state}
 use Rattle.model.specs.NumberedLiterals.{NumberedLiteral, literals_of_goal}
 use Rattle.model.specs.Grounding.{ground_system}
-use Rattle.potential_functions.specs.PotentialFunctions.{PotentialFunction, weight, given, score, or_zero, IsInRange}
-use Rattle.potential_functions.specs.Fair.{says, goal_gives, goal_gives_at_most, AreFairAt}
-use Rattle.potential_functions.specs.Settled.{initial_value, IsSettledAt, IsImprovedAt}
-use Rattle.potential_functions.proofs.Sums.{sum-range}
-use Rattle.potential_functions.proofs.Ranges.{zero-range, weight-range, given-range}
-use Rattle.potential_functions.proofs.Settling.{weight-here, gives-set, given-set, potentials, IsNoneBetter, IsTried, settled}
+use Rattle.lower_bounds.specs.PotentialFunctions.{PotentialFunction, weight, given, score, or_zero, IsInRange}
+use Rattle.lower_bounds.specs.FairPotentials.{says, goal_gives, goal_gives_at_most, AreFairAt}
+use Rattle.lower_bounds.specs.Settled.{initial_value, IsSettledAt, IsImprovedAt}
+use Rattle.lower_bounds.proofs.Sums.{sum-range}
+use Rattle.lower_bounds.proofs.Ranges.{zero-range, weight-range, given-range}
+use Rattle.lower_bounds.proofs.Settling.{weight-here, gives-set, given-set, potentials, IsNoneBetter, IsTried, settled}
 use Rattle.potentials.specs.Potentials.{potentials_of}
 use Rattle.potentials.specs.Fairness.{AreInstancesFairAt}
 use Rattle.potentials_improved.specs.declared.climb.Climb.{Climb}

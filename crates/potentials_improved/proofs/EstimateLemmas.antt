@@ -19,12 +19,12 @@ use Rattle.model.proofs.NumberingLemmas.{occurs_in-Contains}
 use Rattle.model.proofs.PackedStates.{chosen-occurs_in, contains-fluent, contains-static, contains-numbered, packed-bits_of_state}
 use Rattle.search.specs.Estimates.{IsConsistent, above_zero, value_by}
 use Rattle.search.specs.DeadEnds.{DetectsDeadEnds}
-use Rattle.potential_functions.specs.PotentialFunctions.{PotentialFunction, weight, sum_below, given, score, or_zero, value, is_dead_by}
-use Rattle.potential_functions.specs.Fair.{AreFairAt, AreFair, AreDeadFair, nothing}
-use Rattle.potential_functions.specs.Laws.{AreNumberable}
-use Rattle.potential_functions.proofs.Sums.{sum-alike, sum-least, sum-zero}
-use Rattle.potential_functions.proofs.Falls.{or_zero-most}
-use Rattle.potential_functions.proofs.LowerBound.{are_lower_bounds, detect_dead_ends}
+use Rattle.lower_bounds.specs.PotentialFunctions.{PotentialFunction, weight, sum_below, given, score, or_zero, value, is_dead_by}
+use Rattle.lower_bounds.specs.FairPotentials.{AreFairAt, AreFair, AreDeadFair, nothing}
+use Rattle.lower_bounds.specs.PotentialLaws.{AreNumberable}
+use Rattle.lower_bounds.proofs.Sums.{sum-alike, sum-least, sum-zero}
+use Rattle.lower_bounds.proofs.PotentialFalls.{or_zero-most}
+use Rattle.lower_bounds.proofs.PotentialLowerBound.{are_lower_bounds, detect_dead_ends}
 use Rattle.potentials.proofs.WordLemmas.{sum-past, given-past}
 use Rattle.potentials_improved.specs.Guides.{Guides}
 

@@ -9,11 +9,11 @@ use Rattle.model.proofs.ListLemmas.{Contains-none, Contains-got}
 use Rattle.model.specs.Task.{Atom, Task, Instance}
 use Rattle.model.specs.StaticallyFalse.{kept_instances}
 use Rattle.model.specs.NumberedLiterals.{NumberedLiteral, NumberedChange, literals_of_instance, counting_of_instance}
-use Rattle.potential_functions.specs.PotentialFunctions.{PotentialFunction, weight}
-use Rattle.potential_functions.specs.Fair.{touches, worst, loses, loses_at_most, IsFairAt}
-use Rattle.potential_functions.proofs.Sums.{sum-alike}
-use Rattle.potential_functions.proofs.Settling.{weight-other, potentials, IsNoneBetter}
-use Rattle.potential_functions.proofs.Numbers.{counting-named}
+use Rattle.lower_bounds.specs.PotentialFunctions.{PotentialFunction, weight}
+use Rattle.lower_bounds.specs.FairPotentials.{touches, worst, loses, loses_at_most, IsFairAt}
+use Rattle.lower_bounds.proofs.Sums.{sum-alike}
+use Rattle.lower_bounds.proofs.Settling.{weight-other, potentials, IsNoneBetter}
+use Rattle.lower_bounds.proofs.Numbers.{counting-named}
 use Rattle.potentials.specs.Fairness.{AreInstancesFairAt}
 use Rattle.potentials_drafted.specs.declared.incidence.Incidence.{Incidence}
 use Rattle.potentials_drafted.specs.Incidence.{row_of, IsIncidence}

@@ -1,13 +1,13 @@
--- Potentials that are fair at an allowance, on the way to better ones.
+-- Fair potentials on the way to better ones.
 use Rattle.std.specs.Prelude.{◌≡◌, ℕ, ◌<◌, Bool, true, false, ℤ, pos, ◌+ℤ◌, ◌≤ℤ◌, List, Some, set, length, slice_get, Contains}
 use Rattle.model.specs.Task.{Atom, Task, Instance}
 use Rattle.model.specs.StaticallyFalse.{kept_instances}
 use Rattle.model.specs.NumberedLiterals.{literals_of_goal}
 use Rattle.model.specs.Grounding.{ground_system}
-use Rattle.potential_functions.specs.PotentialFunctions.{PotentialFunction, score, or_zero, IsInRange}
-use Rattle.potential_functions.specs.Fair.{goal_gives_at_most, AreFairAt, IsFairAt}
-use Rattle.potential_functions.specs.Settled.{initial_value}
-use Rattle.potential_functions.proofs.Settling.{potentials, IsNoneBetter, IsTried}
+use Rattle.lower_bounds.specs.PotentialFunctions.{PotentialFunction, score, or_zero, IsInRange}
+use Rattle.lower_bounds.specs.FairPotentials.{goal_gives_at_most, AreFairAt, IsFairAt}
+use Rattle.lower_bounds.specs.Settled.{initial_value}
+use Rattle.lower_bounds.proofs.Settling.{potentials, IsNoneBetter, IsTried}
 use Rattle.potentials.specs.Potentials.{potentials_of}
 use Rattle.potentials_improved.specs.declared.climb.Climb.{Climb}
 use Rattle.potentials_improved.specs.declared.climb.Next.{Next}
@@ -22,12 +22,12 @@ pub record IsClimb (allowance : Instance → ℕ) (task : Task) (atoms : List At
   pub score : c.score ≡ score (potentials_of c.potentials) (ground_system task atoms).initial
   pub greatest : (k : ℤ) → IsInRange k → (k +ℤ c.goal) ≤ℤ pos 0 → k ≤ℤ c.potentials.constant
 
--- each of the instances of these numbers is fair
+-- the instances with these numbers are fair
 abbrev pub AreFairAmong : (Instance → ℕ) → Task → List Atom → PotentialFunction → List ℕ → Type 0
 AreFairAmong allowance task atoms p numbers =
     (n : ℕ) (i : Instance) → Contains numbers n → slice_get (kept_instances task) n ≡ Some i → IsFairAt (allowance i) task atoms p.weights i
 
--- what the changed weight gives, with the greatest constant that goes with it: better than what there is
+-- the numbers for the changed weight with the greatest constant; they are better
 pub record IsNext (task : Task) (atoms : List Atom) (c : Climb) (n : ℕ) (w : ℤ) (next : Next) : Type 0 where
   pub goal : next.goal ≡ goal_gives_at_most (length atoms) (set c.potentials.weights.items n w) (literals_of_goal task atoms)
   pub score : next.score ≡ score (potentials next.constant (set c.potentials.weights.items n w)) (ground_system task atoms).initial
@@ -48,7 +48,7 @@ pub record IsAtomTried (allowance : Instance → ℕ) (task : Task) (atoms : Lis
   pub same : raised ≡ false → potentials_of new.potentials ≡ potentials_of old.potentials
   pub tried : raised ≡ false → IsTried allowance task atoms (potentials_of old.potentials) n
 
--- the atoms below n are tried
+-- the first n atoms are tried
 pub record IsPass (allowance : Instance → ℕ) (task : Task) (atoms : List Atom) (n : ℕ) (old new : Climb) (raised : Bool) : Type 0 where
   pub climb : IsClimb allowance task atoms new
   pub better : raised ≡ true → worth task atoms old < worth task atoms new

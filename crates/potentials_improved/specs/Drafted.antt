@@ -1,11 +1,11 @@
--- Potentials that take the place of others.
+-- Potentials that replace others.
 use Rattle.std.specs.Prelude.{◌≡◌, ℕ, ◌≤◌, List, length}
 use Rattle.model.specs.Task.{Atom, Task, Instance}
-use Rattle.potential_functions.specs.PotentialFunctions.{PotentialFunction}
-use Rattle.potential_functions.specs.Fair.{AreFairAt}
-use Rattle.potential_functions.specs.Settled.{initial_value}
+use Rattle.lower_bounds.specs.PotentialFunctions.{PotentialFunction}
+use Rattle.lower_bounds.specs.FairPotentials.{AreFairAt}
+use Rattle.lower_bounds.specs.Settled.{initial_value}
 
--- they are fair at this allowance, and the initial state's value is no lower
+-- fair at this allowance, with no lower value of the initial state
 pub record IsNoWorseAt (allowance : Instance → ℕ) (task : Task) (atoms : List Atom) (p q : PotentialFunction) : Type 0 where
   pub width : length q.weights ≡ length atoms
   pub fair : AreFairAt allowance task atoms q

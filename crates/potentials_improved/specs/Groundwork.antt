@@ -1,7 +1,7 @@
--- What potentials are improved by, as the code has it.
+-- Groundwork, as the code keeps it.
 use Rattle.grounding.specs.declared.ground.Ground.{Ground}
 use Rattle.potentials_improved.specs.declared.groundwork.Groundwork.{Groundwork}
 
--- the ground task that it is of
+-- its ground task
 abbrev pub ground_under : Groundwork → Ground
 ground_under g = g.ground.now

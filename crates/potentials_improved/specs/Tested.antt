@@ -1,4 +1,4 @@
--- Which instances touch which atoms, by tests: this has at most one proof, as what a ghost field says must have.
+-- Tables of the instances that touch an atom, stated by tests, so that there is at most one proof, as a ghost field needs.
 use Rattle.std.specs.Prelude.{◌≡◌, ℕ, ◌<◌, true, List, length, nat_eq}
 use Rattle.std.specs.List.{list_any}
 use Rattle.model.specs.Task.{Atom, Task}
@@ -6,12 +6,12 @@ use Rattle.model.specs.StaticallyFalse.{kept_instances}
 use Rattle.model.specs.NumberedLiterals.{counting_of_number}
 use Rattle.grounding.specs.declared.ground.Ground.{Ground}
 use Rattle.grounding.specs.Ground.{task_in, atoms_in}
-use Rattle.potential_functions.specs.Fair.{touches}
+use Rattle.lower_bounds.specs.FairPotentials.{touches}
 use Rattle.potentials_drafted.specs.declared.tables.Tables.{Tables}
 use Rattle.potentials_drafted.specs.declared.incidence.Incidence.{Incidence}
 use Rattle.potentials_drafted.specs.Incidence.{row_of}
 
--- `IsIncidence`, with a test where that says that a number is in a row
+-- `IsIncidence`, with a test for a number's being in a row
 pub record IsTestedIncidence (task : Task) (atoms : List Atom) (count : ℕ) (t : Incidence) : Type 0 where
   pub width : length t.rows.items ≡ length atoms
   pub within : (a n : ℕ) → list_any (nat_eq n) (row_of t a) ≡ true → n < count

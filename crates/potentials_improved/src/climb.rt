@@ -1,16 +1,16 @@
-//! Steps from potentials that are fair at an allowance to better ones.
+//! Hill climbing: steps of single weights from fair potentials to better ones.
 ghost use Rattle.std.specs.Prelude.{◌≡◌, ◌<◌, ◌≤◌, ◌||◌, ◌↔◌, ℤ, ◌+ℤ◌, ◌≤ℤ◌, neg_ℤ, pos, set, if◌then◌else◌, All, IfSome, IfNone, IsTrue, length, map};
 ghost use Rattle.packed_state.specs.Packed.{bits_of};
 ghost use Rattle.grounding.specs.Ground.{task_in, atoms_in};
 ghost use Rattle.model.specs.StaticallyFalse.{kept_instances};
 ghost use Rattle.model.specs.NumberedLiterals.{literals_of_goal};
 ghost use Rattle.model.specs.Grounding.{ground_system};
-ghost use Rattle.potential_functions.specs.PotentialFunctions.{IsInRange};
-ghost use Rattle.potential_functions.specs.PotentialFunctions as potential;
-ghost use Rattle.potential_functions.specs.Fair as model;
-ghost use Rattle.potential_functions.specs.Fair.{AreFairAt};
-ghost use Rattle.potential_functions.specs.Settled.{initial_value};
-ghost use Rattle.potential_functions.proofs.Settling.{IsNoneBetter};
+ghost use Rattle.lower_bounds.specs.PotentialFunctions.{IsInRange};
+ghost use Rattle.lower_bounds.specs.PotentialFunctions as potential;
+ghost use Rattle.lower_bounds.specs.FairPotentials as model;
+ghost use Rattle.lower_bounds.specs.FairPotentials.{AreFairAt};
+ghost use Rattle.lower_bounds.specs.Settled.{initial_value};
+ghost use Rattle.lower_bounds.proofs.Settling.{IsNoneBetter};
 ghost use Rattle.potentials.specs.Potentials.{potentials_of};
 ghost use Rattle.potentials_drafted.specs.Incidence.{number_of, IsIncidence};
 ghost use Rattle.potentials_improved.specs.Climb.{AreFairAmong, IsClimb, IsNext, IsWeightTried, IsAtomTried, IsPass, worth};
@@ -23,8 +23,8 @@ use potentials::{
 };
 use potentials_drafted::{Incidence, IncidenceEntry};
 
-/// Potentials that are fair at an allowance, of the greatest constant, with what they give at most at a goal, and with their score in the initial
-/// state.
+/// Potentials that are fair at an allowance and have the greatest constant, an upper bound of their score in goal states without
+/// the constant, and their score in the initial state.
 #[derive(Drop)]
 pub(crate) struct Climb {
     pub(crate) potentials: Potentials,
@@ -32,7 +32,7 @@ pub(crate) struct Climb {
     pub(crate) score: i64,
 }
 
-/// What a changed weight gives.
+/// The same numbers for a changed weight.
 #[derive(Clone, Copy)]
 pub(crate) struct Next {
     pub(crate) constant: i64,
@@ -40,7 +40,7 @@ pub(crate) struct Next {
     pub(crate) score: i64,
 }
 
-/// The greatest constant in range of potentials that give this at most at a goal.
+/// The greatest constant in range, given the upper bound of the score in goal states.
 pub(crate) fn greatest_constant(goal: i64) -> i64
     requires { goal ≤ℤ pos 2147483647 }
     ensures range { IsInRange result }
@@ -54,7 +54,7 @@ pub(crate) fn greatest_constant(goal: i64) -> i64
 }
 
 impl Climb {
-    /// That of these potentials, with the greatest constant that they may have.
+    /// Begins at these potentials, with the greatest constant.
     pub(crate) fn new<A: Allowance>(
         mut potentials: Potentials,
         ground: &Ground<'_>,
@@ -77,7 +77,7 @@ impl Climb {
         }
     }
 
-    /// What they give at most at a goal with the changed weight.
+    /// The upper bound in goal states, with the changed weight.
     fn moved_goal<A: Allowance>(&self, ground: &Ground<'_>, atom: u32, weight: i64) -> i64
         requires climb { IsClimb (A.allowance (task_in ground.now)) (task_in ground.now) (atoms_in ground.now) self.now }
         requires within { atom < length (atoms_in ground.now) }
@@ -93,7 +93,7 @@ impl Climb {
         exchanged(self.goal, before, after)
     }
 
-    /// Their score in the initial state with the changed weight and this constant.
+    /// The score in the initial state, with the changed weight and this constant.
     fn moved_score<A: Allowance>(
         &self,
         ground: &Ground<'_>,
@@ -117,7 +117,7 @@ impl Climb {
         exchanged(moved, before, after)
     }
 
-    /// What the changed weight gives, if that is better.
+    /// The numbers for the changed weight, if they are better.
     fn next<A: Allowance>(
         &self,
         ground: &Ground<'_>,
@@ -148,7 +148,7 @@ impl Climb {
         })
     }
 
-    /// Takes the weight, if it makes them better.
+    /// Takes the weight, if the potentials become better and stay fair.
     fn try_weight<A: Allowance>(
         &mut self,
         ground: &Ground<'_>,
@@ -172,7 +172,7 @@ impl Climb {
         }
     }
 
-    /// Takes the weight and what it gives, if each instance that touches the atom is fair then. The others stay fair.
+    /// Takes the weight and its numbers, if each instance that touches the atom stays fair. All others do.
     fn take_if_fair<A: Allowance>(
         &mut self,
         ground: &Ground<'_>,
@@ -200,7 +200,7 @@ impl Climb {
         true
     }
 
-    /// Tries the weight of the atom that is one less, and the one that is one more.
+    /// Tries the atom's weight less one, and plus one.
     fn try_atom<A: Allowance>(
         &mut self,
         ground: &Ground<'_>,
@@ -221,7 +221,7 @@ impl Climb {
         self.try_weight::<A>(ground, incidence, initial, atom, old + 1)
     }
 
-    /// Tries each atom once.
+    /// One pass: tries each atom once.
     pub(crate) fn pass<A: Allowance>(
         &mut self,
         ground: &Ground<'_>,
@@ -242,7 +242,7 @@ impl Climb {
     }
 }
 
-/// Whether each of these instances is fair by the potentials.
+/// Whether all these instances are fair at the allowance.
 pub(crate) fn are_fair_at<A: Allowance>(
     potentials: &Potentials,
     ground: &Ground<'_>,
@@ -260,7 +260,7 @@ pub(crate) fn are_fair_at<A: Allowance>(
     true
 }
 
-/// The sum with one of its parts exchanged.
+/// The sum with one part replaced.
 fn exchanged(sum: i64, before: i64, after: i64) -> i64
     requires least { neg_ℤ (pos 4503599627370496) ≤ℤ sum }
     requires most { sum ≤ℤ pos 4503599627370496 }
@@ -271,7 +271,7 @@ fn exchanged(sum: i64, before: i64, after: i64) -> i64
     sum - before + after
 }
 
-/// What an atom of this weight gives.
+/// The weight, if the atom is true; else 0.
 fn given(is_true: bool, weight: i64) -> i64
     requires { IsInRange weight }
     ensures value { result ≡ (if is_true then weight else pos 0) }
@@ -280,7 +280,7 @@ fn given(is_true: bool, weight: i64) -> i64
     if is_true { weight } else { 0 }
 }
 
-/// Whether one of the two is true.
+/// Whether at least one is true.
 fn either(one: bool, other: bool) -> bool
     ensures { result ≡ (one || other) }
 {

@@ -1,11 +1,11 @@
-//! What an instance costs, as an allowance: fair potentials are an estimate by which a search chooses.
+//! Costs as an allowance: fair potentials are an estimate for a search.
 ghost use Rattle.std.specs.Prelude.{◌≡◌, ◌≤◌, ℕ, Bool, List, Some, IsTrue, length};
 ghost use Rattle.packed_state.specs.Packed.{bits_of};
 ghost use Rattle.grounding.specs.Ground.{task_in, atoms_in};
 ghost use Rattle.model.specs.Runs.{run, cost_of_all};
 ghost use Rattle.model.specs.Grounding.{ground_system};
-ghost use Rattle.potential_functions.specs.PotentialFunctions as potential;
-ghost use Rattle.potential_functions.specs.Laws.{AreLowerBounds};
+ghost use Rattle.lower_bounds.specs.PotentialFunctions as potential;
+ghost use Rattle.lower_bounds.specs.PotentialLaws.{AreLowerBounds};
 ghost use Rattle.potentials_improved.specs.FairPotentials.{potentials_in, ground_in};
 
 use crate::allowance::Allowance;
@@ -20,14 +20,14 @@ use potentials_drafted::drafted_weights;
 use search::Estimate;
 use std::alloc::Global;
 
-/// To each instance is allowed what it costs. Potentials that are fair so give lower bounds.
+/// Each instance may lose its cost. The values of fair potentials are lower bounds.
 #[derive(Clone, Copy, Debug)]
 pub struct Costs;
 
 impl Allowance for Costs {
     ghost use Rattle.model.specs.Meaning.{cost_of};
-    ghost use Rattle.potential_functions.specs.Laws.{AreLowerBounds};
-    ghost use Rattle.potential_functions.proofs.LowerBound.{are_lower_bounds};
+    ghost use Rattle.lower_bounds.specs.PotentialLaws.{AreLowerBounds};
+    ghost use Rattle.lower_bounds.proofs.PotentialLowerBound.{are_lower_bounds};
 
     ghost allowance = { cost_of };
 
@@ -62,8 +62,8 @@ impl Drafts for Costs {
 }
 
 impl FairAt<'_, '_, Costs> {
-    /// The value of the state, which every list of instances that runs from it to a state that meets the goal costs at
-    /// least. No memory is taken.
+    /// The state's value, a lower bound on the cost of every list of instances from it to a state that meets the goal. Allocates
+    /// nothing.
     pub fn estimate(&self, state: &Packed) -> u64
         requires { length (bits_of state.now) ≡ length (atoms_in (ground_in self.now)) }
         ensures value { result ≡ potential.value (potentials_in self.now) (bits_of state.now) }
@@ -76,14 +76,13 @@ impl FairAt<'_, '_, Costs> {
     }
 }
 
-/// The score of a state is that of the potentials. From the score of another state it takes a look at the atoms that differ, and at no
-/// other.
+/// Scores by the potentials. A state's score is found from another state's by the atoms in which they differ.
 impl Estimate for FairAt<'_, '_, Costs> {
     ghost use Rattle.std.specs.Prelude.{length};
     ghost use Rattle.std.proofs.Common.{le_refl};
     ghost use Rattle.grounding.specs.Ground.{task_in, atoms_in};
     ghost use Rattle.model.specs.Grounding.{ground_system};
-    ghost use Rattle.potential_functions.specs.PotentialFunctions as potential;
+    ghost use Rattle.lower_bounds.specs.PotentialFunctions as potential;
     ghost use Rattle.potentials_improved.specs.FairPotentials.{potentials_in, ground_in};
 
     ghost width_of = { λ estimate. length (atoms_in (ground_in estimate)) };

@@ -1,4 +1,4 @@
-//! Nothing, as an allowance: dead-fair potentials are a test for dead ends, by which a search leaves states out.
+//! Nothing as an allowance: dead-fair potentials are a search's test for dead ends.
 use crate::allowance::Allowance;
 use crate::drafted::{Drafts, no_worse};
 use crate::fair_at::FairAt;
@@ -11,14 +11,14 @@ use potentials_drafted::DeadDrafts;
 use search::DeadEnd;
 use std::alloc::Global;
 
-/// Nothing is allowed to an instance. Potentials that are fair so show dead ends.
+/// No instance may lose anything. States with a value of at least 1 by dead-fair potentials are dead ends.
 #[derive(Clone, Copy, Debug)]
 pub struct DeadEnds;
 
 impl Allowance for DeadEnds {
-    ghost use Rattle.potential_functions.specs.Fair.{nothing};
-    ghost use Rattle.potential_functions.specs.Laws.{DetectDeadEnds};
-    ghost use Rattle.potential_functions.proofs.LowerBound.{detect_dead_ends};
+    ghost use Rattle.lower_bounds.specs.FairPotentials.{nothing};
+    ghost use Rattle.lower_bounds.specs.PotentialLaws.{DetectDeadEnds};
+    ghost use Rattle.lower_bounds.proofs.PotentialLowerBound.{detect_dead_ends};
 
     ghost allowance = { λ task. nothing };
 
@@ -40,8 +40,8 @@ impl Allowance for DeadEnds {
 }
 
 impl Drafts for DeadEnds {
-    /// At most one draft a round, which makes the initial state a dead end, or more of some that were sampled on the way from it
-    /// than those before. What the tables say is not relied on.
+    /// One draft a round at most: one that makes the initial state a dead end, or more of the sampled states than before. The
+    /// result does not rest on the tables.
     fn drafted(
         alloc: Global,
         potentials: Potentials,
@@ -60,13 +60,13 @@ impl Drafts for DeadEnds {
     }
 }
 
-/// A state of a value of at least 1 is reported dead.
+/// A state is dead if its value is at least 1.
 impl DeadEnd for FairAt<'_, '_, DeadEnds> {
     ghost use Rattle.std.specs.Prelude.{length};
     ghost use Rattle.std.proofs.Common.{le_refl};
     ghost use Rattle.grounding.specs.Ground.{task_in, atoms_in};
     ghost use Rattle.model.specs.Grounding.{ground_system};
-    ghost use Rattle.potential_functions.specs.PotentialFunctions.{is_dead_by};
+    ghost use Rattle.lower_bounds.specs.PotentialFunctions.{is_dead_by};
     ghost use Rattle.potentials_improved.specs.FairPotentials.{potentials_in, ground_in};
 
     ghost width_of = { λ test. length (atoms_in (ground_in test)) };

@@ -1,10 +1,10 @@
-//! Potentials whose weights are those of a draft, where they are good for that.
+//! Potentials from drafts.
 ghost use Rattle.std.specs.Prelude.{◌≡◌, ◌≤◌, IfOk, IfSome, length};
 ghost use Rattle.grounding.specs.Ground.{task_in, atoms_in};
 ghost use Rattle.packed_state.specs.Packed.{bits_of};
 ghost use Rattle.model.specs.Grounding.{ground_system};
-ghost use Rattle.potential_functions.specs.Fair.{AreFairAt};
-ghost use Rattle.potential_functions.specs.Settled.{initial_value};
+ghost use Rattle.lower_bounds.specs.FairPotentials.{AreFairAt};
+ghost use Rattle.lower_bounds.specs.Settled.{initial_value};
 ghost use Rattle.potentials.specs.Potentials.{potentials_of};
 ghost use Rattle.potentials_improved.specs.Drafted.{IsNoWorseAt};
 ghost use Rattle.potentials_improved.specs.Groundwork.{ground_under};
@@ -18,10 +18,9 @@ use packed_state::Packed;
 use potentials::{Fairness, MAX_WEIGHT, Potentials, goal_gives_at_most};
 use std::alloc::Global;
 
-/// An allowance for which better weights are drafted.
+/// An allowance with drafts.
 pub trait Drafts: Allowance {
-    /// Potentials that are fair at the allowance and no worse than these: those of drafts, in at most so many rounds, or else
-    /// these.
+    /// Potentials that are fair at the allowance and no worse than these, from at most `rounds` rounds of drafts; or these.
     fn drafted(
         alloc: Global,
         potentials: Potentials,
@@ -33,7 +32,7 @@ pub trait Drafts: Allowance {
         ensures { IfOk result (λ p. IsNoWorseAt (Self.allowance (task_in (ground_under groundwork.now))) (task_in (ground_under groundwork.now)) (atoms_in (ground_under groundwork.now)) (potentials_of potentials) (potentials_of p)) };
 }
 
-/// Potentials of these weights and the greatest constant, where they are fair and no worse than the others; else those.
+/// Potentials with these weights and the greatest constant, if they are fair and no worse than the others; else the others.
 pub(crate) fn no_worse<A: Allowance>(
     alloc: Global,
     potentials: Potentials,
@@ -55,7 +54,7 @@ pub(crate) fn no_worse<A: Allowance>(
     }
 }
 
-/// Potentials of these weights and the greatest constant, if they give the initial state no lower value than the others.
+/// Potentials with these weights and the greatest constant, if their value of the initial state is no lower than the others'.
 fn if_no_lower(
     potentials: &Potentials,
     ground: &Ground<'_>,

@@ -2,8 +2,8 @@
 ghost use Rattle.std.specs.Prelude.{◌≡◌, ◌≤ℤ◌, ◌↔◌, pos, Bool, List, false, All, IsTrue, length};
 ghost use Rattle.std.proofs.Props.{props};
 ghost use Rattle.grounding.specs.Ground.{task_in, atoms_in};
-ghost use Rattle.potential_functions.specs.PotentialFunctions.{is_dead_by};
-ghost use Rattle.potential_functions.specs.Fair.{AreFairAt};
+ghost use Rattle.lower_bounds.specs.PotentialFunctions.{is_dead_by};
+ghost use Rattle.lower_bounds.specs.FairPotentials.{AreFairAt};
 ghost use Rattle.potentials.specs.Potentials.{potentials_of};
 ghost use Rattle.potentials_improved.specs.Guides.{Guides};
 
@@ -16,12 +16,12 @@ use potentials::{Fairness, Potentials};
 use std::alloc::Global;
 use std::marker::PhantomData;
 
-/// Potentials that are fair for a ground task at an allowance: no kept instance loses more by them than is allowed to it.
+/// Potentials that are fair at an allowance for a ground task: no kept instance may lose more by them than its allowance.
 #[derive(Drop)]
 pub struct FairAt<'g, 't, A: Allowance> {
     pub(crate) potentials: Potentials,
     pub(crate) ground: &'g Ground<'t>,
-    /// That no state has a value of at least 1.
+    /// Whether no weight and no constant is above 0; no state has a value of at least 1 then.
     are_all_zero: bool,
     allowance: PhantomData<A>,
     ghost width: { length (potentials_of potentials).weights ≡ length (atoms_in ground.now) } by { Prim.hlevel props },
@@ -30,18 +30,21 @@ pub struct FairAt<'g, 't, A: Allowance> {
     ghost none: { IsTrue are_all_zero → (bits : List Bool) → is_dead_by (potentials_of potentials) bits ≡ false } by { Prim.hlevel props },
 }
 
-/// Fair potentials: no instance loses more than it costs. The value of a state is a lower bound of what is still to pay from
-/// it.
+/// Fair potentials: no instance loses more than it costs. A state's value is a lower bound on its remaining cost.
 pub type Fair<'g, 't> = FairAt<'g, 't, Costs>;
 
-/// Dead-fair potentials: no instance loses anything. A state of a value of at least 1 is a dead end.
+/// Dead-fair potentials: no instance loses anything. A state with a value of at least 1 is a dead end.
 pub type DeadFair<'g, 't> = FairAt<'g, 't, DeadEnds>;
 
 impl<'g, 't, A: Allowance> FairAt<'g, 't, A> {
     ghost use Rattle.std.specs.Prelude.{IfOk, MatchOption};
     ghost use Rattle.potentials_improved.specs.FairPotentials.{potentials_in, ground_in, AreOf};
 
-    /// The potentials, if they are fair so for the ground task. There is a weight for each numbered atom.
+    /// The potentials, if they are fair at the allowance for the ground task; else `None`. They have a weight for each numbered
+    /// atom.
+    ///
+    /// # Errors
+    /// An allocation failed.
     pub fn new(
         alloc: Global,
         potentials: Potentials,
@@ -58,7 +61,7 @@ impl<'g, 't, A: Allowance> FairAt<'g, 't, A> {
         }
     }
 
-    /// The potentials, which are known to be fair so for the ground task. Nothing is tested.
+    /// The potentials, which are already known to be fair at the allowance for the ground task. Tests nothing.
     pub fn known(potentials: Potentials, ground: &'g Ground<'t>) -> FairAt<'g, 't, A>
         requires width { length (potentials_of potentials).weights ≡ length (atoms_in ground.now) }
         requires fair { AreFairAt (A.allowance (task_in ground.now)) (task_in ground.now) (atoms_in ground.now) (potentials_of potentials) }
@@ -87,7 +90,7 @@ impl<'g, 't, A: Allowance> FairAt<'g, 't, A> {
         self.ground
     }
 
-    /// Whether it is known that no state has a value of at least 1.
+    /// Whether no state can have a value of at least 1. May be false although none has one.
     pub(crate) fn are_all_zero(&self) -> bool
         ensures { IsTrue result → (bits : List Bool) → is_dead_by (potentials_in self.now) bits ≡ false }
     {
@@ -95,14 +98,14 @@ impl<'g, 't, A: Allowance> FairAt<'g, 't, A> {
     }
 }
 
-/// Whether the constant is at most 0 and so is each weight, so that no state has a value of at least 1.
+/// Whether neither the constant nor a weight is above 0, so that no state has a value of at least 1.
 fn are_all_zero(potentials: &Potentials) -> bool
     ensures { IsTrue result → (bits : List Bool) → is_dead_by (potentials_of potentials.now) bits ≡ false }
 {
     potentials.constant() <= 0 && are_at_most_zero(potentials.weights())
 }
 
-/// Whether each is at most 0.
+/// Whether no weight is above 0.
 fn are_at_most_zero(weights: &[i64]) -> bool
     ensures { IsTrue result ↔ All (λ w. w ≤ℤ pos 0) weights.now }
 {

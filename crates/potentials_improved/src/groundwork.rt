@@ -1,4 +1,4 @@
-//! What potentials of a ground task are improved by, whatever they are for.
+//! What improving potentials of a ground task needs, at any allowance.
 ghost use Rattle.std.specs.Prelude.{◌≡◌};
 ghost use Rattle.std.proofs.Props.{props};
 ghost use Rattle.packed_state.specs.Packed.{bits_of};
@@ -12,7 +12,8 @@ use packed_state::Packed;
 use potentials_drafted::Tables;
 use std::alloc::Global;
 
-/// What potentials of a ground task are improved by, whatever they are for: its tables, and its initial state. It is made once.
+/// What improving potentials of a ground task needs, at any allowance: its tables of instances and atoms, and its initial state.
+/// Made once.
 #[derive(Drop)]
 pub struct Groundwork<'g, 't> {
     pub(crate) ground: &'g Ground<'t>,
@@ -26,7 +27,10 @@ impl<'g, 't> Groundwork<'g, 't> {
     ghost use Rattle.std.specs.Prelude.{IfOk};
     ghost use Rattle.potentials_improved.specs.Groundwork.{ground_under};
 
-    /// That of the ground task.
+    /// The groundwork of the ground task.
+    ///
+    /// # Errors
+    /// An allocation failed.
     pub fn new(alloc: Global, ground: &'g Ground<'t>) -> Result<Groundwork<'g, 't>, NoMemory>
         ensures { IfOk result (λ g. ground_under g ≡ ground.now) }
     {

@@ -1,9 +1,9 @@
-//! Better potentials.
+//! Improves potentials.
 ghost use Rattle.std.specs.Prelude.{◌≡◌, ℕ, IfOk, length};
 ghost use Rattle.grounding.specs.declared.ground.Ground.{Ground};
 ghost use Rattle.grounding.specs.Ground.{task_in, atoms_in};
-ghost use Rattle.potential_functions.specs.Fair.{AreFairAt};
-ghost use Rattle.potential_functions.specs.Settled.{IsImprovedAt};
+ghost use Rattle.lower_bounds.specs.FairPotentials.{AreFairAt};
+ghost use Rattle.lower_bounds.specs.Settled.{IsImprovedAt};
 ghost use Rattle.potentials.specs.Potentials.{potentials_of};
 ghost use Rattle.potentials_improved.specs.Groundwork.{ground_under};
 
@@ -15,15 +15,18 @@ use faults::NoMemory;
 use potentials::Potentials;
 use std::alloc::Global;
 
-/// What can be made better of a kind of potentials, of which each value rests on their fairness.
+/// Potentials that can be improved and stay fair.
 pub trait Improve: Sized {
-    /// The ground task that they are of.
+    /// Their ground task.
     ghost ground_of: { Self → Ground };
 
-    /// That those which come after are so much better.
+    /// Whether the second are an improvement of the first in this many rounds.
     ghost IsImproved: { ℕ → Self → Self → Type 0 };
 
-    /// Potentials of the same kind whose value in the initial state is no lower, in at most so many rounds.
+    /// Potentials of the same kind whose value of the initial state is no lower, after at most `rounds` rounds.
+    ///
+    /// # Errors
+    /// An allocation failed. The potentials are gone then.
     fn improve(
         self,
         alloc: Global,
@@ -34,8 +37,8 @@ pub trait Improve: Sized {
         ensures { IfOk result (IsImproved rounds self) };
 }
 
-/// They are drafted first, and then single weights are moved, in a pass over all atoms a round. At the end they are settled, or
-/// have in the initial state a value that is higher by at least the number of rounds.
+/// Drafts first, then steps of single weights, one pass over all atoms a round. The result is settled, or its value of the initial
+/// state is higher by at least the number of rounds.
 impl<A: Drafts> Improve for FairAt<'_, '_, A> {
     ghost use Rattle.potentials_improved.specs.FairPotentials.{ground_in, AreBetter};
 
@@ -59,7 +62,7 @@ impl<A: Drafts> Improve for FairAt<'_, '_, A> {
     }
 }
 
-/// Better potentials: those of drafts, if they are no worse, with weights moved.
+/// Better potentials: by drafts that are no worse, then by steps of single weights.
 fn improved<A: Drafts>(
     alloc: Global,
     potentials: Potentials,

@@ -1,10 +1,9 @@
-//! Improves potentials: drafts are tested, then single weights are moved.
+//! Improves potentials, by drafts that are tested and by steps of single weights.
 //!
-//! Fair ones are an estimate for a search, dead-fair ones a test of dead ends. Each kind has a file of its own (`costs`,
-//! `dead_ends`).
+//! Fair potentials are an estimate for a search (`costs`), dead-fair ones a test for dead ends (`dead_ends`).
 //!
-//! Weights are drafted, by a linear program and rounded, for the initial state and for others on the way from it. A draft is
-//! taken where it is tested to be fair and no worse. Of fair potentials, single weights are moved then.
+//! A draft has the weights of a linear program's solution, rounded, for the initial state and for states sampled on the way from
+//! it. It is taken if it is tested to be fair and no worse. Then single weights of fair potentials are moved.
 #![tactic(auto)]
 
 mod allowance;

@@ -3,7 +3,7 @@ use Rattle.std.specs.Prelude.{ℕ, List, [], ◌∷◌, codes, map, Option, Some
 use Rattle.std.specs.String.{string_bytes}
 use Rattle.faults.specs.Fault.{number_of, name_in, names}
 use Rattle.faults.specs.declared.code.Code.{Code}
-use Rattle.explained_plans.specs.declared.summary.Summary.{Summary}
+use Rattle.explain_tasks.specs.declared.summary.Summary.{Summary}
 use Rattle.file_answers.specs.declared.explanation.Explanation.{Explanation}
 use Rattle.file_answers.specs.declared.explanation.FurtherFault.{FurtherFault}
 use Rattle.file_answers.specs.declared.explanation.Location.{Location}
@@ -11,8 +11,8 @@ use Rattle.file_answers.specs.declared.explanation.Subject.{Subject}
 use Rattle.file_answers.specs.declared.explanation.Subject.TheVariants as subject
 use Rattle.file_answers.specs.declared.explanation.Grounded.{Grounded}
 use Rattle.file_answers.specs.declared.explanation.Grounded.TheVariants.{Within, Beyond}
-use Rattle.grounding_kept.specs.declared.fault.GroundLimit.{GroundLimit}
-use Rattle.grounding_kept.specs.declared.fault.GroundLimit.TheVariants.{Instances, Atoms}
+use Rattle.grounding_instances.specs.declared.fault.GroundLimit.{GroundLimit}
+use Rattle.grounding_instances.specs.declared.fault.GroundLimit.TheVariants.{Instances, Atoms}
 use Rattle.validator.specs.Verdict.{verdict_of}
 use Rattle.model.specs.Runs.{Verdict, valid, not_applicable, goal_missed}
 use Rattle.printed_answers.specs.JsonText.{Member, number, text, texts}

@@ -6,11 +6,11 @@ use Rattle.solver.specs.declared.answer.Answer.{Answer}
 use Rattle.solver.specs.declared.answer.Answer.TheVariants as answer
 use Rattle.solver.specs.declared.answer.Exceeded.{Exceeded}
 use Rattle.solver.specs.declared.answer.Exceeded.TheVariants as exceeded
-use Rattle.task_certificates.specs.declared.refusal.RefusalCode.{RefusalCode}
-use Rattle.task_certificates.specs.declared.refusal.RefusalCode.TheVariants as code
-use Rattle.task_certificates.specs.declared.refusal.Refusal.{Refusal}
-use Rattle.task_certificates.specs.declared.refusal.Refusal.TheVariants as refusal
-use Rattle.task_certificates.specs.RefusalCode.{name_of, number_of}
+use Rattle.cert_checker.specs.declared.refusal.RefusalCode.{RefusalCode}
+use Rattle.cert_checker.specs.declared.refusal.RefusalCode.TheVariants as code
+use Rattle.cert_checker.specs.declared.refusal.Refusal.{Refusal}
+use Rattle.cert_checker.specs.declared.refusal.Refusal.TheVariants as refusal
+use Rattle.cert_checker.specs.RefusalCode.{name_of, number_of}
 use Rattle.cert_checker.specs.declared.checker.Accepted.{Accepted}
 use Rattle.cert_checker.specs.declared.checker.Accepted.TheVariants as accepted
 use Rattle.model.specs.Runs.{Verdict, valid, not_applicable, goal_missed}

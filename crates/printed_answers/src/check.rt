@@ -6,14 +6,13 @@ ghost use Rattle.formulas.specs.State.{instance_of};
 ghost use Rattle.printed_answers.specs.CheckReported.{IsReportedRefusal, accepted_line, failure_of, instance_refused, line_of, line_refused, plain_refused};
 ghost use Rattle.model.specs.PlanWriting.{has_names};
 
-use cert_checker::Accepted;
+use cert_checker::{Accepted, Refusal, RefusalCode};
 use devices::IoFault;
 use faults::NoMemory;
 use formulas::Instance;
 use plan_file::step_text;
 use std::alloc::{AllocError, Global};
 use task::Task;
-use task_certificates::{Refusal, RefusalCode};
 
 /// Why there is nothing to report for a certificate: its device failed, or an allocation failed. `None` if there is an answer to
 /// report.

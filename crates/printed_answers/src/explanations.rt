@@ -8,7 +8,7 @@ ghost use Rattle.printed_answers.specs.JsonText.{object_text};
 use crate::members::{Member, object_text};
 use faults::Code;
 use file_answers::{Explanation, FurtherFault, Grounded, Location, Subject, Summary};
-use grounding_kept::GroundLimit;
+use grounding_instances::GroundLimit;
 use std::alloc::{AllocError, Global};
 use validator::Verdict;
 

@@ -10,14 +10,13 @@ ghost use Rattle.printed_answers.specs.Objects.{of_accepted, of_answer, of_check
 ghost use Rattle.model.specs.PlanWriting.{has_names, step_text};
 
 use crate::members::{Member, object_text};
-use cert_checker::Accepted;
+use cert_checker::{Accepted, Refusal, RefusalCode};
 use faults::NoMemory;
 use formulas::Plan;
 use plan_file::step_text;
 use solver::{Answer, Exceeded};
 use std::alloc::{AllocError, Global};
 use task::Task;
-use task_certificates::{Refusal, RefusalCode};
 use validator::Verdict;
 
 /// The object of a verdict, as compact text. The only error, here and in the functions below, is that an allocation failed.

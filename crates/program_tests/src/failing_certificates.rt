@@ -1,8 +1,6 @@
 //! Tests of the output order: the certificate file comes before the plan file, and both before standard output.
 use crate::failing_files::{Failing, FailingFiles, WRITE_PIECE};
-use crate::failing_runs::{OLDER, TWO_HOPS, table};
-use devices::Memory;
-use planner_main::run;
+use crate::failing_runs::{OLDER, TWO_HOPS, run_with, table};
 use std::alloc::Global;
 use std::process::Abort;
 use std::test::Fail;
@@ -21,22 +19,20 @@ fn leaves(
     left: [Option<&[u8]>; 3],
 ) -> Result<bool, Fail> {
     let mut files = FailingFiles::new(table(alloc)?, failing);
-    let (mut out, mut err) = (Memory::empty(alloc), Memory::empty(alloc));
-    let ended = run(alloc, &SOLVE, &mut files, &mut out, &mut err);
+    let ran = run_with(alloc, &SOLVE, &mut files);
     let [certificate, plan, reported] = left;
     Ok(
-        ended == status
+        ran.status == status
             && files.table.get("cert") == certificate
             && files.table.get("out") == plan
-            && Some(out.as_slice()) == reported,
+            && Some(ran.out.as_slice()) == reported,
     )
 }
 
 /// What a run without failures writes to the certificate file.
 fn certificate(alloc: Global) -> Result<Vec<u8>, Fail> {
     let mut files = FailingFiles::new(table(alloc)?, Failing::Never);
-    let (mut out, mut err) = (Memory::empty(alloc), Memory::empty(alloc));
-    run(alloc, &SOLVE, &mut files, &mut out, &mut err);
+    let _ = run_with(alloc, &SOLVE, &mut files);
     let written = files.table.get("cert").ok_or("no certificate")?;
     Ok(Vec::from_slice(alloc, written)?)
 }

@@ -4,7 +4,7 @@ ghost use Rattle.devices.specs.Devices.{one_more};
 
 use devices::{Files, IoFault, Memory};
 use std::alloc::{AllocError, Global};
-use test_devices::{Endless, FailsAt, InPieces, Table};
+use test_support::{Endless, FailsAt, InPieces, Table};
 
 /// The maximum number of bytes per write.
 pub(crate) const WRITE_PIECE: usize = 7;

@@ -1,13 +1,12 @@
 //! Tests of runs over files whose writing fails, and over endless files.
 use crate::failing_files::{EndlessFiles, Failing, FailingFiles};
-use devices::Memory;
+use devices::{Files, Memory};
 use faults::NoMemory;
 use planner_main::run;
 use std::alloc::Global;
 use std::process::Abort;
 use std::test::Fail;
-use test_devices::Table;
-use test_texts::HOP;
+use test_support::{HOP, Table};
 
 /// The text of two hops.
 pub(crate) const TWO_HOPS: &[u8] = b"(hop a b)\n(hop b c)\n; cost = 6\n";
@@ -33,7 +32,22 @@ pub(crate) fn table(alloc: Global) -> Result<Table, NoMemory> {
     Ok(table)
 }
 
-/// What a run leaves: its exit status, the contents of the plan file, and the standard output.
+/// What a run leaves: its exit status, the standard output and the standard error.
+#[derive(Drop)]
+pub(crate) struct Ran {
+    pub(crate) status: u8,
+    pub(crate) out: Memory,
+    err: Memory,
+}
+
+/// What a run with these words leaves.
+pub(crate) fn run_with<F: Files>(alloc: Global, words: &[&str], files: &mut F) -> Ran {
+    let (mut out, mut err) = (Memory::empty(alloc), Memory::empty(alloc));
+    let status = run(alloc, words, files, &mut out, &mut err);
+    Ran { status, out, err }
+}
+
+/// An exit status, the contents of the plan file, and the standard output.
 #[derive(Clone, Copy)]
 struct Left<'a> {
     status: u8,
@@ -55,25 +69,22 @@ const NOTHING: Left<'static> = Left {
     out: b"",
 };
 
-/// Whether a run leaves this. Standard error reports a failed device, and nothing otherwise.
-fn leaves(alloc: Global, files: &mut FailingFiles, wanted: Left<'_>) -> bool {
-    let (mut out, mut err) = (Memory::empty(alloc), Memory::empty(alloc));
-    let status = run(alloc, &SOLVE, files, &mut out, &mut err);
-    let reported: &[u8] = if status == 21 {
+/// Whether a run leaves this if this operation on the plan file fails. Standard error reports a failed device, and nothing
+/// otherwise.
+fn leaves_where(alloc: Global, failing: Failing, wanted: Left<'_>) -> Result<bool, NoMemory> {
+    let mut files = FailingFiles::new(table(alloc)?, failing);
+    let ran = run_with(alloc, &SOLVE, &mut files);
+    let reported: &[u8] = if ran.status == 21 {
         b"fault 61 Device\n"
     } else {
         b""
     };
-    status == wanted.status
-        && files.table.get("out") == Some(wanted.file)
-        && out.as_slice() == wanted.out
-        && err.as_slice() == reported
-}
-
-/// Whether a run leaves this if this operation on the plan file fails.
-fn leaves_where(alloc: Global, failing: Failing, wanted: Left<'_>) -> Result<bool, NoMemory> {
-    let mut files = FailingFiles::new(table(alloc)?, failing);
-    Ok(leaves(alloc, &mut files, wanted))
+    Ok(
+        ran.status == wanted.status
+            && files.table.get("out") == Some(wanted.file)
+            && ran.out.as_slice() == wanted.out
+            && ran.err.as_slice() == reported,
+    )
 }
 
 /// A plan file that fails at a write has a prefix of the plan.
@@ -128,10 +139,9 @@ const SOLVE_AND_SAY: [&str; 6] = ["solve", "domain", "problem", "--plan", "out",
 /// Whether standard error ends with the name of the failing file, if this operation on it fails.
 fn says_which(alloc: Global, failing: Failing) -> Result<bool, NoMemory> {
     let mut files = FailingFiles::new(table(alloc)?, failing);
-    let (mut out, mut err) = (Memory::empty(alloc), Memory::empty(alloc));
-    let status = run(alloc, &SOLVE_AND_SAY, &mut files, &mut out, &mut err);
+    let ran = run_with(alloc, &SOLVE_AND_SAY, &mut files);
     let last = b"\nprogress=failed file=out\nfault 61 Device\n".as_slice();
-    Ok(status == 21 && err.as_slice().ends_with(last))
+    Ok(ran.status == 21 && ran.err.as_slice().ends_with(last))
 }
 
 /// The same if the file cannot be created, if it cannot be closed, and if its first write fails.
@@ -149,19 +159,14 @@ fn the_file_that_fails_is_named(rt: HostRuntime) -> Result<(), Fail> {
     Ok(())
 }
 
-/// The exit status of a run over endless files, and whether it reports that the domain is too long, and nothing else.
-fn run_without_an_end(alloc: Global) -> (u8, bool) {
-    let mut files = EndlessFiles::new(alloc);
-    let (mut out, mut err) = (Memory::empty(alloc), Memory::empty(alloc));
-    let status = run(alloc, &SOLVE, &mut files, &mut out, &mut err);
+/// Whether a run over endless files reports that the domain is too long, and nothing else.
+fn is_too_long(alloc: Global) -> bool {
+    let ran = run_with(alloc, &SOLVE, &mut EndlessFiles::new(alloc));
     let reported = b"fault 5 TooLong in domain at 16777216..16777217\n".as_slice();
-    (
-        status,
-        out.as_slice().is_empty() & (err.as_slice() == reported),
-    )
+    ran.status == 20 && ran.out.as_slice().is_empty() && ran.err.as_slice() == reported
 }
 
 #[test]
 fn a_domain_without_an_end_is_too_long(rt: HostRuntime) {
-    assert_eq!(rt; run_without_an_end(rt.alloc()), (20, true));
+    assert!(rt; is_too_long(rt.alloc()));
 }

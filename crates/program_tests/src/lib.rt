@@ -13,5 +13,3 @@ mod laws;
 mod machine_files;
 #[cfg(test)]
 mod reported;
-#[cfg(test)]
-mod reports;

@@ -1,7 +1,7 @@
-//! Tests of the words for faults, and of which numbers are valid limits.
+//! Tests of the words for faults.
 use devices::{DeviceFault, IoFault};
 use faults::{Code, NoMemory, Span};
-use planner_main::{File, FileFault, Limits};
+use planner_main::{File, FileFault};
 use std::alloc::{AllocError, Global};
 use std::test::Fail;
 
@@ -33,28 +33,4 @@ plan: BadForm in plan at 4..17; ";
         [files, failures]
     );
     Ok(())
-}
-
-/// The greatest limit.
-const MOST: u32 = 16_777_216;
-
-/// Numbers of states and instances, and whether they are valid limits.
-#[rattlefmt::skip]
-static LIMITS: [(u32, u32, bool); 8] = [
-    (1, 1, true), (1, MOST, true), (MOST, 1, true), (MOST, MOST, true),
-    (0, 1, false), (1, 0, false), (MOST + 1, 1, false), (1, MOST + 1, false),
-];
-
-/// The limits with these numbers, as reported.
-fn limits(states: u32, instances: u32) -> Option<(u32, u32)> {
-    let limits = Limits::new(states, instances)?;
-    Some((limits.states(), limits.instances()))
-}
-
-#[test]
-fn limits_are_from_1_to_16777216(rt: HostRuntime) {
-    for &(states, instances, may_be) in &LIMITS {
-        let wanted = may_be.then_some((states, instances));
-        assert_eq!(rt; limits(states, instances), wanted, "{states}, {instances}");
-    }
 }

@@ -1,12 +1,11 @@
-//! Tests of explanations: of a plan whose task's quantified variables have no names, and of the places of steps.
-use explained_plans::{VariableNames, explain_plan, report_details, step_place};
-use faults::Span;
+//! Tests of explanations of a plan whose task's quantified variables have no names.
+use explain_plans::{VariableNames, explain_plan, report_details};
 use plan_file::read_plan;
 use std::alloc::Global;
 use std::process::Abort;
 use std::test::Fail;
 use task::Task;
-use test_texts::{Texts, on_task};
+use test_support::{Texts, on_task};
 
 /// A task in which nothing has been seen.
 const UNSEEN: Texts = [
@@ -38,17 +37,4 @@ fn has_a_number(rt: &impl Abort, alloc: Global, task: &Task) -> Result<(), Fail>
 #[test]
 fn a_variable_without_a_name_has_a_number(rt: HostRuntime) -> Result<(), Fail> {
     on_task(&rt, rt.alloc(), &UNSEEN, has_a_number)
-}
-
-#[test]
-fn steps_are_placed(rt: HostRuntime) {
-    let text = b"(hop a b) ; (\n(hop b a)";
-    let places = [
-        step_place(text, 1),
-        step_place(text, 2),
-        step_place(text, 3),
-    ];
-    let first = Span { start: 0, end: 9 };
-    let second = Span { start: 14, end: 23 };
-    assert_eq!(rt; places, [Some(first), Some(second), None]);
 }

@@ -1,6 +1,11 @@
-//! The laws of reading, meaning and ground tasks that are proved for all values, each called once; and the numbers that the
-//! contracts mention.
-use explained_plans::false_parts_report;
+//! The laws of reading, meaning, ground tasks and certificates that are proved for all values, each called once; and the numbers
+//! that the contracts mention.
+use cert_checker::{
+    closed_certificates_are_accepted, closed_claim_holds, examples_are_judged,
+    solving_list_stays_listed, written_certificates_read_back,
+};
+use certificate::{MAX_ATOMS, MAX_STATE_LINES, NUMBER_LIMIT, texts_are_certificates_one_for_one};
+use explain_plans::false_parts_report;
 use formulas::{MAX_STEPS, formula_examples_are_judged, one_state, sure_literals_hold};
 use grounding::{
     atoms_are_numbered, ground_task_is_bisimilar, ground_task_solves_alike,
@@ -50,8 +55,22 @@ fn laws_of_ground_tasks_are_called() {
     grounding_examples_are_judged();
 }
 
+#[test]
+fn laws_of_certificates_are_called() {
+    texts_are_certificates_one_for_one();
+    written_certificates_read_back();
+    closed_certificates_are_accepted();
+    closed_claim_holds();
+    solving_list_stays_listed();
+    examples_are_judged();
+}
+
 const _: () = prove!(
     LONGEST_TEXT == 16_777_216 && MAX_STEPS == 16_777_216 && MAX_OBJECTS == 65_535
 );
 
 const _: () = prove!(MAX_ARGUMENTS == 8 && MAX_VARIABLES == 16);
+
+const _: () = prove!(MAX_ATOMS == 1_048_576 && MAX_STATE_LINES == 16_777_216);
+
+const _: () = prove!(NUMBER_LIMIT == 1_152_921_504_606_846_976);

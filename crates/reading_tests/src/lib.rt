@@ -1,23 +1,23 @@
-//! Tests of trees, tasks, states, plan texts, ground tasks and exchanges, as far as runs of the program cannot show them.
+//! Tests of trees, tasks, states, ground tasks and certificates, as far as runs of the program cannot show them.
 #![tactic(auto)]
 
 #[cfg(test)]
-mod drafts;
+mod certificates;
 #[cfg(test)]
-mod exchanges;
+mod checked_streams;
 #[cfg(test)]
 mod explained;
-#[cfg(test)]
-mod ground_literals;
 #[cfg(test)]
 mod ground_tasks;
 #[cfg(test)]
 mod laws;
 #[cfg(test)]
-mod plan_files;
+mod reading_certificates;
 #[cfg(test)]
 mod states;
 #[cfg(test)]
 mod tasks;
 #[cfg(test)]
 mod trees;
+#[cfg(test)]
+mod writing;

@@ -1,11 +1,11 @@
-//! Tests of states, instances and atoms in memory, and of sure literals.
+//! Tests of states, instances and atoms in memory.
 use faults::NoMemory;
-use formulas::{Atom, Binding, State, is_atom, is_fluent, is_fluent_predicate, is_instance, sure};
+use formulas::{Atom, State, is_atom, is_fluent, is_fluent_predicate, is_instance};
 use std::alloc::Global;
 use std::process::Abort;
 use std::test::Fail;
 use task::{PredicateId, Task};
-use test_texts::{Application, Texts, atom, atoms, instance, on_task};
+use test_support::{Application, Texts, atom, atoms, instance, on_task};
 
 /// Three places, with roads from the first to itself and to the second, and from the second to the third.
 const WALK: Texts = [
@@ -64,32 +64,6 @@ fn instances_and_atoms_of_a_walk(rt: HostRuntime) -> Result<(), Fail> {
         knows_what_is_fluent(rt, task);
         Ok(())
     })
-}
-
-/// A goal with each kind of formula, five of which are sure literals.
-const OUTRIGHT: Texts = [
-    "(define (domain say) (:predicates (p ?x) (q)))",
-    "(define (problem s) (:domain say) (:objects a b) (:init)
- (:goal (and (p b) (not (q)) (= a b) (not (= b a)) (forall (?x) (and (p ?x) (or (q)))) (or (p a)) (imply (q) (p a))
-  (exists (?x) (p ?x)) (not (or (p a))) (not (not (p a))))))",
-];
-
-/// The sure literals of the goal.
-const SAID: &str = "[IsTrue(Atom { predicate: PredicateId(0), objects: [ObjectId(1)] }), \
-IsFalse(Atom { predicate: PredicateId(1), objects: [] }), \
-AreSame(ObjectId(0), ObjectId(1)), AreDifferent(ObjectId(1), ObjectId(0)), \
-IsTrue(Atom { predicate: PredicateId(0), objects: [ObjectId(0)] }), \
-IsTrue(Atom { predicate: PredicateId(0), objects: [ObjectId(1)] })]";
-
-fn says_outright(rt: &impl Abort, alloc: Global, task: &Task) -> Result<(), Fail> {
-    let said = sure(alloc, task, task.goal(), &Binding::new())?;
-    assert_eq!(rt; format!(in alloc; "{said:?}")?.as_str(), SAID);
-    Ok(())
-}
-
-#[test]
-fn some_is_said_outright(rt: HostRuntime) -> Result<(), Fail> {
-    on_task(&rt, rt.alloc(), &OUTRIGHT, says_outright)
 }
 
 /// The state with these atoms, inserted one after another.

@@ -2,7 +2,7 @@
 use std::process::Abort;
 use std::test::Fail;
 use task::{ObjectId, PredicateId, SchemaId, Task, TypeId};
-use test_texts::{Application, Texts, atom, on_task};
+use test_support::{Application, Texts, atom, on_task};
 
 /// Names in mixed case.
 const MIXED: Texts = [

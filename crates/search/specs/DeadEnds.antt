@@ -6,17 +6,17 @@ use Rattle.model.specs.Runs.{System, run}
 abbrev pub ReportsDeadEnds : {S A : Type 0} → System S A → (S → Bool) → Type 0
 ReportsDeadEnds {S} {A} t is_dead = (s end : S) (plan : List A) → IsTrue (is_dead s) → run t s plan ≡ Some end → t.meets_goal end ≡ false
 
--- No state that meets the goal is reported dead, and an applicable action leads from a state that is reported dead to one that is:
--- so each state reported dead is a dead end, though not each dead end need be reported.
+-- No state that meets the goal is reported dead, and all successors of a state that is reported dead are reported too. So such a state is
+-- a dead end; not all dead ends need be reported.
 pub record DetectsDeadEnds {S A : Type 0} (t : System S A) (is_dead : S → Bool) : Type 0 where
   pub no_goal : (s : S) → IsTrue (is_dead s) → t.meets_goal s ≡ false
   pub stays_dead : (s next : S) (a : A) → IsTrue (is_dead s) → t.step s a ≡ Some next → IsTrue (is_dead next)
 
--- the test that says no state dead
+-- the test that reports no state
 pub reports_none : {S A : Type 0} (t : System S A) → DetectsDeadEnds t (λ _. false)
 reports_none t = record { no_goal = λ s reported. absurd (cc); stays_dead = λ s next a reported leads. reported }
 
--- the estimate of the state, which 63 bits can say, or none where it is reported dead
+-- the estimate of the state, which fits 63 bits; None: it is reported dead
 abbrev pub IsValueUnlessDead : {S : Type 0} → (S → ℕ) → (S → Bool) → S → Option ℕ → Type 0
 IsValueUnlessDead value is_dead s None = IsTrue (is_dead s)
 IsValueUnlessDead value is_dead s (Some estimate) = (is_dead s ≡ false) × (estimate ≡ value s) × (estimate < 2 ^ 63)

@@ -1,15 +1,15 @@
--- Estimates of what is still to pay from a state on.
+-- Estimates of the remaining cost.
 use Rattle.std.proofs.Common.{zero-le}
 use Rattle.std.specs.Prelude.{◌≡◌, ℕ, ◌+◌, ◌≤◌, ℤ, pos, negsuc, IsTrue, List, Some, refl}
 use Rattle.model.specs.Runs.{System, run, cost_of_all}
 
--- No list of actions that runs from a state to one that meets the goal costs less than the state's estimate: it is admissible.
+-- The estimate is admissible: no list of actions from a state to one that meets the goal costs less than the state's estimate.
 -- (Russell & Norvig, Artificial Intelligence, section 3.5.2.)
 abbrev pub IsAdmissible : {S A : Type 0} → System S A → (S → ℕ) → Type 0
 IsAdmissible {S} {A} t value = (s end : S) (plan : List A) → run t s plan ≡ Some end → IsTrue (t.meets_goal end) → value s ≤ cost_of_all t plan
 
--- The estimate is 0 in each state that meets the goal, and across an applicable action it falls by at most what the action
--- costs: it is consistent, and so admissible. (Russell & Norvig, Artificial Intelligence, section 3.5.2; Hart, Nilsson & Raphael, A Formal
+-- The estimate is consistent, and so admissible: it is 0 in states that meet the goal, and across an action falls by at most the action's
+-- cost. (Russell & Norvig, Artificial Intelligence, section 3.5.2; Hart, Nilsson & Raphael, A Formal
 -- Basis for the Heuristic Determination of Minimum Cost Paths, 1968.)
 pub record IsConsistent {S A : Type 0} (t : System S A) (value : S → ℕ) : Type 0 where
   pub zero_at_goals : (s : S) → IsTrue (t.meets_goal s) → value s ≡ 0
@@ -20,7 +20,7 @@ abbrev pub above_zero : ℤ → ℕ
 above_zero (pos n) = n
 above_zero (negsuc n) = 0
 
--- the estimate of a state, by its score
+-- the estimate of a state by its score
 abbrev pub value_by : {S : Type 0} → (S → ℤ) → S → ℕ
 value_by score s = above_zero (score s)
 

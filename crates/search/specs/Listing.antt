@@ -1,4 +1,4 @@
--- What the states that a search lists are looked up by.
+-- How a listing finds the class of a state.
 use Rattle.std.specs.Prelude.{◌≡◌, ℕ, ◌<◌, List, [], ◌∷◌, ◌++◌, length, slice_get, Option, None, Some, Contains}
 use Rattle.search.specs.declared.listing.Place.{Place}
 use Rattle.search.specs.declared.listing.Place.TheVariants.{New, Listed, Alike}
@@ -10,8 +10,8 @@ pub record IsAlikeAt {S : Type 0} (class_of : S → S) (states : List S) (s : S)
   pub there : slice_get states place ≡ Some other
   pub alike : AreOfOneClass class_of other s
 
--- The state is at its place in the list; or it is not in the list, and the current state of its class is at this place; or it is the
--- first of its class, which then is at the end. None: it would be, and no more may be listed.
+-- New: the state is the first of its class, and is listed at the end now. Listed: it is listed at this place. Alike: it is not listed, and
+-- the current state of its class is at this place. None: it would be the first of its class, but the limit allows no more.
 abbrev pub IsPlacedBy : {S : Type 0} → (S → S) → (ℕ → Type 0) → (old new : List S) → S → (max_states : ℕ) → Option Place → Type 0
 IsPlacedBy class_of is_current old new s max_states None = (¬ Contains old s) × (length old ≡ max_states) × (new ≡ old)
 IsPlacedBy class_of is_current old new s max_states (Some (New place)) =

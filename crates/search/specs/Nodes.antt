@@ -1,4 +1,4 @@
--- What a search keeps true of the states that it has found.
+-- What a search keeps true of its found states.
 use Rattle.std.specs.Prelude.{◌≡◌, ℕ, ◌+◌, ◌-◌, ◌*◌, ◌≤◌, ◌<◌, ◌≢◌, Bool, true, false, if◌then◌else◌, Option, None, Some, List, [], ◌∷◌, ◌++◌, length, slice_get, Contains, sum_by, All}
 use Rattle.std.specs.declared.cmp.Reverse.{Reverse}
 use Rattle.model.specs.Runs.{System, CostsAtLeast}
@@ -11,7 +11,7 @@ use Rattle.search.specs.Estimates.{IsConsistent}
 use Rattle.search.specs.DeadEnds.{DetectsDeadEnds}
 use Rattle.search.specs.Outcome.{AreOfOneClass, AreOwnClasses, is_expanded, is_marked_dead, IsReachableAt, ReachingCostsAtLeast, IsCut}
 
--- a waiting state as the open list holds it: the sum of its cost and its estimate, the estimate, and its place
+-- an entry of the open list: the sum of a waiting state's cost and estimate, its estimate, and its place
 abbrev pub Waiting : Type 0
 Waiting = Reverse (ℕ × ℕ × StateId)
 
@@ -30,24 +30,24 @@ entry_at sum estimate place = record { 0 = (sum, estimate, record { 0 = place })
 abbrev pub entry : ℕ → ℕ → ℕ → Waiting
 entry cost estimate place = entry_at (cost + estimate) estimate place
 
--- the entry's place is below this count, and its estimate is a part of its sum
+-- the entry's place is below this count, and its estimate is no greater than its sum
 abbrev pub IsEntry : ℕ → Waiting → Type 0
 IsEntry count w = (place_of w < count) × (estimate_of w ≤ sum_of w)
 
--- the entry reports at what cost a state waits now
+-- the entry is current: its state waits at the entry's cost
 abbrev pub IsCurrent : List Node → Waiting → Type 0
 IsCurrent nodes w = (node : Node) × (slice_get nodes (place_of w) ≡ Some node) × (node.cost + estimate_of w ≡ sum_of w) × (is_expanded node ≡ false)
 
--- the place that three bytes report
+-- the place in three bytes
 abbrev pub place_in : ShortId → ℕ
 place_in id = id.low + id.middle * 256 + id.high * 65536
 
--- the status of a state that is reached anew and has this estimate, or none since it is reported dead
+-- the status of a new state with this estimate; None: it is reported dead
 abbrev pub status_of_reached : Option ℕ → NodeStatus
 status_of_reached (Some estimate) = Open
 status_of_reached None = Dead
 
--- the state has been expanded, in whole or in part, at whatever cost: so it may be the parent of others
+-- the state was ever expanded, at least in part, so it may be the parent of others
 abbrev pub has_been_expanded_status : NodeStatus → Bool
 has_been_expanded_status Open = false
 has_been_expanded_status Reopened = true
@@ -57,16 +57,16 @@ has_been_expanded_status Dead = false
 abbrev pub has_been_expanded : Node → Bool
 has_been_expanded node = has_been_expanded_status node.status
 
--- the status of a state that is reached at a lower cost than before
+-- the status after the state is reached at a lower cost
 abbrev pub status_again : NodeStatus → Option ℕ → NodeStatus
 status_again before (Some estimate) = if has_been_expanded_status before then Reopened else Open
 status_again before None = Dead
 
--- the place of the state that the node was reached from
+-- the place of the parent
 abbrev pub parent_of : Node → ℕ
 parent_of node = place_in node.parent
 
--- a found state, with how it was reached
+-- a found state and its node
 pub record Found (S : Type 0) : Type 0 where
   pub state : S
   pub node : Node
@@ -77,16 +77,16 @@ found_of [] nodes = []
 found_of (s ∷ states) [] = []
 found_of (s ∷ states) (node ∷ nodes) = record { state = s; node = node } ∷ found_of states nodes
 
--- the found state waits to be expanded: it is not, at the cost at which it is reached now, and it is not reported dead
+-- the found state waits: it was not expanded at its present cost, and is not reported dead
 abbrev pub IsWaiting : {S : Type 0} → (S → Bool) → Found S → Type 0
 IsWaiting is_dead n = IsCut is_dead n.state n.node
 
--- what a found state costs, with its estimate
+-- the sum of a found state's cost and estimate
 abbrev pub total_of : {S : Type 0} → (S → ℕ) → Found S → ℕ
 total_of value n = n.node.cost + value n.state
 
--- The entry is one of a found state that is reached at the entry's cost or a lower one since. Where it is the same, the entry has the
--- state's estimate, and the state is not reported dead; an older one may be of a state whose place another of its class took.
+-- The entry's state is reached at the entry's cost or a lower one. At an equal cost the entry has the state's estimate, and the state is
+-- not reported dead. An entry of a greater cost may be that of another state of the class, whose place this one took.
 pub record IsEntryOf {S : Type 0} (value : S → ℕ) (is_dead : S → Bool) (nodes : List (Found S)) (w : Waiting) : Type 0 where
   pub found : Found S
   pub occurs : slice_get nodes (place_of w) ≡ Some found
@@ -94,22 +94,21 @@ pub record IsEntryOf {S : Type 0} (value : S → ℕ) (is_dead : S → Bool) (no
   pub alive : found.node.cost + estimate_of w ≡ sum_of w → is_dead found.state ≡ false
   pub estimate : found.node.cost + estimate_of w ≡ sum_of w → estimate_of w ≡ value found.state
 
--- the most that an action may cost
+-- the greatest cost of an action
 abbrev pub dearest : ℕ
 dearest = 4294967295
 
--- how often a search may still turn to a found state: it may be reached more cheaply, and is expanded at each cost at most once
+-- how often a found state may still be reached at a lower cost or expanded: at each cost it is expanded at most once
 abbrev pub work_at : {S : Type 0} → Found S → ℕ
 work_at n = n.node.cost * 2 + (if is_expanded n.node then 0 else 1)
 
--- and to all states, where at most so many are found, each at no more than all of them may cost
+-- the same for all states, of which at most this many are found
 abbrev pub work_left : {S : Type 0} → (most : ℕ) → List (Found S) → ℕ
 work_left most nodes = (most - length nodes) * (most * dearest * 2 + 2) + sum_by work_at nodes
 
 module _ {S : Type 0} (t : System S ℕ) (value : S → ℕ) (is_dead : S → Bool) (nodes : List (Found S)) where
-  -- The node's action leads to it from its parent, at no more than its cost. When the node was reached so, the parent was being
-  -- expanded, and cost no less than now: it may have been reached more cheaply since. A state that was never expanded is nobody's
-  -- parent, so that another of its class may take its place.
+  -- The node's action leads to it from its parent, at no more than its cost. The parent was being expanded then, and may have been
+  -- reached at a lower cost since. A state that was never expanded is no parent, so another of its class may take its place.
   pub record Leads (n : Found S) : Type 0 where
     pub parent : Found S
     pub occurs : slice_get nodes (parent_of n.node) ≡ Some parent
@@ -120,7 +119,7 @@ module _ {S : Type 0} (t : System S ℕ) (value : S → ℕ) (is_dead : S → Bo
     pub alive : is_dead parent.state ≡ false
     pub no_dearer : CostsAtLeast t (parent.node.cost + value parent.state)
 
--- from parent to child these actions lead from the initial state, which is found first, to the one at this place
+-- from parent to child, these actions lead from the initial state, which is found first, to the state at this place
 pub data IsPathBy {X : Type 0} (node_of : X → Node) (nodes : List X) : ℕ → List ℕ → Type 0 where
   begins : {k : ℕ} {path : List ℕ} → k ≡ 0 → path ≡ [] → IsPathBy node_of nodes k path
   follows : {k : ℕ} {path : List ℕ} (x : X) (before : List ℕ) → k ≢ 0 → slice_get nodes k ≡ Some x
@@ -129,11 +128,11 @@ pub data IsPathBy {X : Type 0} (node_of : X → Node) (nodes : List X) : ℕ →
 abbrev pub IsPath : List Node → ℕ → List ℕ → Type 0
 IsPath nodes k path = IsPathBy (λ (node : Node). node) nodes k path
 
--- there is such a list of at most so many actions
+-- there is such a list of at most this many actions
 abbrev pub IsReachedIn : List Node → ℕ → ℕ → Type 0
 IsReachedIn nodes k most = (path : List ℕ) × IsPath nodes k path × (length path ≤ most)
 
--- the same of the found states
+-- the same for found states
 abbrev pub IsWay : {S : Type 0} → List (Found S) → ℕ → List ℕ → Type 0
 IsWay {S} nodes k path = IsPathBy (λ (n : Found S). n.node) nodes k path
 
@@ -141,8 +140,8 @@ abbrev pub HasWay : {S : Type 0} → List (Found S) → ℕ → Type 0
 HasWay {S} nodes k = (path : List ℕ) × IsWay nodes k path
 
 module _ {S : Type 0} (t : System S ℕ) (class_of : S → S) (value : S → ℕ) (is_dead : S → Bool) (nodes : List (Found S)) where
-  -- What holds of the found states at any time. Those that wait are in the open list, at their cost and with their estimate. Where
-  -- the estimate is consistent, none of them has a lesser sum of these than one that was expanded.
+  -- What holds of the found states at any time. Each waiting state has an entry of its cost and estimate. With a consistent estimate,
+  -- no waiting state has a lesser sum than an expanded one.
   pub record AreNodes (open_list : List Waiting) : Type 0 where
     pub root : (n : Found S) × (slice_get nodes 0 ≡ Some n) × (n.state ≡ t.initial) × (n.node.cost ≡ 0)
     pub linked : (k : ℕ) (n : Found S) → slice_get nodes k ≡ Some n → k ≢ 0 → Leads t value is_dead nodes n
@@ -160,31 +159,31 @@ module _ {S : Type 0} (t : System S ℕ) (class_of : S → S) (value : S → ℕ
     pub queued : (k : ℕ) (n : Found S) → slice_get nodes k ≡ Some n → IsWaiting is_dead n → Contains open_list (entry n.node.cost (value n.state) k)
     pub entries : All (IsEntryOf value is_dead nodes) open_list
 
--- a state of its class is found, at no more than this cost
+-- a state of this class is found, at no more than this cost
 abbrev pub IsFoundWithin : {S : Type 0} → (S → S) → List (Found S) → S → ℕ → Type 0
 IsFoundWithin {S} class_of nodes s cost = (k : ℕ) × (n : Found S) × (slice_get nodes k ≡ Some n) × AreOfOneClass class_of n.state s × (n.node.cost ≤ cost)
 
--- of each state that an action leads to from the node one of its class is found, at no more than what that costs
+-- for each successor of the found state, a state of its class is found, at no more than the cost from there
 abbrev pub IsOpen : {S : Type 0} → System S ℕ → (S → S) → List (Found S) → Found S → Type 0
 IsOpen {S} t class_of nodes n = (a : ℕ) (next : S) → t.step n.state a ≡ Some next → IsFoundWithin class_of nodes next (n.node.cost + t.cost a)
 
--- each expanded state is open
+-- this holds for each expanded state
 abbrev pub AreOpen : {S : Type 0} → System S ℕ → (S → S) → List (Found S) → Type 0
 AreOpen {S} t class_of nodes = (k : ℕ) (n : Found S) → slice_get nodes k ≡ Some n → is_expanded n.node ≡ true → IsOpen t class_of nodes n
 
--- each expanded state is open, but for the one at this place
+-- and for each expanded state except that at this place
 abbrev pub AreOpenBut : {S : Type 0} → System S ℕ → (S → S) → List (Found S) → ℕ → Type 0
 AreOpenBut {S} t class_of nodes i = (k : ℕ) (n : Found S) → slice_get nodes k ≡ Some n → is_expanded n.node ≡ true → k ≢ i → IsOpen t class_of nodes n
 
--- the node at this place is being expanded; where the estimate is consistent, no expanded one has a greater sum
+-- the state at this place is being expanded; with a consistent estimate, no expanded state has a greater sum
 pub record IsTurn {S : Type 0} (t : System S ℕ) (value : S → ℕ) (nodes : List (Found S)) (i : ℕ) : Type 0 where
   pub found : Found S
   pub occurs : slice_get nodes i ≡ Some found
   pub expanded : is_expanded found.node ≡ true
   pub greatest : IsConsistent t value → (k : ℕ) (n : Found S) → slice_get nodes k ≡ Some n → is_expanded n.node ≡ true → total_of value n ≤ total_of value found
 
--- Beside one place, at which a node is new or now cheaper and waits, the nodes are the same. One that is now cheaper has its state
--- still, or has another of its class, if it was never expanded.
+-- Except at one place, the nodes are the same. There a node is new, or is cheaper and waits: with the same state, or with another of its
+-- class if that was never expanded.
 pub record Updates {S : Type 0} (class_of : S → S) (nodes after : List (Found S)) (j : ℕ) (m : Found S) : Type 0 where
   pub here : slice_get after j ≡ Some m
   pub others : (k : ℕ) → k ≢ j → slice_get after k ≡ slice_get nodes k
@@ -196,7 +195,7 @@ pub record Updates {S : Type 0} (class_of : S → S) (nodes after : List (Found 
   pub longer : length nodes ≤ length after
   pub less : (most : ℕ) → length after ≤ most → m.node.cost ≤ most * dearest → work_left most after ≤ work_left most nodes
 
--- the node once it has this status
+-- the node with this status
 abbrev pub marked_as : NodeStatus → Node → Node
 marked_as status node = record { cost = node.cost; status = status; parent = node.parent; action = node.action }
 

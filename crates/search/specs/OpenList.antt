@@ -8,7 +8,7 @@ use Rattle.search.specs.declared.nodes.Node.{Node}
 use Rattle.search.specs.declared.open_list.OpenList.{OpenList}
 use Rattle.search.specs.Nodes.{Waiting, sum_of, estimate_of, place_of, entry_at, entry, IsCurrent}
 
--- the open list's order: the least sum is on top, then the least estimate, and then the least place
+-- the open list's order: on top is the least sum, then the least estimate, and then the least place
 abbrev pub by_sum : Waiting → Waiting → Ordering
 by_sum x y = ordering_then (ordering_then (nat_cmp y.0.0 x.0.0) (nat_cmp y.0.1 x.0.1)) (nat_cmp y.0.2.0 x.0.2.0)
 
@@ -16,15 +16,15 @@ by_sum x y = ordering_then (ordering_then (nat_cmp y.0.0 x.0.0) (nat_cmp y.0.1 x
 abbrev pub by_word : Reverse ℕ → Reverse ℕ → Ordering
 by_word x y = nat_cmp y.0 x.0
 
--- the entry in a word: its place in the lowest 24 bits, its estimate in the next 20, and its sum above them
+-- the entry of a word: the place in the lowest 24 bits, the estimate in the next 20, and the sum above them
 abbrev pub entry_of : Reverse ℕ → Waiting
 entry_of word = entry_at (word.0 / 16777216 / 1048576) (word.0 / 16777216 % 1048576) (word.0 % 16777216)
 
--- the states that wait, in whatever order
+-- the entries, in whatever order
 abbrev pub waiting_in : OpenList → List Waiting
 waiting_in open_list = map entry_of (heap_items open_list.near) ++ heap_items open_list.far
 
--- both heaps are in order, and each far sum is above each near one
+-- both heaps are in order, and all far sums are above all near ones
 pub record IsOpenList (open_list : OpenList) : Type 0 where
   pub near_heap : IsHeap by_word (heap_items open_list.near)
   pub far_heap : IsHeap by_sum (heap_items open_list.far)
@@ -36,22 +36,22 @@ pub record Joins (old new : OpenList) (w : Waiting) : Type 0 where
   pub joins : IsPermutation (w ∷ waiting_in old) (waiting_in new)
   pub heap : IsOpenList old → IsOpenList new
 
--- the state at this place, of this cost, joins the open list by its estimate, or, where there is none, the open list stays as it is
+-- the state at this place, of this cost, joins the open list if it has an estimate; otherwise nothing changes
 abbrev pub JoinsBy : OpenList → OpenList → ℕ → ℕ → Option ℕ → Type 0
 JoinsBy old new cost place None = new ≡ old
 JoinsBy old new cost place (Some estimate) = Joins old new (entry cost estimate place)
 
--- some entry has this sum, and none has a lesser one; or there is no entry
+-- the least sum of an entry, or None if there is no entry
 abbrev pub IsLeastSum : OpenList → Option ℕ → Type 0
 IsLeastSum open_list None = waiting_in open_list ≡ []
 IsLeastSum open_list (Some sum) =
     ((w : Waiting) × Contains (waiting_in open_list) w × (sum_of w ≡ sum)) × (IsOpenList open_list → All (λ w. sum ≤ sum_of w) (waiting_in open_list))
 
--- the estimate of a current entry is put at its state's place; a stale one changes nothing
+-- the estimate of a current entry is written to its state's place; a stale entry changes nothing
 abbrev pub IsNoted : List Node → Waiting → (old new : List ℕ) → Type 0
 IsNoted nodes w old new = (IsCurrent nodes w × (new ≡ set old (place_of w) (estimate_of w))) ⊎ ((¬ IsCurrent nodes w) × (new ≡ old))
 
--- the same of these entries, one after another
+-- the same for these entries, one after another
 abbrev pub AreNoted : List Node → List Waiting → (old new : List ℕ) → Type 0
 AreNoted nodes [] old new = new ≡ old
 AreNoted nodes (w ∷ ws) old new = (between : List ℕ) × IsNoted nodes w old between × AreNoted nodes ws between new

@@ -1,4 +1,4 @@
--- What a search says of a transition system.
+-- What the outcome of a search says of a transition system.
 use Rattle.std.specs.Prelude.{◌≡◌, ℕ, ◌+◌, ◌*◌, ◌<◌, ◌≤◌, Bool, true, false, if◌then◌else◌, List, [], ◌∷◌, length, slice_get, Some, Contains}
 use Rattle.model.specs.Runs.{System, run, cost_of_all, IsReachable, CostsAtLeast, IsOptimal, IsUnsolvable}
 use Rattle.model.specs.Bisimulation.{ReachGoalsAlike}
@@ -32,7 +32,7 @@ AreOwnClasses {S} class_of = (s r : S) → AreOfOneClass class_of s r → s ≡ 
 abbrev pub AreClassesOf : {S A : Type 0} → System S A → (S → S) → Type 0
 AreClassesOf {S} t class_of = (s r : S) → AreOfOneClass class_of s r → ReachGoalsAlike t s r
 
--- the state was expanded, at the cost at which it is reached now
+-- the state was expanded at its present cost
 abbrev pub is_expanded_status : NodeStatus → Bool
 is_expanded_status Open = false
 is_expanded_status Reopened = false
@@ -42,7 +42,7 @@ is_expanded_status Dead = false
 abbrev pub is_expanded : Node → Bool
 is_expanded node = is_expanded_status node.status
 
--- the state is marked as a dead end
+-- the state is marked dead
 abbrev pub is_dead_status : NodeStatus → Bool
 is_dead_status Open = false
 is_dead_status Reopened = false
@@ -52,36 +52,35 @@ is_dead_status Dead = true
 abbrev pub is_marked_dead : Node → Bool
 is_marked_dead node = is_dead_status node.status
 
--- exactly those states are marked as dead ends that are reported dead
+-- exactly the states that are reported dead are marked dead
 abbrev pub AreMarked : {S : Type 0} → (S → Bool) → List S → List Node → Type 0
 AreMarked {S} is_dead states nodes = (k : ℕ) (s : S) (node : Node) → slice_get states k ≡ Some s → slice_get nodes k ≡ Some node → is_marked_dead node ≡ is_dead s
 
--- what a listing says of a found state: that it is open where it was expanded, a dead end where it is reported dead, and
--- otherwise a cut, where what follows costs at least its estimate
+-- the mark of a found state in a listing: open if it was expanded, dead if it is reported dead, and otherwise a cut with its estimate
 abbrev pub mark_of : {S : Type 0} → (S → ℕ) → (S → Bool) → S → Node → Mark
 mark_of value is_dead s node = if is_expanded node then opened else (if is_dead s then dead else cut (value s))
 
--- a found state in a listing
+-- the line of a found state in a listing
 abbrev pub line_of : {S : Type 0} → (S → ℕ) → (S → Bool) → S → Node → Line S
 line_of value is_dead s node = record { state = s; cost = node.cost; mark = mark_of value is_dead s node }
 
--- the found states, in the order of the two lists
+-- the lines of the found states, in order
 abbrev pub lines_of : {S : Type 0} → (S → ℕ) → (S → Bool) → List S → List Node → List (Line S)
 lines_of value is_dead [] nodes = []
 lines_of value is_dead (s ∷ states) [] = []
 lines_of value is_dead (s ∷ states) (node ∷ nodes) = line_of value is_dead s node ∷ lines_of value is_dead states nodes
 
--- What is known of the states that a search by these classes, this estimate and this test for dead ends found, no more than it was
--- allowed to list. Of one class several may be listed.
+-- What is known of the found states of a search by these classes, this estimate and this test for dead ends. Several states of one class
+-- may be listed.
 pub record AreFound {S A : Type 0} (t : System S A) (class_of : S → S) (value : S → ℕ) (is_dead : S → Bool) (claim : Claim) (max_states : ℕ) (states : List S) (nodes : List Node) : Type 0 where
   pub one_for_each : length nodes ≡ length states
   pub within_limit : length states ≤ max_states
   pub distinct : AreDistinct states
   pub reachable : (k : ℕ) (s : S) (node : Node) → slice_get states k ≡ Some s → slice_get nodes k ≡ Some node → IsReachableAt t s node.cost
-  -- no action costs more than 32 bits can say, and a state is reached first from one that was found before
+  -- an action's cost fits 32 bits, and a state is reached first from one that was found before
   pub cheap : (k : ℕ) (node : Node) → slice_get nodes k ≡ Some node → node.cost ≤ length states * 4294967295
-  -- where each state is a class of its own, the estimate is consistent, and dead ends are reported along steps, an expanded state
-  -- was reached by a cheapest way
+  -- if each state is a class of its own, the estimate is consistent, and successors of reported dead ends are reported, an expanded
+  -- state was reached by a cheapest way
   pub expanded_cheapest : AreOwnClasses class_of → IsConsistent t value → DetectsDeadEnds t is_dead → (k : ℕ) (s : S) (node : Node) → slice_get states k ≡ Some s → slice_get nodes k ≡ Some node → is_expanded node ≡ true
       → ReachingCostsAtLeast t s node.cost
   pub marked : AreMarked is_dead states nodes
@@ -89,22 +88,21 @@ pub record AreFound {S A : Type 0} (t : System S A) (class_of : S → S) (value 
   pub expanded_alive : (k : ℕ) (s : S) (node : Node) → slice_get states k ≡ Some s → slice_get nodes k ≡ Some node → is_expanded node ≡ true → is_dead s ≡ false
   pub closed : IsClosed t (AreOfOneClass class_of) value is_dead claim (lines_of value is_dead states nodes)
 
--- each expanded state costs, with its estimate, at most this
+-- no expanded state has a greater sum of cost and estimate than this
 abbrev pub AreExpandedWithin : {S : Type 0} → (S → ℕ) → ℕ → List S → List Node → Type 0
 AreExpandedWithin {S} value most states nodes =
     (k : ℕ) (s : S) (node : Node) → slice_get states k ≡ Some s → slice_get nodes k ≡ Some node → is_expanded node ≡ true → node.cost + value s ≤ most
 
--- A search by this estimate may have to find the state before any plan is sure to be cheapest: the state is the initial
--- one, or an action leads to it from one that does not meet the goal, at the end of a list that costs, with the estimate
--- of what is still to pay, no more than any list that solves, and that is not reported dead. (Russell & Norvig, Artificial Intelligence, section 3.5.3,
--- on search contours: no state is expanded whose cost and estimate are more than a cheapest plan costs. Some whose sum is
--- as much may be; this leaves open which.)
+-- A search by this estimate may have to find the state before any plan is known to be cheapest: it is the initial state, or the
+-- successor of a state that does not meet the goal, is not reported dead, and is reached at a cost that, with its estimate, is no more
+-- than any list that solves costs. (Russell & Norvig, Artificial Intelligence, section 3.5.3, on search contours: no state is expanded
+-- whose cost and estimate exceed the cost of a cheapest plan. Some whose sum is equal may be; this leaves open which.)
 pub data PrecedesPlans {S A : Type 0} (t : System S A) (value : S → ℕ) (is_dead : S → Bool) (s : S) : Type 0 where
   is_initial : s ≡ t.initial → PrecedesPlans t value is_dead s
   is_next : (actions : List A) (before : S) (a : A) → run t t.initial actions ≡ Some before → t.meets_goal before ≡ false → is_dead before ≡ false
       → CostsAtLeast t (cost_of_all t actions + value before) → t.step before a ≡ Some s → PrecedesPlans t value is_dead s
 
--- More states than the limit are reachable, and may have to be found before any plan is sure to be cheapest.
+-- More states than the limit are reachable and may have to be found before any plan is known to be cheapest.
 abbrev pub AreMoreReachable : {S A : Type 0} → System S A → (S → ℕ) → (S → Bool) → ℕ → Type 0
 AreMoreReachable {S} t value is_dead max_states =
     (states : List S) × AreDistinct states × ((s : S) → Contains states s → IsReachable t s × PrecedesPlans t value is_dead s) × (max_states < length states)
@@ -113,11 +111,10 @@ AreMoreReachable {S} t value is_dead max_states =
 abbrev pub IsCut : {S : Type 0} → (S → Bool) → S → Node → Type 0
 IsCut is_dead s node = (is_expanded node ≡ false) × (is_dead s ≡ false)
 
--- What is known of the found states where a search stops at the limit: they are as many as it may list, and they prove that
--- each list that solves costs at least as much as the least sum of cost and estimate over their cuts, of which there is
--- one at least. No list that solves costs less than an expanded state with its estimate; where the estimate is consistent, no
--- expanded state has a greater sum than the cuts, nor has the initial state a greater estimate. A state whose expansion was not
--- finished is a cut.
+-- What is known of the found states of a search that stopped at the limit. They are as many as the limit allows, and prove that each list
+-- that solves costs at least the least sum of cost and estimate over their cuts, of which there is at least one. No list that solves
+-- costs less than an expanded state with its estimate. With a consistent estimate, no expanded state has a greater sum than the cuts,
+-- and the initial state no greater estimate. A state whose expansion was not finished is a cut.
 pub record IsAtLimit {S A : Type 0} (t : System S A) (class_of : S → S) (value : S → ℕ) (is_dead : S → Bool) (max_states least : ℕ) (states : List S) (nodes : List Node) : Type 0 where
   pub found : AreFound t class_of value is_dead (bound least) max_states states nodes
   pub full : length states ≡ max_states
@@ -128,8 +125,8 @@ pub record IsAtLimit {S A : Type 0} (t : System S A) (class_of : S → S) (value
   pub start_within : IsConsistent t value → value t.initial ≤ least
   pub costs_at_least : CostsAtLeast t least
 
--- The outcome of a search by these classes, this estimate and this test for dead ends is true: the steps are a cheapest list that solves,
--- or none solves, and the found states prove it; or there are more states than the limit, and the found ones prove the bound.
+-- The outcome of a search by these classes, this estimate and this test for dead ends is true: the steps are a cheapest list that
+-- solves, or no list solves, and the found states prove it; or the limit is exceeded, and the found states prove the bound.
 abbrev pub IsTrueOutcome : {S Store : Type 0} → System S ℕ → (S → S) → (S → ℕ) → (S → Bool) → (Store → List S) → ℕ → Outcome Store → Type 0
 IsTrueOutcome t class_of value is_dead states_of max_states (Found steps cost found) =
     IsOptimal t steps.items × (cost_of_all t steps.items ≡ cost)
@@ -141,13 +138,13 @@ IsTrueOutcome t class_of value is_dead states_of max_states (Exhausted found) =
 IsTrueOutcome t class_of value is_dead states_of max_states (States least found) =
     AreMoreReachable t value is_dead max_states × IsAtLimit t class_of value is_dead max_states least (states_of found.store) found.nodes.items
 
--- there is an estimate for each found state, which is that of the state where it is a cut
+-- there is a number for each found state, and that of a cut is its estimate
 abbrev pub AreEstimates : {S : Type 0} → (S → ℕ) → (S → Bool) → List S → List Node → List ℕ → Type 0
 AreEstimates {S} value is_dead states nodes estimates =
     (length estimates ≡ length nodes)
     × ((k : ℕ) (s : S) (node : Node) → slice_get states k ≡ Some s → slice_get nodes k ≡ Some node → IsCut is_dead s node → slice_get estimates k ≡ Some (value s))
 
--- such estimates are told of the found states
+-- the outcome tells the estimates of its cuts
 abbrev pub HasEstimates : {S Store : Type 0} → (S → ℕ) → (S → Bool) → (Store → List S) → Outcome Store → Type 0
 HasEstimates value is_dead states_of (Found steps cost found) = AreEstimates value is_dead (states_of found.store) found.nodes.items found.estimates.items
 HasEstimates value is_dead states_of (Exhausted found) = AreEstimates value is_dead (states_of found.store) found.nodes.items found.estimates.items

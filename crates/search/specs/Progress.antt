@@ -1,4 +1,4 @@
--- What a search keeps true from one step to the next.
+-- What a search keeps true during an expansion, and between two of them.
 use Rattle.std.specs.Prelude.{◌≡◌, ◌≢◌, ℕ, ◌+◌, ◌≤◌, ◌<◌, ◌⊎◌, ⊤, Bool, true, false, List, [], ◌∷◌, ◌++◌, length, replicate, set, slice_get, slice_set, Option, Some, Contains, All}
 use Rattle.model.specs.Runs.{System}
 use Rattle.search.specs.declared.nodes.Node.{Node}
@@ -13,8 +13,8 @@ use Rattle.search.specs.OpenList.{waiting_in, AreNoted, IsOpenList, JoinsBy}
 use Rattle.search.specs.Outcome.{AreMoreReachable}
 use Rattle.search.specs.Nodes.{Waiting, sum_of, estimate_of, place_of, entry, IsCurrent, IsWaiting, total_of, IsEntryOf, has_been_expanded, status_again, Found, found_of, work_left, AreNodes, IsFoundWithin, AreOpen, AreOpenBut, IsTurn}
 
--- Of those that wait, the state whose turn it is has the least sum of cost and estimate; of equal sum, the least estimate;
--- and of these it comes first. It leaves the open list, and the others stay in it.
+-- The state of this turn has the least sum of the waiting states, of these the least estimate, and of these the least place. It leaves the
+-- open list, and the others stay in it.
 pub record TakesNext (old new : List Waiting) (all : List Node) (turn : Turn) : Type 0 where
   pub next : Waiting
   pub occurs : place_of next ≡ turn.id.0
@@ -27,13 +27,13 @@ pub record TakesNext (old new : List Waiting) (all : List Node) (turn : Turn) : 
   pub first : (w : Waiting) → Contains old w → IsCurrent all w → sum_of w ≡ sum_of next → estimate_of w ≡ estimate_of next → place_of next ≤ place_of w
   pub rest : (w : Waiting) → Contains old w → IsCurrent all w → place_of w ≢ turn.id.0 → Contains new w
 
--- the number is the least of this sum and those of the current entries
+-- the least of this sum and the sums of the current entries
 pub record IsLeastWith (sum : ℕ) (open_list : List Waiting) (all : List Node) (least : ℕ) : Type 0 where
   pub no_greater : least ≤ sum
   pub at_most_each : (w : Waiting) → Contains open_list w → IsCurrent all w → least ≤ sum_of w
   pub of_one : (sum ≡ least) ⊎ ((w : Waiting) × Contains open_list w × IsCurrent all w × (sum_of w ≡ least))
 
--- the estimates of the state whose turn it is and of the current entries are put at their places
+-- the estimates of this turn's state and of the current entries are written to their places
 abbrev pub AreNotedWith : List Node → Turn → List Waiting → List ℕ → Type 0
 AreNotedWith all turn open_list estimates = AreNoted all open_list (set (replicate (length all) 0) turn.id.0 turn.estimate) estimates
 
@@ -42,13 +42,13 @@ abbrev pub nodes_in : {S Store : Type 0} → (Store → List S) → Progress Sto
 nodes_in states_of p = found_of (states_of p.store) p.nodes.items
 
 module _ {S Store : Type 0} (t : System S ℕ) (class_of : S → S) (value : S → ℕ) (is_dead : S → Bool) (states_of : Store → List S) (p : Progress Store) where
-  -- between two turns
+  -- between two expansions
   pub record IsSearch : Type 0 where
     pub one_each : length p.nodes.items ≡ length (states_of p.store)
     pub nodes : AreNodes t class_of value is_dead (nodes_in states_of p) (waiting_in p.open_list)
     pub heap : IsOpenList p.open_list
 
-  -- the turn of a state came: it waits, and is no more in the open list
+  -- a state is about to be expanded: it waits, but is no longer in the open list
   pub record IsAtTurn (turn : Turn) : Type 0 where
     pub one_each : length p.nodes.items ≡ length (states_of p.store)
     pub open_list : List Waiting
@@ -63,7 +63,7 @@ module _ {S Store : Type 0} (t : System S ℕ) (class_of : S → S) (value : S �
     pub rest : (k : ℕ) (n : Found S) → slice_get (nodes_in states_of p) k ≡ Some n → IsWaiting is_dead n → k ≢ turn.id.0 → Contains (waiting_in p.open_list) (entry n.node.cost (value n.state) k)
     pub entries : All (IsEntryOf value is_dead (nodes_in states_of p)) (waiting_in p.open_list)
 
-  -- A search stops at the limit: the state whose turn it was waits again, but is not in the open list.
+  -- the search has stopped at the limit: the state of this turn waits again, but is not in the open list
   pub record IsStopped (turn : Turn) (max_states : ℕ) : Type 0 where
     pub more : AreMoreReachable t value is_dead max_states
     pub full : length (states_of p.store) ≡ max_states
@@ -83,18 +83,18 @@ module _ {S Store : Type 0} (t : System S ℕ) (class_of : S → S) (value : S �
     pub turn : IsTurn t value (nodes_in states_of p) i
     pub others_open : AreOpenBut t class_of (nodes_in states_of p) i
 
--- of what was found a state of the class stays found, at no higher cost, and the state that is being expanded stays as it is
+-- each found class stays found, at no greater cost, and the state that is being expanded stays as it is
 pub record Continues {S : Type 0} (class_of : S → S) (old new : List (Found S)) (i : ℕ) : Type 0 where
   pub found : (s : S) (cost : ℕ) → IsFoundWithin class_of old s cost → IsFoundWithin class_of new s cost
   pub stays : (n : Found S) → slice_get old i ≡ Some n → slice_get new i ≡ Some n
   pub longer : length old ≤ length new
   pub less : (most : ℕ) → length new ≤ most → work_left most new ≤ work_left most old
 
--- from the node at this place the action leads to a state of whose class one is found, at no more than what that costs
+-- a state of the successor's class is found, at no more than the cost from the state at this place by the action
 abbrev pub IsListed : {S : Type 0} → System S ℕ → (S → S) → List (Found S) → ℕ → ℕ → S → Type 0
 IsListed {S} t class_of nodes i a s = (n : Found S) → slice_get nodes i ≡ Some n → IsFoundWithin class_of nodes s (n.node.cost + t.cost a)
 
--- the place is one of this many, or comes after them
+-- the place is one of this many, or the next one
 abbrev pub IsPlaceAmong : ℕ → Place → Type 0
 IsPlaceAmong count (New place) = (place ≡ count) × (count < 16777216)
 IsPlaceAmong count (Listed place) = (place < count) × (count ≤ 16777216)
@@ -108,26 +108,26 @@ IsNodeWithin nodes place cost = (node : Node) × (slice_get nodes place ≡ Some
 abbrev pub IsNodeDearer : List Node → ℕ → ℕ → Type 0
 IsNodeDearer nodes place cost = (node : Node) × (slice_get nodes place ≡ Some node) × (cost < node.cost)
 
--- a state of the class is found, at no more than this cost
+-- the state at this place is found, at no more than this cost
 abbrev pub IsReachedWithin : List Node → ℕ → Place → Type 0
 IsReachedWithin nodes cost (New place) = ⊥
 IsReachedWithin nodes cost (Listed place) = IsNodeWithin nodes place cost
 IsReachedWithin nodes cost (Alike place) = IsNodeWithin nodes place cost
 
--- no state of the class is found, or this cost is lower
+-- no state is at this place yet, or it costs more
 abbrev pub IsReachedCheaper : List Node → ℕ → Place → Type 0
 IsReachedCheaper nodes cost (New place) = ⊤
 IsReachedCheaper nodes cost (Listed place) = IsNodeDearer nodes place cost
 IsReachedCheaper nodes cost (Alike place) = IsNodeDearer nodes place cost
 
--- a state that is not listed may take the place of the current one of its class, or join it
+-- a state that is not listed may replace the current one of its class, or join it
 abbrev pub IsFreeFor : {S : Type 0} → (S → S) → (ℕ → Type 0) → List S → ℕ → S → Place → Type 0
 IsFreeFor class_of is_current states count s (New place) = ⊤
 IsFreeFor class_of is_current states count s (Listed place) = ⊤
 IsFreeFor class_of is_current states count s (Alike place) = (count ≡ length states) × (¬ Contains states s) × IsAlikeAt class_of states s place × is_current place
 
 module _ {S Store : Type 0} (states_of : Store → List S) (old new : Progress Store) (s : S) (node : Node) (estimate : Option ℕ) (max_states : ℕ) where
-  -- the state and its node come last, beside the state at this place, which has been expanded
+  -- the state and its node are appended, beside the state at this place, which has been expanded
   pub record Appends (place : ℕ) : Type 0 where
     pub other : Node
     pub there : slice_get old.nodes.items place ≡ Some other
@@ -137,7 +137,7 @@ module _ {S Store : Type 0} (states_of : Store → List S) (old new : Progress S
     pub nodes : new.nodes.items ≡ old.nodes.items ++ node ∷ []
     pub open_list : JoinsBy old.open_list new.open_list node.cost (length old.nodes.items) estimate
 
-  -- the state and its node take this place, at which one was that was never expanded
+  -- the state and its node replace those at this place, which was never expanded
   pub record Replaces (place : ℕ) : Type 0 where
     pub other : Node
     pub there : slice_get old.nodes.items place ≡ Some other
@@ -146,7 +146,7 @@ module _ {S Store : Type 0} (states_of : Store → List S) (old new : Progress S
     pub nodes : new.nodes.items ≡ slice_set old.nodes.items place node
     pub open_list : JoinsBy old.open_list new.open_list node.cost place estimate
 
-  -- the state, which is at this place, has the node now, and waits again if it was expanded
+  -- the state at this place has the node now, and waits again if it was expanded
   pub record Improves (place : ℕ) : Type 0 where
     pub known : Node
     pub there : slice_get old.nodes.items place ≡ Some known
@@ -154,19 +154,19 @@ module _ {S Store : Type 0} (states_of : Store → List S) (old new : Progress S
     pub nodes : new.nodes.items ≡ slice_set old.nodes.items place (record node { status = status_again known.status estimate })
     pub open_list : JoinsBy old.open_list new.open_list node.cost place estimate
 
-  -- the state, which comes last already, has the node
+  -- the state, listed last already, has the node
   pub record IsCompleted (place : ℕ) : Type 0 where
     pub states : states_of new.store ≡ states_of old.store
     pub nodes : new.nodes.items ≡ old.nodes.items ++ node ∷ []
     pub open_list : JoinsBy old.open_list new.open_list node.cost place estimate
 
-  -- the state is listed, with the node
+  -- the state is listed with the node
   abbrev pub TakesPlace : Place → Type 0
   TakesPlace (New place) = IsCompleted place
   TakesPlace (Listed place) = Improves place
   TakesPlace (Alike place) = Replaces place ⊎ Appends place
 
--- the limit allows no state more, and nothing has changed: the state is not listed
+-- the limit allows no more states, the state is not listed, and nothing has changed
 pub record IsLeftOut {S Store : Type 0} (states_of : Store → List S) (old new : Progress Store) (s : S) (max_states : ℕ) : Type 0 where
   pub not_listed : ¬ Contains (states_of old.store) s
   pub full : length (states_of old.store) ≡ max_states
@@ -174,14 +174,14 @@ pub record IsLeftOut {S Store : Type 0} (states_of : Store → List S) (old new 
   pub nodes : new.nodes.items ≡ old.nodes.items
   pub open_list : new.open_list ≡ old.open_list
 
--- The action's successor, or one of its class, is listed while the state at this place is being expanded.
+-- The action's successor, or one of its class, is listed during the expansion of the state at this place.
 pub record Reaches {S Store : Type 0} (t : System S ℕ) (class_of : S → S) (value : S → ℕ) (is_dead : S → Bool) (states_of : Store → List S) (old new : Progress Store) (i max_states : ℕ) (a : ℕ) (s : S) : Type 0 where
   pub expanding : IsExpanding t class_of value is_dead states_of new i
   pub within : length (states_of new.store) ≤ max_states
   pub continues : Continues class_of (nodes_in states_of old) (nodes_in states_of new) i
   pub listed : IsListed t class_of (nodes_in states_of new) i a s
 
--- The limit allows no state more, and nothing has changed.
+-- The limit allows no more states, and nothing has changed.
 pub record IsFull {S Store : Type 0} (t : System S ℕ) (value : S → ℕ) (is_dead : S → Bool) (states_of : Store → List S) (old new : Progress Store) (max_states : ℕ) : Type 0 where
   pub more : AreMoreReachable t value is_dead max_states
   pub full : length (states_of old.store) ≡ max_states
@@ -189,7 +189,7 @@ pub record IsFull {S Store : Type 0} (t : System S ℕ) (value : S → ℕ) (is_
   pub nodes : new.nodes.items ≡ old.nodes.items
   pub open_list : new.open_list ≡ old.open_list
 
--- The states' turn is over.
+-- The expansion is over.
 pub record Expands {S Store : Type 0} (t : System S ℕ) (class_of : S → S) (value : S → ℕ) (is_dead : S → Bool) (states_of : Store → List S) (old new : Progress Store) (max_states : ℕ) : Type 0 where
   pub search : IsSearch t class_of value is_dead states_of new
   pub are_open : AreOpen t class_of (nodes_in states_of new)

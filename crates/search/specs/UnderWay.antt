@@ -1,4 +1,4 @@
--- A search that is under way: what it keeps true from one turn to the next, and where it halts.
+-- A search that is under way: what it keeps true between two expansions, and where it halts.
 use Rattle.std.specs.Prelude.{◌≡◌, ℕ, ◌≤◌, Bool, List, length}
 use Rattle.model.specs.Runs.{System}
 use Rattle.search.specs.declared.nodes.Node.{Node}
@@ -9,17 +9,17 @@ use Rattle.search.specs.Nodes.{AreOpen}
 use Rattle.search.specs.Outcome.{HasEstimates, IsTrueOutcome}
 use Rattle.search.specs.Progress.{AreWide, IsSearch, nodes_in}
 
--- the states that it found
+-- the found states
 abbrev pub store_in : {Store R : Type 0} → Search Store R → Store
 store_in search = search.progress.store
 
--- how it reached each of them
+-- how each of them was reached
 abbrev pub nodes_of : {Store R : Type 0} → Search Store R → List Node
 nodes_of search = search.progress.nodes.items
 
 module _ {S Store R : Type 0} (t : System S ℕ) (class_of : S → S) (value : S → ℕ) (is_dead : S → Bool) (fits : R → Type 0) (states_of : Store → List S) (classes_of : Store → S → S)
     (width_of : Store → ℕ) (width : ℕ) where
-  -- Between two turns of a search of states of this width by these classes, which listed no more of them than it may.
+  -- between two expansions of a search by these classes, of states of this width, within the limit
   pub record IsUnderWay (max_states : ℕ) (s : Search Store R) : Type 0 where
     pub search : IsSearch t class_of value is_dead states_of s.progress
     pub are_open : AreOpen t class_of (nodes_in states_of s.progress)
@@ -29,7 +29,7 @@ module _ {S Store R : Type 0} (t : System S ℕ) (class_of : S → S) (value : S
     pub buffers : AreWide width s.buffers
     pub scratch : fits s.buffers.scratch
 
-  -- The search ended with a true outcome, which tells the estimates of the states that wait, or goes on once as many states are listed as it is to pause at.
+  -- it ended with a true outcome that tells the estimates of the cuts, or paused with at least `pause` states listed
   abbrev pub IsTrueHalt : ℕ → ℕ → Halt Store R → Type 0
   IsTrueHalt pause max_states (Ended outcome) = IsTrueOutcome t class_of value is_dead states_of max_states outcome × HasEstimates value is_dead states_of outcome
   IsTrueHalt pause max_states (Paused search) = IsUnderWay max_states search × (pause ≤ length (states_of (store_in search)))

@@ -1,4 +1,4 @@
-//! Tests for dead ends, states that a search need not expand since no list of actions leads from them to the goal.
+//! Tests for dead ends: states from which no list of actions leads to the goal, so a search need not expand them.
 ghost use Rattle.std.specs.Prelude.{◌≡◌, ℕ, Bool, List, length};
 ghost use Rattle.model.specs.Runs.{System};
 ghost use Rattle.packed_state.specs.Packed.{bits_of};
@@ -7,10 +7,9 @@ ghost use Rattle.search.specs.DeadEnds.{DetectsDeadEnds};
 use crate::transitions::TransitionSystem;
 use packed_state::Packed;
 
-/// A test for the dead ends of a transition system: states from which no list of actions leads to the goal.
+/// A test for dead ends of a transition system. It need not report all of them.
 ///
-/// A state that it reports dead does not meet the goal, and each action that is applicable there leads to a state that it
-/// reports dead too; so it is a dead end. It need not report each dead end.
+/// A state that it reports does not meet the goal, and all successors of the state are reported too. So the state is a dead end.
 pub trait DeadEnd {
     ghost width_of: { Self → ℕ };
 
@@ -18,7 +17,7 @@ pub trait DeadEnd {
 
     ghost is_dead: { Self → List Bool → Bool };
 
-    /// Whether it reports the state dead.
+    /// Whether the state is reported dead.
     fn dead(&self, state: &Packed) -> bool
         requires { length (bits_of state.now) ≡ width_of self.now }
         ensures { result ≡ is_dead self.now (bits_of state.now) };
@@ -26,7 +25,7 @@ pub trait DeadEnd {
     ghost detects_dead_ends: { (test : Self) → DetectsDeadEnds (system_of test) (is_dead test) };
 }
 
-/// The test that says no state of a system dead.
+/// The test that reports no state.
 #[derive(Clone, Copy)]
 pub struct NoDeadEnd<'a, T>(pub &'a T);
 

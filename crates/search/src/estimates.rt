@@ -1,4 +1,4 @@
-//! Estimates of what is still to pay from a state on, by which a search chooses the state that is expanded next.
+//! Estimates of the remaining cost, by which a search chooses the state to expand next.
 ghost use Rattle.std.specs.Prelude.{◌≡◌, ℕ, ◌<◌, ◌^◌, ℤ, Bool, List, length};
 ghost use Rattle.model.specs.Runs.{System};
 ghost use Rattle.packed_state.specs.Packed.{bits_of};
@@ -7,10 +7,10 @@ ghost use Rattle.search.specs.Estimates.{IsConsistent, above_zero, value_by};
 use crate::transitions::TransitionSystem;
 use packed_state::Packed;
 
-/// An estimate of what is still to pay from each state of a transition system, which is at most what that costs.
+/// A consistent estimate of the remaining cost from each state of a transition system.
 ///
-/// Each state has a score, and its estimate is the greater of 0 and the score (`value_of`). A state's score comes from that of
-/// another state, so that what they have in common need not be looked at.
+/// The estimate is the greater of 0 and the state's score (`value_of`). A score is found from that of another state, so only their
+/// difference is looked at.
 pub trait Estimate {
     ghost width_of: { Self → ℕ };
 
@@ -27,7 +27,7 @@ pub trait Estimate {
         requires { length (bits_of state.now) ≡ width_of self.now }
         ensures { result ≡ score_of self.now (bits_of state.now) };
 
-    /// The score of the state `after`, from that of `before`. It is found the faster the less they differ.
+    /// The score of the state `after`, from that of `before`. The time grows with their difference.
     fn score_after(&self, score: i64, before: &Packed, after: &Packed) -> i64
         requires before { length (bits_of before.now) ≡ width_of self.now }
         requires after { length (bits_of after.now) ≡ width_of self.now }
@@ -37,7 +37,7 @@ pub trait Estimate {
     ghost is_consistent: { (estimate : Self) → IsConsistent (system_of estimate) (value_by (score_of estimate)) };
 }
 
-/// The estimate of a state with this score: the greater of 0 and the score.
+/// The estimate that belongs to a score: the greater of 0 and the score.
 pub fn value_of(score: i64) -> u64
     ensures value { result ≡ above_zero score }
     ensures within { result < 2 ^ 63 }
@@ -45,7 +45,7 @@ pub fn value_of(score: i64) -> u64
     if score > 0 { score as u64 } else { 0 }
 }
 
-/// The estimate 0 for each state of a system.
+/// The estimate 0 for each state.
 #[derive(Clone, Copy)]
 pub struct NoEstimate<'a, T>(pub &'a T);
 

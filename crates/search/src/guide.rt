@@ -1,4 +1,4 @@
-//! What guides a search: the estimate of each state, unless it is reported a dead end.
+//! Guides of a search: an estimate of each state, unless it is reported dead.
 ghost use Rattle.std.specs.Prelude.{◌≡◌, ℕ, Bool, List, IfOk, length};
 ghost use Rattle.std.proofs.Props.{props};
 ghost use Rattle.model.specs.Runs.{System};
@@ -12,16 +12,15 @@ use faults::NoMemory;
 use packed_state::Packed;
 use std::alloc::Global;
 
-/// What guides a search: an estimate of what is still to pay from each state of a transition system, which is at most what that
-/// costs, and a test for its dead ends, asked together.
+/// A guide of a search: an admissible estimate of the remaining cost, and a test for dead ends, asked together.
 ///
-/// Nothing is asked of what an action does to them: the estimate may fall by more than the action costs, and a state that follows
-/// a dead end need not be reported dead. Not each dead end need be reported.
+/// Neither has to respect actions: the estimate may fall by more than an action costs, and a successor of a reported dead end need
+/// not be reported. The test need not report all dead ends.
 ///
-/// All that the questions work with is in a scratch, which is lent to them, so that none takes memory. It is at some state, of which
-/// it knows what helps with others: what they have in common need not be found again. No answer depends on which state that is.
+/// Questions use a scratch, so they take no memory. It is at some state, and keeps what helps to answer for states that differ little
+/// from it. No answer depends on which state that is.
 pub trait Guide {
-    /// What the questions work with: what is known of one state.
+    /// What is known of one state, and room to answer for others.
     type Scratch: Drop;
 
     ghost width_of: { Self → ℕ };
@@ -35,20 +34,20 @@ pub trait Guide {
     // the scratch is one of the guide, and what it knows is right
     ghost fits: { Self → Self.Scratch → Type 0 };
 
-    /// A scratch, which is at some state.
+    /// A scratch, at some state.
     ///
     /// # Errors
-    /// Where memory is refused.
+    /// Memory is refused.
     fn scratch(&self, alloc: Global) -> Result<Self::Scratch, NoMemory>
         ensures { IfOk result (fits self.now) };
 
-    /// Brings the scratch to the state: those that are asked of next are expected to differ little from it.
+    /// Moves the scratch to the state. The next questions are expected to be of states that differ little from it.
     fn move_to(&self, state: &Packed, scratch: &mut Self::Scratch)
         requires width { length (bits_of state.now) ≡ width_of self.now }
         requires scratch { fits self.now scratch.old }
         ensures { fits self.now scratch.new };
 
-    /// The estimate of the state, unless it is reported dead. The scratch stays where it is.
+    /// The estimate of the state, or `None` if it is reported dead.
     fn value(&self, state: &Packed, scratch: &mut Self::Scratch) -> Option<u64>
         requires width { length (bits_of state.now) ≡ width_of self.now }
         requires scratch { fits self.now scratch.old }
@@ -60,9 +59,8 @@ pub trait Guide {
     ghost reports_dead_ends: { (guide : Self) → ReportsDeadEnds (system_of guide) (is_dead guide) };
 }
 
-/// An estimate and a test for dead ends that know nothing of each other, as a guide. Both keep laws along actions, which say more
-/// than a guide has to: the estimate is consistent (`E.is_consistent`), and what follows a state that is reported dead is
-/// reported dead too (`detects`).
+/// An independent estimate and test for dead ends, as a guide. Both promise more than a guide has to: the estimate is consistent
+/// (`E.is_consistent`), and successors of reported dead ends are reported too (`detects`).
 #[derive(Drop)]
 pub struct EstimateWithDeadEnds<'a, E: Estimate, D: DeadEnd> {
     estimate: &'a E,
@@ -74,7 +72,7 @@ pub struct EstimateWithDeadEnds<'a, E: Estimate, D: DeadEnd> {
 }
 
 impl<'a, E: Estimate, D: DeadEnd> EstimateWithDeadEnds<'a, E, D> {
-    /// Both, which are made for the same system.
+    /// The guide of both, which are made for the same system.
     pub fn new(estimate: &'a E, dead_ends: &'a D) -> EstimateWithDeadEnds<'a, E, D>
         requires system { D.system_of dead_ends.now ≡ E.system_of estimate.now }
         requires width { D.width_of dead_ends.now ≡ E.width_of estimate.now }
@@ -88,14 +86,14 @@ impl<'a, E: Estimate, D: DeadEnd> EstimateWithDeadEnds<'a, E, D> {
     }
 }
 
-/// A state, and its score by an estimate.
+/// A state and its score.
 #[derive(Drop)]
 pub struct ScoredState {
     state: Packed,
     score: i64,
 }
 
-/// The scratch is at a state whose score is known: that of another state is found by the atoms that differ.
+/// The scratch knows the score of one state. That of another is found from the atoms that differ.
 impl<E: Estimate, D: DeadEnd> Guide for EstimateWithDeadEnds<'_, E, D> {
     type Scratch = ScoredState;
 

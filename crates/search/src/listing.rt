@@ -1,4 +1,4 @@
-//! The states that a search lists, and by what it finds them again.
+//! The states that a search lists, and the keys by which it finds them.
 ghost use Rattle.std.specs.Prelude.{◌≡◌, ℕ, ◌<◌, ◌≤◌, Bool, List, [], ◌∷◌, ◌++◌, length, slice_get, slice_set, Some, Contains, IfOk, OnOk};
 ghost use Rattle.packed_state.specs.Packed.{bits_of};
 ghost use Rattle.packed_state.specs.Store.{AreDistinct};
@@ -8,22 +8,22 @@ use crate::best::MAX_STATES;
 use faults::NoMemory;
 use packed_state::{Packed, StateStore};
 
-/// Where a state is to be listed. Places are counted from 0, in the order in which the states were listed.
+/// Where a state belongs in a listing. Places count from 0, in the order of listing.
 #[derive(Clone, Copy, Debug, PartialEq, Eq)]
 pub enum Place {
-    /// It now is at this place, the last one: no state of its class was listed.
+    /// It is the first of its class, and has just been listed at this place, the last one.
     New(u32),
-    /// It is at this place.
+    /// It is listed, at this place.
     Listed(u32),
-    /// It is not listed. The current state of its class is at this place.
+    /// It is not listed, and the current state of its class is at this place.
     Alike(u32),
 }
 
-/// The states that a search lists, no two of them the same, and of each class the one that is current.
+/// A listing of distinct states, which knows the current state of each class.
 ///
-/// States are of one class if they have the same key. What a key is the listing decides: in the search of a system with symmetries
-/// a key stands for states that symmetries turn into one another (orbit space search: Domshlak, Katz & Shleyfman, Symmetry Breaking in
-/// Deterministic Planning as Forward Search, 2015). What is listed is always the state itself, never a key.
+/// States are of one class if they have the same key. The listing decides what a key is: for a system with symmetries, it stands for
+/// states that symmetries map to each other (orbit space search: Domshlak, Katz & Shleyfman, Symmetry Breaking in Deterministic
+/// Planning as Forward Search, 2015). What is listed is the state itself, never the key.
 pub trait StateListing: Drop {
     ghost width_of: { Self → ℕ };
 
@@ -39,7 +39,7 @@ pub trait StateListing: Drop {
     fn width(&self) -> u32
         ensures { result ≡ width_of self.now };
 
-    /// How many states are listed.
+    /// The number of listed states.
     fn len(&self) -> usize
         ensures { result ≡ length (states self.now) };
 
@@ -50,10 +50,10 @@ pub trait StateListing: Drop {
         ensures state { slice_get (states self.now) place ≡ Some (bits_of into.new) }
         ensures width { length (bits_of into.new) ≡ width_of self.now };
 
-    /// Where the state is to be listed. The first state of a class is listed at once; `None` if it would be one too many.
+    /// Where the state belongs. The first state of a class is listed at once; `None` if the limit does not allow it.
     ///
     /// # Errors
-    /// Where memory is refused.
+    /// Memory is refused.
     fn place(&mut self, state: &Packed, max_states: u32) -> Result<Option<Place>, NoMemory>
         requires width { length (bits_of state.now) ≡ width_of self.old }
         requires within { length (states self.old) ≤ max_states }
@@ -63,10 +63,10 @@ pub trait StateListing: Drop {
         ensures placed { IfOk result
             (IsPlacedBy (class_of self.old) (is_current self.new) (states self.old) (states self.new) (bits_of state.now) max_states) };
 
-    /// Lists the state at the end, beside the one of its class that is current. From now on it is the current one.
+    /// Lists the state at the end, beside the current one of its class, which is at this place. It is the current one from now on.
     ///
     /// # Errors
-    /// Where memory is refused.
+    /// Memory is refused.
     fn append(&mut self, state: &Packed, place: u32) -> Result<(), NoMemory>
         requires width { length (bits_of state.now) ≡ width_of self.old }
         requires current { is_current self.old place }
@@ -77,7 +77,7 @@ pub trait StateListing: Drop {
         ensures class { class_of self.new ≡ class_of self.old }
         ensures ok { OnOk result (states self.new ≡ states self.old ++ bits_of state.now ∷ []) };
 
-    /// Lists the state in place of the one of its class that is current.
+    /// Replaces the current state of its class, which is at this place, by the state.
     fn replace(&mut self, place: u32, state: &Packed)
         requires width { length (bits_of state.now) ≡ width_of self.old }
         requires current { is_current self.old place }
@@ -90,7 +90,7 @@ pub trait StateListing: Drop {
     ghost distinct: { (listing : Self) → AreDistinct (states listing) };
 }
 
-/// The states of a store, each of which is a class of its own.
+/// The states of a store, each a class of its own.
 #[derive(Drop)]
 pub struct OwnClasses<S>(pub S);
 

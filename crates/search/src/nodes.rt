@@ -1,4 +1,4 @@
-//! The states that a search found, and how it reached them.
+//! The found states of a search, and how they were reached.
 ghost use Rattle.std.specs.Prelude.{◌≡◌, ◌+◌, ◌*◌, ◌<◌, ◌≤◌, length, IfOk};
 ghost use Rattle.search.specs.Outcome.{is_expanded};
 ghost use Rattle.search.specs.Nodes.{has_been_expanded_status, place_in, status_again, status_of_reached, IsPath, IsReachedIn};
@@ -7,11 +7,11 @@ use crate::best::MAX_STATES;
 use faults::NoMemory;
 use std::alloc::Global;
 
-/// A state's place, from 0, in the order in which the states were found.
+/// The place of a found state, from 0, in the order in which they were found.
 #[derive(Clone, Copy, Debug, PartialEq, Eq, PartialOrd, Ord)]
 pub struct StateId(pub u32);
 
-/// A state's place in three bytes, from the lowest on: enough for as many states as a search may list.
+/// A place in three bytes, the lowest first: enough for the greatest limit.
 #[derive(Clone, Copy, Debug, PartialEq, Eq)]
 pub(crate) struct ShortId {
     low: u8,
@@ -19,47 +19,47 @@ pub(crate) struct ShortId {
     high: u8,
 }
 
-/// How far a search is with a found state.
+/// The status of a found state.
 #[derive(Clone, Copy, Debug, PartialEq, Eq)]
 pub enum NodeStatus {
-    /// It is still to be expanded, for the first time.
+    /// It waits to be expanded for the first time.
     Open,
-    /// It was expanded, in whole or in part, and is still to be expanded again: it was reached at a lower cost since, or the limit
-    /// came before all its successors.
+    /// It was expanded, at least in part, and waits to be expanded again: it was reached at a lower cost since, or the limit stopped
+    /// its expansion.
     Reopened,
-    /// It was expanded: of each successor one of its class is among the found states.
+    /// It was expanded: a state of each successor's class is found.
     Expanded,
-    /// It is reported a dead end, and is never expanded.
+    /// It is reported dead, and is never expanded.
     Dead,
 }
 
-/// A found state: at what cost it was reached, and how far the search is with it. It takes 16 bytes.
+/// How a found state was reached, and its status, in 16 bytes.
 #[derive(Clone, Copy, Debug, PartialEq, Eq)]
 pub struct Node {
-    /// What some list of actions that leads to the state costs.
+    /// The cost of some list of actions that leads to the state.
     pub cost: u64,
-    /// Whether it is still to be expanded, for the first time or again, was expanded, or is reported a dead end.
+    /// Whether it waits, was expanded, or is reported dead.
     pub status: NodeStatus,
-    /// The state from which it was reached at this cost, which may itself be reached at a lower one since. It has been expanded, so
-    /// that no other takes its place. Of the initial state it says nothing.
+    /// The state from which it was reached at this cost, and which may have been reached at a lower cost since. It has been expanded,
+    /// so no other takes its place. For the initial state this means nothing.
     pub(crate) parent: ShortId,
-    /// The action that leads to it from there.
+    /// The action that leads from the parent to it.
     pub(crate) action: u32,
 }
 
-/// The states that a search found.
+/// The found states.
 #[derive(Drop)]
 pub struct FoundStates<L> {
     /// The states.
     pub store: L,
-    /// For each of them, in the same order, how it was reached.
+    /// How each of them was reached, in the same order.
     pub nodes: Vec<Node>,
-    /// For each of them, in the same order, its estimate where it waits to be expanded. Of any other state nothing is said here.
+    /// In the same order, the estimate of each waiting state. For any other state the number means nothing.
     pub estimates: Vec<u64>,
 }
 
 impl NodeStatus {
-    /// That of a state that is reached anew and has this estimate, or none since it is reported dead.
+    /// The status of a new state with this estimate. `None`: it is reported dead.
     pub(crate) fn of_reached(estimate: Option<u64>) -> NodeStatus
         ensures { result ≡ status_of_reached estimate }
     {
@@ -69,7 +69,7 @@ impl NodeStatus {
         }
     }
 
-    /// That of a state that is reached at a lower cost than before and has this estimate, or none since it is reported dead.
+    /// The status after the state is reached at a lower cost, with this estimate. `None`: it is reported dead.
     pub(crate) fn again(self, estimate: Option<u64>) -> NodeStatus
         ensures { result ≡ status_again self estimate }
     {
@@ -79,7 +79,7 @@ impl NodeStatus {
         }
     }
 
-    /// Whether the state has been expanded, in whole or in part. If not, no other was reached from it.
+    /// Whether the state was ever expanded, at least in part. If not, no other was reached from it.
     pub(crate) fn has_been_expanded(self) -> bool
         ensures { result ≡ has_been_expanded_status self }
     {
@@ -88,7 +88,7 @@ impl NodeStatus {
 }
 
 impl Node {
-    /// Whether the state was expanded, at the cost at which it is reached now.
+    /// Whether the state was expanded at its present cost.
     pub fn is_expanded(&self) -> bool
         ensures { result ≡ is_expanded self.now }
     {
@@ -97,7 +97,7 @@ impl Node {
 }
 
 impl ShortId {
-    /// The state's place, shortly.
+    /// The place in three bytes.
     pub(crate) fn new(id: StateId) -> ShortId
         requires { id.0 < MAX_STATES }
         ensures { place_in result ≡ id.0 }
@@ -109,7 +109,7 @@ impl ShortId {
         }
     }
 
-    /// The state's place.
+    /// The place.
     fn id(self) -> StateId
         ensures { result.0 ≡ place_in self }
     {
@@ -117,7 +117,7 @@ impl ShortId {
     }
 }
 
-/// The number that these bytes write, from the lowest on.
+/// The number with these bytes, the lowest first.
 fn number_of(low: u8, middle: u8, high: u8) -> u32
     ensures { result ≡ low + middle * 256 + high * 65536 }
 {

@@ -1,7 +1,7 @@
-//! The open list of a search: the states that wait, in the order in which their turns come.
+//! The open list of a search: the waiting states, in the order in which they are expanded.
 //!
-//! Most sums are small. Where one is below 2^20, an entry's sum, estimate and place are in one word, whose order is theirs, so
-//! that it takes 8 bytes and is compared at once. Such entries are in a heap of their own, and the others come after them.
+//! Most sums are small. An entry whose sum is below 2^20 is one word of sum, estimate and place, from the highest bits down: it takes
+//! 8 bytes, and words compare as their entries do. These entries have a heap of their own, and come before all others.
 ghost use Rattle.std.specs.Prelude.{◌≡◌, ◌+◌, ◌*◌, ◌≤◌, ◌<◌, [], ◌∷◌, length, All, IsPermutation, IfNone, IfSome, OnOk, false};
 ghost use Rattle.std.specs.Ordering.{is_lt};
 ghost use Rattle.search.specs.Nodes.{sum_of, estimate_of, place_of, entry_at, IsEntry};
@@ -14,27 +14,27 @@ use std::alloc::Global;
 use std::cmp::Reverse;
 use std::collections::BinaryHeap;
 
-/// A waiting state: the sum of its cost and its estimate, the estimate, and its place. The one that comes next is the
-/// greatest: of the least sum, then of the least estimate, then the one found first.
+/// A waiting state: the sum of its cost and estimate, its estimate, and its place. The greatest entry comes next: that of the least
+/// sum, then of the least estimate, then of the least place.
 pub(crate) type OpenListEntry = Reverse<(u64, u64, StateId)>;
 
-/// The sums of near entries are below this, and so are their estimates.
+/// Sums of near entries are below this, and so are their estimates.
 const FAR: u64 = 1_048_576;
 
-/// The places are below this.
+/// Places are below this.
 const PLACES: u64 = 16_777_216;
 
-/// The states that wait.
+/// The waiting states. Entries may be stale.
 #[derive(Drop)]
 pub(crate) struct OpenList {
-    /// The entries whose sum is near, each in one word.
+    /// The entries of small sums, each in one word.
     near: BinaryHeap<Reverse<u64>>,
     /// The others.
     far: BinaryHeap<OpenListEntry>,
 }
 
 impl OpenList {
-    /// No state waits.
+    /// An empty open list.
     pub(crate) fn new(alloc: Global) -> OpenList
         ensures none { waiting_in result ≡ [] }
         ensures open_list { IsOpenList result }
@@ -45,7 +45,10 @@ impl OpenList {
         }
     }
 
-    /// The entry joins the others.
+    /// Adds an entry.
+    ///
+    /// # Errors
+    /// Memory is refused.
     pub(crate) fn push(&mut self, entry: OpenListEntry) -> Result<(), NoMemory>
         requires part { estimate_of entry ≤ sum_of entry }
         requires place { place_of entry < MAX_STATES }
@@ -60,7 +63,7 @@ impl OpenList {
         Ok(())
     }
 
-    /// The entry that comes next leaves the open list.
+    /// Removes the entry that comes next.
     pub(crate) fn pop(&mut self) -> Option<OpenListEntry>
         ensures none { IfNone result (waiting_in self.old ≡ []) }
         ensures permutation { IfSome result (λ w. IsPermutation (waiting_in self.old) (w ∷ waiting_in self.new)) }
@@ -86,7 +89,7 @@ impl OpenList {
         }
     }
 
-    /// Puts the estimate of each state that waits at its place: a state waits that an entry reports as it is reached now.
+    /// Writes the estimate of each waiting state to the state's place. Stale entries change nothing.
     pub(crate) fn note_estimates(&self, nodes: &[Node], estimates: &mut [u64])
         requires entries { All (IsEntry (length nodes.now)) (waiting_in self.now) }
         requires one_each { length estimates.old ≡ length nodes.now }
@@ -101,7 +104,7 @@ impl OpenList {
     }
 }
 
-/// Puts the entry's estimate at its state's place, unless the entry is stale.
+/// Writes the entry's estimate to its state's place, unless the entry is stale.
 fn note_estimate(entry: OpenListEntry, nodes: &[Node], estimates: &mut [u64])
     requires entry { IsEntry (length nodes.now) entry }
     requires one_each { length estimates.old ≡ length nodes.now }
@@ -114,7 +117,7 @@ fn note_estimate(entry: OpenListEntry, nodes: &[Node], estimates: &mut [u64])
     }
 }
 
-/// The entry in one word.
+/// The word of a near entry.
 fn word_of(sum: u64, estimate: u64, id: StateId) -> u64
     requires near { sum < 1048576 }
     requires part { estimate ≤ sum }
@@ -124,7 +127,7 @@ fn word_of(sum: u64, estimate: u64, id: StateId) -> u64
     (sum * FAR + estimate) * PLACES + u64::from(id.0)
 }
 
-/// The entry that is in the word.
+/// The entry of a word.
 fn entry_in(word: u64) -> OpenListEntry
     ensures { result ≡ entry_of (record { 0 = word }) }
 {

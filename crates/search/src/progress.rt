@@ -1,4 +1,4 @@
-//! How far a search has come: the states found so far, and which of them wait to be expanded.
+//! The progress of a search: the found states, and which of them wait.
 ghost use Rattle.std.specs.Prelude.{◌≡◌, ◌≢◌, ℕ, ◌+◌, ◌<◌, ◌≤◌, ◌^◌, Bool, true, false, List, [], ◌∷◌, ◌++◌, length, slice_get, slice_set, Contains, All, MatchBool, MatchOption, IfOk, IfNone, IfSome, OnOk, OnSome, Some};
 ghost use Rattle.packed_state.specs.Packed.{bits_of};
 ghost use Rattle.search.specs.Outcome.{AreClassesOf};
@@ -18,31 +18,31 @@ use packed_state::Packed;
 use std::alloc::Global;
 use std::cmp::Reverse;
 
-/// How far a search has come.
+/// The progress of a search.
 #[derive(Drop)]
 pub(crate) struct Progress<L> {
     pub(crate) store: L,
     pub(crate) nodes: Vec<Node>,
-    /// Each waiting state, beside entries that are stale: a cheaper way was found, also by another state that took the place, or
-    /// the state was expanded at this cost.
+    /// An entry for each waiting state, and stale ones: the state was expanded at this cost, or was reached at a lower cost since, or
+    /// another took its place.
     pub(crate) open_list: OpenList,
 }
 
-/// Buffers that each turn uses again, so that a state takes no memory but its place in the lists.
+/// Buffers that all expansions share.
 #[derive(Drop)]
 pub(crate) struct Buffers<R> {
-    /// The state whose turn it is.
+    /// The state that is being expanded.
     pub(crate) state: Packed,
     /// One of its successors.
     pub(crate) next: Packed,
-    /// The actions that are applicable in it.
+    /// The actions that are applicable in the expanded state.
     pub(crate) applicable: Vec<u32>,
-    /// What the guide works with.
+    /// The guide's scratch.
     pub(crate) scratch: R,
 }
 
 impl<R: Drop> Buffers<R> {
-    /// Buffers for states of this width, and for a guide with this scratch.
+    /// Buffers for states of this width, with the guide's scratch.
     pub(crate) fn new(alloc: Global, width: u32, scratch: R) -> Result<Buffers<R>, NoMemory>
         ensures wide { IfOk result (AreWide width) }
         ensures scratch { IfOk result (λ buffers. buffers.scratch ≡ scratch) }
@@ -57,7 +57,7 @@ impl<R: Drop> Buffers<R> {
 }
 
 impl<L: StateListing> Progress<L> {
-    /// The initial state alone is found, and waits unless it is reported dead.
+    /// The progress in which the initial state alone is found. It waits unless it is reported dead.
     pub(crate) fn start<T: TransitionSystem, G: Guide>(
         alloc: Global,
         system: &T,
@@ -94,8 +94,8 @@ impl<L: StateListing> Progress<L> {
         Ok(progress)
     }
 
-    /// The waiting state of the least sum of cost and estimate, among these of the least estimate and, among these, the one
-    /// found first. It leaves the open list.
+    /// Removes the next waiting state from the open list: that of the least sum of cost and estimate, of these the least estimate, and
+    /// of these the one found first.
     pub(crate) fn next_waiting(&mut self) -> Option<Turn>
         requires heap { IsOpenList self.old.open_list }
         requires entries { All (IsEntry (length self.old.nodes.items)) (waiting_in self.old.open_list) }
@@ -118,7 +118,7 @@ impl<L: StateListing> Progress<L> {
         None
     }
 
-    /// The least sum of cost and estimate of the states that wait, of which one has this sum and is not in the open list.
+    /// The least sum of a waiting state, one of which has this sum and is not in the open list.
     pub(crate) fn least_with(&mut self, sum: u64) -> u64
         requires heap { IsOpenList self.old.open_list }
         requires entries { All (IsEntry (length self.old.nodes.items)) (waiting_in self.old.open_list) }
@@ -132,7 +132,7 @@ impl<L: StateListing> Progress<L> {
         }
     }
 
-    /// A new state waits by its estimate, unless it has none.
+    /// Adds the node of a new state, which waits if it has an estimate.
     fn add(&mut self, id: StateId, node: Node, estimate: Option<u64>) -> Result<(), NoMemory>
         requires sum { IfSome estimate (λ e. node.cost + e < 2 ^ 64) }
         requires place { id.0 < MAX_STATES }
@@ -145,7 +145,7 @@ impl<L: StateListing> Progress<L> {
         self.enqueue(id, node.cost, estimate)
     }
 
-    /// A cheaper way to a state is kept in place of the dearer. The state waits at this cost, also if it was expanded before.
+    /// Replaces a node by that of a cheaper way. The state waits at this cost if it has an estimate.
     fn improve(&mut self, id: StateId, node: Node, estimate: Option<u64>) -> Result<(), NoMemory>
         requires found { id.0 < length self.old.nodes.items }
         requires sum { IfSome estimate (λ e. node.cost + e < 2 ^ 64) }
@@ -159,7 +159,7 @@ impl<L: StateListing> Progress<L> {
         self.enqueue(id, node.cost, estimate)
     }
 
-    /// The state waits at this cost by its estimate, unless it has none.
+    /// Adds the state to the open list at this cost, if it has an estimate.
     fn enqueue(&mut self, id: StateId, cost: u64, estimate: Option<u64>) -> Result<(), NoMemory>
         requires sum { IfSome estimate (λ e. cost + e < 2 ^ 64) }
         requires place { id.0 < MAX_STATES }
@@ -176,7 +176,7 @@ impl<L: StateListing> Progress<L> {
         }
     }
 
-    /// The state has this status from now on.
+    /// Sets the state's status.
     fn mark(&mut self, id: StateId, status: NodeStatus)
         requires { id.0 < length self.old.nodes.items }
         ensures store { self.new.store ≡ self.old.store }
@@ -187,8 +187,8 @@ impl<L: StateListing> Progress<L> {
         self.nodes[id.0 as usize].status = status;
     }
 
-    /// Lists a successor of the state that is being expanded, unless it or the current one of its class is reached at no more; says
-    /// whether the limit allows that.
+    /// Lists a successor of the state that is being expanded, unless it or the current one of its class is reached at no greater cost.
+    /// `false`: the limit does not allow it.
     fn reach<T: TransitionSystem, G: Guide>(
         &mut self,
         system: &T,
@@ -229,7 +229,7 @@ impl<L: StateListing> Progress<L> {
         self.take_place(place, reached, max_states)
     }
 
-    /// Whether the state that is to be listed at this place, or the other one of its class, is reached at no more than this cost.
+    /// Whether the state at this place, itself or the current one of its class, is reached at no more than this cost.
     fn is_reached_within(&self, place: Place, cost: u64) -> bool
         requires { IsPlaceAmong (length self.now.nodes.items) place }
         ensures { MatchBool result (IsReachedWithin self.now.nodes.items cost place) (IsReachedCheaper self.now.nodes.items cost place) }
@@ -241,10 +241,10 @@ impl<L: StateListing> Progress<L> {
         }
     }
 
-    /// Lists a state that is new, or is reached at a lower cost than before; says whether the limit allows that.
+    /// Lists a state that is new or is reached at a lower cost. `false`: the limit does not allow it.
     ///
-    /// One of the class that was never expanded gives it its place, since no other was reached from it. One that was stays where it
-    /// is, so that each state is still what its action makes of its parent.
+    /// It replaces the current one of its class if that was never expanded, as no other was reached from that. Otherwise both stay, so
+    /// each state is still what its action makes of its parent.
     fn take_place(
         &mut self,
         place: Place,
@@ -286,8 +286,8 @@ impl<L: StateListing> Progress<L> {
         Ok(true)
     }
 
-    /// Lists the successors of the state whose turn it is, which the buffers hold; says whether the limit allows that.
-    /// Where it does not, the state is not expanded: it waits again, but is not in the open list.
+    /// Expands the state in the buffers, whose turn it is: lists its successors. `false`: the limit does not allow it. Then the state
+    /// waits again, but is not in the open list.
     pub(crate) fn expand<T: TransitionSystem, G: Guide>(
         &mut self,
         system: &T,
@@ -334,7 +334,7 @@ impl<L: StateListing> Progress<L> {
         Ok(true)
     }
 
-    /// The estimates of the states that wait, each at its state's place: the state whose turn it is, and those in the open list.
+    /// The estimates of the waiting states, each at its state's place: that of this turn, and those of the open list.
     fn noted_estimates(&self, alloc: Global, turn: Turn) -> Result<Vec<u64>, NoMemory>
         requires turn { turn.id.0 < length self.now.nodes.items }
         requires entries { All (IsEntry (length self.now.nodes.items)) (waiting_in self.now.open_list) }
@@ -366,8 +366,7 @@ impl<L: StateListing> Progress<L> {
         Ok((steps, self.into_found(estimates)))
     }
 
-    /// The least sum of cost and estimate of the states that wait, and the found states. The one whose turn it was waits again, but is
-    /// not in the open list.
+    /// The least sum of a waiting state, and the found states. The state of this turn waits again, but is not in the open list.
     pub(crate) fn into_bound(
         mut self,
         alloc: Global,

@@ -1,4 +1,4 @@
-//! The state whose turn it is, as the open list gives it and as its successors need it.
+//! The state that is expanded next, its successors, and a state as it is reached.
 ghost use Rattle.std.specs.Prelude.{◌≡◌, ◌<◌};
 ghost use Rattle.search.specs.Nodes.{parent_of};
 
@@ -6,7 +6,7 @@ use crate::best::MAX_STATES;
 use crate::nodes::{Node, NodeStatus, ShortId, StateId};
 use packed_state::Packed;
 
-/// A state whose turn came, its estimate, and the sum of its cost and that.
+/// The state that is expanded next, with its estimate, and the sum of its cost and estimate.
 #[derive(Clone, Copy)]
 pub(crate) struct Turn {
     pub(crate) id: StateId,
@@ -14,7 +14,7 @@ pub(crate) struct Turn {
     pub(crate) estimate: u64,
 }
 
-/// A state to which an action leads from the one that is being expanded.
+/// A successor of the state that is being expanded.
 #[derive(Clone, Copy)]
 pub(crate) struct Successor<'a> {
     pub(crate) parent: StateId,
@@ -22,7 +22,7 @@ pub(crate) struct Successor<'a> {
     pub(crate) state: &'a Packed,
 }
 
-/// A state as it is reached now: its node, and its estimate, or none since it is reported dead.
+/// A state as it is reached now, with its node and its estimate. `None`: it is reported dead.
 #[derive(Clone, Copy)]
 pub(crate) struct Reached<'a> {
     pub(crate) state: &'a Packed,
@@ -31,7 +31,7 @@ pub(crate) struct Reached<'a> {
 }
 
 impl Successor<'_> {
-    /// Its node, where it is reached so at this cost.
+    /// Its node, if it is reached so at this cost.
     pub(crate) fn node(&self, cost: u64, status: NodeStatus) -> Node
         requires { self.now.parent.0 < MAX_STATES }
         ensures cost { result.cost ≡ cost }

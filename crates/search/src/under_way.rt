@@ -1,26 +1,56 @@
-//! A search that is under way: it pauses between two turns, and goes on. It is the one of `best_first`, by classes of states.
+//! A* search for a cheapest plan (Hart, Nilsson & Raphael, A Formal Basis for the Heuristic Determination of Minimum Cost Paths, 1968;
+//! Russell & Norvig, Artificial Intelligence, section 3.5.2), which can pause between two expansions.
 //!
-//! From states of one class the goal is reached alike: what leads from the one to the goal has something of the same cost from the
-//! other. So a state need not be expanded where one of its class is, at no more cost. With the states that symmetries turn into one
-//! another as classes, this is how a search prunes by symmetries (Domshlak, Katz & Shleyfman, Enhanced Symmetry Breaking in
-//! Cost-Optimal Planning as Forward Search, 2012; as orbit space search, with representatives in place of states: Symmetry Breaking
-//! in Deterministic Planning as Forward Search, 2015).
+//! **Order.** The state to expand next has the least sum of cost and estimate; of these the least estimate; of these it was found
+//! first. A goal state is answered when its turn comes. With the estimate 0 (`NoEstimate`) this is uniform-cost search.
 //!
-//! Here a representative is only a key by which the states of a class are found (`StateListing`). What is listed are the states
-//! themselves, each of which is what its action makes of its parent: so the plan is read along parents, estimates are those of the
-//! states, and no more are listed than are reachable. A key need not be the same for all states of an orbit.
+//! **Estimates** have to be admissible, and need not be consistent: an expanded state that is reached at a lower cost waits again
+//! (Martelli, On the Complexity of Admissible Search Algorithms, 1977). Until it is expanded again, the states reached from it keep
+//! their costs, so the actions along parents may cost less than a node says. To the answered goal they cost the same, as no list costs
+//! less.
 //!
-//! A state that is reached is compared with the current one of its class:
+//! **Dead ends** that the guide reports are listed and never expanded. The guide is asked where a state is found, and again where it
+//! is reached at a lower cost.
 //!
-//! - There is none: it is new.
-//! - That is reached at no more: nothing changes.
-//! - That was never expanded: the state takes its place. No other was reached from it.
-//! - That has been expanded: the state is listed as well, and is the current one from then on. The other one stays, as a state that
-//!   was expanded at its cost, so that the states that were reached from it keep their parent.
+//! **Classes.** From states of one class the goal is reached alike: at the same costs. So a state need not be expanded if one of its
+//! class is, at no greater cost. If classes are the states that symmetries map to each other, this prunes by symmetries (Domshlak,
+//! Katz & Shleyfman, Enhanced Symmetry Breaking in Cost-Optimal Planning as Forward Search, 2012; as orbit space search: Symmetry
+//! Breaking in Deterministic Planning as Forward Search, 2015). A class is found by a key (`StateListing`), and states of one orbit
+//! may have different keys. What is listed are the states themselves: the plan is read along parents, estimates are those of the
+//! states, and only reachable states are listed. A reached state is compared with the current one of its class:
 //!
-//! A state that is listed itself and is reached at less waits again at its place, as in `best_first`. So several states of one class
-//! may be listed. Where the estimates of a class differ, an expanded state need not have been reached by a cheapest way, consistent
-//! though they are: one of its class may still wait that a cheaper way goes through.
+//! - None is listed: the state is new.
+//! - The current one costs no more: nothing changes.
+//! - The current one was never expanded: the state takes its place, as no other was reached from it.
+//! - The current one has been expanded: the state is listed too, and is the current one from now on. The other stays at its cost, so
+//!   the states reached from it keep their parent.
+//!
+//! A listed state that is itself reached at a lower cost waits again at its place. If estimates differ within a class, an expanded
+//! state need not have been reached by a cheapest way, even if they are consistent: a cheaper way may lead through a waiting state of
+//! its class.
+//!
+//! **Memory.** States are in a listing, in the order in which they were found, and are named by their places there. If a cheaper way
+//! to a waiting state is found, its old entry stays in the open list, and is skipped when it comes up (lazy deletion). All expansions
+//! share the same buffers, so a state takes no memory but its place in the listing, its node and its entry.
+//!
+//! **The limit.** If one more state than `max_states` would have to be listed, the outcome is `States`, and its bound is the least sum
+//! of a waiting state. The state that was being expanded counts as waiting, though some of its successors may be listed.
+//!
+//! **What is proved** (`IsTrueOutcome`, `HasEstimates`) is what costs decide:
+//!
+//! - A plan that is found is a cheapest one. No plan costs less than an expanded state with its estimate.
+//! - `States` is reported only if more states than the limit may have to be found before any plan is known to be cheapest
+//!   (`PrecedesPlans`). The bound is the least sum of cost and estimate over the cuts: the found states that are neither expanded nor
+//!   reported dead. The found states prove it (`IsAtLimit`).
+//! - Exactly the states that are reported dead are marked dead, and none of them is expanded.
+//! - The estimate of each cut is told, so nobody has to ask for it again.
+//! - With a consistent estimate, at the limit no expanded state has a greater sum than the bound, and the initial state no greater
+//!   estimate. If moreover each state is a class of its own, and successors of reported dead ends are reported too, expanded states
+//!   were reached by a cheapest way.
+//!
+//! Left open are which of several cheapest plans is answered, which states whose sum equals its cost are expanded before, and the
+//! order of the listing. `next_waiting` promises the order above; that its state is the one to expand or answer, and that states are
+//! found in the order of successors, is only tested.
 ghost use Rattle.std.specs.Prelude.{◌≡◌, ◌≤◌, ℕ, [], IfOk};
 ghost use Rattle.model.specs.Limits.{max_states_listed};
 ghost use Rattle.search.specs.OpenList.{IsLeastSum};
@@ -36,39 +66,39 @@ use crate::transitions::TransitionSystem;
 use faults::NoMemory;
 use std::alloc::Global;
 
-/// A search that is under way: the states that it found so far, and which of them wait. Its guide's scratch is an `R`.
+/// A search between two expansions: the states found so far, and which of them wait. `R` is its guide's scratch.
 #[derive(Drop)]
 pub struct Search<L, R> {
     progress: Progress<L>,
     buffers: Buffers<R>,
 }
 
-/// What a search came to.
+/// Where a search halts.
 #[derive(Drop)]
 pub enum Halt<L, R> {
-    /// The answer.
+    /// At its end, with the outcome.
     Ended(Outcome<L>),
-    /// As many states are listed as it was to pause at, and there is no answer yet.
+    /// At a pause: as many states are listed as were asked for, and there is no outcome yet.
     Paused(Search<L, R>),
 }
 
 impl<L: StateListing, R> Search<L, R> {
-    /// The states that it lists, in the order in which they were found, except that one may have the place of another of its class.
+    /// The listed states, in the order in which they were found. A state may have taken the place of another of its class.
     pub fn store(&self) -> &L
         ensures { result.now ≡ store_in self.now }
     {
         &self.progress.store
     }
 
-    /// For each of them, in the same order, how it was reached.
+    /// How each of them was reached, in the same order.
     pub fn nodes(&self) -> &[Node]
         ensures { result.now ≡ nodes_of self.now }
     {
         &self.progress.nodes
     }
 
-    /// The least sum of cost and estimate in the open list, if anything is in it. Nothing else is claimed of it: an entry may
-    /// be stale, as where a cheaper way to its state was found, or another state took its place.
+    /// The least sum of cost and estimate in the open list, unless it is empty. The entry may be stale: its state was reached at a
+    /// lower cost since, or another took its place.
     pub fn bound(&self) -> Option<u64>
         ensures { IsLeastSum self.now.progress.open_list result }
     {
@@ -76,7 +106,10 @@ impl<L: StateListing, R> Search<L, R> {
     }
 }
 
-/// Begins a search over this listing, which has no state yet. It has found the initial state alone.
+/// Begins a search over this listing, which is empty at first. The initial state alone is found.
+///
+/// # Errors
+/// Memory is refused.
 pub fn begin<T: TransitionSystem, G: Guide, L: StateListing>(
     alloc: Global,
     system: &T,
@@ -95,8 +128,11 @@ pub fn begin<T: TransitionSystem, G: Guide, L: StateListing>(
     Ok(Search { progress, buffers })
 }
 
-/// Goes on with the search until it ends, or at least `pause` states are listed. It pauses between two turns alone, so that
-/// more than `pause` may be listed then: also what follows the state that was expanded last.
+/// Continues the search until it ends or at least `pause` states are listed. It pauses only between two expansions, so more may be
+/// listed by then.
+///
+/// # Errors
+/// Memory is refused.
 pub fn go_on<T: TransitionSystem, G: Guide, L: StateListing>(
     alloc: Global,
     system: &T,
@@ -139,7 +175,10 @@ pub fn go_on<T: TransitionSystem, G: Guide, L: StateListing>(
     Ok(Halt::Paused(Search { progress, buffers }))
 }
 
-/// Goes on with the search until it ends.
+/// Continues the search to its end.
+///
+/// # Errors
+/// Memory is refused.
 pub fn finish<T: TransitionSystem, G: Guide, L: StateListing>(
     alloc: Global,
     system: &T,

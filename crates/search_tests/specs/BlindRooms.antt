@@ -1,10 +1,10 @@
--- Rooms out of which no door leads.
+-- Rooms without doors.
 use Rattle.std.specs.Prelude.{◌≡◌, ℕ, ◌==◌, Bool, true, false, not, ◌&&◌, IsTrue, List, [], Option, None, Some, is_some, if◌then◌else◌, refl}
 use Rattle.packed_state.specs.Sets.{has}
 use Rattle.search.specs.DeadEnds.{DetectsDeadEnds}
 use Rattle.search_tests.specs.Rooms.{rooms, room_in, through}
 
--- the state's room is not the one to be reached, and has no door
+-- the state's room has no door and is not the goal
 abbrev pub is_blind : ℕ → List ℕ → List ℕ → ℕ → List Bool → Bool
 is_blind width first second goal set = not (has set goal) && not (is_some (through width first set)) && not (is_some (through width second set))
 

@@ -1,4 +1,4 @@
--- An estimate for rooms that is admissible, and need not be consistent.
+-- An estimate for rooms that is admissible, but need not be consistent.
 use Rattle.std.specs.Prelude.{◌≡◌, ℕ, ◌*◌, ◌==◌, ◌≤◌, min, Bool, true, false, ◌||◌, List, [], ◌∷◌, Option, None, Some, if◌then◌else◌, option_and_then, slice_get, refl}
 use Rattle.std.specs.Option.{option_map_or}
 use Rattle.std.proofs.Common.{ap, sym, ◌∙◌, arith, zero-le}
@@ -13,19 +13,19 @@ use Rattle.search.specs.DeadEnds.{ReportsDeadEnds}
 use Rattle.search_tests.specs.Rooms.{rooms, room_in, through, cheapest-le}
 use Rattle.search_tests.specs.BlindRooms.{no_door}
 
--- the state to which a door leads, if it does, has the room to be reached
+-- the state behind a door, if there is one, is the goal
 abbrev pub is_goal : ℕ → Option (List Bool) → Bool
 is_goal goal next = option_map_or (λ set. has set goal) next false
 
--- a door of the state's room leads to the one to be reached
+-- a door of the state's room leads to the goal
 abbrev pub is_near : ℕ → List ℕ → List ℕ → ℕ → List Bool → Bool
 is_near width first second goal set = is_goal goal (through width first set) || is_goal goal (through width second set)
 
--- what two doors cost at least, or one where that may do
+-- the least cost of two doors, or of one where the goal is next
 abbrev pub most_there : ℕ → Bool → ℕ
 most_there least near = if near then least else least * 2
 
--- what the sign in the state's room reports, of which no more is believed than that
+-- the sign of the state's room, at most that cost
 abbrev pub believed_far : ℕ → List ℕ → List ℕ → ℕ → List ℕ → ℕ → List Bool → ℕ
 believed_far width first second least signs goal set =
     if has set goal then 0 else min (option_map_or (λ sign. sign) (option_and_then (slice_get signs) (room_in set)) 0) (most_there least (is_near width first second goal set))
@@ -35,7 +35,7 @@ neither false false is = (refl, refl)
 neither true b is = absurd (cc)
 neither false true is = absurd (cc)
 
--- no door of a room that is not near leads to the one to be reached
+-- no door of a room that is not near leads to the goal
 by_door : (width : ℕ) (first second : List ℕ) (goal : ℕ) (set next : List Bool) (is_first is_second : Bool) → is_near width first second goal set ≡ false
     → through width (if is_first then first else if is_second then second else []) set ≡ Some next → has next goal ≡ false
 by_door width first second goal set next true is_second far leads =
@@ -52,7 +52,7 @@ at_most : (b : Bool) (sign most cost : ℕ) → most ≤ cost → (if b then 0 e
 at_most true sign most cost within = zero-le
 at_most false sign most cost within = le_trans (min-le_right sign most) within
 
--- So it is admissible: a list that solves goes through one door at least, and from a room that is not near through two.
+-- So it is admissible: a list that solves goes through at least one door, and from a room that is not near through two.
 module _ (width : ℕ) (first second : List ℕ) (first_cost second_cost goal : ℕ) (signs : List ℕ) where
   abbrev system : System (List Bool) ℕ
   system = rooms width first second first_cost second_cost goal
@@ -88,6 +88,6 @@ module _ (width : ℕ) (first second : List ℕ) (first_cost second_cost goal : 
             (costs set next end door plan (is_near width first second goal set) refl leads on goal_there)
       ] refl runs
 
--- what reports no state dead
+-- the test that reports no state
 pub none_dead : {S A : Type 0} (t : System S A) → ReportsDeadEnds t (λ _. false)
 none_dead t s end plan reported runs = absurd (false≢true reported)

@@ -1,4 +1,4 @@
--- A small transition system, on which the tests run the search: rooms by number, and a state is the set of its one room.
+-- A small transition system for the tests: rooms by number. A state is the set of its one room.
 use Rattle.std.specs.Prelude.{ℕ, ◌==◌, ◌≤◌, min, nat_lt, Bool, true, false, List, [], ◌∷◌, length, slice_get, slice_set, if◌then◌else◌, Option, Some, None, option_map, option_and_then, find}
 use Rattle.std.specs.List.{range_with_len}
 use Rattle.std.specs.Option.{option_map_or}
@@ -12,11 +12,11 @@ use Rattle.search.specs.Estimates.{IsConsistent}
 abbrev pub room_in : List Bool → Option ℕ
 room_in set = find (has set) (range_with_len 0 (length set))
 
--- where the doors of a number lead, by the rooms that they are in
+-- the rooms behind the doors of a number, by the rooms that have these doors
 abbrev pub doors : List ℕ → List ℕ → ℕ → List ℕ
 doors first second door = if door == 1 then first else if door == 2 then second else []
 
--- the room after a room's door, if there is one and its number is below the width
+-- the room behind a room's door, if its number is below the width
 abbrev pub following : ℕ → List ℕ → ℕ → Option ℕ
 following width leads room = option_and_then (λ next. if nat_lt next width then Some next else None) (slice_get leads room)
 
@@ -24,16 +24,15 @@ following width leads room = option_and_then (λ next. if nat_lt next width then
 abbrev pub moved : List Bool → ℕ → ℕ → List Bool
 moved set room next = slice_set (slice_set set room false) next true
 
--- what going through a door of the state's room leads to
+-- the state behind a door of the state's room
 abbrev pub through : ℕ → List ℕ → List Bool → Option (List Bool)
 through width leads set = option_and_then (λ room. option_map (moved set room) (following width leads room)) (room_in set)
 
--- the door's number, where there is such a door
+-- the door's number, if there is such a door
 abbrev pub door_numbers : ℕ → Bool → List ℕ
 door_numbers door is_there = if is_there then door ∷ [] else []
 
--- rooms below a width: where the first and the second door of each lead, what it costs to go through them, and a room to
--- be reached from room 0
+-- rooms below a width: the rooms behind the first and the second doors, what doors cost, and the goal, to be reached from room 0
 abbrev pub rooms : ℕ → List ℕ → List ℕ → ℕ → ℕ → ℕ → System (List Bool) ℕ
 rooms width first second first_cost second_cost goal = record {
   initial = slice_set (set_of width []) 0 true;
@@ -42,8 +41,7 @@ rooms width first second first_cost second_cost goal = record {
   meets_goal = λ set. has set goal;
 }
 
--- What the sign in the state's room reports, of which no more is believed than this; 0 where there is no sign, and where the
--- room to be reached is in the set.
+-- the sign of the state's room, at most this number; 0 if it has no sign, or the goal is in the set
 abbrev pub believed : ℕ → List ℕ → ℕ → List Bool → ℕ
 believed most signs goal set = if has set goal then 0 else option_map_or (λ sign. min sign most) (option_and_then (slice_get signs) (room_in set)) 0
 
@@ -59,7 +57,7 @@ pub cheapest-le : (b : Bool) (first_cost second_cost : ℕ) → min first_cost s
 cheapest-le true first_cost second_cost = min-le_left first_cost second_cost
 cheapest-le false first_cost second_cost = min-le_right first_cost second_cost
 
--- No door costs less than the cheapest, so that an estimate of no more than that is consistent.
+-- No door costs less than the cheapest, so an estimate of at most that is consistent.
 pub consistent_signs : (width : ℕ) (first second : List ℕ) (first_cost second_cost goal : ℕ) (signs : List ℕ)
     → IsConsistent (rooms width first second first_cost second_cost goal) (believed (min first_cost second_cost) signs goal)
 consistent_signs width first second first_cost second_cost goal signs =

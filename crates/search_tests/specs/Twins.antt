@@ -1,19 +1,19 @@
--- Two states of rooms that are of one class: twins, whose doors lead to the same.
+-- Two states of one class: twins, whose doors lead to the same rooms.
 use Rattle.std.specs.Prelude.{◌≡◌, ℕ, Bool, false, List, slice_set, if◌then◌else◌, Some}
 use Rattle.std.specs.Bool.{beq}
 use Rattle.std.specs.Cmp.Lexicographic.{pointwise}
 use Rattle.packed_state.specs.Sets.{has}
 use Rattle.search_tests.specs.Rooms.{room_in, following}
 
--- whether it is the same set
+-- whether the sets are equal
 abbrev pub is_set : List Bool → List Bool → Bool
 is_set s other = pointwise beq s other
 
--- the key of a state: that of the other twin is the one twin
+-- the key of a state: itself, but for the second twin the first
 abbrev pub class_by : List Bool → List Bool → List Bool → List Bool
 class_by one other s = if is_set s other then one else s
 
--- The states' rooms have doors to the same rooms, and the room to be reached is in both or in none.
+-- The states' rooms have doors to the same rooms, and the goal is in both or in neither.
 pub record AreTwins (width : ℕ) (first second : List ℕ) (goal : ℕ) (one other : List Bool) : Type 0 where
   pub room : ℕ
   pub other_room : ℕ

@@ -1,4 +1,4 @@
-//! A test for dead ends of the tests' own: no door leads out of a room that is not the one to be reached.
+//! A test for dead ends, for the tests: rooms without doors, except the goal.
 ghost use Rattle.std.specs.Prelude.{◌≡◌, length};
 ghost use Rattle.packed_state.specs.Packed.{bits_of};
 ghost use Rattle.search_tests.specs.Rooms.{rooms};
@@ -8,11 +8,11 @@ use crate::rooms::Rooms;
 use packed_state::Packed;
 use search::{DeadEnd, TransitionSystem};
 
-/// The rooms of which those without doors are reported dead.
+/// Rooms. Those without doors are reported dead, except the goal.
 #[derive(Clone, Copy)]
 pub(crate) struct Blind(pub(crate) Rooms);
 
-/// Whether the state's room is not the one to be reached, and has no door.
+/// Whether the state's room has no door and is not the goal.
 pub(crate) fn is_blind(rooms: &Rooms, state: &Packed) -> bool
     requires { length (bits_of state.now) ≡ rooms.now.width }
     ensures { result ≡ is_blind rooms.now.width rooms.now.first.now rooms.now.second.now rooms.now.goal (bits_of state.now) }

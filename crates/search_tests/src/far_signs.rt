@@ -1,4 +1,4 @@
-//! An estimate of the tests' own that looks two doors ahead: across one it may fall by more than that costs.
+//! An admissible estimate, for the tests, that is not consistent: it looks two doors ahead, and may fall by more than a door costs.
 ghost use Rattle.std.specs.Prelude.{◌≡◌, ◌<◌, ◌^◌, false, min, length, option_and_then, slice_get};
 ghost use Rattle.std.specs.Option.{option_map_or};
 ghost use Rattle.packed_state.specs.Packed.{bits_of};
@@ -11,8 +11,8 @@ use packed_state::Packed;
 use search::{Guide, TransitionSystem};
 use std::alloc::Global;
 
-/// The signs of some rooms. No more is believed of them than what two doors cost at least, or one where one may do, so that the
-/// estimate is admissible, however wrong they are; but it need not be consistent.
+/// The signs of some rooms. A sign counts at most the least cost of two doors, or of one door next to the goal. So the estimate is
+/// admissible, however wrong the signs are, and need not be consistent.
 #[derive(Clone, Copy)]
 pub(crate) struct FarSigns {
     pub(crate) rooms: Rooms,
@@ -20,7 +20,7 @@ pub(crate) struct FarSigns {
 }
 
 impl FarSigns {
-    /// The sign in the room, if there is one.
+    /// The room's sign, if it has one.
     fn sign(&self, room: Option<u32>) -> u32
         ensures { result ≡ option_map_or (λ sign. sign) (option_and_then (slice_get self.now.signs.now) room) 0 }
     {
@@ -33,7 +33,7 @@ impl FarSigns {
         }
     }
 
-    /// Whether a door of this number leads from the state's room to the one to be reached.
+    /// Whether a door of this number leads from the state's room to the goal.
     fn leads_there(&self, door: u32, state: &Packed, next: &mut Packed) -> bool
         requires width { length (bits_of state.now) ≡ self.now.rooms.width }
         requires next_width { length (bits_of next.old) ≡ self.now.rooms.width }
@@ -47,7 +47,7 @@ impl FarSigns {
         self.rooms.meets_goal(next)
     }
 
-    /// What is believed of the sign in the state's room.
+    /// The estimate by the sign of the state's room.
     fn believed(&self, state: &Packed, next: &mut Packed) -> u64
         requires width { length (bits_of state.now) ≡ self.now.rooms.width }
         requires next_width { length (bits_of next.old) ≡ self.now.rooms.width }
@@ -70,7 +70,7 @@ impl FarSigns {
     }
 }
 
-/// The scratch holds a state: what a door leads to, while that is looked at.
+/// The scratch holds the state behind a door.
 impl Guide for FarSigns {
     type Scratch = Packed;
 

@@ -1,4 +1,4 @@
-//! Tests of packed states, of both stores, and of the search over a small system.
+//! Tests of packed states, of both stores, and of the search over a small system of rooms.
 #![tactic(auto)]
 
 #[cfg(test)]

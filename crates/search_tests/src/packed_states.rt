@@ -1,4 +1,4 @@
-//! Packed sets, each call against the numbers that are in the sets, at widths around those of words; and both stores.
+//! Packed sets, each call against the numbers in the sets, at widths around those of words; and both stores.
 ghost use Rattle.std.specs.Prelude.{ℕ, ◌<◌, ◌≡◌, IfOk, length};
 ghost use Rattle.std.specs.List.{All};
 ghost use Rattle.packed_state.specs.Packed.{bits_of, mask_bits_of};
@@ -9,10 +9,10 @@ use std::alloc::{AllocError, Global};
 use std::process::Abort;
 use std::test::Fail;
 
-/// Widths of no word, of some that are just full, and of those one number more or less.
+/// Widths around the ends of words.
 static WIDTHS: [u32; 11] = [0, 1, 63, 64, 65, 127, 128, 511, 512, 513, 1_025];
 
-/// Which numbers below a width are in a set.
+/// A rule by which numbers below a width are in a set.
 #[derive(Clone, Copy)]
 enum Sample {
     Empty,
@@ -67,14 +67,14 @@ impl Sample {
     }
 }
 
-/// What a set is compared with.
+/// A set to compare with.
 #[derive(Clone, Copy)]
 enum Wanted {
-    /// This one.
+    /// The set of this rule.
     Just(Sample),
-    /// The first less the second, with the third.
+    /// The first without the second, with the third.
     Changed(Sample, Sample, Sample),
-    /// This one of another width.
+    /// The set of this rule, of another width.
     Widened(Sample, u32),
 }
 
@@ -90,7 +90,7 @@ impl Wanted {
     }
 }
 
-/// Whether the set has this width and just these numbers.
+/// Whether the set has this width and exactly these numbers.
 fn is_just(set: &Packed, width: u32, wanted: Wanted) -> bool {
     for number in 0..set.width() {
         if set.has(number) != wanted.has(width, number) {
@@ -100,7 +100,7 @@ fn is_just(set: &Packed, width: u32, wanted: Wanted) -> bool {
     set.width() == width
 }
 
-/// The set, number by number.
+/// The set, built number by number.
 fn inserted(alloc: Global, width: u32, sample: Sample) -> Result<Packed, NoMemory> {
     let mut set = Packed::empty(alloc, width)?;
     for number in 0..width {
@@ -111,7 +111,7 @@ fn inserted(alloc: Global, width: u32, sample: Sample) -> Result<Packed, NoMemor
     Ok(set)
 }
 
-/// Of two sets of a width: whether they are the same, whether the first has all of the second, and whether none.
+/// The relations of two sets of one width: equal, the first has all of the second, the first has none of it.
 fn compared(width: u32, set: Sample, other: Sample) -> [bool; 3] {
     let mut answers = [true; 3];
     for number in 0..width {
@@ -123,7 +123,7 @@ fn compared(width: u32, set: Sample, other: Sample) -> [bool; 3] {
     answers
 }
 
-/// The same as the calls report it.
+/// The relations that the calls report.
 fn reported(alloc: Global, width: u32, set: Sample, other: Sample) -> Result<[bool; 3], NoMemory> {
     let mask = other.mask(alloc, width)?;
     let other = inserted(alloc, width, other)?;
@@ -131,7 +131,7 @@ fn reported(alloc: Global, width: u32, set: Sample, other: Sample) -> Result<[bo
     Ok([set == other, set.has_all(&mask), set.has_none(&mask)])
 }
 
-/// The first set less the second, with the third.
+/// The first set without the second, with the third.
 fn changed(
     alloc: Global,
     width: u32,
@@ -144,7 +144,7 @@ fn changed(
     Ok(set)
 }
 
-/// The first set less the second, number by number.
+/// The first set without the second, number by number.
 fn removed(alloc: Global, width: u32, [set, deletes]: [Sample; 2]) -> Result<Packed, NoMemory> {
     let mut set = set.packed(alloc, width)?;
     for number in 0..width {
@@ -162,7 +162,7 @@ fn copied(alloc: Global, width: u32, [set, other]: [Sample; 2]) -> Result<Packed
     Ok(set)
 }
 
-/// Whether the set's numbers are listed, rising, also in the place of what a vector has.
+/// Whether the set's numbers are listed in rising order, also in place of a vector's elements.
 fn is_listed(alloc: Global, width: u32, set: Sample) -> Result<bool, NoMemory> {
     let wanted = set.numbers(alloc, width)?;
     let set = set.packed(alloc, width)?;
@@ -171,7 +171,7 @@ fn is_listed(alloc: Global, width: u32, set: Sample) -> Result<bool, NoMemory> {
     Ok(lent == wanted && set.numbers(alloc)? == wanted)
 }
 
-/// Whether the first set less the second, and the second copied over the first, have their numbers.
+/// Whether the first set without the second, and the second copied over the first, have the right numbers.
 fn is_pair_changed(alloc: Global, width: u32, pair: [Sample; 2]) -> Result<bool, NoMemory> {
     let [set, other] = pair;
     let less = Wanted::Changed(set, other, Sample::Empty);
@@ -180,7 +180,7 @@ fn is_pair_changed(alloc: Global, width: u32, pair: [Sample; 2]) -> Result<bool,
     Ok(is_removed && is_just(&copy, width, Wanted::Just(other)))
 }
 
-/// Whether the first set less the second, with any other, has its numbers.
+/// Whether the first set without the second, with any other, has the right numbers.
 fn is_pair_joined(alloc: Global, width: u32, [set, other]: [Sample; 2]) -> Result<bool, NoMemory> {
     let mut are_right = true;
     for &adds in &SAMPLES {
@@ -190,14 +190,14 @@ fn is_pair_joined(alloc: Global, width: u32, [set, other]: [Sample; 2]) -> Resul
     Ok(are_right)
 }
 
-/// Whether all calls over the two sets are right.
+/// Whether all calls with the two sets are right.
 fn is_pair(alloc: Global, width: u32, [set, other]: [Sample; 2]) -> Result<bool, NoMemory> {
     let are_compared = reported(alloc, width, set, other)? == compared(width, set, other);
     let is_changed = is_pair_changed(alloc, width, [set, other])?;
     Ok(are_compared && is_changed && is_pair_joined(alloc, width, [set, other])?)
 }
 
-/// Whether the set, made of a list and number by number, has its numbers, and lists them.
+/// Whether the set, made from a list and number by number, has its numbers and lists them.
 fn is_sample(alloc: Global, width: u32, set: Sample) -> Result<bool, NoMemory> {
     let is_packed = is_just(&set.packed(alloc, width)?, width, Wanted::Just(set));
     let is_inserted = is_just(&inserted(alloc, width, set)?, width, Wanted::Just(set));
@@ -222,7 +222,7 @@ fn sets_have_their_numbers(rt: HostRuntime) -> Result<(), Fail> {
     Ok(())
 }
 
-/// Whether empty sets of the two widths differ, and the set stays itself where its width grows.
+/// Whether empty sets of the two widths differ, and a set of grown width has the same numbers.
 fn is_widened(alloc: Global, [narrow, wide]: [u32; 2], sample: Sample) -> Result<bool, NoMemory> {
     let differ = Packed::empty(alloc, narrow)? != Packed::empty(alloc, wide)?;
     let set = sample.packed(alloc, narrow)?;
@@ -243,7 +243,7 @@ fn widths_grow(rt: HostRuntime) -> Result<(), Fail> {
     Ok(())
 }
 
-/// Under a width of at least 128, a set with the key of the empty set.
+/// A set of a width of at least 128, with the key of the empty set.
 #[rattlefmt::skip]
 static TWIN: [u32; 37] = [
     0, 66, 67, 69, 71, 72, 74, 80, 82, 83, 84, 85, 86, 88, 93, 94, 95, 96, 99, 100, 101, 103, 104, 107, 108, 109, 110,
@@ -260,7 +260,7 @@ pub(crate) fn set_of(alloc: Global, width: u32, numbers: &[u32]) -> Result<Packe
     Ok(set)
 }
 
-/// The empty set, one with its key, and the sets of one number.
+/// The empty set, one with the same key, and the sets of one number.
 pub(crate) fn distinct_sets(alloc: Global, width: u32) -> Result<Vec<Packed>, NoMemory> {
     let mut sets = Vec::new(alloc);
     sets.push(set_of(alloc, width, &[])?)?;
@@ -273,7 +273,7 @@ pub(crate) fn distinct_sets(alloc: Global, width: u32) -> Result<Vec<Packed>, No
     Ok(sets)
 }
 
-/// What the store answers to the set, where it is of the store's width.
+/// The store's answer for the set, which has the store's width.
 pub(crate) fn put<S: StateStore>(
     store: &mut S,
     set: &Packed,
@@ -299,7 +299,7 @@ pub(crate) fn is_at<S: StateStore>(
     Ok(lent == *set)
 }
 
-/// The set's place, where it is of the store's width.
+/// The place of the set, which has the store's width.
 pub(crate) fn found<S: StateStore>(store: &S, set: &Packed) -> Option<u32> {
     if set.width() == store.width() {
         return store.find(set);
@@ -307,10 +307,10 @@ pub(crate) fn found<S: StateStore>(store: &S, set: &Packed) -> Option<u32> {
     None
 }
 
-/// What a store says of a set that is put in twice: how many it has before, where the set is, and what it answers.
+/// The answers of a store to a set that is inserted twice: the count before, the place, and whether it was new.
 type Reported = (usize, Option<u32>, [Option<(u32, bool)>; 2]);
 
-/// What the store says of the set where it is put in twice.
+/// Inserts the set twice.
 fn taken<S: StateStore>(store: &mut S, set: &Packed) -> Result<Reported, NoMemory> {
     let before = (store.len(), found(store, set));
     let first = put(store, set)?;
@@ -318,7 +318,7 @@ fn taken<S: StateStore>(store: &mut S, set: &Packed) -> Result<Reported, NoMemor
     Ok((before.0, before.1, [first, again]))
 }
 
-/// Each set is new the first time only, and gets the next place.
+/// Whether each set is new the first time only, and gets the next place.
 fn takes<S: StateStore>(rt: &impl Abort, store: &mut S, sets: &[Packed]) -> Result<(), Fail> {
     for (set, place) in sets.iter().zip(0..u32::MAX) {
         let answers = [Some((place, true)), Some((place, false))];
@@ -337,7 +337,7 @@ fn has_at<S: StateStore>(
     Ok(found(store, set) == Some(place) && is_at(alloc, store, set, place)?)
 }
 
-/// Whether the store has just these sets, in this order.
+/// Whether the store has exactly these sets, in this order.
 fn has_all<S: StateStore>(alloc: Global, store: &S, sets: &[Packed]) -> Result<bool, NoMemory> {
     for (set, place) in sets.iter().zip(0..u32::MAX) {
         if !has_at(alloc, store, set, place)? {
@@ -358,7 +358,7 @@ fn keeps<S: StateStore>(
     Ok(())
 }
 
-/// Either store keeps sets of this width.
+/// Whether both stores keep sets of this width.
 fn width_is_kept(rt: &impl Abort, alloc: Global, width: u32) -> Result<(), Fail> {
     let sets = distinct_sets(alloc, width)?;
     keeps(rt, alloc, PlainStore::new(alloc, width)?, &sets)?;

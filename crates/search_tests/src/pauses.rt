@@ -1,4 +1,4 @@
-//! A search that pauses twice: where it pauses, and that it comes to the answer to which one comes that does not pause.
+//! A search that pauses twice: the pauses, and the same outcome as without them.
 ghost use Rattle.std.specs.Prelude.{◌≡◌, []};
 
 use crate::blind_rooms::Blind;
@@ -14,21 +14,21 @@ use search::{
 use std::alloc::Global;
 use std::test::Fail;
 
-/// From each room a door leads to the next, at cost 1, and another to the one after that, at cost 5.
+/// From each room a door leads to the next room, at cost 1, and another to the room after that, at cost 5.
 #[rattlefmt::skip]
 static CLIMB: Row = Row {
     rooms: Rooms { width: 10, first: &[1, 2, 3, 4, 5], second: &[2, 3, 4, 5], first_cost: 1, second_cost: 5, goal: 3 },
     signs: &[], most: 100, plan: Some((&[1, 1, 1], 3)), limit: None, found: &[0, 1, 2, 3, 4], costs: &[0, 1, 2, 3, 7],
 };
 
-/// How many states a search has listed, how many nodes it has, and the least sum of one that waits.
+/// The numbers of a search's listed states and nodes, and its bound.
 type Seen = (usize, usize, Option<u64>);
 
 fn seen<L: StateListing, R>(search: &Search<L, R>) -> Seen {
     (search.store().len(), search.nodes().len(), search.bound())
 }
 
-/// What is seen of a search that pauses at two states and at four, and what it comes to.
+/// A search at its pauses, at two states and at four, and its outcome.
 type InParts<S> = Option<(Seen, Seen, Outcome<S>)>;
 
 fn in_parts<T: TransitionSystem, G: Guide, S: StateStore>(
@@ -55,7 +55,7 @@ fn in_parts<T: TransitionSystem, G: Guide, S: StateStore>(
     Ok(Some((first, second, in_store(outcome))))
 }
 
-/// The states in the store that was searched over.
+/// The found states, in the store alone.
 fn states_in_store<S>(states: FoundStates<OwnClasses<S>>) -> FoundStates<S> {
     FoundStates {
         store: states.store.0,
@@ -64,7 +64,7 @@ fn states_in_store<S>(states: FoundStates<OwnClasses<S>>) -> FoundStates<S> {
     }
 }
 
-/// The outcome with the store in place of its listing.
+/// The outcome, with the store in place of its listing.
 fn in_store<S>(outcome: Outcome<OwnClasses<S>>) -> Outcome<S> {
     match outcome {
         Outcome::Found {
@@ -86,7 +86,7 @@ fn in_store<S>(outcome: Outcome<OwnClasses<S>>) -> Outcome<S> {
     }
 }
 
-/// The same of the row's rooms, and whether the search comes to what the row says.
+/// Whether the search of the row's rooms pauses as it should, with the row's outcome.
 fn climbs(alloc: Global, row: &Row) -> Result<Option<(Seen, Seen, bool)>, NoMemory> {
     let signs = Signs {
         rooms: row.rooms,

@@ -1,12 +1,12 @@
-//! A store that refuses a set for running out of memory has what it had. `tools/refuse-growth` has each allocation of this test fail
-//! in turn, and the test passes whichever does; where memory is ample nothing is refused.
+//! A store that has run out of memory is unchanged. `tools/refuse-growth` fails each allocation of this test in turn, and the test passes
+//! whichever fails.
 use crate::packed_states::{distinct_sets, found, put, set_of};
 use faults::NoMemory;
 use packed_state::{Packed, PlainStore, PooledStore, StateStore};
 use std::alloc::Global;
 use std::test::Fail;
 
-/// Whether the store has just these sets, in this order. No memory is taken: `lent` is written over.
+/// Whether the store has exactly these sets, in this order. It overwrites `lent` in place of taking memory.
 fn has_just<S: StateStore>(store: &S, sets: &[Packed], lent: &mut Packed) -> bool {
     for (set, place) in sets.iter().zip(0..u32::MAX) {
         if lent.width() != store.width() || place as usize >= store.len() {
@@ -20,7 +20,7 @@ fn has_just<S: StateStore>(store: &S, sets: &[Packed], lent: &mut Packed) -> boo
     store.len() == sets.len()
 }
 
-/// Whether the answer says of a new set that comes after so many.
+/// Whether the answer is that of a new set at this place.
 fn is_next(answer: Option<(u32, bool)>, count: usize) -> bool {
     match answer {
         Some((place, is_new)) => place as usize == count && is_new,
@@ -28,8 +28,8 @@ fn is_next(answer: Option<(u32, bool)>, count: usize) -> bool {
     }
 }
 
-/// Puts the set after these, once more where memory is refused: whether it then is there, and the store had just these
-/// until then.
+/// Inserts the set after these, once more if memory is refused. Whether it is there in the end, and the store had exactly these until
+/// then.
 fn takes_next<S: StateStore>(
     store: &mut S,
     before: &[Packed],
@@ -46,7 +46,7 @@ fn takes_next<S: StateStore>(
     }
 }
 
-/// Whether the store takes each set in turn, is as before wherever one is refused, and has all in the end.
+/// Whether the store takes each set in turn, is unchanged where one is refused, and has all in the end.
 fn takes_each<S: StateStore>(store: &mut S, sets: &[Packed], lent: &mut Packed) -> bool {
     for place in 0..sets.len() {
         if !takes_next(store, &sets[..place], &sets[place], lent) {
@@ -56,7 +56,7 @@ fn takes_each<S: StateStore>(store: &mut S, sets: &[Packed], lent: &mut Packed) 
     has_just(store, sets, lent)
 }
 
-/// Distinct sets, a further one to write over, and both stores without any.
+/// Distinct sets, one to overwrite, and both stores, empty.
 fn set_up(
     alloc: Global,
     width: u32,
@@ -67,12 +67,12 @@ fn set_up(
     Ok((sets, lent, PlainStore::new(alloc, width)?, pooled))
 }
 
-/// Of three words a set, of which a vector's room is no multiple: a set may fit in part.
+/// Sets of three words. A vector's capacity is no multiple of three, so a set may fit in part.
 const WIDTH: u32 = 129;
 
 #[test]
 fn a_refused_set_changes_no_store(rt: HostRuntime) -> Result<(), Fail> {
-    // One allocation at most is refused, so the second try has memory.
+    // at most one allocation fails, so the second attempt has memory
     let (sets, mut lent, mut plain, mut pooled) = match set_up(rt.alloc(), WIDTH) {
         Ok(made) => made,
         Err(NoMemory) => set_up(rt.alloc(), WIDTH)?,

@@ -1,4 +1,4 @@
-//! The search by an estimate that is not consistent: a room that is reached at a lower cost after it was expanded waits again.
+//! The search by an inconsistent estimate: an expanded room that is reached at a lower cost waits again.
 ghost use Rattle.std.specs.Prelude.{◌≡◌, []};
 
 use crate::far_signs::FarSigns;
@@ -18,31 +18,31 @@ const ROUND_FIRST: &[u32] = &[1, 2, 3, 4, 0];
 
 #[rattlefmt::skip]
 static ROWS: [Row; 4] = [
-    // Room 2 is expanded at cost 3, then reached at cost 2 and expanded again, before room 3 has its turn at cost 4. With room 2
-    // left as it was, the plan would cost 5.
+    // Room 2 is expanded at cost 3, then reached at cost 2 and expanded again, before room 3 is expanded at cost 4. If it were not
+    // expanded again, the plan would cost 5.
     Row {
         rooms: Rooms { width: 64, first: DETOUR_FIRST, second: &[2], first_cost: 1, second_cost: 3, goal: 4 },
         signs: &[0, 2], most: 100, plan: Some((&[1, 1, 1, 1], 4)), limit: None, found: &[0, 1, 2, 3, 4], costs: &[0, 1, 2, 3, 4],
     },
-    // where room 4 may not be found, room 3 has its turn at cost 3
+    // the limit allows no room 4 when room 3 is expanded at cost 3
     Row {
         rooms: Rooms { width: 64, first: DETOUR_FIRST, second: &[2], first_cost: 1, second_cost: 3, goal: 4 },
         signs: &[0, 2], most: 4, plan: None, limit: Some(3), found: &[0, 1, 2, 3], costs: &[0, 1, 2, 3],
     },
-    // Room 1 has its turn at the sum 3, and reaches room 2 at cost 2 before room 5, which may not be found: the bound is what room 2
-    // waits at.
+    // Room 1 is expanded at the sum 3, and reaches room 2 at cost 2 before room 5, which the limit does not allow: the bound is the sum of
+    // room 2.
     Row {
         rooms: Rooms { width: 64, first: DETOUR_FIRST, second: &[2, 5], first_cost: 1, second_cost: 3, goal: 4 },
         signs: &[0, 2], most: 4, plan: None, limit: Some(2), found: &[0, 1, 2, 3], costs: &[0, 1, 2, 4],
     },
-    // There is no room 64: all are found, each at what the cheapest way there costs.
+    // There is no room 64: all are found, each at its least cost.
     Row {
         rooms: Rooms { width: 64, first: ROUND_FIRST, second: &[2], first_cost: 1, second_cost: 3, goal: 64 },
         signs: &[0, 2], most: 100, plan: None, limit: None, found: &[0, 1, 2, 3, 4], costs: &[0, 1, 2, 3, 4],
     },
 ];
 
-/// Whether the search by the row's signs, of which more is believed, finds what the row says.
+/// Whether the search by the row's signs, looked at two doors ahead, has the row's outcome.
 fn is_as_wanted<S: StateStore>(alloc: Global, row: &Row, store: S) -> Result<bool, NoMemory>
     requires empty { S.states store ≡ [] }
     requires width { S.width_of store ≡ row.now.rooms.width }
@@ -56,7 +56,7 @@ fn is_as_wanted<S: StateStore>(alloc: Global, row: &Row, store: S) -> Result<boo
     is_reported(alloc, &outcome, row)
 }
 
-/// The same in the plain store, and in the pooled one.
+/// The same in the plain store and in the pooled one.
 fn are_as_wanted(alloc: Global, row: &Row) -> Result<[bool; 2], NoMemory> {
     let width = row.rooms.width;
     let plain = is_as_wanted(alloc, row, PlainStore::new(alloc, width)?)?;

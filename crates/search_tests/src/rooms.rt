@@ -1,4 +1,4 @@
-//! A small transition system of the tests' own: rooms with doors, where a state is the set of its one room.
+//! A small transition system for the tests: rooms with doors. A state is the set of its one room.
 ghost use Rattle.std.specs.Prelude.{◌≡◌, ◌+◌, ◌<◌, ◌≤◌, ◌++◌, length, vec_len, vec_capacity, is_some, IfSome};
 ghost use Rattle.packed_state.specs.Packed.{bits_of};
 ghost use Rattle.search_tests.specs.Rooms.{rooms, room_in, doors, following, through, door_numbers};
@@ -8,9 +8,8 @@ use packed_state::Packed;
 use search::TransitionSystem;
 use std::alloc::Global;
 
-/// Rooms by number, each with at most two doors: where the first and the second ones lead, what it costs to go through
-/// them, and the room that is to be reached from room 0. The rooms' numbers are below the width, and a door to another
-/// leads nowhere.
+/// Rooms with at most two doors each: the rooms behind the first and the second doors, what doors cost, and the goal, to be reached from
+/// room 0. Numbers of rooms are below the width; a door to any other number leads nowhere.
 #[derive(Clone, Copy)]
 pub(crate) struct Rooms {
     pub(crate) width: u32,
@@ -21,7 +20,7 @@ pub(crate) struct Rooms {
     pub(crate) goal: u32,
 }
 
-/// The room that the state is.
+/// The state's room.
 pub(crate) fn room_in(state: &Packed) -> Option<u32>
     ensures room { result ≡ room_in (bits_of state.now) }
     ensures within { IfSome result (λ room. room < length (bits_of state.now)) }
@@ -35,7 +34,7 @@ pub(crate) fn room_in(state: &Packed) -> Option<u32>
 }
 
 impl Rooms {
-    /// Where the doors of this number lead, by the rooms that they are in.
+    /// The rooms behind the doors of this number, by the rooms that have these doors.
     fn doors(&self, door: u32) -> &'static [u32]
         ensures { result.now ≡ doors self.now.first.now self.now.second.now door }
     {
@@ -46,7 +45,7 @@ impl Rooms {
         }
     }
 
-    /// The room after the room's door of this number.
+    /// The room behind this door of the room.
     pub(crate) fn following(&self, door: u32, room: u32) -> Option<u32>
         ensures following { result ≡ following self.now.width (doors self.now.first.now self.now.second.now door) room }
         ensures within { IfSome result (λ next. next < self.now.width) }
@@ -55,7 +54,7 @@ impl Rooms {
         if next < self.width { Some(next) } else { None }
     }
 
-    /// Whether the state's room has a door of this number.
+    /// Whether the state's room has this door.
     pub(crate) fn has_door(&self, door: u32, state: &Packed) -> bool
         requires { length (bits_of state.now) ≡ self.now.width }
         ensures { result ≡ is_some (through self.now.width (doors self.now.first.now self.now.second.now door) (bits_of state.now)) }
@@ -66,7 +65,7 @@ impl Rooms {
         }
     }
 
-    /// Adds the number, if the state's room has a door of this number.
+    /// Adds the door's number, if the state's room has it.
     fn add_door(&self, door: u32, state: &Packed, into: &mut Vec<u32>)
         requires width { length (bits_of state.now) ≡ self.now.width }
         requires room { vec_len into.old < vec_capacity into.old }

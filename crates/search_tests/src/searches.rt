@@ -1,4 +1,4 @@
-//! The search over a system that is here alone: what it finds, and in which order, in either store.
+//! The search over rooms, with either store: plans, and the order of finding.
 ghost use Rattle.std.specs.Prelude.{◌≡◌, [], length};
 ghost use Rattle.packed_state.specs.Packed.{bits_of};
 
@@ -15,9 +15,8 @@ use search::{
 use std::alloc::Global;
 use std::test::Fail;
 
-/// Rooms, their signs, the most rooms that may be found, the doors of the plan that is found and its cost, if there is one, what
-/// every plan costs at least where the limit is reported, and the rooms in the order in which they are found, with what it costs to
-/// reach each.
+/// Rooms with their signs; the limit; the plan's doors and its cost, if one is found; the bound, if the limit is reported; and the rooms
+/// in the order of finding, each with its cost.
 pub(crate) struct Row {
     pub(crate) rooms: Rooms,
     pub(crate) signs: &'static [u32],
@@ -28,12 +27,12 @@ pub(crate) struct Row {
     pub(crate) costs: &'static [u64],
 }
 
-/// From each room a door leads to the next, at cost 1, and another to the one after that, at cost 5.
+/// From each room a door leads to the next room, at cost 1, and another to the room after that, at cost 5.
 const CLIMB_FIRST: &[u32] = &[1, 2, 3, 4, 5, 6, 7, 8, 9];
 
 const CLIMB_SECOND: &[u32] = &[2, 3, 4, 5, 6, 7, 8, 9];
 
-/// Two ways that part in room 0 and cost the same: by the rooms 1, 3 and 5, and by 2, 4 and 6.
+/// Two ways from room 0 of equal cost: by the rooms 1, 3 and 5, and by 2, 4 and 6.
 const ARMS_FIRST: &[u32] = &[1, 3, 4, 5, 6];
 
 const ARMS_SECOND: &[u32] = &[2];
@@ -45,8 +44,8 @@ static ROWS: [Row; 11] = [
         rooms: Rooms { width: 10, first: CLIMB_FIRST, second: CLIMB_SECOND, first_cost: 1, second_cost: 5, goal: 3 },
         signs: &[], most: 100, plan: Some((&[1, 1, 1], 3)), limit: None, found: &[0, 1, 2, 3, 4], costs: &[0, 1, 2, 3, 7],
     },
-    // There are ten rooms, and no room 10. Where nine may be found, room 7 has its turn when one more would have to be, and a
-    // cheaper way to 8 is found before.
+    // There are ten rooms, and no room 10. With a limit of nine, room 7 is being expanded when one more would have to be listed, and a
+    // cheaper way to 8 has been found.
     Row {
         rooms: Rooms { width: 10, first: CLIMB_FIRST, second: CLIMB_SECOND, first_cost: 1, second_cost: 5, goal: 10 },
         signs: &[], most: 10, plan: None, limit: None, found: &[0, 1, 2, 3, 4, 5, 6, 7, 8, 9], costs: &[0, 1, 2, 3, 4, 5, 6, 7, 8, 9],
@@ -55,50 +54,50 @@ static ROWS: [Row; 11] = [
         rooms: Rooms { width: 10, first: CLIMB_FIRST, second: CLIMB_SECOND, first_cost: 1, second_cost: 5, goal: 10 },
         signs: &[], most: 9, plan: None, limit: Some(7), found: &[0, 1, 2, 3, 4, 5, 6, 7, 8], costs: &[0, 1, 2, 3, 4, 5, 6, 7, 8],
     },
-    // the goal holds at the start
+    // the goal is room 0
     Row {
         rooms: Rooms { width: 64, first: &[1], second: &[2], first_cost: 1, second_cost: 1, goal: 0 },
         signs: &[], most: 100, plan: Some((&[], 0)), limit: None, found: &[0], costs: &[0],
     },
-    // Doors to N + 1 and to N + 2: room 3 is reached from 1 and from 2, which cost the same, and 1 was found first.
+    // Doors lead to N + 1 and to N + 2. Room 3 is reached from 1 and 2, which cost the same, and 1 was found first.
     Row {
         rooms: Rooms { width: 65, first: &[1, 2, 3, 4, 5, 6], second: &[2, 3, 4, 5, 6, 7], first_cost: 1, second_cost: 1, goal: 3 },
         signs: &[], most: 100, plan: Some((&[1, 2], 2)), limit: None, found: &[0, 1, 2, 3, 4], costs: &[0, 1, 1, 2, 2],
     },
-    // The same doors in the other order: 2 is found first, then 1, and of 4 and 3, which cost the same, 4.
+    // The same doors in the other order: 2 is found before 1, and 4 before 3, which costs the same.
     Row {
         rooms: Rooms { width: 128, first: &[2, 3, 4, 5, 6, 7], second: &[1, 2, 3, 4, 5, 6], first_cost: 1, second_cost: 1, goal: 3 },
         signs: &[], most: 100, plan: Some((&[1, 2], 2)), limit: None, found: &[0, 2, 1, 4, 3, 6, 5], costs: &[0, 1, 1, 2, 2, 3, 3],
     },
-    // Room 5 is found before 6. A cheaper way to 5 is found after 6, and then both cost the same: 5 comes first.
+    // Room 5 is found before 6. A cheaper way to 5 is found after 6. Then both cost the same, and 5 comes first.
     Row {
         rooms: Rooms { width: 64, first: &[1, 5, 3, 3, 4, 5, 6], second: &[2, 6, 4, 3, 5, 7, 7], first_cost: 2, second_cost: 1, goal: 7 },
         signs: &[], most: 100, plan: Some((&[2, 2, 2, 2], 4)), limit: None, found: &[0, 1, 2, 3, 4, 5, 6, 7], costs: &[0, 2, 1, 3, 2, 3, 3, 4],
     },
-    // second doors cost nothing, and lead in a circle
+    // second doors cost 0, and lead in a circle
     Row {
         rooms: Rooms { width: 200, first: &[3, 2], second: &[1, 0], first_cost: 1, second_cost: 0, goal: 2 },
         signs: &[], most: 100, plan: Some((&[2, 1], 1)), limit: None, found: &[0, 3, 1, 2], costs: &[0, 1, 0, 1],
     },
-    // The signs lead astray: of 2 and 3, then of 4 and 5, whose sums are the same, the one with the least estimate comes first.
+    // The signs mislead: of 2 and 3, and then of 4 and 5, which have equal sums, the one of the least estimate comes first.
     Row {
         rooms: Rooms { width: 64, first: ARMS_FIRST, second: ARMS_SECOND, first_cost: 2, second_cost: 2, goal: 6 },
         signs: &[0, 0, 3, 0, 3, 0], most: 100, plan: Some((&[2, 1, 1], 6)), limit: None, found: &[0, 1, 2, 3, 5, 4, 6], costs: &[0, 2, 2, 4, 6, 4, 6],
     },
-    // The signs are right: room 5 is not found, though with no estimate it is.
+    // The signs are right: room 5 is not found, though without an estimate it is.
     Row {
         rooms: Rooms { width: 64, first: ARMS_FIRST, second: ARMS_SECOND, first_cost: 2, second_cost: 2, goal: 6 },
         signs: &[0, 3, 0, 3, 0, 3], most: 100, plan: Some((&[2, 1, 1], 6)), limit: None, found: &[0, 1, 2, 4, 6, 3], costs: &[0, 2, 2, 4, 6, 4],
     },
-    // Rooms 1 and 4 have one sum and one estimate, and 1 was found first. Then 6 has the same sum and a lower estimate. A
-    // cheaper way to 5 is found while it waits; 7 comes before 3 and 5, whose sums are the same.
+    // Rooms 1 and 4 have equal sums and estimates, and 1 was found first. Then 6 has the same sum and a lower estimate. A cheaper way
+    // to 5 is found while it waits; 7 comes before 3 and 5, which have equal sums.
     Row {
         rooms: Rooms { width: 64, first: &[1, 5, 3, 3, 4, 5, 6], second: &[2, 6, 4, 3, 5, 7, 7], first_cost: 2, second_cost: 1, goal: 7 },
         signs: &[0, 1, 0, 2, 1, 1], most: 100, plan: Some((&[1, 2, 2], 4)), limit: None, found: &[0, 1, 2, 3, 4, 5, 6, 7], costs: &[0, 2, 1, 3, 2, 3, 3, 4],
     },
 ];
 
-/// Whether the store has just the rooms, in this order.
+/// Whether the store has exactly these rooms, in this order.
 fn has_just<S: StateStore>(
     alloc: Global,
     store: &S,
@@ -114,7 +113,7 @@ fn has_just<S: StateStore>(
     Ok(store.len() == rooms.len())
 }
 
-/// Whether the rooms were reached at these costs.
+/// Whether the rooms have these costs.
 pub(crate) fn are_reached(nodes: &[Node], costs: &[u64]) -> bool {
     for (node, cost) in nodes.iter().zip(costs) {
         if node.cost != *cost {
@@ -124,14 +123,14 @@ pub(crate) fn are_reached(nodes: &[Node], costs: &[u64]) -> bool {
     nodes.len() == costs.len()
 }
 
-/// Whether nothing is found by expanding the state: no door leads out of its room, or it is the one to be reached.
+/// Whether the state need not be expanded: its room has no door, or is the goal.
 fn is_in_vain(rooms: &Rooms, state: &Packed) -> bool
     requires { length (bits_of state.now) ≡ rooms.now.width }
 {
     is_blind(rooms, state) || rooms.meets_goal(state)
 }
 
-/// Whether each room that was expanded has a door, and is not the one to be reached.
+/// Whether each expanded room has a door and is not the goal.
 fn have_doors(
     alloc: Global,
     rooms: &Rooms,
@@ -147,7 +146,7 @@ fn have_doors(
     Ok(true)
 }
 
-/// Whether the found rooms are those of the row, each at its cost, and none of them was expanded in vain.
+/// Whether the found rooms are those of the row, each at its cost, and none was expanded in vain.
 fn are_found<S: StateStore>(
     alloc: Global,
     states: &FoundStates<S>,
@@ -158,7 +157,7 @@ fn are_found<S: StateStore>(
     Ok(are_they && have_doors && are_reached(&states.nodes, row.costs))
 }
 
-/// Whether this is what the row says.
+/// Whether this is the row's outcome.
 pub(crate) fn is_reported<S: StateStore>(
     alloc: Global,
     outcome: &Outcome<S>,
@@ -179,7 +178,7 @@ pub(crate) fn is_reported<S: StateStore>(
     }
 }
 
-/// Whether the search by the row's signs finds what the row says.
+/// Whether the search by the row's signs has the row's outcome.
 fn is_as_wanted<S: StateStore>(alloc: Global, row: &Row, store: S) -> Result<bool, NoMemory>
     requires empty { S.states store ≡ [] }
     requires width { S.width_of store ≡ row.now.rooms.width }
@@ -195,7 +194,7 @@ fn is_as_wanted<S: StateStore>(alloc: Global, row: &Row, store: S) -> Result<boo
     is_reported(alloc, &outcome, row)
 }
 
-/// The same in the plain store, and in the pooled one.
+/// The same in the plain store and in the pooled one.
 pub(crate) fn are_as_wanted(alloc: Global, row: &Row) -> Result<[bool; 2], NoMemory> {
     let width = row.rooms.width;
     let plain = is_as_wanted(alloc, row, PlainStore::new(alloc, width)?)?;
@@ -203,7 +202,7 @@ pub(crate) fn are_as_wanted(alloc: Global, row: &Row) -> Result<[bool; 2], NoMem
     Ok([plain, pooled])
 }
 
-/// What the plan that was found costs, if one was.
+/// The cost of the found plan, if there is one.
 fn cost_of<S>(outcome: &Outcome<S>) -> Option<u64> {
     match outcome {
         Outcome::Found { cost, .. } => Some(*cost),
@@ -211,7 +210,7 @@ fn cost_of<S>(outcome: &Outcome<S>) -> Option<u64> {
     }
 }
 
-/// What a cheapest plan costs, as the search with no estimate finds out.
+/// The cost of a cheapest plan, by the search without an estimate.
 fn cost_with_no_estimate<S: StateStore>(
     alloc: Global,
     row: &Row,
@@ -228,7 +227,7 @@ fn cost_with_no_estimate<S: StateStore>(
     Ok(cost_of(&outcome))
 }
 
-/// The same in the plain store, and in the pooled one.
+/// The same in the plain store and in the pooled one.
 fn costs_with_no_estimate(alloc: Global, row: &Row) -> Result<[Option<u64>; 2], NoMemory> {
     let width = row.rooms.width;
     let plain = cost_with_no_estimate(alloc, row, PlainStore::new(alloc, width)?)?;

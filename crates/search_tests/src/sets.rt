@@ -1,4 +1,4 @@
-//! Sets that go one number past a word.
+//! Sets one number wider than a word.
 ghost use Rattle.std.specs.Prelude.{◌≡◌, ◌<◌, IfOk, length};
 ghost use Rattle.std.specs.List.{All};
 ghost use Rattle.packed_state.specs.Packed.{bits_of, mask_bits_of};
@@ -8,7 +8,7 @@ use packed_state::{Mask, Packed};
 use std::alloc::Global;
 use std::test::Fail;
 
-/// How many numbers there are.
+/// The width.
 const WIDTH: u32 = 65;
 
 /// The set of these numbers.
@@ -19,7 +19,7 @@ fn set(alloc: Global, numbers: &[u32]) -> Result<Packed, NoMemory>
     Packed::new(alloc, WIDTH, numbers)
 }
 
-/// The same as a mask.
+/// The mask of these numbers.
 fn mask(alloc: Global, numbers: &[u32]) -> Result<Mask, NoMemory>
     requires { All (λ n. n < WIDTH) numbers.now }
     ensures { IfOk result (λ mask. length (mask_bits_of mask) ≡ WIDTH) }
@@ -35,7 +35,7 @@ fn has_all(alloc: Global) -> Result<[bool; 2], NoMemory> {
     Ok([both.has_all(&last), both.has_all(&others)])
 }
 
-/// Whether {0, 64} is {64} once 0 and 64 are taken away and 64 is added.
+/// Whether {0, 64} without 0 and 64, with 64, is {64}.
 fn changes(alloc: Global) -> Result<bool, NoMemory> {
     let mut both = set(alloc, &[0, 64])?;
     let deletes = mask(alloc, &[0, 64])?;

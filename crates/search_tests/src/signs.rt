@@ -1,4 +1,4 @@
-//! An estimate of the tests' own: a sign in each room says how far it is to the room that is to be reached.
+//! An estimate for the tests: a sign in each room tells the distance to the goal.
 ghost use Rattle.std.specs.Prelude.{◌≡◌, min, pos, length, option_and_then, slice_get};
 ghost use Rattle.std.specs.Option.{option_map_or};
 ghost use Rattle.packed_state.specs.Packed.{bits_of};
@@ -8,8 +8,8 @@ use crate::rooms::{Rooms, room_in};
 use packed_state::Packed;
 use search::{Estimate, TransitionSystem};
 
-/// The signs of some rooms. No more is believed of them than what the cheapest door costs, so that they are consistent,
-/// however wrong they are.
+/// The signs of some rooms. A sign counts at most the cost of the cheapest door, so the estimate is consistent, however wrong the signs
+/// are.
 #[derive(Clone, Copy)]
 pub(crate) struct Signs {
     pub(crate) rooms: Rooms,
@@ -17,7 +17,7 @@ pub(crate) struct Signs {
 }
 
 impl Signs {
-    /// What is believed of the sign in the room.
+    /// The estimate by the room's sign.
     fn believed(&self, room: Option<u32>) -> u32
         ensures { result ≡ option_map_or (λ sign. min sign (min self.now.rooms.first_cost self.now.rooms.second_cost)) (option_and_then (slice_get self.now.signs.now) room) 0 }
     {

@@ -1,4 +1,4 @@
-//! A listing of the tests' own, in which two states are of one class: twins, of which either may stand for the other.
+//! A listing for the tests, in which two states, the twins, are of one class.
 ghost use Rattle.std.specs.Prelude.{◌≡◌, ℕ, ◌<◌, ◌≤◌, [], ◌∷◌, ◌++◌, length, map, slice_get, slice_set, Contains, All, IfOk, IfSome, MatchBool, MatchOption, OnOk, ⊤};
 ghost use Rattle.std.proofs.Props.{props};
 ghost use Rattle.packed_state.specs.Packed.{bits_of};
@@ -12,7 +12,7 @@ use packed_state::Packed;
 use search::{Place, StateListing, TransitionSystem};
 use std::alloc::Global;
 
-/// Whether the rooms of these two states have the same doors, and both are to be reached or none is.
+/// Whether the rooms of these states have the same doors, and both or none are the goal.
 pub(crate) fn are_twins(
     alloc: Global,
     rooms: &Rooms,
@@ -54,7 +54,7 @@ pub(crate) fn are_twins(
     Ok(true)
 }
 
-/// Whether these doors lead to the same room, or both are none.
+/// Whether these doors lead to the same room, or neither exists.
 fn are_same(one: Option<u32>, other: Option<u32>) -> bool
     ensures { MatchBool result (one ≡ other) ⊤ }
 {
@@ -65,7 +65,7 @@ fn are_same(one: Option<u32>, other: Option<u32>) -> bool
     }
 }
 
-/// States in a vector, looked up one by one.
+/// States in a vector, searched from the start.
 #[derive(Drop)]
 pub(crate) struct Twins {
     alloc: Global,
@@ -81,7 +81,7 @@ pub(crate) struct Twins {
 }
 
 impl Twins {
-    /// A listing in which these two are of one class, with no state.
+    /// An empty listing, in which these two states are of one class.
     pub(crate) fn new(alloc: Global, one: Packed, other: Packed) -> Twins
         requires { length (bits_of other) ≡ length (bits_of one) }
         ensures width { result.width ≡ length (bits_of one) }
@@ -113,7 +113,7 @@ impl Twins {
         None
     }
 
-    /// The place of the state's twin, if it has one that is listed.
+    /// The place of the state's twin, if it has one and that is listed.
     fn find_twin(&self, state: &Packed) -> Option<u32>
         ensures { IfSome result (IsAlikeAt (class_by (bits_of self.now.one) (bits_of self.now.other)) (map bits_of self.now.states.items) (bits_of state.now)) }
     {

@@ -7,12 +7,12 @@ use Rattle.model.specs.Task.{Atom, Task}
 use Rattle.model.specs.Fluents.{is_fluent}
 use Rattle.model.specs.NumberedAtoms.{numbered_atoms}
 use Rattle.model.specs.Grounding.{state_of_bits}
-use Rattle.representatives.specs.Representatives.{task_of, exchanges_of}
+use Rattle.symmetries.specs.Representatives.{task_of, exchanges_of}
 use Rattle.search.specs.Outcome.{AreOfOneClass}
-use Rattle.symmetries.specs.Exchanges.{Exchange}
-use Rattle.symmetries.specs.Symmetries.{is_symmetry}
-use Rattle.symmetries.specs.Orbits.{representative, AreAlike, keeps_atoms, packed_representative}
-use Rattle.symmetries.proofs.PackedOrbits.{alike_seen}
+use Rattle.symmetries_definitions.specs.Exchanges.{Exchange}
+use Rattle.symmetries_definitions.specs.Symmetries.{is_symmetry}
+use Rattle.symmetries_definitions.specs.Orbits.{representative, AreAlike, keeps_atoms, packed_representative}
+use Rattle.symmetries_definitions.proofs.PackedOrbits.{alike_seen}
 use Rattle.ground_listings.specs.SearchSpace.{ground_in, exchanges_in, class_in, IsSearchSpace}
 use Rattle.ground_listings.specs.declared.search_space.SearchSpace.{SearchSpace}
 use Rattle.ground_listings.specs.declared.search_space.SearchSpace.TheVariants as space

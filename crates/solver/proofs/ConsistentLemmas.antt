@@ -7,10 +7,10 @@ use Rattle.model.specs.Grounding.{ground_system}
 use Rattle.grounding.specs.declared.ground.Ground.{Ground}
 use Rattle.grounding.specs.Ground.{task_in, atoms_in}
 use Rattle.certificate_definitions.specs.Certificates.{two, three, is_weight, is_dead_end_weight, are_potentials}
-use Rattle.potential_functions.specs.PotentialFunctions.{score}
+use Rattle.lower_bounds.specs.PotentialFunctions.{score}
 use Rattle.potentials.proofs.GroundLemmas.{numberable}
 use Rattle.potentials_improved.proofs.EstimateLemmas.{fair_guides}
-use Rattle.table_functions.specs.Laws.{AreOver}
+use Rattle.lower_bounds.specs.TableLaws.{AreOver}
 use Rattle.table_guides.proofs.GuideLemmas.{all_numbered, fair_ones_guide}
 use Rattle.search.specs.Estimates.{IsConsistent}
 use Rattle.solver.specs.Guidance.{Guidance, by_potentials, by_tables, estimate_by, values_by, CanBeWritten, AreFairBy}

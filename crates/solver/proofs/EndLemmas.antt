@@ -3,7 +3,7 @@ use Rattle.std.proofs.Common.{◌≡◌, ℕ, Bool, List, subst}
 use Rattle.std.specs.Prelude.{Option, Result, Ok, Err, OnOk}
 use Rattle.devices.specs.Devices.{IsWritten}
 use Rattle.certificate_definitions.specs.Certificates.{Certificate}
-use Rattle.progress_lines.specs.Said.{stream}
+use Rattle.devices.specs.Progress.{stream}
 use Rattle.solver.specs.Said.{EndsBy, line_of, report_of}
 use Rattle.solver.specs.declared.reports.Report.{Report}
 

@@ -15,19 +15,19 @@ use Rattle.model.specs.Grounding.{bits_of_state, state_of_bits, ground_system}
 use Rattle.model.proofs.LimitsLemmas.{numbered_again}
 use Rattle.model.proofs.GroundTaskLemmas.{initial-numbered, packs_states}
 use Rattle.search.specs.declared.nodes.Node.{Node}
-use Rattle.symmetries.specs.Exchanges.{Exchange}
+use Rattle.symmetries_definitions.specs.Exchanges.{Exchange}
 use Rattle.certificate_definitions.specs.Certificates.{Version, two, three, is_value_count, is_weight, is_mark, are_potentials, is_dead_end_weight, are_tables, are_weights, has_tables, is_row, is_table, rows_of, rise, value_of, is_dead_end_of, AreFairFor}
 use Rattle.certificate.specs.CertificateParts.{are_bounds}
-use Rattle.potential_functions.specs.PotentialFunctions.{PotentialFunction, score, given, IsInRange, AreInRange}
-use Rattle.potential_functions.specs.Fair as potentials
-use Rattle.potential_functions.proofs.Falls.{or_zero-most}
-use Rattle.potential_functions.proofs.Sums.{sum-range}
-use Rattle.potential_functions.proofs.Ranges.{given-range}
-use Rattle.table_functions.specs.TableFunctions.{Row, Table, SeveralValues, is_among, projection, row_in, has_rows, given_by, sum_over, score_by_tables, value, over_tables, functions_of, dead_ends_of, greatest_value, in_state}
-use Rattle.table_functions.specs.FairTables as fair_tables
-use Rattle.table_functions.proofs.Lists.{all-at}
-use Rattle.table_functions.proofs.LowerBound.{numbered-has}
-use Rattle.table_functions.proofs.Rows.{row-is}
+use Rattle.lower_bounds.specs.PotentialFunctions.{PotentialFunction, score, given, IsInRange, AreInRange}
+use Rattle.lower_bounds.specs.FairPotentials as potentials
+use Rattle.lower_bounds.proofs.PotentialFalls.{or_zero-most}
+use Rattle.lower_bounds.proofs.Sums.{sum-range}
+use Rattle.lower_bounds.proofs.Ranges.{given-range}
+use Rattle.lower_bounds.specs.TableFunctions.{Row, Table, SeveralValues, is_among, projection, row_in, has_rows, given_by, sum_over, score_by_tables, value, over_tables, functions_of, dead_ends_of, greatest_value, in_state}
+use Rattle.lower_bounds.specs.FairTables as fair_tables
+use Rattle.lower_bounds.proofs.TableLists.{all-at}
+use Rattle.lower_bounds.proofs.TableLowerBound.{numbered-has}
+use Rattle.lower_bounds.proofs.TableRows.{row-is}
 use Rattle.solver.specs.Guidance.{Guidance, by_potentials, by_tables, estimate_by, reports_dead, version_by, values_by, CanBeWritten, AreFairBy}
 use Rattle.solver.specs.Listing.{found_certificate}
 use Rattle.solver.proofs.PotentialLemmas.{value-packed, potentials-pass}

@@ -7,7 +7,7 @@ use Rattle.search.specs.Estimates.{IsConsistent}
 use Rattle.search.specs.Outcome as search
 use Rattle.solver.specs.Listing.{found_certificate}
 use Rattle.solver.specs.AtLimit.{IsCutOf, IsAtLimit}
-use Rattle.symmetries.specs.Exchanges.{Exchange}
+use Rattle.symmetries_definitions.specs.Exchanges.{Exchange}
 use Rattle.solver.specs.Guidance.{Guidance, estimate_by, reports_dead}
 use Rattle.solver.proofs.GuidanceLemmas.{most_value, value-at-start}
 use Rattle.solver.proofs.FoundLines.{waits_of_cut, cut_of_waits, line_among}

@@ -28,12 +28,12 @@ module _ {S Store : Type 0} (t : System S ℕ) (class_of : S → S) (value : S �
 
   -- the least sum is a lower bound of what plans cost
   pub bound_holds : AreClassesOf t class_of → IsAdmissible t value → ReportsDeadEnds t is_dead → AreOpen t class_of (nodes_in states_of p) → (least : ℕ) → IsLeastSum p.open_list (Some least) → CostsAtLeast t least
-  bound_holds classes admissible reports are_open least is =
+  bound_holds classes admissible reports successors_found least is =
       let listed = are_listed t class_of value is_dead (found_of states all) (waiting_in p.open_list) search.nodes in
       let each = is.1 search.heap in
       claim-of_closed t (AreOfOneClass class_of) classes value is_dead (bound least) (lines_of value is_dead states all) (λ line end plan _ runs goal. admissible line.state end plan runs goal)
       (λ line end plan _ dead runs. reports line.state end plan dead runs)
-      (closed t class_of value is_dead states all search.one_each listed (bound least) are_open
+      (closed t class_of value is_dead states all search.one_each listed (bound least) successors_found
       (λ k n at waits. All-contains (λ (w : Waiting). least ≤ sum_of w) (waiting_in p.open_list) (entry n.node.cost (value n.state) k) each (search.nodes.queued k n at waits)))
 
   found_there : (k : ℕ) (s : S) → slice_get states k ≡ Some s → (node : Node) × (slice_get (found_of states all) k ≡ Some (record { state = s; node = node }))

@@ -5,14 +5,14 @@ use Rattle.std.proofs.lemmas.List.Elements.{All-cons, All-nil}
 use Rattle.grounding.specs.Ground.{task_in, atoms_in}
 use Rattle.model.specs.Task.{Task, Atom}
 use Rattle.model.specs.Grounding.{ground_system}
-use Rattle.potential_functions.specs.PotentialFunctions as potential
-use Rattle.potential_functions.specs.PotentialFunctions.{PotentialFunction, AreInRange}
-use Rattle.potential_functions.specs.Fair as potentials
-use Rattle.table_functions.specs.TableFunctions as tables
-use Rattle.table_functions.specs.TableFunctions.{Row, Table, functions_of, dead_ends_of, greatest_value}
-use Rattle.table_functions.specs.FairTables as fair_tables
-use Rattle.table_functions.specs.Laws.{without_tables}
-use Rattle.table_functions.proofs.WithoutTables.{potentials_are_table_functions}
+use Rattle.lower_bounds.specs.PotentialFunctions as potential
+use Rattle.lower_bounds.specs.PotentialFunctions.{PotentialFunction, AreInRange}
+use Rattle.lower_bounds.specs.FairPotentials as potentials
+use Rattle.lower_bounds.specs.TableFunctions as tables
+use Rattle.lower_bounds.specs.TableFunctions.{Row, Table, functions_of, dead_ends_of, greatest_value}
+use Rattle.lower_bounds.specs.FairTables as fair_tables
+use Rattle.lower_bounds.specs.TableLaws.{without_tables}
+use Rattle.lower_bounds.proofs.WithoutTables.{potentials_are_table_functions}
 use Rattle.solver.specs.Guidance.{by_potentials, by_tables, over_no_tables, estimate_by, reports_dead, CanBeWritten, AreFairBy}
 use Rattle.solver.specs.Guided.{IsGuidanceFor}
 use Rattle.solver.specs.Improved.{AreSettledOrHigh, AreDeadSettledOrHigh}

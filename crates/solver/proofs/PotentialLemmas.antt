@@ -10,10 +10,10 @@ use Rattle.model.specs.Fluents.{is_fluent}
 use Rattle.model.specs.NumberedAtoms.{numbered_atoms}
 use Rattle.model.specs.Grounding.{state_of_bits, bits_of_state}
 use Rattle.model.proofs.GroundTaskLemmas.{packs_states}
-use Rattle.potential_functions.specs.PotentialFunctions.{PotentialFunction, score, or_zero, value, IsInRange, AreInRange}
-use Rattle.potential_functions.specs.Fair.{AreFairAt}
-use Rattle.potential_functions.specs.Settled.{IsImprovedAt}
-use Rattle.potential_functions.proofs.Zero.{zero_potentials}
+use Rattle.lower_bounds.specs.PotentialFunctions.{PotentialFunction, score, or_zero, value, IsInRange, AreInRange}
+use Rattle.lower_bounds.specs.FairPotentials.{AreFairAt}
+use Rattle.lower_bounds.specs.Settled.{IsImprovedAt}
+use Rattle.lower_bounds.proofs.Zero.{zero_potentials}
 use Rattle.search.specs.Estimates.{above_zero, value_by}
 use Rattle.certificate_definitions.specs.Certificates.{is_weight, are_potentials}
 use Rattle.solver.specs.Improved.{AreSettledOrHighAt}

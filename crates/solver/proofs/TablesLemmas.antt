@@ -7,12 +7,12 @@ use Rattle.std.proofs.lemmas.List.Elements.{All-cons, All-nil}
 use Rattle.certificate.specs.CertificateParts.{are_bounds, bounds_of}
 use Rattle.certificate.specs.declared.header.Bounds.{Bounds}
 use Rattle.certificate_definitions.specs.Certificates.{three, are_potentials, are_tables, are_weights, has_tables, is_dead_end_weight, is_row, is_table, is_value_count, is_weight, rise}
-use Rattle.potential_functions.specs.PotentialFunctions.{IsInRange}
+use Rattle.lower_bounds.specs.PotentialFunctions.{IsInRange}
 use Rattle.potentials.specs.Potentials.{potentials_of}
 use Rattle.potentials.specs.declared.potentials.Potentials.{Potentials}
-use Rattle.table_functions.specs.Laws.{are_over}
-use Rattle.table_functions.specs.TableFunctions as model
-use Rattle.table_functions.specs.TableFunctions.{Row, is_among}
+use Rattle.lower_bounds.specs.TableLaws.{are_over}
+use Rattle.lower_bounds.specs.TableFunctions as model
+use Rattle.lower_bounds.specs.TableFunctions.{Row, is_among}
 use Rattle.table_rows.proofs.TableLemmas.{rows-distinct}
 use Rattle.table_rows.specs.declared.table.Table.{Table}
 use Rattle.table_rows.specs.Tables.{table_of, weight_count_of}

@@ -3,12 +3,12 @@ use Rattle.std.specs.Prelude.{ℕ, Bool, IsTrue, List, [], ◌∷◌, All, AllPa
 use Rattle.model.specs.Task.{Task, Atom}
 use Rattle.certificate.specs.CertificateParts.{are_bounds}
 use Rattle.certificate_definitions.specs.Certificates.{Version, two, three}
-use Rattle.potential_functions.specs.PotentialFunctions as potential
-use Rattle.potential_functions.specs.PotentialFunctions.{PotentialFunction}
-use Rattle.potential_functions.specs.Fair as potentials
-use Rattle.table_functions.specs.TableFunctions as tables
-use Rattle.table_functions.specs.TableFunctions.{Row, Table, SeveralValues, functions_of, dead_ends_of, greatest_value}
-use Rattle.table_functions.specs.FairTables as fair_tables
+use Rattle.lower_bounds.specs.PotentialFunctions as potential
+use Rattle.lower_bounds.specs.PotentialFunctions.{PotentialFunction}
+use Rattle.lower_bounds.specs.FairPotentials as potentials
+use Rattle.lower_bounds.specs.TableFunctions as tables
+use Rattle.lower_bounds.specs.TableFunctions.{Row, Table, SeveralValues, functions_of, dead_ends_of, greatest_value}
+use Rattle.lower_bounds.specs.FairTables as fair_tables
 
 -- Values by which states have lower bounds of what is still to pay from them, and one by which they are reported as dead ends:
 -- a potential function each, or several values over tables.

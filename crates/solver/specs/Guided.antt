@@ -6,7 +6,7 @@ use Rattle.grounding.specs.Ground.{task_in, atoms_in}
 use Rattle.certificate.specs.CertificateParts.{listed_of}
 use Rattle.certificate.specs.declared.states.Listed.{Listed}
 use Rattle.model.specs.Grounding.{ground_system}
-use Rattle.potential_functions.specs.Settled.{initial_value}
+use Rattle.lower_bounds.specs.Settled.{initial_value}
 use Rattle.search.specs.Estimates.{IsAdmissible}
 use Rattle.search.specs.DeadEnds.{ReportsDeadEnds}
 use Rattle.search.specs.Outcome as search

@@ -2,9 +2,9 @@
 use Rattle.std.specs.Prelude.{ℕ, ◌≤◌, ◌⊎◌, List}
 use Rattle.model.specs.Task.{Task, Atom, Instance}
 use Rattle.model.specs.Meaning.{cost_of, initial_state}
-use Rattle.potential_functions.specs.PotentialFunctions.{PotentialFunction}
-use Rattle.potential_functions.specs.Fair.{AreFairAt, nothing}
-use Rattle.potential_functions.specs.Settled.{initial_value, IsSettledAt}
+use Rattle.lower_bounds.specs.PotentialFunctions.{PotentialFunction}
+use Rattle.lower_bounds.specs.FairPotentials.{AreFairAt, nothing}
+use Rattle.lower_bounds.specs.Settled.{initial_value, IsSettledAt}
 use Rattle.certificate_definitions.specs.Certificates.{Certificate, potentials_of, value_of}
 
 -- They are fair at this allowance by themselves, with no table; and of those near them that are none gives the initial state a greater

@@ -8,7 +8,7 @@ use Rattle.search.specs.Outcome.{IsReachableAt}
 use Rattle.model.specs.Task.{Task, Atom}
 use Rattle.model.specs.Meaning.{State, system_of}
 use Rattle.model.specs.Claims.{Claim, opened, dead, Line}
-use Rattle.symmetries.specs.Exchanges.{Exchange}
+use Rattle.symmetries_definitions.specs.Exchanges.{Exchange}
 use Rattle.certificate_definitions.specs.Certificates.{two, three, Certificate, StateLine, IsClosedFor, keeps_limits, lines_of, value_of, is_dead_end_of}
 use Rattle.certificate.specs.ListedSets.{Marked}
 use Rattle.model.specs.NumberedAtoms.{numbered_atoms}

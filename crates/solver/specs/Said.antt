@@ -2,7 +2,7 @@
 use Rattle.std.specs.Prelude.{◌≡◌, ℕ, ◌≤◌, Bool, true, false, List, [], ◌++◌, length, map, codes, count_by, Option, ⊤}
 use Rattle.std.specs.Fmt.{decimal}
 use Rattle.devices.specs.Devices.{IsWritten}
-use Rattle.progress_lines.specs.Said.{Stream}
+use Rattle.devices.specs.Progress.{Stream}
 use Rattle.ground_listings.specs.Reachable.{AreReachable}
 use Rattle.solver.specs.declared.reports.Report.{Report}
 use Rattle.solver.specs.declared.reports.Report.TheVariants.{Ground, Search, Limit, End}

@@ -2,7 +2,7 @@
 use Rattle.std.specs.Prelude.{List, map}
 use Rattle.potentials.specs.Potentials.{potentials_of}
 use Rattle.potentials.specs.declared.potentials.Potentials.{Potentials}
-use Rattle.table_functions.specs.TableFunctions.{SeveralValues}
+use Rattle.lower_bounds.specs.TableFunctions.{SeveralValues}
 use Rattle.table_rows.specs.Tables.{table_of}
 use Rattle.table_rows.specs.declared.table.Table.{Table}
 

@@ -31,8 +31,8 @@ module _ {R : Type 0} (space : SearchSpace) (estimate : List Bool → ℕ) (is_d
   IsStretch pause max_states (Paused s) = IsUnderWay max_states s × (pause ≤ length (listed_states (under_way.store_in s)))
 
 -- what such a search keeps true of what it found: the successors of each expanded state are found, and each state that waits is in the open list
-abbrev pub AreOpenIn : {R : Type 0} (space : SearchSpace) (estimate : List Bool → ℕ) (is_dead : List Bool → Bool) → Search GroundListing R → Type 0
-AreOpenIn space estimate is_dead s =
+abbrev pub IsBetweenTurns : {R : Type 0} (space : SearchSpace) (estimate : List Bool → ℕ) (is_dead : List Bool → Bool) → Search GroundListing R → Type 0
+IsBetweenTurns space estimate is_dead s =
     IsSearch (system_of space) (class_in space) estimate is_dead listed_states s.progress
     × AreOpen (system_of space) (class_in space) (nodes_in listed_states s.progress)
 

@@ -1,6 +1,6 @@
 -- The code's guidance, as the guidance that it is.
 use Rattle.certificate.specs.CertificateParts.{bounds_of, potential_of}
-use Rattle.potential_functions.specs.PotentialFunctions.{PotentialFunction}
+use Rattle.lower_bounds.specs.PotentialFunctions.{PotentialFunction}
 use Rattle.solver.specs.Guidance.{Guidance, by_potentials, by_tables, over_no_tables}
 use Rattle.ground_listings.specs.declared.search_space.SearchSpace.{SearchSpace}
 use Rattle.ground_listings.specs.declared.search_space.SearchSpace.TheVariants as space

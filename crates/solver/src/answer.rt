@@ -1,4 +1,4 @@
-//! The answer to a task.
+//! The answer to a task, and how it is found.
 ghost use Rattle.std.specs.Prelude.{◌≡◌, [], count_by, IfOk, IsTrue, OnOk, map, ℕ};
 ghost use Rattle.task.specs.Task.{task_of};
 ghost use Rattle.grounding.specs.Ground.{task_in, atoms_in, IsGroundOf};
@@ -7,9 +7,9 @@ ghost use Rattle.potentials_improved.specs.FairPotentials.{potentials_in};
 ghost use Rattle.solver.specs.Guidance.{estimate_by, reports_dead};
 ghost use Rattle.solver.specs.Guided.{IsGuidanceFor, IsSearched};
 ghost use Rattle.ground_listings.specs.Exchanges.{AreExchangesFor};
-ghost use Rattle.task_symmetries.specs.Exchange.{exchange_of};
+ghost use Rattle.symmetries.specs.Exchange.{exchange_of};
 ghost use Rattle.solver.specs.Improved.{AreSettledOrHigh, AreDeadSettledOrHigh};
-ghost use Rattle.progress_lines.specs.Said.{GoesOn};
+ghost use Rattle.devices.specs.Progress.{GoesOn};
 ghost use Rattle.solver.specs.Said.{HasEnded, IsTrueLine, IsTrueReport, is_open, report_of};
 ghost use Rattle.model.specs.NumberedAtoms.{numbered_atoms};
 ghost use Rattle.ground_listings.specs.SearchSpace.{ground_in, IsSearchSpace};
@@ -29,53 +29,52 @@ use crate::listing::cert_of;
 use crate::parts::{Given, Parts, search_in_parts};
 use crate::reports::{RaisedBy, Report, say};
 use crate::searched::Searched;
+use crate::setting::{Session, Setting};
 use certificate::{Cert, Claim, Listed, Mark};
-use devices::Sink;
+use devices::{Sink, Unheard};
 use faults::{NoMemory, Refused};
 use formulas::Plan;
 use ground_listings::{SearchSpace, exchanges_of, plan_of};
 use grounding::{Ground, GroundLimit};
 use potentials_improved::{DeadFair, Fair, Groundwork};
-use progress_lines::Unheard;
-use representatives::Representatives;
 use search::{EstimateWithDeadEnds, Outcome};
 use std::alloc::Global;
+use symmetries::{Exchange, Representatives};
 use task::Task;
-use task_symmetries::Exchange;
 
-/// What is found out of a task.
+/// The answer to a task.
 #[derive(Drop)]
 pub enum Answer {
     /// A cheapest plan.
     Plan {
         /// Its steps.
         steps: Plan,
-        /// What they cost together.
+        /// Their total cost.
         cost: u64,
-        /// It shows that no plan costs less.
+        /// Shows that no plan costs less.
         cert: Cert,
     },
-    /// There is no plan.
+    /// No plan exists.
     Unsolvable {
-        /// It shows that there is none.
+        /// Shows that none exists.
         cert: Cert,
     },
     /// A limit is exceeded.
     Unknown(Exceeded),
 }
 
-/// A limit that a task exceeds, and what is known of plans then: of the first two limits nothing.
+/// An exceeded limit. Only the last one tells something of plans.
 #[derive(Drop)]
 pub enum Exceeded {
-    /// That of the kept instances. Those that are statically inapplicable are not counted.
+    /// The limit of kept instances: those that are not statically inapplicable.
     Instances,
-    /// That of the atoms that have numbers, 1,048,576.
+    /// The limit of numbered atoms, 1,048,576.
     Atoms,
-    /// That of the listed states. Every plan costs at least the bound.
+    /// The limit of listed states.
     States {
-        /// What every plan costs at least.
+        /// A lower bound of every plan's cost.
         bound: u64,
-        /// It shows that no plan costs less.
+        /// Shows that no plan costs less.
         cert: Cert,
     },
 }
@@ -92,38 +91,39 @@ pub enum Exceeded {
 /// }
 /// ```
 ///
-/// The search goes by fair potentials of the ground task, which are made better first, in at most 8 rounds; the certificate has them
-/// too. Where they are not settled, they give the initial state a value of at least 8. On the way values over tables may be taken in
-/// their place: the potentials of the first are these, which are fair by themselves. Beside a plan, each state that the certificate
-/// lists as open costs, with its value, no more than the plan. By dead-fair potentials, which the certificate has beside them and
-/// which are settled or high as well, states are reported as dead ends: they are listed, and the search goes no further from them.
+/// **Values.** The search is guided by fair potentials of the ground task, improved in at most 8 rounds; the certificate has them too.
+/// If they are not settled, the initial state's value by them is at least 8. During the search, values over tables may replace them:
+/// the potentials of the first value are these, and are fair by themselves. With a plan, each open state of the certificate costs,
+/// with its value, no more than the plan. Dead-fair potentials, also in the certificate and also settled or high, report dead ends:
+/// such states are listed and not expanded.
 ///
-/// Where objects are interchangeable, exchanges of them take states into one another, and it suffices to list one of these at no greater
-/// cost than the others (orbit space search: Domshlak, Katz and Shleyfman, "Symmetry Breaking in Deterministic Planning as Forward Search",
-/// 2015). Such states are found by their representatives, which they often have in common, but not always. The certificate has the
-/// exchanges, each of which is a symmetry of the task. Which exchanges are found is not said.
+/// **Symmetries.** If objects are interchangeable, exchanges of them map states to each other, and it suffices to list one of these at
+/// no greater cost than the others (orbit space search: Domshlak, Katz and Shleyfman, "Symmetry Breaking in Deterministic Planning as
+/// Forward Search", 2015). Such states are recognized by their representatives, which are often equal, but not always. The certificate
+/// has the exchanges, each a symmetry of the task. Not all exchanges need be found.
 ///
-/// A certificate then lists at most 100,000 states: different ones of the task, each at the cost of a list of instances that leads to
-/// it. Where more are reachable and may have to be listed, `Unknown(Exceeded::States { .. })` has a certificate of 100,000, and in it the
-/// bound is the least sum of cost and value of a state that is still to be expanded. No open state has a greater sum, and the bound is
-/// at least the initial state's value. So where no more are reachable the answer is a plan or `Unsolvable`.
+/// **Limits.** With the limits above, the certificate lists at most 100,000 distinct states, each at the cost of a list of instances
+/// that leads to it. If more are reachable and may have to be listed, the answer is `Unknown(Exceeded::States { .. })` with a
+/// certificate of 100,000. Its bound is the least sum of cost and value of a state that waits to be expanded. No open state has a
+/// greater sum, and the bound is at least the initial state's value.
 ///
-/// Two limits are reported before any potentials are looked for: `Unknown(Exceeded::Instances)` exactly where the task has more than
-/// 10,000 kept instances, which are those that are statically applicable, and `Unknown(Exceeded::Atoms)` exactly where it has no more,
-/// and more than 1,048,576 atoms would have numbers.
+/// Two limits are reported before potentials are made: `Unknown(Exceeded::Instances)` exactly if the task has more than 10,000 kept
+/// instances, and `Unknown(Exceeded::Atoms)` exactly if it has no more, but more than 1,048,576 numbered atoms.
+///
+/// # Errors
+/// Memory is refused.
 pub fn solve(alloc: Global, task: &Task, limits: Limits) -> Result<Answer, NoMemory>
     ensures { IfOk result (IsTrueAnswer (task_of task.now) limits.states limits.instances) }
 {
     solve_and_say(alloc, task, limits, &mut Unheard)
 }
 
-/// The same, and on the way it says how far it is, in lines of `key=value` (`Report`): how large the ground task is; what every plan
-/// costs at least, and how many states are listed and expanded, at the beginning of a search and, from 1,024 listed states on, where
-/// that bound is greater or twice as many states are listed; and at the end how many the certificate lists. Each line is true, of
-/// this task. That the sink fails changes no answer.
+/// The same, with progress reported in lines of `key=value` (`Report`): the size of the ground task; a lower bound and the numbers of
+/// listed and expanded states, at the beginning of a search and, from 1,024 listed states on, whenever the bound has risen or the
+/// listing has doubled; and at the end the size of the certificate. Each line is true of this task. A failing sink changes no answer.
 ///
 /// # Errors
-/// Memory is refused, for a line too.
+/// Memory is refused, also for a line.
 pub fn solve_and_say<E: Sink>(
     alloc: Global,
     task: &Task,
@@ -145,8 +145,7 @@ pub fn solve_and_say<E: Sink>(
     }
 }
 
-/// Says how many states the certificate of an answer lists, if it has one, and how many of them are open; and before it which option
-/// raises the limit that is exceeded, if one does.
+/// Reports the end: the option that raises the exceeded limit, and the size of the answer's certificate, if there are such.
 fn say_end<E: Sink>(alloc: Global, answer: &Answer, err: &mut E) -> Result<(), NoMemory>
     ensures said { (task : model.Task) (states instances : ℕ) → IsTrueAnswer task states instances answer.now → GoesOn (IsTrueLine task) E.wants_memory (E.failures err.old) (E.taken err.old) (E.failures err.new) (E.taken err.new) }
     ensures ended { OnOk result (HasEnded E.wants_memory (E.failures err.new) (E.taken err.new) answer.now) }
@@ -158,7 +157,7 @@ fn say_end<E: Sink>(alloc: Global, answer: &Answer, err: &mut E) -> Result<(), N
     }
 }
 
-/// Says which option raises the limit that is exceeded, if one does, and then what its certificate lists, if it has one.
+/// Reports the end where a limit is exceeded.
 fn say_limit<E: Sink>(alloc: Global, limit: &Exceeded, err: &mut E) -> Result<(), NoMemory>
     ensures said { (task : model.Task) (states instances : ℕ) → IsTrueAnswer task states instances (Unknown limit.now) → GoesOn (IsTrueLine task) E.wants_memory (E.failures err.old) (E.taken err.old) (E.failures err.new) (E.taken err.new) }
     ensures ended { OnOk result (HasEnded E.wants_memory (E.failures err.new) (E.taken err.new) (Unknown limit.now)) }
@@ -173,7 +172,7 @@ fn say_limit<E: Sink>(alloc: Global, limit: &Exceeded, err: &mut E) -> Result<()
     }
 }
 
-/// How many states the certificate lists, and how many of them are open.
+/// The report of a certificate's size.
 fn end_of(cert: &Cert) -> Report
     ensures { result ≡ report_of (certificate_of cert.now) }
 {
@@ -183,7 +182,7 @@ fn end_of(cert: &Cert) -> Report
     }
 }
 
-/// How many of these are open.
+/// The number of open states.
 fn open_in(marks: &[Listed]) -> usize
     ensures { result ≡ count_by is_open (map listed_of marks.now) }
 {
@@ -196,7 +195,7 @@ fn open_in(marks: &[Listed]) -> usize
     count
 }
 
-/// The same of the ground task.
+/// Solves the ground task, and reports its size and the end.
 fn solve_ground<E: Sink>(
     alloc: Global,
     ground: &Ground<'_>,
@@ -216,7 +215,7 @@ fn solve_ground<E: Sink>(
     Ok(answer)
 }
 
-/// How large the ground task is.
+/// The report of the ground task's size.
 fn ground_report(ground: &Ground<'_>) -> Report
     requires { atoms_in ground.now ≡ numbered_atoms (task_in ground.now) [] }
     ensures { IsTrueReport (task_in ground.now) result }
@@ -227,7 +226,7 @@ fn ground_report(ground: &Ground<'_>) -> Report
     }
 }
 
-/// The same once it is said how large the ground task is, but for the end, by these exchanges.
+/// Solves the ground task modulo these exchanges. The caller reports size and end.
 fn solve_by_exchanges<E: Sink>(
     alloc: Global,
     ground: &Ground<'_>,
@@ -252,7 +251,7 @@ fn solve_by_exchanges<E: Sink>(
     }
 }
 
-/// The same where states are looked up in this space.
+/// Improves potentials, and solves the ground task by them in this search space.
 fn solve_listed<E: Sink>(
     alloc: Global,
     space: SearchSpace<'_, '_>,
@@ -269,73 +268,78 @@ fn solve_listed<E: Sink>(
     let estimate: Fair<'_, '_> = improved(alloc, ground, &groundwork)?;
     let dead_ends: DeadFair<'_, '_> = improved(alloc, ground, &groundwork)?;
     drop(groundwork);
-    solve_by_potentials(alloc, space, &estimate, &dead_ends, limits, err)
+    let setting = Setting {
+        alloc,
+        space,
+        limits,
+    };
+    solve_by_potentials(setting, &estimate, &dead_ends, err)
 }
 
-/// The same by these potentials, or by tables if such are found on the way that are better.
+/// Solves the ground task by these potentials, or by tables if better ones are found during the search.
 fn solve_by_potentials<E: Sink>(
-    alloc: Global,
-    space: SearchSpace<'_, '_>,
+    setting: Setting<'_, '_>,
     estimate: &Fair<'_, '_>,
     dead_ends: &DeadFair<'_, '_>,
-    limits: Limits,
     err: &mut E,
 ) -> Result<Answer, NoMemory>
-    requires space { IsSearchSpace space }
-    requires ground { IsGroundOf (task_in (ground_in space)) [] limits.instances (ground_in space) }
-    requires estimate { fair.ground_in estimate.now ≡ ground_in space }
-    requires improved { AreSettledOrHigh (task_in (ground_in space)) (atoms_in (ground_in space)) (potentials_in estimate.now) }
-    requires dead_ends { fair.ground_in dead_ends.now ≡ ground_in space }
-    requires dead_ends_improved { AreDeadSettledOrHigh (task_in (ground_in space)) (atoms_in (ground_in space)) (potentials_in dead_ends.now) }
-    ensures answer { IfOk result (IsTrueAnswer (task_in (ground_in space.entry)) limits.states limits.instances) }
-    ensures said { GoesOn (IsTrueLine (task_in (ground_in space.entry))) E.wants_memory (E.failures err.old) (E.taken err.old) (E.failures err.new) (E.taken err.new) }
+    requires space { IsSearchSpace setting.space }
+    requires ground { IsGroundOf (task_in (ground_in setting.space)) [] setting.limits.instances (ground_in setting.space) }
+    requires estimate { fair.ground_in estimate.now ≡ ground_in setting.space }
+    requires improved { AreSettledOrHigh (task_in (ground_in setting.space)) (atoms_in (ground_in setting.space)) (potentials_in estimate.now) }
+    requires dead_ends { fair.ground_in dead_ends.now ≡ ground_in setting.space }
+    requires dead_ends_improved { AreDeadSettledOrHigh (task_in (ground_in setting.space)) (atoms_in (ground_in setting.space)) (potentials_in dead_ends.now) }
+    ensures answer { IfOk result (IsTrueAnswer (task_in (ground_in setting.entry.space)) setting.entry.limits.states setting.entry.limits.instances) }
+    ensures said { GoesOn (IsTrueLine (task_in (ground_in setting.entry.space))) E.wants_memory (E.failures err.old) (E.taken err.old) (E.failures err.new) (E.taken err.new) }
 {
     let guide = EstimateWithDeadEnds::new(estimate, dead_ends);
     let given = Given {
         potentials: estimate.potentials(),
         dead_ends: dead_ends.potentials(),
     };
-    match search_in_parts(alloc, space, &guide, given, limits, err)? {
+    let session = Session {
+        setting,
+        guide: &guide,
+    };
+    match search_in_parts(&session, given, err)? {
         Parts::ByTables(answer) => Ok(answer),
-        Parts::ByGuide(searched) => answer_by_potentials(alloc, space, given, searched, limits),
+        Parts::ByGuide(searched) => answer_by_potentials(setting, given, searched),
     }
 }
 
-/// The answer that a search by these potentials came to.
+/// The answer of a search by these potentials.
 fn answer_by_potentials(
-    alloc: Global,
-    space: SearchSpace<'_, '_>,
+    setting: Setting<'_, '_>,
     given: Given<'_>,
     searched: Searched<'_, '_>,
-    limits: Limits,
 ) -> Result<Answer, NoMemory>
-    requires space { IsSearchSpace space }
-    requires ground { IsGroundOf (task_in (ground_in space)) [] limits.instances (ground_in space) }
-    requires guidance { IsGuidanceFor space (by_potentials_of space (potentials_of given.potentials.now) (potentials_of given.dead_ends.now)) }
-    requires searched { IsSearched space
-        (estimate_by (by_potentials_of space (potentials_of given.potentials.now) (potentials_of given.dead_ends.now)))
-        (reports_dead (by_potentials_of space (potentials_of given.potentials.now) (potentials_of given.dead_ends.now)))
-        limits.states searched.outcome searched.marks.items }
-    ensures { IfOk result (IsTrueAnswer (task_in (ground_in space.entry)) limits.states limits.instances) }
+    requires space { IsSearchSpace setting.space }
+    requires ground { IsGroundOf (task_in (ground_in setting.space)) [] setting.limits.instances (ground_in setting.space) }
+    requires guidance { IsGuidanceFor setting.space (by_potentials_of setting.space (potentials_of given.potentials.now) (potentials_of given.dead_ends.now)) }
+    requires searched { IsSearched setting.space
+        (estimate_by (by_potentials_of setting.space (potentials_of given.potentials.now) (potentials_of given.dead_ends.now)))
+        (reports_dead (by_potentials_of setting.space (potentials_of given.potentials.now) (potentials_of given.dead_ends.now)))
+        setting.limits.states searched.outcome searched.marks.items }
+    ensures { IfOk result (IsTrueAnswer (task_in (ground_in setting.entry.space)) setting.entry.limits.states setting.entry.limits.instances) }
 {
+    let Setting { alloc, space, .. } = setting;
     let guidance = guidance_by(alloc, space, given.potentials, given.dead_ends)?;
-    answer_of(alloc, space, guidance, searched, limits)
+    answer_of(setting, guidance, searched)
 }
 
-/// The answer that a search by the guidance came to, with its certificate.
+/// The answer of a search by this guidance, with its certificate.
 pub(crate) fn answer_of(
-    alloc: Global,
-    space: SearchSpace<'_, '_>,
+    setting: Setting<'_, '_>,
     guidance: Guidance,
     searched: Searched<'_, '_>,
-    limits: Limits,
 ) -> Result<Answer, NoMemory>
-    requires space { IsSearchSpace space }
-    requires ground { IsGroundOf (task_in (ground_in space)) [] limits.instances (ground_in space) }
-    requires guidance { IsGuidanceFor space (guidance_of guidance) }
-    requires searched { IsSearched space (estimate_by (guidance_of guidance)) (reports_dead (guidance_of guidance)) limits.states searched.outcome searched.marks.items }
-    ensures { IfOk result (IsTrueAnswer (task_in (ground_in space.entry)) limits.states limits.instances) }
+    requires space { IsSearchSpace setting.space }
+    requires ground { IsGroundOf (task_in (ground_in setting.space)) [] setting.limits.instances (ground_in setting.space) }
+    requires guidance { IsGuidanceFor setting.space (guidance_of guidance) }
+    requires searched { IsSearched setting.space (estimate_by (guidance_of guidance)) (reports_dead (guidance_of guidance)) setting.limits.states searched.outcome searched.marks.items }
+    ensures { IfOk result (IsTrueAnswer (task_in (ground_in setting.entry.space)) setting.entry.limits.states setting.entry.limits.instances) }
 {
+    let Setting { alloc, space, .. } = setting;
     let Searched { outcome, marks } = searched;
     match outcome {
         Outcome::Found {

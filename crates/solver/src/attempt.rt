@@ -1,12 +1,12 @@
-//! What comes of an attempt.
+//! The outcome of an attempt.
 
-/// What comes of an attempt to do better than potentials alone.
+/// The outcome of an attempt to do better than potentials alone.
 #[derive(Drop)]
 pub(crate) enum Attempt<T> {
-    /// This.
+    /// It succeeded.
     Done(T),
-    /// Nothing, but with more effort it may succeed.
+    /// It failed, but may succeed with more effort.
     Promising,
-    /// Nothing, and no more is expected.
+    /// It failed, and more effort is not expected to help.
     InVain,
 }

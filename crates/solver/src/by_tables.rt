@@ -1,8 +1,8 @@
-//! Answers by a search that goes by values over tables.
+//! Search by values over tables.
 //!
-//! Tables are drafted, of which nothing is known. They are taken if a certificate can have them, they would have saved the
-//! search by potentials enough of the states that it expanded so far, and a test says that they are fair. Of the values over tables the
-//! first one is that of the potentials.
+//! Nothing is known of drafted tables. They are used if a certificate can have them, if they would have saved the paused search by
+//! potentials enough of its expansions, and if they pass the test of fairness. The potentials of the first value are those of that
+//! search.
 ghost use Rattle.std.specs.Prelude.{◌≡◌, ◌==◌, ◌≤◌, [], IfOk, IfSome, IsTrue, Some, length, map, slice_get};
 ghost use Rattle.std.specs.List.{list_all};
 ghost use Rattle.certificate.specs.CertificateParts.{are_bounds, bounds_of, potential_of};
@@ -10,7 +10,7 @@ ghost use Rattle.certificate_definitions.specs.Certificates.{three};
 ghost use Rattle.grounding.specs.Ground.{task_in, atoms_in, IsGroundOf};
 ghost use Rattle.model.specs.Grounding.{ground_system};
 ghost use Rattle.ground_listings.specs.GroundListing.{listed_width};
-ghost use Rattle.potential_functions.specs.Settled.{initial_value};
+ghost use Rattle.lower_bounds.specs.Settled.{initial_value};
 ghost use Rattle.potentials.specs.Potentials.{potentials_of};
 ghost use Rattle.solver.specs.Attempts.{IfDone};
 ghost use Rattle.solver.specs.Guidance.{by_tables, estimate_by, first_value, reports_dead};
@@ -18,12 +18,12 @@ ghost use Rattle.solver.specs.Guided.{IsSearched};
 ghost use Rattle.solver.specs.Improved.{AreSettledOrHigh, AreDeadSettledOrHigh};
 ghost use Rattle.ground_listings.specs.SearchSpace.{ground_in, IsSearchSpace};
 ghost use Rattle.solver.specs.SeveralOver.{several_over};
-ghost use Rattle.progress_lines.specs.Said.{GoesOn};
+ghost use Rattle.devices.specs.Progress.{GoesOn};
 ghost use Rattle.solver.specs.Said.{IsTrueLine};
 ghost use Rattle.solver.specs.Solver.{IsTrueAnswer};
 ghost use Rattle.solver.specs.Stopped.{IsStopped};
-ghost use Rattle.table_functions.specs.FairTables.{AreFair};
-ghost use Rattle.table_functions.specs.TableFunctions.{functions_of, greatest_value};
+ghost use Rattle.lower_bounds.specs.FairTables.{AreFair};
+ghost use Rattle.lower_bounds.specs.TableFunctions.{functions_of, greatest_value};
 ghost use Rattle.table_rows.specs.Tables.{weight_count_of};
 ghost use Rattle.table_rows.specs.declared.table.Table as in_memory;
 ghost use Rattle.tables.specs.Several.{several_of, width_of};
@@ -31,10 +31,11 @@ ghost use Rattle.tables.specs.Several.{several_of, width_of};
 use crate::answer::{Answer, answer_of};
 use crate::attempt::Attempt;
 use crate::guidance::{Guidance, potential_of};
-use crate::limits::Limits;
 use crate::searched::{Searched, search_by};
+use crate::setting::Setting;
 use crate::stopped::Stopped;
 use certificate::{Bounds, Potential, Version};
+use cost_partitioning::{DraftedTables, Wanted, drafted_tables};
 use devices::Sink;
 use faults::NoMemory;
 use ground_listings::SearchSpace;
@@ -44,26 +45,40 @@ use std::alloc::Global;
 use table_guides::FairTables;
 use table_rows::Table;
 use tables::{IndexedTables, TableFunctions, ValuesFairness};
-use tables_drafted::{DraftedTables, Wanted, drafted_tables};
 
-/// The answer by tables, if such are found that are better than the potentials of a search that pauses so.
+/// A draft of values over tables: as a certificate has them, and their constants and weights of atoms as potentials.
+#[derive(Drop)]
+struct Draft {
+    bounds: Bounds,
+    values: Vec<Potentials>,
+    dead_ends: Potentials,
+}
+
+/// A draft of which the certificate's part is only lent.
+#[derive(Drop)]
+struct ValuesOver<'a> {
+    bounds: &'a Bounds,
+    values: Vec<Potentials>,
+    dead_ends: Potentials,
+}
+
+/// The answer by tables, if better ones than the potentials of the paused search are found.
 pub(crate) fn solve_by_tables<E: Sink>(
-    alloc: Global,
-    space: SearchSpace<'_, '_>,
+    setting: Setting<'_, '_>,
     stopped: &Stopped<'_, '_, '_>,
-    limits: Limits,
     err: &mut E,
 ) -> Result<Attempt<Answer>, NoMemory>
-    requires space { IsSearchSpace space }
-    requires ground { IsGroundOf (task_in (ground_in space)) [] limits.instances (ground_in space) }
+    requires space { IsSearchSpace setting.space }
+    requires ground { IsGroundOf (task_in (ground_in setting.space)) [] setting.limits.instances (ground_in setting.space) }
     requires stopped { IsStopped stopped.now.listing.now stopped.now.nodes.now }
-    requires store_width { listed_width stopped.now.listing.now ≡ length (atoms_in (ground_in space)) }
-    requires width { length (potentials_of stopped.now.potentials.now).weights ≡ length (atoms_in (ground_in space)) }
-    requires improved { AreSettledOrHigh (task_in (ground_in space)) (atoms_in (ground_in space)) (potentials_of stopped.now.potentials.now) }
-    requires dead_ends_improved { AreDeadSettledOrHigh (task_in (ground_in space)) (atoms_in (ground_in space)) (potentials_of stopped.now.dead_ends.now) }
-    ensures answer { IfOk result (IfDone (IsTrueAnswer (task_in (ground_in space.entry)) limits.states limits.instances)) }
-    ensures said { GoesOn (IsTrueLine (task_in (ground_in space.entry))) E.wants_memory (E.failures err.old) (E.taken err.old) (E.failures err.new) (E.taken err.new) }
+    requires store_width { listed_width stopped.now.listing.now ≡ length (atoms_in (ground_in setting.space)) }
+    requires width { length (potentials_of stopped.now.potentials.now).weights ≡ length (atoms_in (ground_in setting.space)) }
+    requires improved { AreSettledOrHigh (task_in (ground_in setting.space)) (atoms_in (ground_in setting.space)) (potentials_of stopped.now.potentials.now) }
+    requires dead_ends_improved { AreDeadSettledOrHigh (task_in (ground_in setting.space)) (atoms_in (ground_in setting.space)) (potentials_of stopped.now.dead_ends.now) }
+    ensures answer { IfOk result (IfDone (IsTrueAnswer (task_in (ground_in setting.entry.space)) setting.entry.limits.states setting.entry.limits.instances)) }
+    ensures said { GoesOn (IsTrueLine (task_in (ground_in setting.entry.space))) E.wants_memory (E.failures err.old) (E.taken err.old) (E.failures err.new) (E.taken err.new) }
 {
+    let Setting { alloc, space, .. } = setting;
     let Some(draft) = drafted(alloc, space, stopped)? else {
         return Ok(Attempt::InVain);
     };
@@ -80,12 +95,15 @@ pub(crate) fn solve_by_tables<E: Sink>(
     if !bounds.keep_limits(Version::Three, space.ground().width() as usize) {
         return Ok(Attempt::InVain);
     }
-    answer_by_tables(
-        alloc, space, bounds, values, dead_ends, stopped, limits, err,
-    )
+    let draft = Draft {
+        bounds,
+        values,
+        dead_ends,
+    };
+    answer_by_tables(setting, draft, stopped, err)
 }
 
-/// Tables that may be better than the potentials of a search that pauses so.
+/// A draft of tables that may be better than the potentials of the paused search.
 fn drafted(
     alloc: Global,
     space: SearchSpace<'_, '_>,
@@ -108,7 +126,7 @@ fn drafted(
     Ok(draft)
 }
 
-/// The same constants and weights of all values, as a certificate has them.
+/// The constants and weights of these values, as a certificate has them.
 fn written(alloc: Global, values: &[Potentials]) -> Result<Vec<Potential>, NoMemory>
     ensures { IfOk result (λ written. map potential_of written.items ≡ map potentials_of values.now) }
 {
@@ -119,39 +137,42 @@ fn written(alloc: Global, values: &[Potentials]) -> Result<Vec<Potential>, NoMem
     Ok(written)
 }
 
-/// The answer by these values, which are given as potentials too, over their tables, if they are fair, and better than what the
-/// search that pauses goes by.
+/// The answer by this draft, if its values are fair and better than the potentials of the paused search.
 fn answer_by_tables<E: Sink>(
-    alloc: Global,
-    space: SearchSpace<'_, '_>,
-    bounds: Bounds,
-    values: Vec<Potentials>,
-    dead_ends: Potentials,
+    setting: Setting<'_, '_>,
+    draft: Draft,
     stopped: &Stopped<'_, '_, '_>,
-    limits: Limits,
     err: &mut E,
 ) -> Result<Attempt<Answer>, NoMemory>
-    requires space { IsSearchSpace space }
-    requires ground { IsGroundOf (task_in (ground_in space)) [] limits.instances (ground_in space) }
-    requires within_limits { IsTrue (are_bounds three (length (atoms_in (ground_in space))) (bounds_of bounds)) }
-    requires values { map potentials_of values.items ≡ (bounds_of bounds).values }
-    requires dead_ends { potentials_of dead_ends ≡ (bounds_of bounds).dead_ends }
-    requires first { first_value (by_tables (bounds_of bounds)) ≡ potentials_of stopped.now.potentials.now }
+    requires space { IsSearchSpace setting.space }
+    requires ground { IsGroundOf (task_in (ground_in setting.space)) [] setting.limits.instances (ground_in setting.space) }
+    requires within_limits { IsTrue (are_bounds three (length (atoms_in (ground_in setting.space))) (bounds_of draft.bounds)) }
+    requires values { map potentials_of draft.values.items ≡ (bounds_of draft.bounds).values }
+    requires dead_ends { potentials_of draft.dead_ends ≡ (bounds_of draft.bounds).dead_ends }
+    requires first { first_value (by_tables (bounds_of draft.bounds)) ≡ potentials_of stopped.now.potentials.now }
     requires stopped { IsStopped stopped.now.listing.now stopped.now.nodes.now }
-    requires store_width { listed_width stopped.now.listing.now ≡ length (atoms_in (ground_in space)) }
-    requires width { length (potentials_of stopped.now.potentials.now).weights ≡ length (atoms_in (ground_in space)) }
-    requires improved { AreSettledOrHigh (task_in (ground_in space)) (atoms_in (ground_in space)) (potentials_of stopped.now.potentials.now) }
-    requires dead_ends_improved { AreDeadSettledOrHigh (task_in (ground_in space)) (atoms_in (ground_in space)) (bounds_of bounds).dead_ends }
-    ensures answer { IfOk result (IfDone (IsTrueAnswer (task_in (ground_in space.entry)) limits.states limits.instances)) }
-    ensures said { GoesOn (IsTrueLine (task_in (ground_in space.entry))) E.wants_memory (E.failures err.old) (E.taken err.old) (E.failures err.new) (E.taken err.new) }
+    requires store_width { listed_width stopped.now.listing.now ≡ length (atoms_in (ground_in setting.space)) }
+    requires width { length (potentials_of stopped.now.potentials.now).weights ≡ length (atoms_in (ground_in setting.space)) }
+    requires improved { AreSettledOrHigh (task_in (ground_in setting.space)) (atoms_in (ground_in setting.space)) (potentials_of stopped.now.potentials.now) }
+    requires dead_ends_improved { AreDeadSettledOrHigh (task_in (ground_in setting.space)) (atoms_in (ground_in setting.space)) (bounds_of draft.bounds).dead_ends }
+    ensures answer { IfOk result (IfDone (IsTrueAnswer (task_in (ground_in setting.entry.space)) setting.entry.limits.states setting.entry.limits.instances)) }
+    ensures said { GoesOn (IsTrueLine (task_in (ground_in setting.entry.space))) E.wants_memory (E.failures err.old) (E.taken err.old) (E.failures err.new) (E.taken err.new) }
 {
-    let attempt = search_by_tables(
-        alloc, space, &bounds, values, dead_ends, stopped, limits, err,
-    )?;
+    let Draft {
+        bounds,
+        values,
+        dead_ends,
+    } = draft;
+    let over = ValuesOver {
+        bounds: &bounds,
+        values,
+        dead_ends,
+    };
+    let attempt = search_by_tables(setting, over, stopped, err)?;
     match attempt {
         Attempt::Done(searched) => {
             let guidance = Guidance::Tables(bounds);
-            let answer = answer_of(alloc, space, guidance, searched, limits)?;
+            let answer = answer_of(setting, guidance, searched)?;
             Ok(Attempt::Done(answer))
         }
         Attempt::Promising => Ok(Attempt::Promising),
@@ -159,31 +180,33 @@ fn answer_by_tables<E: Sink>(
     }
 }
 
-/// What a search by these values comes to, if they are fair, and better. Whether they are better is asked first, as it takes less
-/// time than the test of fairness.
+/// Searches by these values, if they are fair and better. Whether they are better is tested first, which takes less time than the test
+/// of fairness.
 fn search_by_tables<'l, 't, E: Sink>(
-    alloc: Global,
-    space: SearchSpace<'l, 't>,
-    bounds: &Bounds,
-    values: Vec<Potentials>,
-    dead_ends: Potentials,
+    setting: Setting<'l, 't>,
+    over: ValuesOver<'_>,
     stopped: &Stopped<'_, '_, '_>,
-    limits: Limits,
     err: &mut E,
 ) -> Result<Attempt<Searched<'l, 't>>, NoMemory>
-    requires space { IsSearchSpace space }
-    requires within_limits { IsTrue (are_bounds three (length (atoms_in (ground_in space))) (bounds_of bounds.now)) }
-    requires values { map potentials_of values.items ≡ (bounds_of bounds.now).values }
-    requires dead_ends { potentials_of dead_ends ≡ (bounds_of bounds.now).dead_ends }
+    requires space { IsSearchSpace setting.space }
+    requires within_limits { IsTrue (are_bounds three (length (atoms_in (ground_in setting.space))) (bounds_of over.bounds.now)) }
+    requires values { map potentials_of over.values.items ≡ (bounds_of over.bounds.now).values }
+    requires dead_ends { potentials_of over.dead_ends ≡ (bounds_of over.bounds.now).dead_ends }
     requires stopped { IsStopped stopped.now.listing.now stopped.now.nodes.now }
-    requires store_width { listed_width stopped.now.listing.now ≡ length (atoms_in (ground_in space)) }
-    requires width { length (potentials_of stopped.now.potentials.now).weights ≡ length (atoms_in (ground_in space)) }
-    ensures fair { IfOk result (IfDone (λ _. AreFair (task_in (ground_in space.entry)) (atoms_in (ground_in space.entry)) (bounds_of bounds.now))) }
-    ensures no_lower { IfOk result (IfDone (λ _. initial_value (task_in (ground_in space.entry)) (atoms_in (ground_in space.entry)) (potentials_of stopped.now.potentials.now) ≤ estimate_by (by_tables (bounds_of bounds.now)) (ground_system (task_in (ground_in space.entry)) (atoms_in (ground_in space.entry))).initial)) }
-    ensures searched { IfOk result (IfDone (λ s. IsSearched space.entry (estimate_by (by_tables (bounds_of bounds.now))) (reports_dead (by_tables (bounds_of bounds.now))) limits.states s.outcome s.marks.items)) }
-    ensures said { GoesOn (IsTrueLine (task_in (ground_in space.entry))) E.wants_memory (E.failures err.old) (E.taken err.old) (E.failures err.new) (E.taken err.new) }
+    requires store_width { listed_width stopped.now.listing.now ≡ length (atoms_in (ground_in setting.space)) }
+    requires width { length (potentials_of stopped.now.potentials.now).weights ≡ length (atoms_in (ground_in setting.space)) }
+    ensures fair { IfOk result (IfDone (λ _. AreFair (task_in (ground_in setting.entry.space)) (atoms_in (ground_in setting.entry.space)) (bounds_of over.entry.bounds.now))) }
+    ensures no_lower { IfOk result (IfDone (λ _. initial_value (task_in (ground_in setting.entry.space)) (atoms_in (ground_in setting.entry.space)) (potentials_of stopped.now.potentials.now) ≤ estimate_by (by_tables (bounds_of over.entry.bounds.now)) (ground_system (task_in (ground_in setting.entry.space)) (atoms_in (ground_in setting.entry.space))).initial)) }
+    ensures searched { IfOk result (IfDone (λ s. IsSearched setting.entry.space (estimate_by (by_tables (bounds_of over.entry.bounds.now))) (reports_dead (by_tables (bounds_of over.entry.bounds.now))) setting.entry.limits.states s.outcome s.marks.items)) }
+    ensures said { GoesOn (IsTrueLine (task_in (ground_in setting.entry.space))) E.wants_memory (E.failures err.old) (E.taken err.old) (E.failures err.new) (E.taken err.new) }
 {
-    let ground = space.ground();
+    let alloc = setting.alloc;
+    let ground = setting.space.ground();
+    let ValuesOver {
+        bounds,
+        values,
+        dead_ends,
+    } = over;
     let Some(functions) = functions_over(alloc, ground, &bounds.tables, values, dead_ends)? else {
         return Ok(Attempt::InVain);
     };
@@ -192,7 +215,7 @@ fn search_by_tables<'l, 't, E: Sink>(
     }
     let saving = stopped.saving_by(alloc, &functions)?;
     if saving.is_worth(bounds.tables.len()) {
-        return search_if_fair(alloc, space, functions, limits, err);
+        return search_if_fair(setting, functions, err);
     }
     if saving.is_promising() {
         return Ok(Attempt::Promising);
@@ -200,7 +223,7 @@ fn search_by_tables<'l, 't, E: Sink>(
     Ok(Attempt::InVain)
 }
 
-/// Whether the initial state's value by these is at least that by the potentials.
+/// Whether the initial state's value is at least that by the potentials.
 fn starts_no_lower(
     alloc: Global,
     ground: &Ground<'_>,
@@ -217,32 +240,30 @@ fn starts_no_lower(
     Ok(potentials.value(&initial) <= value)
 }
 
-/// What a search by these values comes to, if they are fair.
+/// Searches by these values, if they are fair.
 fn search_if_fair<'l, 't, E: Sink>(
-    alloc: Global,
-    space: SearchSpace<'l, 't>,
+    setting: Setting<'l, 't>,
     functions: TableFunctions<'_>,
-    limits: Limits,
     err: &mut E,
 ) -> Result<Attempt<Searched<'l, 't>>, NoMemory>
-    requires space { IsSearchSpace space }
-    requires width { width_of functions ≡ length (atoms_in (ground_in space)) }
-    ensures fair { IfOk result (IfDone (λ _. AreFair (task_in (ground_in space.entry)) (atoms_in (ground_in space.entry)) (several_of functions.entry))) }
-    ensures searched { IfOk result (IfDone (λ s. IsSearched space.entry (estimate_by (by_tables (several_of functions.entry))) (reports_dead (by_tables (several_of functions.entry))) limits.states s.outcome s.marks.items)) }
-    ensures said { GoesOn (IsTrueLine (task_in (ground_in space.entry))) E.wants_memory (E.failures err.old) (E.taken err.old) (E.failures err.new) (E.taken err.new) }
+    requires space { IsSearchSpace setting.space }
+    requires width { width_of functions ≡ length (atoms_in (ground_in setting.space)) }
+    ensures fair { IfOk result (IfDone (λ _. AreFair (task_in (ground_in setting.entry.space)) (atoms_in (ground_in setting.entry.space)) (several_of functions.entry))) }
+    ensures searched { IfOk result (IfDone (λ s. IsSearched setting.entry.space (estimate_by (by_tables (several_of functions.entry))) (reports_dead (by_tables (several_of functions.entry))) setting.entry.limits.states s.outcome s.marks.items)) }
+    ensures said { GoesOn (IsTrueLine (task_in (ground_in setting.entry.space))) E.wants_memory (E.failures err.old) (E.taken err.old) (E.failures err.new) (E.taken err.new) }
 {
-    let ground = space.ground();
-    match functions.fairness(alloc, ground)? {
+    let ground = setting.space.ground();
+    match functions.fairness(setting.alloc, ground)? {
         ValuesFairness::Fair => {
             let guide = FairTables::new(functions, ground);
-            let searched = search_by(alloc, space, &guide, limits, err)?;
+            let searched = search_by(setting, &guide, err)?;
             Ok(Attempt::Done(searched))
         }
         _ => Ok(Attempt::InVain),
     }
 }
 
-/// These values over these tables, if their rows have a weight for each.
+/// These values over these tables, if each row has a weight for each value.
 fn functions_over<'a>(
     alloc: Global,
     ground: &Ground<'_>,
@@ -261,7 +282,7 @@ fn functions_over<'a>(
     Ok(Some(TableFunctions::new(values, dead_ends, indexed)))
 }
 
-/// Whether the rows of each table have so many weights; so they would in one that has no row.
+/// Whether each table has this number of weights a row. A table without rows has one too.
 fn have_weights(tables: &[Table], count: u32) -> bool
     ensures { result ≡ list_all (λ (t : in_memory.Table). weight_count_of t == count) tables.now }
 {
@@ -273,7 +294,7 @@ fn have_weights(tables: &[Table], count: u32) -> bool
     true
 }
 
-/// Whether the table's rows do.
+/// Whether the table does.
 fn has_weights(table: &Table, count: u32) -> bool
     ensures { result ≡ (weight_count_of table.now == count) }
 {

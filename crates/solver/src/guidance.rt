@@ -1,4 +1,4 @@
-//! What a search goes by, as its certificate has it.
+//! The values that guide a search, as its certificate has them.
 ghost use Rattle.std.specs.Prelude.{◌≡◌, IfOk};
 ghost use Rattle.certificate.specs.CertificateParts as parts;
 ghost use Rattle.certificate_reader.specs.Lines.{version_of};
@@ -12,22 +12,22 @@ use ground_listings::SearchSpace;
 use potentials_improved::Potentials;
 use std::alloc::Global;
 
-/// Values by which states have lower bounds of what is still to pay from them, and one by which they are reported as dead ends.
+/// Values that are lower bounds of the remaining cost, and one that reports dead ends.
 #[derive(Drop)]
 pub(crate) enum Guidance {
-    /// A potential function for each.
+    /// Two potential functions.
     Potentials {
-        /// That of the lower bounds.
+        /// For the lower bound.
         value: Potential,
-        /// That of dead ends.
+        /// For dead ends.
         dead_ends: Potential,
     },
-    /// Several values over tables, of which the greatest counts, and one for dead ends.
+    /// Several values over tables, the greatest of which is the lower bound, and one for dead ends.
     Tables(Bounds),
 }
 
 impl Guidance {
-    /// The version of a certificate that has it.
+    /// The version of a certificate that can have it.
     pub(crate) fn version(&self) -> Version
         ensures { version_of result ≡ guidance.version_by (guidance_of self.now) }
     {
@@ -37,7 +37,7 @@ impl Guidance {
         }
     }
 
-    /// What the certificate says that bounds the costs of plans.
+    /// The values and tables of the certificate.
     pub(crate) fn into_bounds(self, alloc: Global) -> Result<Bounds, NoMemory>
         ensures { IfOk result (λ bounds. parts.bounds_of bounds ≡ guidance.values_by (guidance_of self)) }
     {
@@ -48,7 +48,7 @@ impl Guidance {
     }
 }
 
-/// These potentials: where there are exchanges, as values over no tables, since version 2 has no exchanges.
+/// The guidance by these potentials. With exchanges they are values over no tables, since version 2 has no exchanges.
 pub(crate) fn guidance_by(
     alloc: Global,
     space: SearchSpace<'_, '_>,
@@ -68,7 +68,7 @@ pub(crate) fn guidance_by(
     }
 }
 
-/// One value, that of dead ends, and no tables.
+/// One value, one for dead ends, and no tables.
 fn bounds_of(alloc: Global, value: Potential, dead_ends: Potential) -> Result<Bounds, NoMemory>
     ensures { IfOk result (λ bounds. parts.bounds_of bounds ≡ guidance.values_by (guidance.by_potentials (parts.potential_of value) (parts.potential_of dead_ends))) }
 {
@@ -81,7 +81,7 @@ fn bounds_of(alloc: Global, value: Potential, dead_ends: Potential) -> Result<Bo
     })
 }
 
-/// The same constant and weights.
+/// The potentials' constant and weights.
 pub(crate) fn potential_of(alloc: Global, potentials: &Potentials) -> Result<Potential, NoMemory>
     ensures { IfOk result (λ p. parts.potential_of p ≡ potentials_of potentials.now) }
 {

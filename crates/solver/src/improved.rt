@@ -1,4 +1,4 @@
-//! The potentials that a search goes by: an estimate, and a test for dead ends.
+//! The potentials that guide a search: an estimate, and a test for dead ends.
 ghost use Rattle.std.specs.Prelude.{◌≡◌, IfOk};
 ghost use Rattle.grounding.specs.Ground.{task_in, atoms_in};
 ghost use Rattle.potentials_improved.specs.FairPotentials.{potentials_in, ground_in};
@@ -10,10 +10,10 @@ use grounding::Ground;
 use potentials_improved::{Drafts, FairAt, Groundwork, Improve, Potentials};
 use std::alloc::Global;
 
-/// In how many rounds potentials are made better, at most. Each raises the initial state's value, or is the last.
+/// The limit of rounds. Each raises the initial state's value, or is the last.
 const IMPROVING_ROUNDS: u32 = 8;
 
-/// Potentials that are fair for the ground task at an allowance, made better from those that are all 0.
+/// Fair potentials of the ground task at an allowance, improved from those that are 0.
 pub(crate) fn improved<'g, 't, A: Drafts>(
     alloc: Global,
     ground: &'g Ground<'t>,

@@ -12,6 +12,7 @@ mod parts;
 mod pauses;
 mod reports;
 mod searched;
+mod setting;
 mod stopped;
 
 pub use answer::{Answer, Exceeded, solve, solve_and_say};

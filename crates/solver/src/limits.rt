@@ -2,11 +2,11 @@
 ghost use Rattle.std.specs.Prelude.{◌≡◌, IsTrue};
 ghost use Rattle.solver.specs.Limit.{is_limit};
 
-/// The most that a limit may be.
+/// The greatest value of a limit.
 pub const MAX_LIMIT: u32 = 16_777_216;
 
-/// How many states a search may list, and how many of a task's instances may be kept, which are those that are statically
-/// applicable; each from 1 to 16,777,216.
+/// The limits of listed states and of kept instances, each from 1 to 16,777,216. An instance is kept unless it is statically
+/// inapplicable.
 #[derive(Clone, Copy, Debug, PartialEq, Eq)]
 pub struct Limits {
     states: u32,
@@ -18,11 +18,11 @@ pub struct Limits {
 impl Limits {
     ghost use Rattle.std.specs.Prelude.{◌&&◌, is_some, IfSome};
 
-    /// These limits, and `None` where one of them is out of range.
+    /// These limits, or `None` if one is out of range.
     ///
     /// ```text
     /// Limits::new(100_000, 10_000)        // Some: 100,000 states and 10,000 instances
-    /// Limits::new(MAX_LIMIT, MAX_LIMIT)   // Some: the most that there may be
+    /// Limits::new(MAX_LIMIT, MAX_LIMIT)   // Some: the greatest limits
     /// Limits::new(0, 10_000)              // None
     /// Limits::new(100_000, MAX_LIMIT + 1) // None
     /// ```
@@ -38,14 +38,14 @@ impl Limits {
         }
     }
 
-    /// The most states that may be listed.
+    /// The limit of listed states.
     pub fn states(&self) -> u32
         ensures { result ≡ self.now.states }
     {
         self.states
     }
 
-    /// The most instances that may be kept.
+    /// The limit of kept instances.
     pub fn instances(&self) -> u32
         ensures { result ≡ self.now.instances }
     {
@@ -53,7 +53,7 @@ impl Limits {
     }
 }
 
-/// Whether the number may be a limit.
+/// Whether the number is in range.
 fn is_limit(number: u32) -> bool
     ensures { result ≡ is_limit number }
 {

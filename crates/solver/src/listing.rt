@@ -1,13 +1,11 @@
-//! The certificate that the found states of a search make: each is a line, open where it was expanded, dead where it is reported
-//! a dead end, and cut where it waits, and its atoms are the task's numbered ones; and the values by which they were
-//! found.
+//! The certificate of a search: a line for each found state, and the values that guided the search. A line is open if its state was
+//! expanded, dead if it is reported dead, and a cut if it waits.
 //!
-//! That an optimal planner shows its cost by a certificate is from Mugdan, Christen and Eriksson, "Optimality Certificates
-//! for Classical Planning" (ICAPS 2023). What differs is the form: here a certificate lists single states, each with the
-//! cost at which it was reached. An open line's successors are listed too, at no more than what they cost from there; a cut
-//! line goes no further, and its value, the greatest of fair values which the certificate has too, is a lower bound on what is
-//! still to be paid from its state; from a dead line's state no plan leads on, as a dead-fair value shows. Where the certificate has
-//! exchanges of objects, it suffices that a state with the same representative is listed in a successor's place.
+//! Optimality certificates of planners are from Mugdan, Christen and Eriksson, "Optimality Certificates for Classical Planning" (ICAPS
+//! 2023). The form differs: here a certificate lists single states, each with the cost at which it was reached. The successors of an
+//! open line are listed, at no more than their cost from there. A cut is not expanded: its value, the greatest of the certificate's fair
+//! values, is a lower bound of the remaining cost. From a dead line's state no plan leads on, as a dead-fair value shows. With
+//! exchanges of objects, a state with the same representative may be listed in a successor's place.
 ghost use Rattle.std.specs.Prelude.{◌≡◌, ◌≤◌, length, map, IfOk, IsTrue};
 ghost use Rattle.task.specs.TaskParts.{atom_of};
 ghost use Rattle.packed_state.specs.PooledView.{pooled_states};
@@ -35,8 +33,7 @@ use packed_state::{Packed, PooledStore, StateStore};
 use search::{FoundStates, OwnClasses, StateListing};
 use std::alloc::Global;
 
-/// The certificate of the states that a search found by this guidance, with these marks, and of the guidance,
-/// and with the exchanges by which states are alike.
+/// The certificate of a search by this guidance, which found these states and marked them so.
 pub(crate) fn cert_of(
     alloc: Global,
     space: SearchSpace<'_, '_>,
@@ -65,8 +62,8 @@ pub(crate) fn cert_of(
     Ok(Cert::from_parts(header, States { marks, sets }))
 }
 
-/// The listed states, in order, as a certificate has them. Where each state is a class of its own, the store of the search is that of
-/// the certificate, and no state is copied.
+/// The listed states in order, as a certificate has them. If each state is a class of its own, the search's store becomes the
+/// certificate's, and no state is copied.
 fn sets_of(alloc: Global, listing: GroundListing<'_, '_>) -> Result<PooledStore, NoMemory>
     requires { length (listed_states listing) ≤ MAX_STATE_LINES }
     ensures { IfOk result (λ sets. pooled_states sets ≡ listed_states listing.entry) }
@@ -77,7 +74,7 @@ fn sets_of(alloc: Global, listing: GroundListing<'_, '_>) -> Result<PooledStore,
     }
 }
 
-/// The same states, in order.
+/// A copy of the listed states, in order.
 fn copied_sets<L: StateListing>(alloc: Global, listing: &L) -> Result<PooledStore, NoMemory>
     requires { length (L.states listing.now) ≤ MAX_STATE_LINES }
     ensures { IfOk result (λ sets. pooled_states sets ≡ L.states listing.now) }
@@ -91,7 +88,7 @@ fn copied_sets<L: StateListing>(alloc: Global, listing: &L) -> Result<PooledStor
     Ok(sets)
 }
 
-/// The same atoms, in order, of which no two are the same.
+/// A copy of these distinct atoms, in order.
 fn copied(alloc: Global, atoms: &[Atom]) -> Result<IndexSet<Atom>, NoMemory>
     requires { IsTrue (are_distinct (map atom_of atoms.now)) }
     ensures { IfOk result (λ copy. map atom_of copy.keys ≡ map atom_of atoms.now) }

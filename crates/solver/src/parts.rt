@@ -7,7 +7,7 @@ ghost use Rattle.search.specs.UnderWay.{store_in, nodes_of};
 ghost use Rattle.solver.specs.Attempts.{IfDone};
 ghost use Rattle.solver.specs.Improved.{AreSettledOrHigh, AreDeadSettledOrHigh};
 ghost use Rattle.ground_listings.specs.SearchSpace.{ground_in, system_of, IsSearchSpace};
-ghost use Rattle.progress_lines.specs.Said.{GoesOn};
+ghost use Rattle.devices.specs.Progress.{GoesOn};
 ghost use Rattle.solver.specs.Said.{IsTrueLine};
 ghost use Rattle.solver.specs.Solver.{IsTrueAnswer};
 ghost use Rattle.solver.specs.Stopped.{IsStopped};
@@ -16,170 +16,172 @@ ghost use Rattle.solver.specs.Stretches.{IsTrueEnd, IsTruePart, IsUnderWay};
 use crate::answer::Answer;
 use crate::attempt::Attempt;
 use crate::by_tables::solve_by_tables;
-use crate::limits::Limits;
 use crate::searched::{Searched, Stretch, begin_by, finish_by, go_on_by};
+use crate::setting::{Session, Setting};
 use crate::stopped::Stopped;
+use cost_partitioning::Effort;
 use devices::Sink;
 use faults::NoMemory;
-use ground_listings::{GroundListing, SearchSpace};
+use ground_listings::GroundListing;
 use potentials::Potentials;
 use search::{Guide, Search};
-use std::alloc::Global;
-use tables_drafted::Effort;
 
-/// Where a search by potentials pauses, and how much is looked at for tables then.
+/// A pause of a search by potentials, at which tables are drafted.
 #[derive(Clone, Copy)]
 struct Pause {
-    /// How many states are listed, at least.
+    /// The number of listed states, at least.
     states: u32,
+    /// The effort of the draft.
     effort: Effort,
 }
 
-/// The first pause. So a task that is solved by fewer states is solved without tables.
+/// The first pause. A task that is solved by fewer states is solved without tables.
 const QUICK: Pause = Pause {
     states: 100_000,
     effort: Effort::Quick,
 };
 
-/// The second one, where tables that were found quickly are of some use, but not of enough.
+/// The second pause, if a quick draft is promising.
 const THOROUGH: Pause = Pause {
     states: 500_000,
     effort: Effort::Thorough,
 };
 
-/// The potentials that a search goes by.
+/// The potentials that guide a search.
 #[derive(Clone, Copy)]
 pub(crate) struct Given<'a> {
     pub(crate) potentials: &'a Potentials,
-    /// Those for dead ends.
+    /// The potentials for dead ends.
     pub(crate) dead_ends: &'a Potentials,
 }
 
-/// What a search in parts comes to.
+/// A draft of tables at a pause, which are to exceed these potentials.
+#[derive(Clone, Copy)]
+struct Drafting<'a> {
+    pause: Pause,
+    given: Given<'a>,
+}
+
+/// The end of a search in parts.
 #[derive(Drop)]
 pub(crate) enum Parts<'l, 't> {
-    /// An answer by tables that were found at a pause.
+    /// An answer by tables that were drafted at a pause.
     ByTables(Answer),
     /// The search's own end.
     ByGuide(Searched<'l, 't>),
 }
 
-/// What a part of a search comes to, and a look for tables after it.
+/// The end of a part: of the search up to a pause, and the attempt with tables there.
 #[derive(Drop)]
 enum Part<'l, 't, R> {
-    /// The end.
+    /// The end of the search.
     Ended(Parts<'l, 't>),
-    /// No tables, but with more effort some may be found.
+    /// No tables yet, but more effort is promising.
     Promising(Search<GroundListing<'l, 't>, R>),
     /// No tables, and none are expected.
     InVain(Search<GroundListing<'l, 't>, R>),
 }
 
-/// What a search of the ground task by the guide comes to, which goes by these potentials; or the answer by tables, if such are
-/// found at a pause that are better.
+/// Searches the ground task by the guide, which is that of these potentials. At each pause it tries to switch to tables.
 pub(crate) fn search_in_parts<'l, 't, G: Guide, E: Sink>(
-    alloc: Global,
-    space: SearchSpace<'l, 't>,
-    guide: &G,
+    session: &Session<'_, 'l, 't, G>,
     given: Given<'_>,
-    limits: Limits,
     err: &mut E,
 ) -> Result<Parts<'l, 't>, NoMemory>
-    requires space { IsSearchSpace space }
-    requires ground { IsGroundOf (task_in (ground_in space)) [] limits.instances (ground_in space) }
-    requires system { G.system_of guide.now ≡ system_of space }
-    requires guide_width { G.width_of guide.now ≡ length (atoms_in (ground_in space)) }
-    requires width { length (potentials_of given.potentials.now).weights ≡ length (atoms_in (ground_in space)) }
-    requires improved { AreSettledOrHigh (task_in (ground_in space)) (atoms_in (ground_in space)) (potentials_of given.potentials.now) }
-    requires dead_ends_improved { AreDeadSettledOrHigh (task_in (ground_in space)) (atoms_in (ground_in space)) (potentials_of given.dead_ends.now) }
-    ensures end { IfOk result (IsTrueEnd space.entry (G.estimate_of guide.now) (G.is_dead guide.now) limits) }
-    ensures said { GoesOn (IsTrueLine (task_in (ground_in space.entry))) E.wants_memory (E.failures err.old) (E.taken err.old) (E.failures err.new) (E.taken err.new) }
+    requires space { IsSearchSpace session.now.setting.space }
+    requires ground { IsGroundOf (task_in (ground_in session.now.setting.space)) [] session.now.setting.limits.instances (ground_in session.now.setting.space) }
+    requires system { G.system_of session.now.guide.now ≡ system_of session.now.setting.space }
+    requires guide_width { G.width_of session.now.guide.now ≡ length (atoms_in (ground_in session.now.setting.space)) }
+    requires width { length (potentials_of given.potentials.now).weights ≡ length (atoms_in (ground_in session.now.setting.space)) }
+    requires improved { AreSettledOrHigh (task_in (ground_in session.now.setting.space)) (atoms_in (ground_in session.now.setting.space)) (potentials_of given.potentials.now) }
+    requires dead_ends_improved { AreDeadSettledOrHigh (task_in (ground_in session.now.setting.space)) (atoms_in (ground_in session.now.setting.space)) (potentials_of given.dead_ends.now) }
+    ensures end { IfOk result (IsTrueEnd session.now.setting.space (G.estimate_of session.now.guide.now) (G.is_dead session.now.guide.now) session.now.setting.limits) }
+    ensures said { GoesOn (IsTrueLine (task_in (ground_in session.now.setting.space))) E.wants_memory (E.failures err.old) (E.taken err.old) (E.failures err.new) (E.taken err.new) }
 {
-    let search = begin_by(alloc, space, guide, limits)?;
-    match search_to_pause(alloc, space, guide, search, given, QUICK, limits, err)? {
+    let drafting = Drafting {
+        pause: QUICK,
+        given,
+    };
+    let search = begin_by(session)?;
+    match search_to_pause(session, search, drafting, err)? {
         Part::Ended(parts) => Ok(parts),
-        Part::Promising(search) => search_on(alloc, space, guide, search, given, limits, err),
-        Part::InVain(search) => search_to_end(alloc, space, guide, search, limits, err),
+        Part::Promising(search) => search_on(session, search, given, err),
+        Part::InVain(search) => search_to_end(session, search, err),
     }
 }
 
-/// The same after the first pause.
+/// Continues the search after the first pause.
 fn search_on<'l, 't, G: Guide, E: Sink>(
-    alloc: Global,
-    space: SearchSpace<'l, 't>,
-    guide: &G,
+    session: &Session<'_, 'l, 't, G>,
     search: Search<GroundListing<'l, 't>, G::Scratch>,
     given: Given<'_>,
-    limits: Limits,
     err: &mut E,
 ) -> Result<Parts<'l, 't>, NoMemory>
-    requires space { IsSearchSpace space }
-    requires ground { IsGroundOf (task_in (ground_in space)) [] limits.instances (ground_in space) }
-    requires system { G.system_of guide.now ≡ system_of space }
-    requires guide_width { G.width_of guide.now ≡ length (atoms_in (ground_in space)) }
-    requires under_way { IsUnderWay space (G.estimate_of guide.now) (G.is_dead guide.now) (G.fits guide.now) limits.states search }
-    requires width { length (potentials_of given.potentials.now).weights ≡ length (atoms_in (ground_in space)) }
-    requires improved { AreSettledOrHigh (task_in (ground_in space)) (atoms_in (ground_in space)) (potentials_of given.potentials.now) }
-    requires dead_ends_improved { AreDeadSettledOrHigh (task_in (ground_in space)) (atoms_in (ground_in space)) (potentials_of given.dead_ends.now) }
-    ensures end { IfOk result (IsTrueEnd space.entry (G.estimate_of guide.now) (G.is_dead guide.now) limits) }
-    ensures said { GoesOn (IsTrueLine (task_in (ground_in space.entry))) E.wants_memory (E.failures err.old) (E.taken err.old) (E.failures err.new) (E.taken err.new) }
+    requires space { IsSearchSpace session.now.setting.space }
+    requires ground { IsGroundOf (task_in (ground_in session.now.setting.space)) [] session.now.setting.limits.instances (ground_in session.now.setting.space) }
+    requires system { G.system_of session.now.guide.now ≡ system_of session.now.setting.space }
+    requires guide_width { G.width_of session.now.guide.now ≡ length (atoms_in (ground_in session.now.setting.space)) }
+    requires under_way { IsUnderWay session.now.setting.space (G.estimate_of session.now.guide.now) (G.is_dead session.now.guide.now) (G.fits session.now.guide.now) session.now.setting.limits.states search }
+    requires width { length (potentials_of given.potentials.now).weights ≡ length (atoms_in (ground_in session.now.setting.space)) }
+    requires improved { AreSettledOrHigh (task_in (ground_in session.now.setting.space)) (atoms_in (ground_in session.now.setting.space)) (potentials_of given.potentials.now) }
+    requires dead_ends_improved { AreDeadSettledOrHigh (task_in (ground_in session.now.setting.space)) (atoms_in (ground_in session.now.setting.space)) (potentials_of given.dead_ends.now) }
+    ensures end { IfOk result (IsTrueEnd session.now.setting.space (G.estimate_of session.now.guide.now) (G.is_dead session.now.guide.now) session.now.setting.limits) }
+    ensures said { GoesOn (IsTrueLine (task_in (ground_in session.now.setting.space))) E.wants_memory (E.failures err.old) (E.taken err.old) (E.failures err.new) (E.taken err.new) }
 {
-    match search_to_pause(alloc, space, guide, search, given, THOROUGH, limits, err)? {
+    let drafting = Drafting {
+        pause: THOROUGH,
+        given,
+    };
+    match search_to_pause(session, search, drafting, err)? {
         Part::Ended(parts) => Ok(parts),
-        Part::Promising(search) => search_to_end(alloc, space, guide, search, limits, err),
-        Part::InVain(search) => search_to_end(alloc, space, guide, search, limits, err),
+        Part::Promising(search) => search_to_end(session, search, err),
+        Part::InVain(search) => search_to_end(session, search, err),
     }
 }
 
-/// The same after the last pause.
+/// Continues the search after the last pause.
 fn search_to_end<'l, 't, G: Guide, E: Sink>(
-    alloc: Global,
-    space: SearchSpace<'l, 't>,
-    guide: &G,
+    session: &Session<'_, 'l, 't, G>,
     search: Search<GroundListing<'l, 't>, G::Scratch>,
-    limits: Limits,
     err: &mut E,
 ) -> Result<Parts<'l, 't>, NoMemory>
-    requires space { IsSearchSpace space }
-    requires system { G.system_of guide.now ≡ system_of space }
-    requires guide_width { G.width_of guide.now ≡ length (atoms_in (ground_in space)) }
-    requires under_way { IsUnderWay space (G.estimate_of guide.now) (G.is_dead guide.now) (G.fits guide.now) limits.states search }
-    ensures end { IfOk result (IsTrueEnd space.entry (G.estimate_of guide.now) (G.is_dead guide.now) limits) }
-    ensures said { GoesOn (IsTrueLine (task_in (ground_in space.entry))) E.wants_memory (E.failures err.old) (E.taken err.old) (E.failures err.new) (E.taken err.new) }
+    requires space { IsSearchSpace session.now.setting.space }
+    requires system { G.system_of session.now.guide.now ≡ system_of session.now.setting.space }
+    requires guide_width { G.width_of session.now.guide.now ≡ length (atoms_in (ground_in session.now.setting.space)) }
+    requires under_way { IsUnderWay session.now.setting.space (G.estimate_of session.now.guide.now) (G.is_dead session.now.guide.now) (G.fits session.now.guide.now) session.now.setting.limits.states search }
+    ensures end { IfOk result (IsTrueEnd session.now.setting.space (G.estimate_of session.now.guide.now) (G.is_dead session.now.guide.now) session.now.setting.limits) }
+    ensures said { GoesOn (IsTrueLine (task_in (ground_in session.now.setting.space))) E.wants_memory (E.failures err.old) (E.taken err.old) (E.failures err.new) (E.taken err.new) }
 {
-    let searched = finish_by(alloc, space, guide, search, limits, err)?;
+    let searched = finish_by(session, search, err)?;
     Ok(Parts::ByGuide(searched))
 }
 
-/// The search up to a pause, and a look for tables there. There is no pause where no more states may be listed.
+/// Continues the search to a pause, and tries to switch to tables there. There is no pause at the limit of states.
 fn search_to_pause<'l, 't, G: Guide, E: Sink>(
-    alloc: Global,
-    space: SearchSpace<'l, 't>,
-    guide: &G,
+    session: &Session<'_, 'l, 't, G>,
     search: Search<GroundListing<'l, 't>, G::Scratch>,
-    given: Given<'_>,
-    pause: Pause,
-    limits: Limits,
+    drafting: Drafting<'_>,
     err: &mut E,
 ) -> Result<Part<'l, 't, G::Scratch>, NoMemory>
-    requires space { IsSearchSpace space }
-    requires ground { IsGroundOf (task_in (ground_in space)) [] limits.instances (ground_in space) }
-    requires system { G.system_of guide.now ≡ system_of space }
-    requires guide_width { G.width_of guide.now ≡ length (atoms_in (ground_in space)) }
-    requires under_way { IsUnderWay space (G.estimate_of guide.now) (G.is_dead guide.now) (G.fits guide.now) limits.states search }
-    requires width { length (potentials_of given.potentials.now).weights ≡ length (atoms_in (ground_in space)) }
-    requires improved { AreSettledOrHigh (task_in (ground_in space)) (atoms_in (ground_in space)) (potentials_of given.potentials.now) }
-    requires dead_ends_improved { AreDeadSettledOrHigh (task_in (ground_in space)) (atoms_in (ground_in space)) (potentials_of given.dead_ends.now) }
-    ensures part { IfOk result (IsTruePart space.entry (G.estimate_of guide.now) (G.is_dead guide.now) (G.fits guide.now) limits) }
-    ensures said { GoesOn (IsTrueLine (task_in (ground_in space.entry))) E.wants_memory (E.failures err.old) (E.taken err.old) (E.failures err.new) (E.taken err.new) }
+    requires space { IsSearchSpace session.now.setting.space }
+    requires ground { IsGroundOf (task_in (ground_in session.now.setting.space)) [] session.now.setting.limits.instances (ground_in session.now.setting.space) }
+    requires system { G.system_of session.now.guide.now ≡ system_of session.now.setting.space }
+    requires guide_width { G.width_of session.now.guide.now ≡ length (atoms_in (ground_in session.now.setting.space)) }
+    requires under_way { IsUnderWay session.now.setting.space (G.estimate_of session.now.guide.now) (G.is_dead session.now.guide.now) (G.fits session.now.guide.now) session.now.setting.limits.states search }
+    requires width { length (potentials_of drafting.given.potentials.now).weights ≡ length (atoms_in (ground_in session.now.setting.space)) }
+    requires improved { AreSettledOrHigh (task_in (ground_in session.now.setting.space)) (atoms_in (ground_in session.now.setting.space)) (potentials_of drafting.given.potentials.now) }
+    requires dead_ends_improved { AreDeadSettledOrHigh (task_in (ground_in session.now.setting.space)) (atoms_in (ground_in session.now.setting.space)) (potentials_of drafting.given.dead_ends.now) }
+    ensures part { IfOk result (IsTruePart session.now.setting.space (G.estimate_of session.now.guide.now) (G.is_dead session.now.guide.now) (G.fits session.now.guide.now) session.now.setting.limits) }
+    ensures said { GoesOn (IsTrueLine (task_in (ground_in session.now.setting.space))) E.wants_memory (E.failures err.old) (E.taken err.old) (E.failures err.new) (E.taken err.new) }
 {
-    if pause.states >= limits.states() {
+    let pause = drafting.pause.states;
+    if pause >= session.setting.limits.states() {
         return Ok(Part::InVain(search));
     }
-    match go_on_by(alloc, space, guide, search, pause.states, limits, err)? {
+    match go_on_by(session, search, pause, err)? {
         Stretch::Ended(searched) => Ok(Part::Ended(Parts::ByGuide(searched))),
         Stretch::Paused(search) => {
-            match solve_at_pause(alloc, space, &search, given, pause.effort, limits, err)? {
+            match solve_at_pause(session.setting, &search, drafting, err)? {
                 Attempt::Done(answer) => Ok(Part::Ended(Parts::ByTables(answer))),
                 Attempt::Promising => Ok(Part::Promising(search)),
                 Attempt::InVain => Ok(Part::InVain(search)),
@@ -188,25 +190,22 @@ fn search_to_pause<'l, 't, G: Guide, E: Sink>(
     }
 }
 
-/// The answer by tables, if such are found that are better than the potentials of this search.
+/// The answer by tables, if better ones than the potentials of this search are found.
 fn solve_at_pause<R, E: Sink>(
-    alloc: Global,
-    space: SearchSpace<'_, '_>,
+    setting: Setting<'_, '_>,
     search: &Search<GroundListing<'_, '_>, R>,
-    given: Given<'_>,
-    effort: Effort,
-    limits: Limits,
+    drafting: Drafting<'_>,
     err: &mut E,
 ) -> Result<Attempt<Answer>, NoMemory>
-    requires space { IsSearchSpace space }
-    requires ground { IsGroundOf (task_in (ground_in space)) [] limits.instances (ground_in space) }
+    requires space { IsSearchSpace setting.space }
+    requires ground { IsGroundOf (task_in (ground_in setting.space)) [] setting.limits.instances (ground_in setting.space) }
     requires stopped { IsStopped (store_in search.now) (nodes_of search.now) }
-    requires store_width { listed_width (store_in search.now) ≡ length (atoms_in (ground_in space)) }
-    requires width { length (potentials_of given.potentials.now).weights ≡ length (atoms_in (ground_in space)) }
-    requires improved { AreSettledOrHigh (task_in (ground_in space)) (atoms_in (ground_in space)) (potentials_of given.potentials.now) }
-    requires dead_ends_improved { AreDeadSettledOrHigh (task_in (ground_in space)) (atoms_in (ground_in space)) (potentials_of given.dead_ends.now) }
-    ensures answer { IfOk result (IfDone (IsTrueAnswer (task_in (ground_in space.entry)) limits.states limits.instances)) }
-    ensures said { GoesOn (IsTrueLine (task_in (ground_in space.entry))) E.wants_memory (E.failures err.old) (E.taken err.old) (E.failures err.new) (E.taken err.new) }
+    requires store_width { listed_width (store_in search.now) ≡ length (atoms_in (ground_in setting.space)) }
+    requires width { length (potentials_of drafting.given.potentials.now).weights ≡ length (atoms_in (ground_in setting.space)) }
+    requires improved { AreSettledOrHigh (task_in (ground_in setting.space)) (atoms_in (ground_in setting.space)) (potentials_of drafting.given.potentials.now) }
+    requires dead_ends_improved { AreDeadSettledOrHigh (task_in (ground_in setting.space)) (atoms_in (ground_in setting.space)) (potentials_of drafting.given.dead_ends.now) }
+    ensures answer { IfOk result (IfDone (IsTrueAnswer (task_in (ground_in setting.entry.space)) setting.entry.limits.states setting.entry.limits.instances)) }
+    ensures said { GoesOn (IsTrueLine (task_in (ground_in setting.entry.space))) E.wants_memory (E.failures err.old) (E.taken err.old) (E.failures err.new) (E.taken err.new) }
 {
     let Some(bound) = search.bound() else {
         return Ok(Attempt::InVain);
@@ -215,9 +214,9 @@ fn solve_at_pause<R, E: Sink>(
         bound,
         listing: search.store(),
         nodes: search.nodes(),
-        potentials: given.potentials,
-        dead_ends: given.dead_ends,
-        effort,
+        potentials: drafting.given.potentials,
+        dead_ends: drafting.given.dead_ends,
+        effort: drafting.pause.effort,
     };
-    solve_by_tables(alloc, space, &stopped, limits, err)
+    solve_by_tables(setting, &stopped, err)
 }

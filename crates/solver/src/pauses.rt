@@ -1,29 +1,29 @@
-//! Where a search pauses to say how far it is, and whether there is anything new to say then.
+//! The pauses at which a search reports progress, and whether there is news to report.
 //!
-//! A search with many bounds would be slowed by a line for each. So it is looked at a sixteenth more states later whether the
-//! bound is a greater one, and there are at most some dozen lines until twice as many states are listed.
+//! A line for each new bound would slow down a search with many bounds. So the search pauses whenever its listing has grown by a
+//! sixteenth: at most a dozen lines for each doubling.
 ghost use Rattle.std.specs.Prelude.{◌<◌, ◌≤◌, ◌*◌, ◌⊎◌, ◌↔◌, IsTrue};
 
 use ground_listings::GroundListing;
 use search::{Search, StateListing};
 
-/// How many states are listed where a search pauses for the first time, at least.
+/// The number of listed states at the first pause, at least.
 const FIRST_PAUSE: u32 = 1_024;
 
-/// A pause comes where so many times fewer states are listed anew than were before.
+/// The search pauses when the listing has grown by one part in this many.
 const PART: u32 = 16;
 
-/// How far a search was when that was said last, or is now.
+/// The progress of a search that is reported.
 #[derive(Clone, Copy)]
 pub(crate) struct Milestone {
-    /// What every plan costs at least.
+    /// A lower bound of every plan's cost.
     bound: u64,
-    /// How many states it lists.
+    /// The number of listed states.
     listed: usize,
 }
 
 impl Milestone {
-    /// How far a search is. `None` if none of its states waits, as it is about to end.
+    /// The search's progress, or `None` if its open list is empty: it is about to end.
     pub(crate) fn of<R>(search: &Search<GroundListing<'_, '_>, R>) -> Option<Milestone> {
         match search.bound() {
             Some(bound) => Some(Milestone {
@@ -34,7 +34,7 @@ impl Milestone {
         }
     }
 
-    /// Whether this is to be said after the last one: the bound is greater, or twice as many states are listed.
+    /// Whether this is news after the last report: the bound has risen, or the listing has doubled.
     fn is_news_after(self, last: Milestone) -> bool
         ensures { IsTrue result ↔ ((last.bound < self.bound) ⊎ (last.listed * 2 ≤ self.listed)) }
     {
@@ -42,7 +42,7 @@ impl Milestone {
     }
 }
 
-/// Whether there is anything to say of a search that is so far, where this was said last, if anything was.
+/// Whether there is news to report.
 pub(crate) fn is_news(last: Option<Milestone>, now: Option<Milestone>) -> bool {
     match (last, now) {
         (_, None) => false,
@@ -51,7 +51,7 @@ pub(crate) fn is_news(last: Option<Milestone>, now: Option<Milestone>) -> bool {
     }
 }
 
-/// Where a search pauses next that lists so many states, and no later than this.
+/// The next pause of a search that lists this many states, no later than `last`.
 pub(crate) fn next_pause(listed: usize, last: u32) -> u32
     requires { listed < last }
     ensures after { listed < result }

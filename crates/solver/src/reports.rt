@@ -1,42 +1,41 @@
-//! What is said of a search while it goes on: lines of `key=value`, for scripts.
+//! Reports of progress: lines of `key=value`, for scripts.
 ghost use Rattle.std.specs.Prelude.{◌≡◌, IfOk, OnOk};
 ghost use Rattle.std.specs.String.{string_bytes};
 ghost use Rattle.devices.specs.Devices.{IsWritten};
-ghost use Rattle.progress_lines.specs.Said.{GoesOn};
+ghost use Rattle.devices.specs.Progress.{GoesOn};
 ghost use Rattle.solver.specs.Said.{IsTrueLine, IsTrueReport, line_of};
 ghost use Rattle.model.specs.Task.{Task};
 
-use devices::Sink;
+use devices::{Sink, say_line};
 use faults::NoMemory;
-use progress_lines::say_line;
 use std::alloc::{AllocError, Global};
 
-/// How far a task is solved.
+/// A report of progress.
 #[derive(Clone, Copy, Debug, PartialEq, Eq)]
 pub enum Report {
     /// The ground task is made.
     Ground {
-        /// How many instances are kept.
+        /// The number of kept instances.
         instances: usize,
-        /// How many atoms have numbers.
+        /// The number of numbered atoms.
         atoms: usize,
     },
     /// A search is under way.
     Search {
-        /// Every plan costs at least this.
+        /// A lower bound of every plan's cost.
         bound: u64,
-        /// How many states it lists.
+        /// The number of listed states.
         listed: usize,
-        /// How many of them it expanded.
+        /// The number of expanded states.
         expanded: usize,
     },
-    /// A limit is exceeded that an option raises.
+    /// A limit is exceeded, which an option raises.
     Limit(RaisedBy),
-    /// There is an answer with a certificate.
+    /// The answer has a certificate.
     End {
-        /// How many states the certificate lists.
+        /// The number of states that the certificate lists.
         listed: usize,
-        /// How many of them are open: these were expanded.
+        /// The number of open ones: these were expanded.
         expanded: usize,
     },
 }
@@ -44,14 +43,14 @@ pub enum Report {
 /// The option that raises a limit.
 #[derive(Clone, Copy, Debug, PartialEq, Eq)]
 pub enum RaisedBy {
-    /// That of the listed states.
+    /// The limit of listed states.
     States,
-    /// That of the kept instances.
+    /// The limit of kept instances.
     Instances,
 }
 
 impl Report {
-    /// Its line.
+    /// The report's line.
     fn line(self, alloc: Global) -> Result<String, AllocError>
         ensures { IfOk result (λ line. string_bytes line ≡ line_of self) }
     {
@@ -81,10 +80,10 @@ impl Report {
     }
 }
 
-/// Writes the report's line. That the sink fails changes nothing else; it may then have taken a beginning of the line.
+/// Writes the report's line. A failing sink may have taken a part of the line; nothing else changes.
 ///
 /// # Errors
-/// Memory for the line is refused. Then nothing is written.
+/// Memory for the line is refused. Nothing is written.
 pub(crate) fn say<E: Sink>(alloc: Global, report: Report, err: &mut E) -> Result<(), NoMemory>
     ensures said { (task : Task) → IsTrueReport task report → GoesOn (IsTrueLine task) E.wants_memory (E.failures err.old) (E.taken err.old) (E.failures err.new) (E.taken err.new) }
     ensures written { OnOk result (IsWritten E.wants_memory (E.failures err.old) (E.failures err.new) (E.taken err.old) (E.taken err.new) (line_of report)) }

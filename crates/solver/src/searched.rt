@@ -1,37 +1,37 @@
-//! A search, with what its certificate says of each state that it found.
+//! A search of the ground task, with the certificate's mark of each found state.
 //!
-//! What is said of the states is written down where the search ends, so that what its guide works with, as the tables of values, can go
-//! into the certificate and is in memory once. The guide is not asked again: the search tells the estimates of the states that wait.
+//! Marks are made where the search ends, from the estimates that it tells. So the guide is not asked again, and its tables can move into
+//! the certificate without a copy.
 ghost use Rattle.std.specs.Prelude.{◌≡◌, ℕ, Bool, List, count_by, length, IfOk};
 ghost use Rattle.grounding.specs.Ground.{task_in, atoms_in};
 ghost use Rattle.search.specs.Outcome.{is_expanded};
 ghost use Rattle.solver.specs.Guided as guided;
 ghost use Rattle.solver.specs.Guided.{AreMarksOf, CanBeMarked, IsMarkOf, IsSearched};
 ghost use Rattle.ground_listings.specs.SearchSpace.{ground_in, system_of, IsSearchSpace};
-ghost use Rattle.progress_lines.specs.Said.{GoesOn};
+ghost use Rattle.devices.specs.Progress.{GoesOn};
 ghost use Rattle.solver.specs.Said.{IsTrueLine};
-ghost use Rattle.solver.specs.Stretches.{AreOpenIn, IsStretch, IsUnderWay};
+ghost use Rattle.solver.specs.Stretches.{IsBetweenTurns, IsStretch, IsUnderWay};
 
-use crate::limits::Limits;
 use crate::pauses::{Milestone, is_news, next_pause};
 use crate::reports::{Report, say};
+use crate::setting::{Session, Setting};
 use certificate::{Listed, Mark};
 use devices::Sink;
 use faults::NoMemory;
-use ground_listings::{GroundListing, GroundSystem, SearchSpace};
+use ground_listings::{GroundListing, GroundSystem};
 use search::{
     FoundStates, Guide, Halt, Node, NodeStatus, Outcome, Search, StateListing, begin, go_on,
 };
 use std::alloc::Global;
 
-/// What a search came to, and what its certificate says of each state that it found, in order.
+/// The outcome of a search, and the certificate's mark of each found state, in order.
 #[derive(Drop)]
 pub(crate) struct Searched<'l, 't> {
     pub(crate) outcome: Outcome<GroundListing<'l, 't>>,
     pub(crate) marks: Vec<Listed>,
 }
 
-/// How far a search came.
+/// How far a search has come.
 #[derive(Drop)]
 pub(crate) enum Stretch<'l, 't, R> {
     /// To its end.
@@ -40,36 +40,38 @@ pub(crate) enum Stretch<'l, 't, R> {
     Paused(Search<GroundListing<'l, 't>, R>),
 }
 
-/// A search of the ground task by the guide, which has found the initial state alone.
+/// Begins a search of the ground task by the guide. The initial state alone is found.
 pub(crate) fn begin_by<'l, 't, G: Guide>(
-    alloc: Global,
-    space: SearchSpace<'l, 't>,
-    guide: &G,
-    limits: Limits,
+    session: &Session<'_, 'l, 't, G>,
 ) -> Result<Search<GroundListing<'l, 't>, G::Scratch>, NoMemory>
-    requires { G.width_of guide.now ≡ length (atoms_in (ground_in space)) }
-    ensures { IfOk result (IsUnderWay space.entry (G.estimate_of guide.now) (G.is_dead guide.now) (G.fits guide.now) limits.states) }
+    requires { G.width_of session.now.guide.now ≡ length (atoms_in (ground_in session.now.setting.space)) }
+    ensures { IfOk result (IsUnderWay session.now.setting.space (G.estimate_of session.now.guide.now) (G.is_dead session.now.guide.now) (G.fits session.now.guide.now) session.now.setting.limits.states) }
 {
+    let alloc = session.setting.alloc;
+    let space = session.setting.space;
     let system = GroundSystem(space.ground());
     let listing = space.listing(alloc)?;
-    begin(alloc, &system, guide, listing)
+    begin(alloc, &system, session.guide, listing)
 }
 
-/// Goes on with it until it ends, or so many states are listed.
+/// Continues the search until it ends or `pause` states are listed.
 fn stretch_by<'l, 't, G: Guide>(
-    alloc: Global,
-    space: SearchSpace<'l, 't>,
-    guide: &G,
+    session: &Session<'_, 'l, 't, G>,
     search: Search<GroundListing<'l, 't>, G::Scratch>,
     pause: u32,
-    limits: Limits,
 ) -> Result<Stretch<'l, 't, G::Scratch>, NoMemory>
-    requires space { IsSearchSpace space }
-    requires system { G.system_of guide.now ≡ system_of space }
-    requires width { G.width_of guide.now ≡ length (atoms_in (ground_in space)) }
-    requires under_way { IsUnderWay space (G.estimate_of guide.now) (G.is_dead guide.now) (G.fits guide.now) limits.states search }
-    ensures { IfOk result (IsStretch space.entry (G.estimate_of guide.now) (G.is_dead guide.now) (G.fits guide.now) pause limits.states) }
+    requires space { IsSearchSpace session.now.setting.space }
+    requires system { G.system_of session.now.guide.now ≡ system_of session.now.setting.space }
+    requires width { G.width_of session.now.guide.now ≡ length (atoms_in (ground_in session.now.setting.space)) }
+    requires under_way { IsUnderWay session.now.setting.space (G.estimate_of session.now.guide.now) (G.is_dead session.now.guide.now) (G.fits session.now.guide.now) session.now.setting.limits.states search }
+    ensures { IfOk result (IsStretch session.now.setting.space (G.estimate_of session.now.guide.now) (G.is_dead session.now.guide.now) (G.fits session.now.guide.now) pause session.now.setting.limits.states) }
 {
+    let Setting {
+        alloc,
+        space,
+        limits,
+    } = session.setting;
+    let guide = session.guide;
     let system = GroundSystem(space.ground());
     match go_on(alloc, &system, guide, search, pause, limits.states())? {
         Halt::Ended(outcome) => {
@@ -80,30 +82,27 @@ fn stretch_by<'l, 't, G: Guide>(
     }
 }
 
-/// Goes on with it until it ends, or so many states are listed. It says how far it is, and again where the bound is greater than
-/// was said, or twice as many states are listed.
+/// Continues the search until it ends or `pause` states are listed, and reports progress: now, and whenever the bound has risen or the
+/// listing has doubled.
 pub(crate) fn go_on_by<'l, 't, G: Guide, E: Sink>(
-    alloc: Global,
-    space: SearchSpace<'l, 't>,
-    guide: &G,
+    session: &Session<'_, 'l, 't, G>,
     search: Search<GroundListing<'l, 't>, G::Scratch>,
     pause: u32,
-    limits: Limits,
     err: &mut E,
 ) -> Result<Stretch<'l, 't, G::Scratch>, NoMemory>
-    requires space { IsSearchSpace space }
-    requires system { G.system_of guide.now ≡ system_of space }
-    requires width { G.width_of guide.now ≡ length (atoms_in (ground_in space)) }
-    requires under_way { IsUnderWay space (G.estimate_of guide.now) (G.is_dead guide.now) (G.fits guide.now) limits.states search }
-    ensures stretch { IfOk result (IsStretch space.entry (G.estimate_of guide.now) (G.is_dead guide.now) (G.fits guide.now) pause limits.states) }
-    ensures said { GoesOn (IsTrueLine (task_in (ground_in space.entry))) E.wants_memory (E.failures err.old) (E.taken err.old) (E.failures err.new) (E.taken err.new) }
+    requires space { IsSearchSpace session.now.setting.space }
+    requires system { G.system_of session.now.guide.now ≡ system_of session.now.setting.space }
+    requires width { G.width_of session.now.guide.now ≡ length (atoms_in (ground_in session.now.setting.space)) }
+    requires under_way { IsUnderWay session.now.setting.space (G.estimate_of session.now.guide.now) (G.is_dead session.now.guide.now) (G.fits session.now.guide.now) session.now.setting.limits.states search }
+    ensures stretch { IfOk result (IsStretch session.now.setting.space (G.estimate_of session.now.guide.now) (G.is_dead session.now.guide.now) (G.fits session.now.guide.now) pause session.now.setting.limits.states) }
+    ensures said { GoesOn (IsTrueLine (task_in (ground_in session.now.setting.space))) E.wants_memory (E.failures err.old) (E.taken err.old) (E.failures err.new) (E.taken err.new) }
 {
     let mut search = search;
     let mut said = None;
     'stretches: while search.store().len() < pause as usize {
         let next = next_pause(search.store().len(), pause);
-        said = say_news(alloc, space, guide, &search, said, err)?;
-        match stretch_by(alloc, space, guide, search, next, limits)? {
+        said = say_news(session, &search, said, err)?;
+        match stretch_by(session, search, next)? {
             Stretch::Ended(searched) => return Ok(Stretch::Ended(searched)),
             Stretch::Paused(paused) => search = paused,
         }
@@ -111,41 +110,36 @@ pub(crate) fn go_on_by<'l, 't, G: Guide, E: Sink>(
     Ok(Stretch::Paused(search))
 }
 
-/// Says how far a search is, if there is anything new to say after what was said last: what was said last from now on.
+/// Reports progress if there is news after the last report. The result is the last report from now on.
 fn say_news<G: Guide, E: Sink>(
-    alloc: Global,
-    space: SearchSpace<'_, '_>,
-    guide: &G,
+    session: &Session<'_, '_, '_, G>,
     search: &Search<GroundListing<'_, '_>, G::Scratch>,
     last: Option<Milestone>,
     err: &mut E,
 ) -> Result<Option<Milestone>, NoMemory>
-    requires space { IsSearchSpace space }
-    requires system { G.system_of guide.now ≡ system_of space }
-    requires open { AreOpenIn space (G.estimate_of guide.now) (G.is_dead guide.now) search.now }
-    ensures { GoesOn (IsTrueLine (task_in (ground_in space.entry))) E.wants_memory (E.failures err.old) (E.taken err.old) (E.failures err.new) (E.taken err.new) }
+    requires space { IsSearchSpace session.now.setting.space }
+    requires system { G.system_of session.now.guide.now ≡ system_of session.now.setting.space }
+    requires successors { IsBetweenTurns session.now.setting.space (G.estimate_of session.now.guide.now) (G.is_dead session.now.guide.now) search.now }
+    ensures { GoesOn (IsTrueLine (task_in (ground_in session.now.setting.space))) E.wants_memory (E.failures err.old) (E.taken err.old) (E.failures err.new) (E.taken err.new) }
 {
     let now = Milestone::of(search);
     if !is_news(last, now) {
         return Ok(last);
     }
-    say_progress(alloc, space, guide, search, err)?;
+    say_progress(session, search, err)?;
     Ok(now)
 }
 
-/// Says how far a search is: what every plan costs at least, how many states it lists, and how many of them it expanded. Where none
-/// waits, nothing is said, as the search is about to end.
+/// Reports progress, unless the open list is empty: then the search is about to end.
 fn say_progress<G: Guide, E: Sink>(
-    alloc: Global,
-    space: SearchSpace<'_, '_>,
-    guide: &G,
+    session: &Session<'_, '_, '_, G>,
     search: &Search<GroundListing<'_, '_>, G::Scratch>,
     err: &mut E,
 ) -> Result<(), NoMemory>
-    requires space { IsSearchSpace space }
-    requires system { G.system_of guide.now ≡ system_of space }
-    requires open { AreOpenIn space (G.estimate_of guide.now) (G.is_dead guide.now) search.now }
-    ensures { GoesOn (IsTrueLine (task_in (ground_in space.entry))) E.wants_memory (E.failures err.old) (E.taken err.old) (E.failures err.new) (E.taken err.new) }
+    requires space { IsSearchSpace session.now.setting.space }
+    requires system { G.system_of session.now.guide.now ≡ system_of session.now.setting.space }
+    requires successors { IsBetweenTurns session.now.setting.space (G.estimate_of session.now.guide.now) (G.is_dead session.now.guide.now) search.now }
+    ensures { GoesOn (IsTrueLine (task_in (ground_in session.now.setting.space))) E.wants_memory (E.failures err.old) (E.taken err.old) (E.failures err.new) (E.taken err.new) }
 {
     let Some(bound) = search.bound() else {
         return Ok(());
@@ -157,10 +151,10 @@ fn say_progress<G: Guide, E: Sink>(
         listed,
         expanded,
     };
-    say(alloc, report, err)
+    say(session.setting.alloc, report, err)
 }
 
-/// How many of these were expanded.
+/// The number of expanded states.
 fn expanded_in(nodes: &[Node]) -> usize
     ensures { result ≡ count_by is_expanded nodes.now }
 {
@@ -173,47 +167,43 @@ fn expanded_in(nodes: &[Node]) -> usize
     count
 }
 
-/// Goes on with it until it ends.
+/// Continues the search to its end, and reports progress.
 pub(crate) fn finish_by<'l, 't, G: Guide, E: Sink>(
-    alloc: Global,
-    space: SearchSpace<'l, 't>,
-    guide: &G,
+    session: &Session<'_, 'l, 't, G>,
     search: Search<GroundListing<'l, 't>, G::Scratch>,
-    limits: Limits,
     err: &mut E,
 ) -> Result<Searched<'l, 't>, NoMemory>
-    requires space { IsSearchSpace space }
-    requires system { G.system_of guide.now ≡ system_of space }
-    requires width { G.width_of guide.now ≡ length (atoms_in (ground_in space)) }
-    requires under_way { IsUnderWay space (G.estimate_of guide.now) (G.is_dead guide.now) (G.fits guide.now) limits.states search }
-    ensures searched { IfOk result (λ s. IsSearched space.entry (G.estimate_of guide.now) (G.is_dead guide.now) limits.states s.outcome s.marks.items) }
-    ensures said { GoesOn (IsTrueLine (task_in (ground_in space.entry))) E.wants_memory (E.failures err.old) (E.taken err.old) (E.failures err.new) (E.taken err.new) }
+    requires space { IsSearchSpace session.now.setting.space }
+    requires system { G.system_of session.now.guide.now ≡ system_of session.now.setting.space }
+    requires width { G.width_of session.now.guide.now ≡ length (atoms_in (ground_in session.now.setting.space)) }
+    requires under_way { IsUnderWay session.now.setting.space (G.estimate_of session.now.guide.now) (G.is_dead session.now.guide.now) (G.fits session.now.guide.now) session.now.setting.limits.states search }
+    ensures searched { IfOk result (λ s. IsSearched session.now.setting.space (G.estimate_of session.now.guide.now) (G.is_dead session.now.guide.now) session.now.setting.limits.states s.outcome s.marks.items) }
+    ensures said { GoesOn (IsTrueLine (task_in (ground_in session.now.setting.space))) E.wants_memory (E.failures err.old) (E.taken err.old) (E.failures err.new) (E.taken err.new) }
 {
-    match go_on_by(alloc, space, guide, search, u32::MAX, limits, err)? {
+    match go_on_by(session, search, u32::MAX, err)? {
         Stretch::Ended(searched) => Ok(searched),
         Stretch::Paused(_) => unreachable!(),
     }
 }
 
-/// What a search of the ground task by the guide comes to.
+/// Searches the ground task by the guide, and reports progress.
 pub(crate) fn search_by<'l, 't, G: Guide, E: Sink>(
-    alloc: Global,
-    space: SearchSpace<'l, 't>,
+    setting: Setting<'l, 't>,
     guide: &G,
-    limits: Limits,
     err: &mut E,
 ) -> Result<Searched<'l, 't>, NoMemory>
-    requires space { IsSearchSpace space }
-    requires system { G.system_of guide.now ≡ system_of space }
-    requires width { G.width_of guide.now ≡ length (atoms_in (ground_in space)) }
-    ensures searched { IfOk result (λ s. IsSearched space.entry (G.estimate_of guide.now) (G.is_dead guide.now) limits.states s.outcome s.marks.items) }
-    ensures said { GoesOn (IsTrueLine (task_in (ground_in space.entry))) E.wants_memory (E.failures err.old) (E.taken err.old) (E.failures err.new) (E.taken err.new) }
+    requires space { IsSearchSpace setting.space }
+    requires system { G.system_of guide.now ≡ system_of setting.space }
+    requires width { G.width_of guide.now ≡ length (atoms_in (ground_in setting.space)) }
+    ensures searched { IfOk result (λ s. IsSearched setting.entry.space (G.estimate_of guide.now) (G.is_dead guide.now) setting.entry.limits.states s.outcome s.marks.items) }
+    ensures said { GoesOn (IsTrueLine (task_in (ground_in setting.entry.space))) E.wants_memory (E.failures err.old) (E.taken err.old) (E.failures err.new) (E.taken err.new) }
 {
-    let search = begin_by(alloc, space, guide, limits)?;
-    finish_by(alloc, space, guide, search, limits, err)
+    let session = Session { setting, guide };
+    let search = begin_by(&session)?;
+    finish_by(&session, search, err)
 }
 
-/// The states that were found.
+/// The found states.
 fn found_in<'o, 'l, 't>(
     outcome: &'o Outcome<GroundListing<'l, 't>>,
 ) -> &'o FoundStates<GroundListing<'l, 't>>
@@ -226,7 +216,7 @@ fn found_in<'o, 'l, 't>(
     }
 }
 
-/// A mark for each found state, in order.
+/// The marks of the found states, in order.
 fn marks(alloc: Global, found: &FoundStates<GroundListing<'_, '_>>) -> Result<Vec<Listed>, NoMemory>
     requires { length found.now.estimates.items ≡ length found.now.nodes.items }
     ensures { IfOk result (λ marks. (estimate : List Bool → ℕ) (is_dead : List Bool → Bool)
@@ -239,8 +229,7 @@ fn marks(alloc: Global, found: &FoundStates<GroundListing<'_, '_>>) -> Result<Ve
     Ok(marks)
 }
 
-/// How a state is listed that was reached so and has this estimate: as an open one where it was expanded, as a dead end where its node
-/// says so, and else as a cut.
+/// The mark of a state with this node: open if it was expanded, dead if it is marked dead, and otherwise a cut with this estimate.
 fn listed(node: Node, estimate: u64) -> Listed
     ensures { IsMarkOf node estimate result }
 {

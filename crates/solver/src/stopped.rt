@@ -1,9 +1,10 @@
-//! What a search found before a pause.
+//! A paused search, and how many of its expansions other values would have saved.
 ghost use Rattle.std.specs.Prelude.{◌≡◌};
 ghost use Rattle.ground_listings.specs.GroundListing.{listed_width};
 ghost use Rattle.solver.specs.Stopped.{IsStopped};
 ghost use Rattle.tables.specs.Several.{width_of};
 
+use cost_partitioning::Effort;
 use faults::NoMemory;
 use ground_listings::GroundListing;
 use packed_state::Packed;
@@ -11,40 +12,39 @@ use potentials::Potentials;
 use search::{Node, StateListing};
 use std::alloc::Global;
 use tables::TableFunctions;
-use tables_drafted::Effort;
 
-/// How many of the states that were found are samples, at most.
+/// The number of sample states, at most.
 const MAX_SAMPLES: usize = 32;
 
-/// Of how many it is asked whether they would have been expanded by other values too, at most.
+/// The number of states by which the saving is estimated, at most.
 const MAX_ASKED: usize = 1_000;
 
-/// A search by potentials that pauses: the states that it found, how it reached them, and the bound that it came to.
+/// A paused search by potentials: the found states, how they were reached, and the bound so far.
 #[derive(Clone, Copy)]
 pub(crate) struct Stopped<'a, 'l, 't> {
     pub(crate) bound: u64,
     pub(crate) listing: &'a GroundListing<'l, 't>,
-    /// One for each state, in order.
+    /// How each state was reached, in order.
     pub(crate) nodes: &'a [Node],
-    /// The potentials that it goes by, and those for dead ends.
+    /// The potentials that guide it, and those for dead ends.
     pub(crate) potentials: &'a Potentials,
     pub(crate) dead_ends: &'a Potentials,
-    /// How much may be looked at for tables now.
+    /// The effort of the next draft.
     pub(crate) effort: Effort,
 }
 
-/// How many states were expanded, of those that are asked, and how many of these would not have been.
+/// Counts of sampled states: those that were expanded, and those of them that other values would have saved.
 #[derive(Clone, Copy)]
 pub(crate) struct Saving {
     expanded: usize,
     saved: usize,
 }
 
-/// A state's value by so many tables takes about as much time again as all else that is done for a state.
+/// Cost model: evaluating this many tables doubles the time for a state.
 const TABLES_AT_A_TIME: usize = 12;
 
 impl Stopped<'_, '_, '_> {
-    /// The true atoms of some of the states, which are spread evenly over them all.
+    /// The true atoms of some states, spread evenly over the listing.
     pub(crate) fn samples(&self, alloc: Global) -> Result<Vec<Vec<u32>>, NoMemory>
         requires { IsStopped self.now.listing.now self.now.nodes.now }
     {
@@ -60,8 +60,8 @@ impl Stopped<'_, '_, '_> {
         Ok(samples)
     }
 
-    /// What a search by these values would have saved, before it came to the same bound: states that are dead by them, or cost,
-    /// with the greatest value, more. Some are asked, which are spread evenly. The values need not be fair.
+    /// The expansions that a search by these values would have saved up to the same bound: states that are dead by them, or whose cost and
+    /// greatest value exceed the bound. It is estimated from some states, spread evenly. The values need not be fair.
     pub(crate) fn saving_by(
         &self,
         alloc: Global,
@@ -88,7 +88,7 @@ impl Stopped<'_, '_, '_> {
         Ok(saving)
     }
 
-    /// Whether a state that was reached at this cost is not expanded before the bound, where it has this estimate, or is dead.
+    /// Whether the expansion of a state of this cost and estimate is saved. `None`: the state is dead.
     fn is_saved(&self, cost: u64, estimate: Option<u64>) -> bool {
         match estimate {
             Some(estimate) => cost.saturating_add(estimate) > self.bound,
@@ -98,7 +98,7 @@ impl Stopped<'_, '_, '_> {
 }
 
 impl Saving {
-    /// One state more was expanded, which would have been saved or not.
+    /// Counts one more expanded state.
     fn count(&mut self, is_saved: bool) {
         self.expanded = self.expanded.saturating_add(1);
         if is_saved {
@@ -106,8 +106,7 @@ impl Saving {
         }
     }
 
-    /// Whether a search by so many tables takes no more time, as far as the samples tell: it expands fewer states, and each takes
-    /// longer.
+    /// Whether a search by this many tables is estimated to take no more time: it expands fewer states, and each takes longer.
     pub(crate) fn is_worth(self, tables: usize) -> bool {
         let left = self.expanded.saturating_sub(self.saved);
         let slower = tables.saturating_add(TABLES_AT_A_TIME);
@@ -115,7 +114,7 @@ impl Saving {
             && left.saturating_mul(slower) <= self.expanded.saturating_mul(TABLES_AT_A_TIME)
     }
 
-    /// Whether more and other tables may save enough, as these would have saved a quarter.
+    /// Whether other tables may save enough: these would have saved a quarter.
     pub(crate) fn is_promising(self) -> bool {
         self.expanded > 0 && self.saved >= self.expanded / 4
     }

@@ -4,44 +4,23 @@
 ghost use Rattle.std.specs.Prelude.{◌≡◌};
 ghost use Rattle.potentials_improved.specs.FairPotentials.{ground_in};
 
-use crate::fairness::weighing;
-use crate::plain_tasks::ROWS;
+use crate::plain_tasks::TASKS;
 use certificate::{Cert, Claim, Listed, Mark};
 use faults::NoMemory;
 use ground_listings::GroundSystem;
 use grounding::{Ground, GroundFault};
 use packed_state::{Packed, PlainStore, StateStore};
-use potentials_improved::{DeadFair, Fair};
+use potentials_improved::{DeadFair, Fair, Potentials};
 use search::{DeadEnd, EstimateWithDeadEnds, FoundStates, MAX_STATES, Node, Outcome, best_first};
 use solver::{Answer, Exceeded, Limits, solve};
 use std::alloc::Global;
 use std::test::Fail;
 use task::Task;
-use test_texts::on_task;
+use test_support::on_task;
 
-/// An exceeded limit.
-#[derive(Clone, Copy, Debug, PartialEq, Eq)]
-pub(crate) enum Limit {
-    /// The limit of kept instances.
-    Instances,
-    /// The limit of numbered atoms.
-    Atoms,
-    /// The limit of listed states.
-    States,
-}
-
-/// The result for a task: the cost of an optimal plan, that there is none, or the exceeded limit.
-pub(crate) type Found = Result<Option<u64>, Limit>;
-
-/// The result in an answer, without plan, certificate and bound.
-fn found(answer: &Answer) -> Found {
-    match answer {
-        Answer::Plan { cost, .. } => Ok(Some(*cost)),
-        Answer::Unsolvable { .. } => Ok(None),
-        Answer::Unknown(Exceeded::Instances) => Err(Limit::Instances),
-        Answer::Unknown(Exceeded::Atoms) => Err(Limit::Atoms),
-        Answer::Unknown(Exceeded::States { .. }) => Err(Limit::States),
-    }
+/// Potentials with this constant and these weights.
+fn weighing(alloc: Global, constant: i64, weights: &[i64]) -> Result<Option<Potentials>, NoMemory> {
+    Ok(Potentials::new(constant, weights.to_vec(alloc)?))
 }
 
 /// The states that were found.
@@ -238,38 +217,26 @@ fn cert_of(answer: &Answer) -> Option<&Cert> {
     }
 }
 
-/// The result, whether the certificate is the same over the plain store, whether its states take more than one word, and whether
-/// it lists dead ends.
-type Reported = (Found, [bool; 3]);
-
-fn reported_of(
-    alloc: Global,
-    task: &Task,
-    limits: Limits,
-    answer: &Answer,
-) -> Result<Option<Reported>, NoMemory> {
-    let Some(cert) = cert_of(answer) else {
-        return Ok(None);
-    };
-    let is_same = is_same(alloc, task, limits, cert)?;
-    let is_wide = cert.atoms().len() > 64;
-    let has_dead_ends = cert.marks().iter().any(|listed| listed.mark == Mark::Dead);
-    Ok(Some((found(answer), [is_same, is_wide, has_dead_ends])))
+/// Whether the answer has a certificate, and it matches what the search over the plain store finds.
+fn has_same(alloc: Global, task: &Task, limits: Limits, answer: &Answer) -> Result<bool, NoMemory> {
+    match cert_of(answer) {
+        Some(cert) => is_same(alloc, task, limits, cert),
+        None => Ok(false),
+    }
 }
 
-fn reported(alloc: Global, task: &Task, limits: Limits) -> Result<Option<Reported>, NoMemory> {
+/// The same for the answer to the task.
+fn answer_has_same(alloc: Global, task: &Task, limits: Limits) -> Result<bool, NoMemory> {
     let answer = solve(alloc, task, limits)?;
-    reported_of(alloc, task, limits, &answer)
+    has_same(alloc, task, limits, &answer)
 }
 
 #[test]
 fn stores_give_the_same_certificate(rt: HostRuntime) -> Result<(), Fail> {
-    for (texts, states, found, shape) in &ROWS {
+    for (texts, states) in &TASKS {
         let limits = Limits::new(*states, 1000).ok_or("no limits")?;
         on_task(&rt, rt.alloc(), texts, |rt, alloc, task| {
-            let [is_wide, has_dead_ends] = *shape;
-            let wanted = (*found, [true, is_wide, has_dead_ends]);
-            assert_eq!(rt; reported(alloc, task, limits)?, Some(wanted));
+            assert!(rt; answer_has_same(alloc, task, limits)?, "{states}");
             Ok(())
         })?;
     }

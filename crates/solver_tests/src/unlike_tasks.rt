@@ -1,6 +1,6 @@
 //! Tasks without interchangeable objects, so that in a certificate of `solve` each state represents only itself: facts that no
 //! action uses distinguish the objects.
-use test_texts::Texts;
+use test_support::Texts;
 
 /// Two of three switches are turned at a time; one must be on in the end.
 pub(crate) const UNLIKE_PAIRS: Texts = [

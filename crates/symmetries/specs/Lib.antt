@@ -1,8 +1,14 @@
--- Read in this order: exchanges and images, symmetries, orbits, what listings closed up to symmetries show, and examples.
-pub mod Exchanges
-pub mod NamedObjects
-pub mod SameFormula
-pub mod Symmetries
-pub mod Orbits
-pub mod Laws
-pub mod SymmetryExamples
+pub mod ObjectPairs
+pub mod Exchange
+pub mod Named
+pub mod Lent
+pub mod PlacesByObject
+pub mod Kept
+pub mod Numbers
+pub mod SymmetryTest
+pub mod SwappedPlaces
+pub mod Apart
+pub mod NumberPairs
+pub mod Lowest
+pub mod Runs
+pub mod Representatives

@@ -1,12 +1,23 @@
-//! Defines which exchanges of objects are symmetries of a task, and what listings closed under them show. No code.
+//! Tests whether an exchange of objects is a symmetry of a task, and maps packed states to representatives.
+//!
+//! The representative of a state stands for all its images by exchanges.
 #![tactic(auto)]
 
-mod laws;
+mod conjuncts;
+mod exchange;
+mod images;
+mod lowest;
+mod named;
+mod neighbours;
+mod numbers;
+mod pairs;
+mod places;
+mod representatives;
+mod run;
+mod runs;
+mod symmetry_test;
 
-pub use laws::{
-    AlikeStates, action_examples_are_judged, alike_states_are_of_one_orbit, closed_listings_claim,
-    exchange_examples_are_judged, goal_examples_are_judged, goals_are_reached_alike,
-    listings_by_exchanges_claim, orbits_keep_steps, packed_states_are_alike,
-    representative_examples_are_judged, states_alone_stand_for_themselves,
-    symmetries_are_automorphisms, symmetries_keep_meaning, task_examples_are_judged, test_is_exact,
-};
+pub use exchange::Exchange;
+pub use numbers::exchanged_numbers;
+pub use representatives::Representatives;
+pub use symmetry_test::SymmetryTest;

@@ -9,13 +9,13 @@ use Rattle.grounding.specs.declared.ground.Ground.{Ground}
 use Rattle.grounding.specs.Ground.{task_in, atoms_in}
 use Rattle.potentials.specs.Potentials.{potentials_of}
 use Rattle.potentials.proofs.GroundLemmas.{numberable}
-use Rattle.potential_functions.specs.PotentialFunctions.{PotentialFunction}
-use Rattle.potential_functions.specs.Laws.{AreNumberable}
-use Rattle.table_functions.specs.TableFunctions.{SeveralValues}
-use Rattle.table_functions.specs.FairTables.{AreFair}
-use Rattle.table_functions.specs.Laws.{AreAllNumbered, AreOver, are_over}
-use Rattle.table_functions.proofs.LowerBound.{fair_values_are_sound}
-use Rattle.table_functions.proofs.WithoutTables.{ground_atoms_are_all_numbered}
+use Rattle.lower_bounds.specs.PotentialFunctions.{PotentialFunction}
+use Rattle.lower_bounds.specs.PotentialLaws.{AreNumberable}
+use Rattle.lower_bounds.specs.TableFunctions.{SeveralValues}
+use Rattle.lower_bounds.specs.FairTables.{AreFair}
+use Rattle.lower_bounds.specs.TableLaws.{AreAllNumbered, AreOver, are_over}
+use Rattle.lower_bounds.proofs.TableLowerBound.{fair_values_are_sound}
+use Rattle.lower_bounds.proofs.WithoutTables.{ground_atoms_are_all_numbered}
 use Rattle.tables.specs.declared.several.TableFunctions.{TableFunctions}
 use Rattle.tables.specs.AllTables.{tables_of}
 use Rattle.tables.specs.Several.{several_of, width_of}

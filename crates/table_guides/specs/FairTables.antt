@@ -1,6 +1,6 @@
--- Fair values over tables of the code, as the values that they are.
+-- Views of fair values over tables in memory.
 use Rattle.grounding.specs.declared.ground.Ground.{Ground}
-use Rattle.table_functions.specs.TableFunctions.{SeveralValues}
+use Rattle.lower_bounds.specs.TableFunctions.{SeveralValues}
 use Rattle.tables.specs.Several.{several_of}
 use Rattle.table_guides.specs.declared.fair_tables.FairTables.{FairTables}
 

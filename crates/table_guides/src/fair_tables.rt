@@ -1,9 +1,9 @@
-//! Values over tables that are fair for a ground task.
+//! Fair values over tables for a ground task.
 ghost use Rattle.std.specs.Prelude.{◌≡◌, length};
 ghost use Rattle.std.proofs.Props.{props};
 ghost use Rattle.grounding.specs.Ground.{task_in, atoms_in};
-ghost use Rattle.table_functions.specs.FairTables.{AreFair};
-ghost use Rattle.table_functions.specs.Laws.{AreAllNumbered};
+ghost use Rattle.lower_bounds.specs.FairTables.{AreFair};
+ghost use Rattle.lower_bounds.specs.TableLaws.{AreAllNumbered};
 ghost use Rattle.tables.specs.Several.{several_of, width_of};
 ghost use Rattle.table_guides.specs.Guides.{Guides};
 
@@ -14,8 +14,8 @@ use search::Guide;
 use std::alloc::Global;
 use tables::{KnownState, TableFunctions};
 
-/// Values over tables that are fair for a ground task, and one for dead ends that is dead-fair: the greatest value of a state is
-/// a lower bound of what is still to pay from it, and where that for dead ends is at least 1 it is a dead end.
+/// Fair values over tables for a ground task, and a dead-fair one for dead ends. The greatest value of a state is a lower bound of its
+/// remaining cost, and a state is a dead end where the value for dead ends is at least 1.
 #[derive(Drop)]
 pub struct FairTables<'g, 't, 'a> {
     functions: TableFunctions<'a>,
@@ -28,7 +28,7 @@ pub struct FairTables<'g, 't, 'a> {
 impl<'g, 't, 'a> FairTables<'g, 't, 'a> {
     ghost use Rattle.table_guides.specs.FairTables.{functions_in, ground_in};
 
-    /// These, of which `TableFunctions::fairness` says that they are fair for the ground task. Nothing is tested.
+    /// Takes values that `TableFunctions::fairness` found to be fair for the ground task. Nothing is tested.
     pub fn new(functions: TableFunctions<'a>, ground: &'g Ground<'t>) -> FairTables<'g, 't, 'a>
         requires width { width_of functions ≡ length (atoms_in ground.now) }
         requires numbered { AreAllNumbered (task_in ground.now) (atoms_in ground.now) }
@@ -54,15 +54,14 @@ impl<'g, 't, 'a> FairTables<'g, 't, 'a> {
     }
 }
 
-/// What a state is worth is found from what is known of another: the scratch moves to each state that is asked of, and only what
-/// belongs to atoms that differ is looked for.
+/// The scratch moves to each state whose value is asked. Only tables with an atom that differs are looked up.
 impl Guide for FairTables<'_, '_, '_> {
     ghost use Rattle.std.specs.Prelude.{length};
     ghost use Rattle.grounding.specs.Ground.{task_in, atoms_in};
     ghost use Rattle.model.specs.Grounding.{ground_system};
     ghost use Rattle.search.proofs.Consistent.{admissible};
     ghost use Rattle.search.proofs.DeadEnds.{reports_dead_ends};
-    ghost use Rattle.table_functions.specs.TableFunctions.{functions_of, dead_ends_of, greatest_value, is_dead_by};
+    ghost use Rattle.lower_bounds.specs.TableFunctions.{functions_of, dead_ends_of, greatest_value, is_dead_by};
     ghost use Rattle.tables.specs.Several.{Knows};
     ghost use Rattle.table_guides.specs.FairTables.{functions_in, ground_in};
 

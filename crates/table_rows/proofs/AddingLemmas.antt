@@ -4,8 +4,8 @@ use Rattle.std.specs.Prelude.{IsTrue, All, MatchBool, ◌==◌, ◌≢◌, cond,
 use Rattle.std.specs.List.{list_all, find, Any}
 use Rattle.std.specs.Cmp.Lexicographic.{pointwise}
 use Rattle.std.proofs.lemmas.List.Elements.{All-append, All-cons, All-nil}
-use Rattle.table_functions.specs.TableFunctions.{Row, Table, is_among, row_of}
-use Rattle.table_functions.proofs.Lists.{same-numbers}
+use Rattle.lower_bounds.specs.TableFunctions.{Row, Table, is_among, row_of}
+use Rattle.lower_bounds.proofs.TableLists.{same-numbers}
 use Rattle.table_rows.specs.Rows.{are_rising, atoms_at}
 use Rattle.table_rows.specs.Tables.{IsInserted}
 use Rattle.table_rows.specs.Adding.{IsNew, IsRepeated, IsAdded}

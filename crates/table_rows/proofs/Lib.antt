@@ -3,3 +3,15 @@ pub mod StoreLemmas
 pub mod PlacesLemmas
 pub mod AddingLemmas
 pub mod TableLemmas
+pub mod PlacedLemmas
+pub mod AgreeingLemmas
+pub mod AfterLemmas
+pub mod MostLemmas
+pub mod WayLemmas
+pub mod FateLemmas
+pub mod ColumnLemmas
+pub mod ManyWays
+pub mod ListsLemmas
+pub mod PlacingLemmas
+pub mod LossLemmas
+pub mod GivingLemmas

@@ -9,8 +9,8 @@ use Rattle.std.proofs.lemmas.List.Quantifiers.{position-Some}
 use Rattle.std.proofs.lemmas.Option.{slice_get-get_or, get_or_from_slice_get}
 use Rattle.model.proofs.ListLemmas.{Contains-got}
 use Rattle.packed_state.specs.Sets.{has, set_of}
-use Rattle.table_functions.specs.TableFunctions.{is_among}
-use Rattle.table_functions.proofs.Lists.{all-at}
+use Rattle.lower_bounds.specs.TableFunctions.{is_among}
+use Rattle.lower_bounds.proofs.TableLists.{all-at}
 use Rattle.table_rows.specs.Rows.{are_rising, atoms_at, place_in}
 use Rattle.table_rows.proofs.RowLemmas.{rising-tail}
 

@@ -8,8 +8,8 @@ use Rattle.std.proofs.Math.Nat.{mul-suc, mul-le-mul_left}
 use Rattle.std.proofs.lemmas.List.{length-append, take-append-le, drop-append-le, drop-drop, get_or-take, get_or-drop}
 use Rattle.std.proofs.lemmas.Option.{slice_get_within}
 use Rattle.packed_state.specs.Store.{AreDistinct}
-use Rattle.table_functions.specs.TableFunctions.{Row, Table, row_of, weight_at}
-use Rattle.table_functions.proofs.Lists.{same-numbers}
+use Rattle.lower_bounds.specs.TableFunctions.{Row, Table, row_of, weight_at}
+use Rattle.lower_bounds.proofs.TableLists.{same-numbers}
 use Rattle.table_rows.specs.Rows.{are_rising, atoms_at, rows_from}
 use Rattle.table_rows.specs.Tables.{IsInserted}
 

@@ -10,8 +10,8 @@ use Rattle.std.proofs.Math.Nat.{mul-suc}
 use Rattle.model.proofs.ListLemmas.{Contains-got}
 use Rattle.packed_state.specs.PooledView.{pooled_states}
 use Rattle.packed_state.specs.Store.{AreDistinct}
-use Rattle.table_functions.specs.TableFunctions.{Row, is_among}
-use Rattle.table_functions.proofs.Lists.{among-here, among-there}
+use Rattle.lower_bounds.specs.TableFunctions.{Row, is_among}
+use Rattle.lower_bounds.proofs.TableLists.{among-here, among-there}
 use Rattle.table_rows.specs.Rows.{are_rising, atoms_at, rows_from}
 use Rattle.table_rows.specs.Tables.{table_of, sets_of, weight_count_of}
 use Rattle.table_rows.specs.declared.table.Table.{Table}

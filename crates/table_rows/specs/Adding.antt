@@ -1,22 +1,22 @@
--- Rows by their atoms, and one row more.
+-- Adding a row by its atoms.
 use Rattle.std.specs.Prelude.{◌≡◌, ◌≢◌, true, false, [], ◌∷◌, ◌++◌, All}
 use Rattle.std.specs.List.{list_all, Any}
-use Rattle.table_functions.specs.TableFunctions.{Row, Table, is_among}
+use Rattle.lower_bounds.specs.TableFunctions.{Row, Table, is_among}
 use Rattle.table_rows.specs.declared.by_atoms.Added.{Added}
 use Rattle.table_rows.specs.declared.by_atoms.Added.TheVariants.{New, OutsideScope, Repeated}
 
--- the row comes after the others, which have other atoms
+-- the row is appended, and all others have other atoms
 pub record IsNew (old new : Table) (row : Row) : Type 0 where
   pub of_scope : list_all (is_among old.scope) row.atoms ≡ true
   pub differs : All (λ (r : Row). r.atoms ≢ row.atoms) old.rows
   pub put : new ≡ record { scope = old.scope; rows = old.rows ++ row ∷ [] }
 
--- some atom of the row is not of the scope, and the table stays as it is
+-- an atom of the row is not in the scope, and the table is unchanged
 pub record IsOutsideScope (old new : Table) (row : Row) : Type 0 where
   pub not_of_scope : list_all (is_among old.scope) row.atoms ≡ false
   pub kept : new ≡ old
 
--- all are, a row has just these, and the table stays as it is
+-- all are, but a row has exactly these, and the table is unchanged
 pub record IsRepeated (old new : Table) (row : Row) : Type 0 where
   pub of_scope : list_all (is_among old.scope) row.atoms ≡ true
   pub same : Any (λ (r : Row). r.atoms ≡ row.atoms) old.rows

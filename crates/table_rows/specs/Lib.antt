@@ -3,3 +3,13 @@ pub mod Pushing
 pub mod Tables
 pub mod Places
 pub mod Adding
+pub mod Placed
+pub mod Lists
+pub mod Candidates
+pub mod Afters
+pub mod PlacedChanges
+pub mod Fates
+pub mod Columns
+pub mod FitsTable
+pub mod Losses
+pub mod Giving

@@ -1,8 +1,8 @@
--- Tables of the code, as the tables that they are.
+-- Views of tables in memory.
 use Rattle.std.specs.Prelude.{◌≡◌, ℕ, Bool, List, [], ◌∷◌, ◌++◌, MatchBool, IsTrue, is_some, None}
 use Rattle.packed_state.specs.PooledView.{pooled_states}
-use Rattle.table_functions.specs.TableFunctions as model
-use Rattle.table_functions.specs.TableFunctions.{Row, row_of}
+use Rattle.lower_bounds.specs.TableFunctions as model
+use Rattle.lower_bounds.specs.TableFunctions.{Row, row_of}
 use Rattle.table_rows.specs.declared.table.Table.{Table}
 use Rattle.table_rows.specs.Rows.{rows_from}
 
@@ -13,11 +13,11 @@ table_of t = record { scope = t.scope.items; rows = rows_from t.count t.scope.it
 abbrev pub sets_of : Table → List (List Bool)
 sets_of t = pooled_states t.rows.sets
 
--- how many weights each row has
+-- the number of weights of each row
 abbrev pub weight_count_of : Table → ℕ
 weight_count_of t = t.count
 
--- the table has the row after its others, if it had none of these atoms; else it is as it was
+-- the row is appended if none had its atoms; else the table is unchanged
 abbrev pub IsInserted : (old new : model.Table) → Row → Bool → Type 0
 IsInserted old new row is_new =
     MatchBool is_new

@@ -1,7 +1,7 @@
-//! Rows by their atoms.
+//! Rows given by their atoms.
 ghost use Rattle.std.specs.Prelude.{◌≡◌, ◌<◌, IsTrue, IfOk, OnErr, OnOk, Some, length, slice_get};
 ghost use Rattle.packed_state.specs.Packed.{bits_of};
-ghost use Rattle.table_functions.specs.TableFunctions.{Row};
+ghost use Rattle.lower_bounds.specs.TableFunctions.{Row};
 ghost use Rattle.table_rows.specs.Rows.{are_rising};
 ghost use Rattle.table_rows.specs.Tables.{table_of, weight_count_of};
 
@@ -11,22 +11,21 @@ use faults::NoMemory;
 use packed_state::Packed;
 use std::alloc::Global;
 
-/// What came of a row that was to be added.
+/// The outcome of adding a row.
 #[derive(Clone, Copy, Debug, PartialEq, Eq)]
 pub enum Added {
-    /// It is the last row.
+    /// It was added as the last row.
     New,
-    /// It was not added, since one of its atoms is not of the scope.
+    /// Not added: an atom is not in the scope.
     OutsideScope,
-    /// It was not added, since a row has just its atoms.
+    /// Not added: a row has exactly these atoms.
     Repeated,
 }
 
 impl Table {
     ghost use Rattle.table_rows.specs.Adding.{IsAdded};
 
-    /// Puts the numbers of the atoms of the row at this place, from 0, in the place of what `atoms` has, rising. The set, as
-    /// wide as the scope, is lent: it becomes the row's.
+    /// Replaces `atoms` by the atoms of this row, rising. `set` is scratch, as wide as the scope.
     ///
     /// # Errors
     /// Where memory is refused.
@@ -46,8 +45,7 @@ impl Table {
         list_atoms(self.scope(), set, atoms)
     }
 
-    /// Puts the row of these atoms, rising, and these weights after the others, if all atoms are of the scope and no row has
-    /// just these; else the table stays as it is. So it does where memory is refused.
+    /// Appends the row of these atoms, rising, with these weights. The table is unchanged where the row is not added.
     ///
     /// # Errors
     /// Where memory is refused.

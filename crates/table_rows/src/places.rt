@@ -1,4 +1,4 @@
-//! The places of atoms in a scope.
+//! The indices of atoms in a scope.
 ghost use Rattle.std.specs.Prelude.{◌≡◌, ◌<◌, ◌^◌, ◌++◌, ◌∷◌, [], IsTrue, IfOk, OnOk, length};
 ghost use Rattle.packed_state.specs.Packed.{bits_of};
 ghost use Rattle.packed_state.specs.Sets.{has};
@@ -10,8 +10,8 @@ use faults::NoMemory;
 use packed_state::Packed;
 use std::alloc::Global;
 
-/// The place of the atom in the scope, from 0, if it is there.
-pub fn place_in(scope: &[u32], atom: u32) -> Option<u32>
+/// The index of the atom in the scope, if it is there.
+pub(crate) fn place_in(scope: &[u32], atom: u32) -> Option<u32>
     requires { length scope.now < 2 ^ 32 }
     ensures { result ≡ model.place_in scope.now atom }
 {
@@ -21,14 +21,14 @@ pub fn place_in(scope: &[u32], atom: u32) -> Option<u32>
     }
 }
 
-/// The index of the atom in the scope, if it is there.
+/// The same, as a `usize`.
 fn position_in(scope: &[u32], atom: u32) -> Option<usize>
     ensures { result ≡ model.place_in scope.now atom }
 {
     scope.iter().position(|number| *number == atom)
 }
 
-/// The set of the places of these atoms in the scope, and none where one of them is not there.
+/// The indices of these atoms in the scope, or `None` if one is not there.
 pub(crate) fn set_of(
     alloc: Global,
     scope: &[u32],
@@ -48,7 +48,7 @@ pub(crate) fn set_of(
     Ok(Some(set))
 }
 
-/// Puts the atoms of the scope whose places are in the set after the others.
+/// Appends the atoms of the scope whose indices are in the set.
 pub(crate) fn list_atoms(scope: &[u32], set: &Packed, atoms: &mut Vec<u32>) -> Result<(), NoMemory>
     requires few { length scope.now < 2 ^ 32 }
     requires width { length (bits_of set.now) ≡ length scope.now }
@@ -60,7 +60,7 @@ pub(crate) fn list_atoms(scope: &[u32], set: &Packed, atoms: &mut Vec<u32>) -> R
     Ok(())
 }
 
-/// Puts the atom after the others, if its place is in the set.
+/// Appends the atom if its index is in the set.
 fn push_if_in(set: &Packed, place: u32, atom: u32, atoms: &mut Vec<u32>) -> Result<(), NoMemory>
     requires { place < length (bits_of set.now) }
     ensures { OnOk result (atoms.new.items ≡ atoms.old.items ++ atoms_at (atom ∷ []) (has (bits_of set.now) place ∷ [])) }

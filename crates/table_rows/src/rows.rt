@@ -7,18 +7,18 @@ use faults::NoMemory;
 use packed_state::{Packed, PooledStore, StateStore};
 use std::alloc::Global;
 
-/// Rows: each a set of the places, from 0, of the scope's atoms that are true, and as many weights as each other row.
+/// Rows: each is the set of its true atoms, by their indices in the scope, with a weight for each value.
 #[derive(Drop)]
 pub(crate) struct Rows {
     pub(crate) sets: PooledStore,
-    /// Those of the rows, one after another.
+    /// The weights of all rows, row by row.
     pub(crate) weights: Vec<i64>,
 }
 
 impl Rows {
     ghost use Rattle.table_rows.specs.Pushing.{ArePushed, AreSameRows};
 
-    /// None yet, over so many atoms.
+    /// No rows, over a scope of this width.
     pub(crate) fn new(alloc: Global, width: u32) -> Result<Rows, NoMemory>
         ensures width { IfOk result (λ rows. pooled_width rows.sets ≡ width) }
         ensures none { IfOk result (λ rows. (pooled_states rows.sets ≡ []) × (rows.weights.items ≡ [])) }
@@ -29,8 +29,7 @@ impl Rows {
         })
     }
 
-    /// Puts the row of this set and these weights after the others and answers `true`, if its set is not among them; else
-    /// `false`. Where memory is refused all stays as it is.
+    /// Appends the row with this set and these weights, or returns `false` if a row has the set. Unchanged where memory is refused.
     pub(crate) fn push(&mut self, set: &Packed, weights: &[i64]) -> Result<bool, NoMemory>
         requires width { length (bits_of set.now) ≡ pooled_width self.old.sets }
         requires room { length (pooled_states self.old.sets) < 16777216 }

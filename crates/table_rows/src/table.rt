@@ -9,8 +9,8 @@ use faults::NoMemory;
 use packed_state::{Packed, StateStore};
 use std::alloc::Global;
 
-/// A table: the numbers of the atoms of its scope, rising, and its rows, each with so many weights. A row is a set of atoms of
-/// the scope, by their places there, from 0.
+/// A table: a scope, which is a rising list of atom numbers, and rows. A row is a set of atoms of the scope, by their indices in it,
+/// with a weight for each value.
 #[derive(Drop)]
 pub struct Table {
     scope: Vec<u32>,
@@ -25,10 +25,10 @@ pub struct Table {
 impl Table {
     ghost use Rattle.std.specs.Prelude.{[], IfOk, IfSome, OnErr, MatchOption, None, Some, slice_get};
     ghost use Rattle.packed_state.specs.Packed.{bits_of};
-    ghost use Rattle.table_functions.specs.TableFunctions.{Row, row_of, weight_at};
+    ghost use Rattle.lower_bounds.specs.TableFunctions.{Row, row_of, weight_at};
     ghost use Rattle.table_rows.specs.Tables.{table_of, sets_of, weight_count_of, IsInserted};
 
-    /// A table of this scope, rising, without rows, each of which will have so many weights.
+    /// An empty table over this scope, rising, whose rows will have `count` weights.
     ///
     /// # Errors
     /// Where memory is refused.
@@ -42,28 +42,28 @@ impl Table {
         Ok(Table { scope, count, rows })
     }
 
-    /// The numbers of the atoms of its scope.
+    /// The atoms of its scope, rising.
     pub fn scope(&self) -> &[u32]
         ensures { result.now ≡ (table_of self.now).scope }
     {
         &self.scope
     }
 
-    /// How many atoms its scope has.
+    /// The number of atoms in its scope.
     pub fn width(&self) -> u32
         ensures { result ≡ length (table_of self.now).scope }
     {
         self.scope.len() as u32
     }
 
-    /// How many weights each row has.
+    /// The number of weights of each row.
     pub fn weight_count(&self) -> u32
         ensures { result ≡ weight_count_of self.now }
     {
         self.count
     }
 
-    /// How many rows it has.
+    /// The number of rows.
     pub fn row_count(&self) -> usize
         ensures rows { result ≡ length (table_of self.now).rows }
         ensures few { result ≤ 16777216 }
@@ -71,7 +71,7 @@ impl Table {
         self.rows.sets.len()
     }
 
-    /// The place of the row of this set, if there is one.
+    /// The number of the row with this set, from 0, if there is one.
     pub fn find(&self, set: &Packed) -> Option<u32>
         requires { length (bits_of set.now) ≡ length (table_of self.now).scope }
         ensures there { IfSome result (λ place. place < length (table_of self.now).rows) }
@@ -82,7 +82,7 @@ impl Table {
         self.rows.sets.find(set)
     }
 
-    /// Copies the set of the row at this place, from 0.
+    /// Copies the set of this row.
     pub fn get(&self, row: u32, set: &mut Packed)
         requires there { row < length (table_of self.now).rows }
         requires width { length (bits_of set.old) ≡ length (table_of self.now).scope }
@@ -93,7 +93,7 @@ impl Table {
         self.rows.sets.get(row, set);
     }
 
-    /// The weight at this place, from 0, of the row at this place, from 0.
+    /// The weight of this row for the value at `place`.
     pub fn weight(&self, row: u32, place: u32) -> i64
         requires there { row < length (table_of self.now).rows }
         requires place { place < weight_count_of self.now }
@@ -103,7 +103,7 @@ impl Table {
         self.rows.weights[start + place as usize]
     }
 
-    /// All weights of the row at this place, from 0.
+    /// All weights of this row.
     pub fn weights(&self, row: u32) -> &[i64]
         requires { row < length (table_of self.now).rows }
         ensures { (r : Row) → slice_get (table_of self.now).rows row ≡ Some r → result.now ≡ r.weights }
@@ -113,8 +113,8 @@ impl Table {
         &self.rows.weights[start..start + count]
     }
 
-    /// Puts the row of this set and these weights after the others and answers `true`, if it has no row of this set yet; else
-    /// `false`. Where memory is refused the table stays as it is.
+    /// Appends the row with this set and these weights, or returns `false` if a row has the set. Where memory is refused the table is
+    /// unchanged.
     ///
     /// # Errors
     /// Where memory is refused.

@@ -9,12 +9,12 @@ use Rattle.model.specs.Task.{Atom, Task, Instance}
 use Rattle.model.specs.StaticallyFalse.{kept_instances}
 use Rattle.model.specs.NumberedLiterals.{NumberedLiteral, NumberedChange, literals_of_instance, literals_of_number, literals_of_goal}
 use Rattle.model.specs.ConditionalChanges.{conditional_of_number, number_wants_unnumbered}
-use Rattle.potential_functions.specs.PotentialFunctions.{IsInRange}
-use Rattle.potential_functions.specs.Fair.{loses_at_most, goal_gives_at_most}
-use Rattle.potential_functions.proofs.Numbers.{literals-named}
+use Rattle.lower_bounds.specs.PotentialFunctions.{IsInRange}
+use Rattle.lower_bounds.specs.FairPotentials.{loses_at_most, goal_gives_at_most}
+use Rattle.lower_bounds.proofs.Numbers.{literals-named}
 use Rattle.potentials.proofs.LossLemmas.{losing-range}
-use Rattle.table_functions.specs.TableFunctions.{TableFunction, sum_over}
-use Rattle.table_functions.specs.FairTables.{ConditionalChange, changes_in, conditional_of_instance, instance_wants_unnumbered, is_closed, is_shut_out, table_gives, all_lose, all_give, is_asked, IsFairAt, IsFairAtGoals, IsFirstUnfairAt}
+use Rattle.lower_bounds.specs.TableFunctions.{TableFunction, sum_over}
+use Rattle.lower_bounds.specs.FairTables.{ConditionalChange, changes_in, conditional_of_instance, instance_wants_unnumbered, is_closed, is_shut_out, table_gives, all_lose, all_give, is_asked, IsFairAt, IsFairAtGoals, IsFirstUnfairAt}
 use Rattle.tables.specs.ByAtom.{LosesByAll}
 use Rattle.tables.specs.Fairness.{AreInstancesFairAt}
 

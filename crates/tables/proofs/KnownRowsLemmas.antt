@@ -6,8 +6,8 @@ use Rattle.std.proofs.lemmas.List.{get_or-set_same, get_or-set_other, get_or_pas
 use Rattle.std.proofs.lemmas.Option.{slice_get_within}
 use Rattle.packed_state.specs.Packed.{bits_of}
 use Rattle.packed_state.specs.Sets.{has, IsNext}
-use Rattle.table_functions.specs.TableFunctions.{Table, row_in, given_by, has_rows, sum_over}
-use Rattle.table_losses.proofs.FateLemmas.{row-there}
+use Rattle.lower_bounds.specs.TableFunctions.{Table, row_in, given_by, has_rows, sum_over}
+use Rattle.table_rows.proofs.FateLemmas.{row-there}
 use Rattle.tables.specs.declared.projections.Projections.{Projections}
 use Rattle.tables.specs.KnownRows.{IsPlaceOfRow, KnowsRows, AreKnown}
 use Rattle.tables.specs.Projections.{AreMoved}

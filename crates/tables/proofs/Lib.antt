@@ -1,3 +1,4 @@
+pub mod KeysLemmas
 pub mod TablesLemmas
 pub mod FairnessLemmas
 pub mod SeveralLemmas

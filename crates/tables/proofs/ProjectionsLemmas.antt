@@ -16,8 +16,8 @@ use Rattle.packed_state.specs.Words.{bits_in, AreWordsOf}
 use Rattle.packed_state.proofs.NumberLemmas.{without_lowest}
 use Rattle.packed_state.proofs.PackedLemmas.{bit_of, length-set_of}
 use Rattle.packed_state.proofs.WordLemmas.{in_word}
-use Rattle.table_functions.specs.TableFunctions.{Table, is_among, projection, row_of, row_in}
-use Rattle.table_functions.proofs.Rows.{projection-alike}
+use Rattle.lower_bounds.specs.TableFunctions.{Table, is_among, projection, row_of, row_in}
+use Rattle.lower_bounds.proofs.TableRows.{projection-alike}
 use Rattle.table_rows.specs.Rows.{atoms_at}
 use Rattle.tables.specs.declared.projections.Projections.{Projections}
 use Rattle.tables.specs.declared.scope_places.ScopePlace.{ScopePlace}

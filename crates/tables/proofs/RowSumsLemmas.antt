@@ -6,11 +6,12 @@ use Rattle.std.proofs.lemmas.Bool.{cases_eq, cases_lt}
 use Rattle.std.proofs.lemmas.List.{get_or-set_same, get_or-set_other, get_or_past, get_or_default, get_or-replicate, length-map, length-replicate, length-set}
 use Rattle.std.proofs.lemmas.Option.{slice_get_within}
 use Rattle.model.proofs.ListLemmas.{Contains-here, Contains-there, map-Contains}
-use Rattle.potential_functions.specs.PotentialFunctions.{IsInRange}
-use Rattle.potential_functions.proofs.Ranges.{zero-range}
-use Rattle.table_functions.specs.TableFunctions.{Row, Table, given_by, weight_at}
-use Rattle.table_losses.specs.Losses.{indexed_of}
-use Rattle.table_losses.proofs.FateLemmas.{row-range}
+use Rattle.lower_bounds.specs.PotentialFunctions.{IsInRange}
+use Rattle.lower_bounds.proofs.Ranges.{zero-range}
+use Rattle.lower_bounds.specs.TableFunctions.{Row, Table, given_by, weight_at}
+use Rattle.table_rows.specs.Fates.{IsLoss}
+use Rattle.table_rows.specs.Losses.{indexed_of}
+use Rattle.table_rows.proofs.FateLemmas.{row-range}
 use Rattle.tables.specs.AllTables.{tables_of}
 use Rattle.tables.specs.RowSums.{row_at, given_rows, lacking, AreSums, AreAdded, IsSmall}
 use Rattle.tables.specs.declared.row_sums.RowSums.{RowSums}
@@ -110,6 +111,14 @@ all-ranged all t at =
 pub few-tables : (all : IndexedTables) → length (tables_of all) < 2 ^ 24
 few-tables all = let few = all.few in omega (arith, few, length-map all.tables.items indexed_of)
 
+-- weights are as small as losses
+pub as-losses : (weights : List ℤ) → All IsInRange weights → All IsLoss weights
+as-losses weights all k d below =
+    let range = all k d below in
+    let low = range.least in
+    let high = range.most in
+    record { least = omega (arith, ints); most = omega (arith, ints) }
+
 -- ---- a row is taken off, or put on
 
 module _ (tables : List Table) (count : ℕ) (old new : RowSums) (k : ℕ) (t : Table) (r : Row) (row : ℕ) (at : slice_get tables k ≡ Some t) (there : slice_get t.rows row ≡ Some r) (before : AreSums tables count old) where
@@ -174,11 +183,11 @@ module _ (tables : List Table) (count : ℕ) (old new : RowSums) (k : ℕ) (t : 
       let had : lacks (get_or old.rows.items k None) ≡ 1 = ap lacks was in
       omega (arith, won, had, before.missing)
 
--- the table has none, and none it stays
-pub set-none : (rows : List (Option ℕ)) (k : ℕ) → get_or rows k None ≡ None → k < length rows → slice_set rows k None ≡ rows
-set-none [] k none below = absurd (omega (arith, below))
-set-none (r ∷ rows) zero none below = ap (λ x. x ∷ rows) (sym none)
-set-none (r ∷ rows) (suc k) none below = ap (λ l. r ∷ l) (set-none rows k none (omega (arith, below)))
+-- what is there already
+pub set-same : (rows : List (Option ℕ)) (k : ℕ) (row : Option ℕ) → get_or rows k None ≡ row → k < length rows → slice_set rows k row ≡ rows
+set-same [] k row same below = absurd (omega (arith, below))
+set-same (r ∷ rows) zero row same below = ap (λ x. x ∷ rows) (sym same)
+set-same (r ∷ rows) (suc k) row same below = ap (λ l. r ∷ l) (set-same rows k row same (omega (arith, below)))
 
 pub set-twice : (rows : List (Option ℕ)) (k : ℕ) (one other : Option ℕ) → slice_set (slice_set rows k one) k other ≡ slice_set rows k other
 set-twice [] k one other = refl

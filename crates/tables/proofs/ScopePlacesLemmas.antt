@@ -2,7 +2,7 @@
 use Rattle.std.proofs.Common.{◌≡◌, ◌∙◌, ◌≢◌, ℕ, zero, suc, ◌≤◌, inl, inr, Bool, true, false, true≢false, ◌&&◌, ◌||◌, List, [], ◌∷◌, ◌++◌, length, Some, refl, sym, ap, subst, arith}
 use Rattle.std.specs.Prelude.{◌==◌, slice_get, if◌then◌else◌}
 use Rattle.std.proofs.lemmas.Bool.{cases_eq, eq-eqb, ne_eqb}
-use Rattle.table_functions.specs.TableFunctions.{Table}
+use Rattle.lower_bounds.specs.TableFunctions.{Table}
 use Rattle.tables.specs.declared.scope_places.ScopePlace.{ScopePlace}
 use Rattle.tables.specs.declared.scope_places.ScopePlaces.{ScopePlaces}
 use Rattle.tables.specs.ScopePlaces.{places_of, scopes_of, is_listed, passes_at, is_placed, AreScopePlaces}

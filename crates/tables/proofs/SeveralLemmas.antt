@@ -1,10 +1,12 @@
 -- Several values over the same tables, one after another.
-use Rattle.std.proofs.Common.{◌≡◌, ◌∙◌, ℕ, zero, suc, ◌+◌, List, [], ◌∷◌, length, take, Some, refl, sym, ap, subst, arith}
+use Rattle.std.proofs.Common.{◌≡◌, ◌∙◌, ℕ, zero, suc, ◌+◌, ◌<◌, List, [], ◌∷◌, length, take, get_or, Some, refl, sym, ap, subst, arith}
 use Rattle.std.specs.Prelude.{All, slice_get}
 use Rattle.std.proofs.lemmas.List.Elements.{All-append, All-cons, All-nil}
-use Rattle.potential_functions.specs.PotentialFunctions.{PotentialFunction}
-use Rattle.table_functions.specs.TableFunctions.{Table, TableFunction, over_tables}
-use Rattle.table_losses.proofs.FateLemmas.{take-at}
+use Rattle.std.proofs.lemmas.Option.{slice_get-get_or}
+use Rattle.lower_bounds.specs.PotentialFunctions.{PotentialFunction}
+use Rattle.lower_bounds.specs.TableFunctions.{Table, TableFunction, SeveralValues, over_tables, functions_of}
+use Rattle.table_rows.proofs.FateLemmas.{take-at}
+use Rattle.tables.specs.Unfair.{function_in}
 
 abbrev pub function_at : List Table → PotentialFunction → ℕ → TableFunction
 function_at tables p place = record { potentials = p; tables = tables; place = place }
@@ -23,6 +25,12 @@ over-at tables first (q ∷ others) (suc k) p at =
 pub length-over : (tables : List Table) (first : ℕ) (values : List PotentialFunction) → length (over_tables tables first values) ≡ length values
 length-over tables first [] = refl
 length-over tables first (p ∷ others) = ap suc (length-over tables (suc first) others)
+
+-- a value by its place
+pub named : (s : SeveralValues) (k : ℕ) → k < length s.values → slice_get (functions_of s) k ≡ Some (function_in s k)
+named s k below =
+    let same : 0 + k ≡ k = omega arith in
+    over-at s.tables 0 s.values k (get_or s.values k s.dead_ends) (slice_get-get_or s.values k s.dead_ends below) ∙ ap (λ n. Some (function_at s.tables (get_or s.values k s.dead_ends) n)) same
 
 -- one more of which it holds
 pub one-more-holds : {X : Type 0} (P : X → Type 0) (xs : List X) (k : ℕ) (x : X) → slice_get xs k ≡ Some x → All P (take k xs) → P x → All P (take (k + 1) xs)

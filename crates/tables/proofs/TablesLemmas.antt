@@ -12,21 +12,21 @@ use Rattle.model.specs.NumberedLiterals.{NumberedLiteral, NumberedChange}
 use Rattle.model.proofs.ListLemmas.{Contains-got, Contains-map}
 use Rattle.packed_state.specs.Sets.{has, set_of}
 use Rattle.packed_state.proofs.PackedLemmas.{length-set_of}
-use Rattle.potential_functions.specs.Fair.{touches}
-use Rattle.table_functions.specs.TableFunctions.{Row, Table, is_among, sum_over}
-use Rattle.table_functions.specs.FairTables.{agrees, ConditionalChange, changes_in, touches_scope, is_closed, table_loses, table_gives}
-use Rattle.table_functions.proofs.Lists.{all-from, all-at, none-passes}
-use Rattle.table_losses.specs.declared.lists.Lists.{Lists}
+use Rattle.lower_bounds.specs.FairPotentials.{touches}
+use Rattle.lower_bounds.specs.TableFunctions.{Row, Table, is_among, sum_over}
+use Rattle.lower_bounds.specs.FairTables.{agrees, ConditionalChange, changes_in, touches_scope, is_closed, table_loses, table_gives}
+use Rattle.lower_bounds.proofs.TableLists.{all-from, all-at, none-passes}
+use Rattle.table_rows.specs.declared.lists.Lists.{Lists}
 use Rattle.tables.specs.ByAtom.{IsByAtom, AreMarked}
-use Rattle.table_losses.specs.Lists.{list_at, IsFiledAt}
-use Rattle.table_losses.specs.Losses.{indexed_of, LosesByTable}
-use Rattle.table_losses.specs.Fates.{IsLoss}
-use Rattle.table_functions.specs.Laws.{are_over}
-use Rattle.table_losses.specs.declared.indexed.IndexedTable.{IndexedTable}
+use Rattle.table_rows.specs.Lists.{list_at, IsFiledAt}
+use Rattle.table_rows.specs.Losses.{indexed_of, LosesByTable}
+use Rattle.table_rows.specs.Fates.{IsLoss}
+use Rattle.lower_bounds.specs.TableLaws.{are_over}
+use Rattle.table_rows.specs.declared.indexed.IndexedTable.{IndexedTable}
 use Rattle.tables.specs.declared.tables.IndexedTables.{IndexedTables}
 use Rattle.tables.specs.AllTables.{tables_of}
-use Rattle.table_losses.proofs.AgreeingLemmas.{any-map}
-use Rattle.table_losses.proofs.FateLemmas.{take-at, taken-more, among-more, Contains-among}
+use Rattle.table_rows.proofs.AgreeingLemmas.{any-map}
+use Rattle.table_rows.proofs.FateLemmas.{take-at, taken-more, among-more, Contains-among}
 
 -- ---- lists by atoms
 

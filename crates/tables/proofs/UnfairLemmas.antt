@@ -1,17 +1,17 @@
 -- The first of several values that is not fair, instance by instance, and what is reported of it.
-use Rattle.std.proofs.Common.{◌≡◌, ◌∙◌, ℕ, zero, suc, ◌+◌, ◌<◌, ◌≤◌, Bool, true, false, true≢false, not, List, length, take, get_or, Option, None, Some, refl, sym, ap, subst, arith}
+use Rattle.std.proofs.Common.{◌≡◌, ◌∙◌, ℕ, zero, suc, ◌+◌, ◌<◌, ◌≤◌, Bool, true, false, true≢false, not, List, length, take, Option, None, Some, refl, sym, ap, subst, arith}
 use Rattle.std.specs.Prelude.{◌↔◌, All, IsTrue, slice_get, nat_lt, if◌then◌else◌}
 use Rattle.std.proofs.lemmas.Bool.{lt-ltb, ltb-true, ltb-false}
 use Rattle.std.proofs.lemmas.List.{get_or_past, take_all}
 use Rattle.std.proofs.lemmas.List.Elements.{All-nil}
-use Rattle.std.proofs.lemmas.Option.{slice_get-get_or}
+use Rattle.std.proofs.lemmas.Option.{slice_get_within}
 use Rattle.model.specs.Task.{Atom, Task, Instance}
 use Rattle.model.specs.Meaning.{cost_of}
 use Rattle.model.specs.StaticallyFalse.{kept_instances}
-use Rattle.potential_functions.specs.Fair.{nothing}
-use Rattle.table_functions.specs.TableFunctions.{TableFunction, SeveralValues, functions_of, dead_ends_of}
-use Rattle.table_functions.specs.FairTables.{is_asked, is_instance_shut_out, IsFair, IsFairAt, IsFairAtGoals, IsFirstUnfairAt}
-use Rattle.table_losses.proofs.FateLemmas.{row-there}
+use Rattle.lower_bounds.specs.FairPotentials.{nothing}
+use Rattle.lower_bounds.specs.TableFunctions.{TableFunction, SeveralValues, functions_of, dead_ends_of}
+use Rattle.lower_bounds.specs.FairTables.{is_asked, is_instance_shut_out, IsFair, IsFairAt, IsFairAtGoals, IsFirstUnfairAt}
+use Rattle.table_rows.proofs.FateLemmas.{row-there}
 use Rattle.tables.specs.Fairness.{AreInstancesFairAt}
 use Rattle.tables.specs.Reports.{goals_report, instance_report, first_report}
 use Rattle.tables.specs.Several.{ReportsValues}
@@ -19,7 +19,7 @@ use Rattle.tables.specs.Unfair.{places_in, function_in, allowance_in, IsFairIn, 
 use Rattle.tables.specs.declared.several.ValuesFairness.TheVariants as reported
 use Rattle.tables.specs.declared.unfair.Unfair.{Unfair}
 use Rattle.tables.proofs.FairnessLemmas.{AreFairBelow, fair-next, fair-all, first-unfair}
-use Rattle.tables.proofs.SeveralLemmas.{over-at, length-over, one-more-holds}
+use Rattle.tables.proofs.SeveralLemmas.{length-over, named, one-more-holds}
 
 module _ (task : Task) (atoms : List Atom) (s : SeveralValues) where
   -- ---- instance after instance
@@ -90,6 +90,13 @@ module _ (task : Task) (atoms : List Atom) (s : SeveralValues) where
                     }
                   ] refl
 
+  -- past the last instance
+  pub first-past : (number later : ℕ) (first : Option Unfair) → length (kept_instances task) ≤ number → IsFirstSoFar number first → IsFirstSoFar later first
+  first-past number later first past so = record {
+    fair = λ k within n i below at. so.fair k within n i (let there = slice_get_within (kept_instances task) n i at in omega (arith, there, past)) at;
+    unfair = so.unfair;
+  }
+
   -- all instances, or no value is left
   pub first-is : (number : ℕ) (first : Option Unfair) → IsFirstSoFar number first → ((k : ℕ) → k < places_before (places_in s) first → length (kept_instances task) ≤ number) → IsFirstUnfairValue task atoms s first
   first-is number None so past = λ k within. fair-all task atoms (function_in s k) (allowance_in task s k) number (past k within) (so.fair k within)
@@ -100,11 +107,6 @@ module _ (task : Task) (atoms : List Atom) (s : SeveralValues) where
   }
 
   -- ---- what is reported
-
-  named : (k : ℕ) → k < length s.values → slice_get (functions_of s) k ≡ Some (function_in s k)
-  named k below =
-      let same : 0 + k ≡ k = omega arith in
-      over-at s.tables 0 s.values k (get_or s.values k s.dead_ends) (slice_get-get_or s.values k s.dead_ends below) ∙ ap (λ n. Some (record { potentials = get_or s.values k s.dead_ends; tables = s.tables; place = n })) same
 
   -- a value
   module _ (k : ℕ) (below : k < length s.values) where
@@ -123,7 +125,7 @@ module _ (task : Task) (atoms : List Atom) (s : SeveralValues) where
       let same : n + 1 ≡ suc n = omega arith in
       let here : n < length s.values = omega (arith, within) in
       subst (λ m. All (IsFair task atoms) (take m (functions_of s))) same
-      (one-more-holds (IsFair task atoms) (functions_of s) n (function_in s n) (named n here) (all-before n (omega (arith, within)) (λ k less. fair k (omega (arith, less))) (λ k less. goals k (omega (arith, less))))
+      (one-more-holds (IsFair task atoms) (functions_of s) n (function_in s n) (named s n here) (all-before n (omega (arith, within)) (λ k less. fair k (omega (arith, less))) (λ k less. goals k (omega (arith, less))))
       (whole n here (fair n (omega arith)) (goals n (omega arith))))
 
   -- that for dead ends
@@ -157,7 +159,7 @@ module _ (task : Task) (atoms : List Atom) (s : SeveralValues) where
       elim (nat_lt k (length s.values)) as (λ b. nat_lt k (length s.values) ≡ b → ReportsValues task atoms s (if b then reported.Goals k else reported.DeadEndGoals)) [
         | true ↦ λ is. let below = ltb-true k (length s.values) is in record {
           function = function_in s k;
-          first = record { named = named k below; earlier = all-before k (omega (arith, below)) fair goals };
+          first = record { named = named s k below; earlier = all-before k (omega (arith, below)) fair goals };
           instances = instances-by-cost k below here;
           unfair = fails;
         }
@@ -174,7 +176,7 @@ module _ (task : Task) (atoms : List Atom) (s : SeveralValues) where
       elim (nat_lt u.place (length s.values)) as (λ b. nat_lt u.place (length s.values) ≡ b → ReportsValues task atoms s (if b then reported.Instance u.place u.number else reported.DeadEndInstance u.number)) [
         | true ↦ λ is. let below = ltb-true u.place (length s.values) is in record {
           function = function_in s u.place;
-          first = record { named = named u.place below; earlier = all-before u.place (omega (arith, below)) first.earlier goals };
+          first = record { named = named s u.place below; earlier = all-before u.place (omega (arith, below)) first.earlier goals };
           unfair = subst (λ (allowance : Instance → ℕ). IsFirstUnfairAt (is_asked task atoms s.tables) allowance task atoms (function_in s u.place) u.number) (by-cost u.place below) first.unfair;
         }
         | false ↦ λ is. let past = ltb-false u.place (length s.values) is in record {

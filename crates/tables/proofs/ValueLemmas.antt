@@ -7,12 +7,12 @@ use Rattle.std.proofs.lemmas.List.{length-append, length-set, get_or_append_left
 use Rattle.std.proofs.lemmas.Option.{slice_get_within, same_Some}
 use Rattle.std.proofs.Math.Seq.{get_or-append_seam}
 use Rattle.packed_state.specs.Packed.{bits_of}
-use Rattle.potential_functions.specs.PotentialFunctions.{PotentialFunction, or_zero, score}
+use Rattle.lower_bounds.specs.PotentialFunctions.{PotentialFunction, or_zero, score}
 use Rattle.potentials.specs.Potentials.{potentials_of}
 use Rattle.potentials.specs.declared.potentials.Potentials.{Potentials}
 use Rattle.potentials.proofs.WordLemmas.{so_far-range}
-use Rattle.table_functions.specs.TableFunctions.{Table, TableFunction, over_tables, has_rows, row_in, given_by, sum_over, total, value, greatest_value, is_dead_by}
-use Rattle.table_losses.proofs.FateLemmas.{row-there, take-at}
+use Rattle.lower_bounds.specs.TableFunctions.{Table, TableFunction, over_tables, has_rows, row_in, given_by, sum_over, total, value, greatest_value, is_dead_by}
+use Rattle.table_rows.proofs.FateLemmas.{row-there, take-at}
 use Rattle.tables.specs.AllTables.{count_of}
 use Rattle.tables.specs.KnownRows.{IsKnown}
 use Rattle.tables.specs.Several.{AreScores}

@@ -1,12 +1,12 @@
--- All tables of the code, as the tables that they are.
+-- Views of tables in memory.
 use Rattle.std.specs.Prelude.{ℕ, List, map}
-use Rattle.table_functions.specs.TableFunctions.{Table}
+use Rattle.lower_bounds.specs.TableFunctions.{Table}
 use Rattle.tables.specs.declared.tables.IndexedTables.{IndexedTables}
-use Rattle.table_losses.specs.Losses.{indexed_of}
+use Rattle.table_rows.specs.Losses.{indexed_of}
 
 abbrev pub tables_of : IndexedTables → List Table
 tables_of all = map indexed_of all.tables.items
 
--- how many weights each row has
+-- the number of weights of each row
 abbrev pub count_of : IndexedTables → ℕ
 count_of all = all.count

@@ -2,21 +2,21 @@
 use Rattle.std.specs.Prelude.{◌≡◌, ℕ, ◌<◌, Bool, false, List, Option, None, Some, length, slice_get, slice_index_or}
 use Rattle.packed_state.specs.Packed.{bits_of}
 use Rattle.packed_state.specs.Sets.{has}
-use Rattle.table_functions.specs.TableFunctions.{Table, row_in}
+use Rattle.lower_bounds.specs.TableFunctions.{Table, row_in}
 use Rattle.tables.specs.Projections.{AreProjections}
 use Rattle.tables.specs.RowSums.{AreSums}
 use Rattle.tables.specs.declared.known_rows.KnownRows.{KnownRows}
 
--- where the packed state's row of the table is, if it has one
+-- the number of the packed state's row of the table, if it has one
 abbrev pub IsPlaceOfRow : Table → List Bool → Option ℕ → Type 0
 IsPlaceOfRow t bits None = row_in bits t ≡ None
 IsPlaceOfRow t bits (Some place) = (place < length t.rows) × (slice_get t.rows place ≡ row_in bits t)
 
--- of each table this is where the packed state's row is, if it has one
+-- the same for each table
 abbrev pub KnowsRows : List Table → List Bool → List (Option ℕ) → Type 0
 KnowsRows tables bits rows = (k : ℕ) (t : Table) → slice_get tables k ≡ Some t → IsPlaceOfRow t bits (slice_index_or rows k None)
 
--- so it is of each table that is not touched
+-- the same for each table that is not touched
 abbrev pub AreKnown : List Table → (touched bits : List Bool) → List (Option ℕ) → Type 0
 AreKnown tables touched bits rows = (k : ℕ) (t : Table) → slice_get tables k ≡ Some t → has touched k ≡ false → IsPlaceOfRow t bits (slice_index_or rows k None)
 

@@ -1,3 +1,5 @@
+pub mod Keys
+pub mod RowIndex
 pub mod ByAtom
 pub mod AllTables
 pub mod TotalLosses

@@ -1,12 +1,12 @@
--- Several values in memory, and tables that fit them.
+-- Values and tables that fit together.
 use Rattle.std.specs.Prelude.{◌≡◌, ◌+◌, ◌^◌, ◌<◌, IsTrue, All, List, length}
 use Rattle.potentials.specs.Potentials.{potentials_of}
 use Rattle.potentials.specs.declared.potentials.Potentials.{Potentials}
-use Rattle.table_functions.specs.Laws.{are_over}
+use Rattle.lower_bounds.specs.TableLaws.{are_over}
 use Rattle.tables.specs.AllTables.{tables_of, count_of}
 use Rattle.tables.specs.declared.tables.IndexedTables.{IndexedTables}
 
--- There is a weight for each of as many atoms, of which the scopes are, and in each row one for each value and one for dead ends.
+-- All values have weights for the same atoms, scopes are among these, and each row has a weight for each value and one for dead ends.
 pub record FitTogether (values : List Potentials) (dead_ends : Potentials) (tables : IndexedTables) : Type 0 where
   pub counts : count_of tables ≡ length values + 1
   pub widths : All (λ (p : Potentials). length (potentials_of p).weights ≡ length (potentials_of dead_ends).weights) values

@@ -5,7 +5,7 @@ ghost use Rattle.model.specs.Task.{Instance};
 ghost use Rattle.model.specs.NumberedLiterals.{literals_of_number};
 ghost use Rattle.model.specs.ConditionalChanges.{conditional_of_number};
 ghost use Rattle.model.specs.StaticallyFalse.{kept_instances};
-ghost use Rattle.table_functions.specs.FairTables as model;
+ghost use Rattle.lower_bounds.specs.FairTables as model;
 ghost use Rattle.tables.specs.AllTables.{tables_of};
 ghost use Rattle.tables.specs.ByAtom.{LosesByAll};
 ghost use Rattle.tables.specs.Fairness.{function_of, allowed_by, FitsGround};
@@ -16,31 +16,30 @@ use grounding::Ground;
 use potentials::{Potentials, goal_gives_at_most, loses_at_most};
 use std::alloc::Global;
 
-/// One of several values: potentials, of tables the weights at this place, and what instances are allowed to lose.
+/// One of several values, with what instances may lose of it.
 #[derive(Clone, Copy)]
 pub(crate) struct TableValue<'a, 't> {
     /// The constant and the weights of atoms.
     pub(crate) potentials: &'a Potentials,
     /// The tables.
     pub(crate) tables: &'a IndexedTables<'t>,
-    /// The place, from 0, of its weights in their rows.
+    /// The place of its weights in rows, from 0.
     pub(crate) place: u32,
-    /// How much of it an instance may lose.
+    /// The most that an instance may lose.
     pub(crate) allowance: Allowance,
 }
 
-/// What an instance is allowed to lose.
+/// The most that an instance may lose.
 #[derive(Clone, Copy, Debug)]
 pub(crate) enum Allowance {
-    /// What it costs.
+    /// Its cost.
     Cost,
-    /// Nothing at all.
+    /// Nothing.
     Nothing,
 }
 
 impl TableValue<'_, '_> {
-    /// Whether the instance of this number, which leads from rows to rows, is fair: whether it loses no more than it is allowed
-    /// to, where it loses so much at most by the tables.
+    /// Whether the value is fair for this instance, which leads from rows to rows and loses at most `by_tables` by them.
     pub(crate) fn is_fair_with(&self, ground: &Ground<'_>, number: u32, by_tables: i64) -> bool
         requires fits { FitsGround ground.now self.now }
         requires within { number < length (kept_instances (task_in ground.now)) }
@@ -54,7 +53,7 @@ impl TableValue<'_, '_> {
         is_at_most(by_atoms + by_tables, self.allowance.of(ground, number))
     }
 
-    /// Whether it is fair at goals: it is at most 0, or some table has no row that agrees with the goal's literals.
+    /// Whether it is fair at goals: at most 0, or some table has no row that agrees with the goal's literals.
     pub(crate) fn is_fair_at_goals(
         &self,
         alloc: Global,
@@ -73,8 +72,8 @@ impl TableValue<'_, '_> {
     }
 }
 
-/// Whether the instance of this number is shut out: its precondition wants an atom that has no number, or some table has no row
-/// that agrees with its sure literals.
+/// Whether the instance is shut out: its precondition has an atom without a number, or some table has no row that agrees with its
+/// sure literals.
 ///
 /// # Errors
 /// Where memory is refused.
@@ -95,7 +94,7 @@ pub fn is_instance_shut_out(
 }
 
 impl Allowance {
-    /// How much is allowed to the instance of this number.
+    /// The most that this instance may lose.
     fn of(self, ground: &Ground<'_>, number: u32) -> u32
         requires { number < length (kept_instances (task_in ground.now)) }
         ensures { (i : Instance) → slice_get (kept_instances (task_in ground.now)) number ≡ Some i → result ≡ allowed_by self (task_in ground.now) i }
@@ -107,7 +106,7 @@ impl Allowance {
     }
 }
 
-/// Whether the number is at most what is allowed.
+/// Whether the number is at most the other.
 fn is_at_most(number: i64, allowed: u32) -> bool
     ensures { IsTrue result ↔ (number ≤ℤ pos allowed) }
 {

@@ -1,8 +1,8 @@
-//! The rows of a state, found by what they are in another.
+//! The rows of a state, found by its difference from another.
 ghost use Rattle.std.specs.Prelude.{◌≡◌, ℕ, List, [], IfOk, length};
 ghost use Rattle.packed_state.specs.Packed.{bits_of};
 ghost use Rattle.packed_state.specs.Sets.{set_of};
-ghost use Rattle.table_functions.specs.TableFunctions.{Table, has_rows};
+ghost use Rattle.lower_bounds.specs.TableFunctions.{Table, has_rows};
 ghost use Rattle.tables.specs.AllTables.{tables_of, count_of};
 ghost use Rattle.tables.specs.KnownRows.{AreKnown, IsKnown};
 ghost use Rattle.tables.specs.Projections.{AreProjections};
@@ -15,7 +15,7 @@ use faults::NoMemory;
 use packed_state::Packed;
 use std::alloc::Global;
 
-/// A state, its rows, and what they give.
+/// A state and its rows, with the sums of their weights.
 #[derive(Drop)]
 pub(crate) struct KnownRows {
     pub(crate) projections: Projections,
@@ -23,7 +23,7 @@ pub(crate) struct KnownRows {
 }
 
 impl IndexedTables<'_> {
-    /// The rows of the state of so many atoms in which none is true.
+    /// The rows of the state in which none of `width` atoms is true.
     ///
     /// # Errors
     /// Where memory is refused.
@@ -40,13 +40,6 @@ impl IndexedTables<'_> {
 }
 
 impl KnownRows {
-    /// The state.
-    pub(crate) fn state(&self) -> &Packed
-        ensures { result.now ≡ self.now.projections.state }
-    {
-        &self.projections.state
-    }
-
     /// Whether each table has a row for the state.
     pub(crate) fn are_all(&self) -> bool
         ensures { (tables : List Table) (count : ℕ) → IsKnown tables count self.now → result ≡ has_rows tables (bits_of self.now.projections.state) }
@@ -54,7 +47,7 @@ impl KnownRows {
         self.sums.missing == 0
     }
 
-    /// Makes it what is known of this state.
+    /// Finds the rows of this state.
     pub(crate) fn move_to(&mut self, tables: &IndexedTables<'_>, state: &Packed)
         requires known { IsKnown (tables_of tables.now) (count_of tables.now) self.old }
         requires width { length (bits_of state.now) ≡ length (bits_of self.old.projections.state) }
@@ -65,7 +58,7 @@ impl KnownRows {
         self.find_touched(tables);
     }
 
-    /// Finds the rows of tables that are touched. None is touched then.
+    /// Finds the rows of the touched tables. No table stays touched.
     fn find_touched(&mut self, tables: &IndexedTables<'_>)
         requires projections { AreProjections (tables_of tables.now) self.old.projections }
         requires sums { AreSums (tables_of tables.now) (count_of tables.now) self.old.sums }
@@ -76,7 +69,8 @@ impl KnownRows {
         let mut place = self.projections.touched.next(0);
         'touched: while place < self.projections.touched.width() {
             self.projections.touched.remove(place);
-            let row = self.projections.find(tables, place as usize);
+            let likely = self.sums.rows[place as usize];
+            let row = self.projections.find(tables, place as usize, likely);
             self.sums.set_row(tables, place as usize, row);
             place = self.projections.touched.next(place);
         }

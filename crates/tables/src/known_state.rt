@@ -1,11 +1,9 @@
 //! What is known of one state.
-ghost use Rattle.std.specs.Prelude.{◌≡◌, ℕ, ◌<◌, List, IfOk, pos, length, slice_index_or, slice_set};
+ghost use Rattle.std.specs.Prelude.{◌≡◌, ◌<◌, IfOk, pos, length, slice_index_or, slice_set};
 ghost use Rattle.packed_state.specs.Packed.{bits_of};
-ghost use Rattle.potential_functions.specs.PotentialFunctions.{score};
+ghost use Rattle.lower_bounds.specs.PotentialFunctions.{score};
 ghost use Rattle.potentials.specs.Potentials.{potentials_of};
-ghost use Rattle.table_functions.specs.TableFunctions.{Table};
-ghost use Rattle.tables.specs.KnownRows.{IsKnown};
-ghost use Rattle.tables.specs.Several.{state_of, width_of, AreScores, Knows};
+ghost use Rattle.tables.specs.Several.{width_of, state_of, AreScores, Knows};
 
 use crate::known_rows::KnownRows;
 use crate::several::TableFunctions;
@@ -14,10 +12,10 @@ use packed_state::Packed;
 use potentials::Potentials;
 use std::alloc::Global;
 
-/// What is known of one state, from which that of another is found by what differs: its row of each table, what the rows give,
-/// and what its atoms give.
+/// What is known of one state, at which it stands, so that another is evaluated by its difference.
 #[derive(Drop)]
 pub struct KnownState {
+    /// Its rows.
     pub(crate) rows: KnownRows,
     /// The score of its atoms by each value, and last by that for dead ends.
     pub(crate) scores: Vec<i64>,
@@ -33,7 +31,7 @@ impl TableFunctions<'_> {
     {
         let width = self.dead_ends.weights().len() as u32;
         let rows = self.tables.known_rows(alloc, width)?;
-        let scores = self.scores(alloc, rows.state())?;
+        let scores = self.scores(alloc, &rows.projections.state)?;
         Ok(KnownState { rows, scores })
     }
 
@@ -53,7 +51,7 @@ impl TableFunctions<'_> {
         Ok(scores)
     }
 
-    /// Makes it what is known of this state. No memory is taken, and as much is done as the two states differ.
+    /// Brings it to this state, at the cost of the difference. No memory is taken.
     pub fn move_to(&self, state: &Packed, known: &mut KnownState)
         requires width { length (bits_of state.now) ≡ width_of self.now }
         requires known { Knows self.now known.old }
@@ -69,17 +67,16 @@ impl TableFunctions<'_> {
 }
 
 impl KnownState {
-    /// Makes the score at this place, which is that by these potentials, the one that the next state has.
+    /// Replaces the score at this place, by these potentials, by the next state's.
     fn score_after(&mut self, place: usize, by: &Potentials, next: &Packed)
         requires there { place < length self.old.scores.items }
         requires before { length (state_of self.old) ≡ length (potentials_of by.now).weights }
         requires next { length (bits_of next.now) ≡ length (potentials_of by.now).weights }
         requires score { slice_index_or self.old.scores.items place (pos 0) ≡ score (potentials_of by.now) (state_of self.old) }
         ensures scores { self.new.scores.items ≡ slice_set self.old.scores.items place (score (potentials_of by.now) (bits_of next.now)) }
-        ensures state { state_of self.new ≡ state_of self.old }
-        ensures rows { (tables : List Table) (count : ℕ) → IsKnown tables count self.old.rows → IsKnown tables count self.new.rows }
+        ensures rows { self.new.rows ≡ self.old.rows }
     {
         let score = self.scores[place];
-        self.scores[place] = by.score_after(score, self.rows.state(), next);
+        self.scores[place] = by.score_after(score, &self.rows.projections.state, next);
     }
 }

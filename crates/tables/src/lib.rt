@@ -6,12 +6,11 @@ mod known_rows;
 mod known_state;
 mod losses;
 mod projections;
+mod row_index;
 mod row_sums;
 mod scope_places;
 mod several;
 mod tables;
-#[cfg(test)]
-mod tests;
 mod unfair;
 mod values;
 

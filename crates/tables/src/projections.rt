@@ -1,8 +1,8 @@
-//! A state, and what it is in the scopes of tables.
+//! A state, projected to the scopes of tables.
 ghost use Rattle.std.specs.Prelude.{◌≡◌, ◌≢◌, ℕ, [], ◌*◌, ◌/◌, ◌<◌, IfOk, IsTrue, Some, true, length, map, slice_get, slice_set};
 ghost use Rattle.packed_state.specs.Packed.{bits_of};
 ghost use Rattle.packed_state.specs.Sets.{has, set_of};
-ghost use Rattle.table_functions.specs.TableFunctions.{Table};
+ghost use Rattle.lower_bounds.specs.TableFunctions.{Table};
 ghost use Rattle.tables.specs.AllTables.{tables_of};
 ghost use Rattle.tables.specs.KnownRows.{IsPlaceOfRow};
 ghost use Rattle.tables.specs.Projections.{set_at, AreProjections, AreMoved};
@@ -13,19 +13,19 @@ use faults::NoMemory;
 use packed_state::Packed;
 use std::alloc::Global;
 
-/// A state, and of each table the part of it that is in its scope.
+/// A state, and its projections to the scopes of tables.
 #[derive(Drop)]
 pub(crate) struct Projections {
     /// The state.
     pub(crate) state: Packed,
-    /// For each table the places of its scope whose atoms are true in the state.
+    /// For each table the indices in its scope of the atoms that are true.
     pub(crate) sets: Vec<Packed>,
-    /// The tables whose set may have changed since it was asked for.
+    /// The tables whose projection may have changed since their row was found.
     pub(crate) touched: Packed,
 }
 
 impl IndexedTables<'_> {
-    /// Those of the state of so many atoms in which none is true. All tables are touched.
+    /// Those of the state in which none of `width` atoms is true. All tables are touched.
     ///
     /// # Errors
     /// Where memory is refused.
@@ -44,7 +44,7 @@ impl IndexedTables<'_> {
         })
     }
 
-    /// For each table the empty set of places of its scope.
+    /// The empty projection to each scope.
     fn empty_sets(&self, alloc: Global) -> Result<Vec<Packed>, NoMemory>
         ensures { IfOk result (λ sets. map bits_of sets.items ≡ map (λ (t : Table). set_of (length t.scope) []) (tables_of self.now)) }
     {
@@ -57,7 +57,7 @@ impl IndexedTables<'_> {
 }
 
 impl Projections {
-    /// Makes them those of this state. The tables whose projection is another are touched.
+    /// Projects this state. The tables whose projection changes are touched.
     pub(crate) fn move_to(&mut self, tables: &IndexedTables<'_>, state: &Packed)
         requires projections { AreProjections (tables_of tables.now) self.old }
         requires width { length (bits_of state.now) ≡ length (bits_of self.old.state) }
@@ -71,7 +71,7 @@ impl Projections {
         }
     }
 
-    /// Makes the atoms of the word at this place what they are in the state.
+    /// The same for the atoms of one word.
     fn follow_word(&mut self, tables: &IndexedTables<'_>, state: &Packed, place: usize)
         requires projections { AreProjections (tables_of tables.now) self.old }
         requires width { length (bits_of state.now) ≡ length (bits_of self.old.state) }
@@ -93,7 +93,7 @@ impl Projections {
         }
     }
 
-    /// Makes the atom of this number what it is in the state.
+    /// The same for one atom.
     fn follow(&mut self, tables: &IndexedTables<'_>, state: &Packed, number: u32)
         requires projections { AreProjections (tables_of tables.now) self.old }
         requires width { length (bits_of state.now) ≡ length (bits_of self.old.state) }
@@ -110,7 +110,7 @@ impl Projections {
         }
     }
 
-    /// Puts the place into the set of its table if this is so, and else takes it out. The table is touched.
+    /// Puts the index into the projection, or takes it out, and touches the table.
     fn set_place(&mut self, at: ScopePlace, is: bool)
         requires table { at.table < length self.old.sets.items }
         requires place { at.place < length (set_at self.old at.table) }
@@ -123,17 +123,22 @@ impl Projections {
         self.touched.insert(at.table);
     }
 
-    /// The place of the state's row of the table at this place, if it has one.
-    pub(crate) fn find(&self, tables: &IndexedTables<'_>, place: usize) -> Option<u32>
+    /// The number of the state's row of the table at this place, if it has one. The likely row is tried first.
+    pub(crate) fn find(
+        &self,
+        tables: &IndexedTables<'_>,
+        place: usize,
+        likely: Option<u32>,
+    ) -> Option<u32>
         requires projections { AreProjections (tables_of tables.now) self.now }
         requires there { place < length (tables_of tables.now) }
         ensures { (t : Table) → slice_get (tables_of tables.now) place ≡ Some t → IsPlaceOfRow t (bits_of self.now.state) result }
     {
-        tables.table(place).find(&self.sets[place])
+        tables.rows(place).find(&self.sets[place], likely)
     }
 }
 
-/// Puts the number into the set if this is so, and else takes it out.
+/// Puts the number into the set, or takes it out.
 fn set_to(set: &mut Packed, number: u32, is: bool)
     requires { number < length (bits_of set.old) }
     ensures { bits_of set.new ≡ slice_set (bits_of set.old) number is }

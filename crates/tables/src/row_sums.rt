@@ -1,7 +1,7 @@
-//! Rows of tables, and what they give.
+//! Rows of tables, and the sums of their weights.
 ghost use Rattle.std.specs.Prelude.{◌≡◌, ℕ, ◌<◌, All, IfOk, IfSome, None, Some, length, replicate, slice_get, slice_index_or, slice_set};
-ghost use Rattle.potential_functions.specs.PotentialFunctions.{IsInRange};
-ghost use Rattle.table_functions.specs.TableFunctions.{Table};
+ghost use Rattle.lower_bounds.specs.TableFunctions.{Table};
+ghost use Rattle.table_rows.specs.Fates.{IsLoss};
 ghost use Rattle.tables.specs.AllTables.{tables_of, count_of};
 ghost use Rattle.tables.specs.RowSums.{AreAdded, AreSums, IsSmall};
 
@@ -9,19 +9,19 @@ use crate::tables::IndexedTables;
 use faults::NoMemory;
 use std::alloc::Global;
 
-/// A row of each table, or none, and what they give.
+/// A row of each table, or none, and the sums of their weights.
 #[derive(Drop)]
 pub(crate) struct RowSums {
-    /// For each table the place of its row, if it has one.
+    /// For each table the number of its row, if there is one.
     pub(crate) rows: Vec<Option<u32>>,
-    /// How many tables have none.
+    /// The number of tables without one.
     pub(crate) missing: usize,
-    /// The weights of the rows, added up at each place.
+    /// For each value the sum of the rows' weights.
     pub(crate) totals: Vec<i64>,
 }
 
 impl IndexedTables<'_> {
-    /// A row of none.
+    /// No rows.
     ///
     /// # Errors
     /// Where memory is refused.
@@ -43,7 +43,7 @@ impl IndexedTables<'_> {
 }
 
 impl RowSums {
-    /// Makes this the row of the table at this place, in the place of what it has.
+    /// Replaces the row of the table at this place.
     pub(crate) fn set_row(&mut self, tables: &IndexedTables<'_>, place: usize, row: Option<u32>)
         requires sums { AreSums (tables_of tables.now) (count_of tables.now) self.old }
         requires there { place < length (tables_of tables.now) }
@@ -51,6 +51,9 @@ impl RowSums {
         ensures sums { AreSums (tables_of tables.now) (count_of tables.now) self.new }
         ensures rows { self.new.rows.items ≡ slice_set self.old.rows.items place row }
     {
+        if self.rows[place] == row {
+            return;
+        }
         self.take_off(tables, place);
         match row {
             Some(row) => self.put_on(tables, place, row),
@@ -58,7 +61,7 @@ impl RowSums {
         }
     }
 
-    /// Takes off the row of the table at this place, if it has one.
+    /// Removes the row of the table at this place, if there is one.
     fn take_off(&mut self, tables: &IndexedTables<'_>, place: usize)
         requires sums { AreSums (tables_of tables.now) (count_of tables.now) self.old }
         requires there { place < length (tables_of tables.now) }
@@ -75,7 +78,7 @@ impl RowSums {
         }
     }
 
-    /// Makes this the row of the table at this place, which has none.
+    /// Adds the row of the table at this place, which has none.
     fn put_on(&mut self, tables: &IndexedTables<'_>, place: usize, row: u32)
         requires sums { AreSums (tables_of tables.now) (count_of tables.now) self.old }
         requires there { place < length (tables_of tables.now) }
@@ -90,10 +93,10 @@ impl RowSums {
     }
 }
 
-/// Adds to each total the weight at its place.
-fn add_each(totals: &mut Vec<i64>, weights: &[i64])
+/// Adds the weights to the totals, place by place.
+pub(crate) fn add_each(totals: &mut Vec<i64>, weights: &[i64])
     requires long { length weights.now ≡ length totals.old.items }
-    requires range { All IsInRange weights.now }
+    requires range { All IsLoss weights.now }
     requires small { All IsSmall totals.old.items }
     ensures { AreAdded totals.old.items weights.now totals.new.items }
 {
@@ -102,10 +105,10 @@ fn add_each(totals: &mut Vec<i64>, weights: &[i64])
     }
 }
 
-/// Takes off each total the weight at its place.
+/// Subtracts the weights from the totals, place by place.
 fn take_each(totals: &mut Vec<i64>, weights: &[i64])
     requires long { length weights.now ≡ length totals.old.items }
-    requires range { All IsInRange weights.now }
+    requires range { All IsLoss weights.now }
     requires small { All IsSmall totals.old.items }
     ensures { AreAdded totals.new.items weights.now totals.old.items }
 {

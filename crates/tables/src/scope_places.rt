@@ -1,30 +1,30 @@
-//! Where atoms are in the scopes of tables.
+//! Where atoms occur in the scopes of tables.
 ghost use Rattle.std.specs.Prelude.{◌≡◌, ℕ, ◌<◌, ◌^◌, ◌++◌, ◌∷◌, [], ◌==◌, All, List, if◌then◌else◌, IfOk, IsTrue, OnOk, length, map};
-ghost use Rattle.table_functions.specs.Laws.{are_over};
-ghost use Rattle.table_losses.specs.Losses.{indexed_of};
+ghost use Rattle.lower_bounds.specs.TableLaws.{are_over};
+ghost use Rattle.table_rows.specs.Losses.{indexed_of};
 ghost use Rattle.tables.specs.ScopePlaces.{places_of, scopes_of, AreScopePlaces};
 
 use faults::NoMemory;
 use std::alloc::Global;
-use table_losses::IndexedTable;
+use table_rows::IndexedTable;
 
-/// A place, from 0, of the scope of a table.
+/// An index in the scope of a table.
 #[derive(Clone, Copy, Debug)]
 pub(crate) struct ScopePlace {
-    /// The table's place among all, from 0.
+    /// The table's number, from 0.
     pub(crate) table: u32,
-    /// The place in its scope.
+    /// The index in its scope.
     pub(crate) place: u32,
 }
 
-/// For each atom its places in the scopes of tables.
+/// For each atom where it occurs in scopes.
 #[derive(Drop)]
 pub(crate) struct ScopePlaces {
     pub(crate) lists: Vec<Vec<ScopePlace>>,
 }
 
 impl ScopePlaces {
-    /// Those in these tables, over so many atoms.
+    /// Lists the scopes of these tables over `width` atoms.
     ///
     /// # Errors
     /// Where memory is refused.
@@ -44,7 +44,7 @@ impl ScopePlaces {
         Ok(places)
     }
 
-    /// None yet, over so many atoms.
+    /// No scopes, over `width` atoms.
     fn empty(alloc: Global, width: u32) -> Result<ScopePlaces, NoMemory>
         ensures width { IfOk result (λ l. length l.lists.items ≡ width) }
         ensures empty { IfOk result (λ l. (atom : ℕ) → places_of l atom ≡ []) }
@@ -56,7 +56,7 @@ impl ScopePlaces {
         Ok(ScopePlaces { lists })
     }
 
-    /// The atoms of one table's scope, more.
+    /// Adds the scope of the next table.
     fn push_scope(&mut self, table: u32, scope: &[u32]) -> Result<(), NoMemory>
         requires few { length scope.now < 2 ^ 32 }
         requires within { All (λ atom. atom < length self.old.lists.items) scope.now }
@@ -73,7 +73,7 @@ impl ScopePlaces {
         Ok(())
     }
 
-    /// One more of this atom.
+    /// Adds one occurrence of the atom.
     fn push(&mut self, atom: u32, at: ScopePlace) -> Result<(), NoMemory>
         requires { atom < length self.old.lists.items }
         ensures width { OnOk result (length self.new.lists.items ≡ length self.old.lists.items) }
@@ -83,7 +83,7 @@ impl ScopePlaces {
         Ok(())
     }
 
-    /// Those of this atom.
+    /// The occurrences of this atom.
     pub(crate) fn of(&self, atom: u32) -> &[ScopePlace]
         ensures { result.now ≡ places_of self.now atom }
     {

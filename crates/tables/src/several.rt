@@ -10,8 +10,8 @@ use grounding::Ground;
 use potentials::Potentials;
 use std::alloc::Global;
 
-/// Several values over the same tables, of which the greatest counts, and one for dead ends. Of each row the weights are theirs
-/// in this order, that for dead ends last.
+/// Several values over the same tables, of which the greatest counts, and one for dead ends. A row has a weight for each value, in
+/// this order, and last one for dead ends.
 #[derive(Drop)]
 pub struct TableFunctions<'a> {
     pub(crate) values: Vec<Potentials>,
@@ -20,25 +20,25 @@ pub struct TableFunctions<'a> {
     ghost together: { FitTogether values.items dead_ends tables } by { Prim.hlevel props },
 }
 
-/// Whether several values are fair for a ground task and that for dead ends is dead-fair, or what is not. Values are asked one
-/// after another, each of its instances before its goals.
+/// Whether all values are fair for a ground task and that for dead ends is dead-fair, or the first fault: value by value, instances
+/// before goals.
 #[derive(Clone, Copy, Debug, PartialEq, Eq)]
 pub enum ValuesFairness {
-    /// They are.
+    /// There is no fault.
     Fair,
-    /// The first value that is not fair, by its place from 0, and the first kept instance for which it is not, by its number.
+    /// The first unfair value, and the first kept instance for which it is unfair.
     Instance {
-        /// The value's place.
+        /// The value's place, from 0.
         place: u32,
         /// The instance's number.
         number: u32,
     },
-    /// The first value that is not fair, by its place from 0: it is so for each kept instance, and not at goals.
+    /// The first unfair value is fair for each kept instance, but not at goals.
     Goals {
-        /// The value's place.
+        /// The value's place, from 0.
         place: u32,
     },
-    /// All values are fair. The first kept instance for which that for dead ends is not dead-fair, by its number.
+    /// All values are fair. The first kept instance for which that for dead ends is not dead-fair.
     DeadEndInstance {
         /// The instance's number.
         number: u32,
@@ -58,7 +58,7 @@ impl<'a> TableFunctions<'a> {
     ghost use Rattle.tables.specs.Several.{several_of, width_of, ReportsValues};
     ghost use Rattle.tables.specs.Unfair.{function_in, allowance_in};
 
-    /// These values, that for dead ends, and these tables.
+    /// Puts together the values, that for dead ends, and their tables.
     pub fn new(
         values: Vec<Potentials>,
         dead_ends: Potentials,
@@ -74,7 +74,7 @@ impl<'a> TableFunctions<'a> {
         }
     }
 
-    /// Whether they are fair for the ground task, as those are that a certificate gives.
+    /// Tests whether they are fair for the ground task, as a certificate's have to be.
     ///
     /// # Errors
     /// Where memory is refused.
@@ -91,7 +91,7 @@ impl<'a> TableFunctions<'a> {
         Ok(self.report(first))
     }
 
-    /// What is reported where the value at this place is not fair at goals.
+    /// The report that the value at this place is unfair at goals.
     fn unfair_at_goals(&self, place: u32) -> ValuesFairness
         requires { place < count_of self.now.tables }
         ensures { result ≡ goals_report (several_of self.now) place }
@@ -103,7 +103,7 @@ impl<'a> TableFunctions<'a> {
         }
     }
 
-    /// What is reported where values are fair at goals, of those before the first that is not fair for an instance.
+    /// The report of the first value that is unfair for an instance, if there is one.
     fn report(&self, first: Option<Unfair>) -> ValuesFairness
         ensures { result ≡ first_report (several_of self.now) first }
     {
@@ -113,7 +113,7 @@ impl<'a> TableFunctions<'a> {
         }
     }
 
-    /// What is reported where this value is not fair for this instance.
+    /// The report that this value is unfair for this instance.
     fn unfair_for_instance(&self, unfair: Unfair) -> ValuesFairness
         ensures { result ≡ instance_report (several_of self.now) unfair }
     {
@@ -125,7 +125,7 @@ impl<'a> TableFunctions<'a> {
         }
     }
 
-    /// The value at this place, from 0, or that for dead ends, which comes after them.
+    /// The value at this place, from 0; after the last one that for dead ends.
     pub(crate) fn value_at(&self, place: u32) -> TableValue<'_, 'a>
         ensures function { function_of result ≡ function_in (several_of self.now) place }
         ensures tables { result.tables.now ≡ self.now.tables }

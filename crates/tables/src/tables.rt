@@ -1,30 +1,32 @@
-//! All tables of a value, each looked at only where its scope is named.
+//! Tables with indexes of their scopes and rows.
 ghost use Rattle.std.specs.Prelude.{◌≡◌, ◌<◌, ◌^◌, IsTrue, All, IfOk, length, map};
 ghost use Rattle.std.proofs.Props.{props};
-ghost use Rattle.table_functions.specs.Laws.{are_over};
-ghost use Rattle.table_losses.specs.declared.indexed.IndexedTable as declared;
-ghost use Rattle.table_losses.specs.Losses.{indexed_of, indexed_count_of};
+ghost use Rattle.lower_bounds.specs.TableLaws.{are_over};
+ghost use Rattle.table_rows.specs.declared.indexed.IndexedTable as declared;
+ghost use Rattle.table_rows.specs.Losses.{indexed_of, indexed_count_of};
+ghost use Rattle.tables.specs.RowIndex.{indexed_in};
 ghost use Rattle.tables.specs.ByAtom.{IsByAtom};
 ghost use Rattle.tables.specs.ScopePlaces.{scopes_of, AreScopePlaces};
 
-use crate::losses::{Losses, add_up, clear};
+use crate::row_index::RowIndex;
 use crate::scope_places::{ScopePlace, ScopePlaces};
 use faults::NoMemory;
 use grounding::{CountingChange, NumberedLiteral};
 use packed_state::Packed;
 use std::alloc::Global;
-use table_losses::{IndexedTable, Lists};
-use table_rows::Table;
+use table_rows::{IndexedTable, Lists, Table};
 
-/// Tables whose rows have as many weights, and for each atom those that have it in their scope.
+/// Tables whose rows have a weight for each value. Tables and indices in scopes are listed by atom, rows by key.
 #[derive(Drop)]
 pub struct IndexedTables<'a> {
     tables: Vec<IndexedTable<'a>>,
     count: u32,
+    rows: Vec<RowIndex<'a>>,
     by_atom: Lists,
     scope_places: ScopePlaces,
     ghost few: { length tables.items < 2 ^ 24 },
     ghost counts: { All (λ (t : declared.IndexedTable). indexed_count_of t ≡ count) tables.items } by { Prim.hlevel props },
+    ghost rows_of_each: { map indexed_in rows.items ≡ map indexed_of tables.items } by { Prim.hlevel props },
     ghost named: { IsByAtom (map indexed_of tables.items) (length tables.items) by_atom } by { Prim.hlevel props },
     ghost placed: { AreScopePlaces (scopes_of (map indexed_of tables.items)) scope_places } by { Prim.hlevel props },
 }
@@ -36,18 +38,17 @@ impl<'a> IndexedTables<'a> {
     ghost use Rattle.grounding.specs.Views.{numbered_of};
     ghost use Rattle.model.specs.NumberedLiterals as numbered;
     ghost use Rattle.packed_state.specs.Packed.{bits_of};
-    ghost use Rattle.potential_functions.specs.PotentialFunctions.{IsInRange};
-    ghost use Rattle.table_functions.specs.TableFunctions as functions;
-    ghost use Rattle.table_functions.specs.TableFunctions.{Row, sum_over};
+    ghost use Rattle.lower_bounds.specs.PotentialFunctions.{IsInRange};
+    ghost use Rattle.lower_bounds.specs.TableFunctions as functions;
+    ghost use Rattle.lower_bounds.specs.TableFunctions.{Row, sum_over};
     ghost use Rattle.table_rows.specs.declared.table.Table as in_memory;
     ghost use Rattle.table_rows.specs.Tables.{table_of, weight_count_of};
-    ghost use Rattle.table_functions.specs.FairTables as model;
+    ghost use Rattle.lower_bounds.specs.FairTables as model;
     ghost use Rattle.tables.specs.AllTables.{tables_of, count_of};
     ghost use Rattle.tables.specs.ByAtom.{AreMarked};
-    ghost use Rattle.tables.specs.TotalLosses.{HasLosses, IsSmall, AddsLosses, LosesByEachOfAll};
     ghost use Rattle.tables.specs.ScopePlaces.{places_of};
 
-    /// These tables over so many atoms, whose rows have so many weights.
+    /// Indexes these tables over `width` atoms, whose rows have `count` weights.
     ///
     /// # Errors
     /// Where memory is refused.
@@ -65,15 +66,17 @@ impl<'a> IndexedTables<'a> {
     {
         let by_atom = by_atom(alloc, width, &tables)?;
         let scope_places = ScopePlaces::new(alloc, width, &tables)?;
+        let rows = row_indexes(alloc, &tables)?;
         Ok(IndexedTables {
             tables,
             count,
+            rows,
             by_atom,
             scope_places,
         })
     }
 
-    /// An index of each of these tables over so many atoms, whose rows have so many weights, from -2147483647 to 2147483647.
+    /// Indexes these tables over `width` atoms, whose rows have `count` weights from -2147483647 to 2147483647.
     ///
     /// # Errors
     /// Where memory is refused.
@@ -104,7 +107,7 @@ impl<'a> IndexedTables<'a> {
         &self.tables
     }
 
-    /// The table at this place, from 0.
+    /// The table with this number, from 0.
     pub(crate) fn table(&self, place: usize) -> &'a Table
         requires { place < length (tables_of self.now) }
         ensures table { slice_get (tables_of self.now) place ≡ Some (table_of result.now) }
@@ -114,21 +117,29 @@ impl<'a> IndexedTables<'a> {
         self.tables[place].table()
     }
 
-    /// The places of the atom of this number in the scopes of tables.
+    /// The rows of the table with this number, from 0.
+    pub(crate) fn rows(&self, place: usize) -> &RowIndex<'a>
+        requires { place < length (tables_of self.now) }
+        ensures { slice_get (tables_of self.now) place ≡ Some (indexed_in result.now) }
+    {
+        &self.rows[place]
+    }
+
+    /// Where the atom occurs in scopes.
     pub(crate) fn places_of(&self, number: u32) -> &[ScopePlace]
         ensures { result.now ≡ places_of self.now.scope_places number }
     {
         self.scope_places.of(number)
     }
 
-    /// How many tables there are.
+    /// The number of tables.
     pub fn len(&self) -> usize
         ensures { result ≡ length (tables_of self.now) }
     {
         self.tables.len()
     }
 
-    /// How many weights each row has.
+    /// The number of weights of each row.
     pub fn weight_count(&self) -> u32
         ensures { result ≡ count_of self.now }
     {
@@ -151,7 +162,7 @@ impl<'a> IndexedTables<'a> {
         Ok(false)
     }
 
-    /// Whether some row of the table at this place agrees with the literals, of which these tables may have atoms.
+    /// Whether a row of this table agrees with the literals, whose atoms are in the scopes of the `named` tables only.
     fn agrees_in(
         &self,
         alloc: Global,
@@ -170,63 +181,7 @@ impl<'a> IndexedTables<'a> {
         self.tables[table].some_agrees(alloc, literals)
     }
 
-    /// Whether an instance of these literals and changes leads from rows that agree to rows only, of each table. If so, the total
-    /// at each place is the most that it may lose by all tables, by the weights there.
-    ///
-    /// # Errors
-    /// Where memory is refused.
-    pub(crate) fn lose(
-        &self,
-        alloc: Global,
-        literals: &[NumberedLiteral],
-        changes: &[CountingChange<'_>],
-        losses: &mut Losses,
-    ) -> Result<bool, NoMemory>
-        requires { HasLosses (count_of self.now) losses.old }
-        ensures lost { IfOk result (LosesByEachOfAll (count_of self.now) (map numbered_of literals.now) (map conditional_of changes.now) (tables_of self.now) losses.new.total.items) }
-        ensures room { OnOk result (HasLosses (count_of self.now) losses.new) }
-    {
-        let named = self.named_by_changes(alloc, changes)?;
-        clear(&mut losses.total);
-        for table in 0..self.tables.len() {
-            if !self.add_lost(alloc, table, &named, literals, changes, losses)? {
-                return Ok(false);
-            }
-        }
-        Ok(true)
-    }
-
-    /// Whether it leads from rows that agree to rows only, of the table at this place, where these tables may have atoms of the
-    /// changes in their scope. If so, what it may lose by this table is added to the totals.
-    fn add_lost(
-        &self,
-        alloc: Global,
-        table: usize,
-        named: &Packed,
-        literals: &[NumberedLiteral],
-        changes: &[CountingChange<'_>],
-        losses: &mut Losses,
-    ) -> Result<bool, NoMemory>
-        requires there { table < length (tables_of self.now) }
-        requires named { AreMarked self.now.by_atom (length (tables_of self.now)) (map (λ (c : numbered.NumberedChange). c.atom) (map counting_of changes.now)) (bits_of named.now) }
-        requires room { HasLosses (count_of self.now) losses.old }
-        requires small { All IsSmall losses.old.total.items }
-        ensures added { (t : functions.Table) → slice_get (tables_of self.now) table ≡ Some t
-            → IfOk result (AddsLosses (count_of self.now) (map numbered_of literals.now) (map conditional_of changes.now) t losses.old.total.items losses.new.total.items) }
-        ensures room { OnOk result (HasLosses (count_of self.now) losses.new) }
-    {
-        if !named.has(table as u32) {
-            return Ok(true);
-        }
-        let indexed = &self.tables[table];
-        if !indexed.loses_by_each(alloc, literals, changes, &mut losses.by_table)? {
-            return Ok(false);
-        }
-        add_up(&mut losses.total, &losses.by_table);
-        Ok(true)
-    }
-
-    /// The most that rows that agree with the literals give, one of each table, by the weights at this place.
+    /// The greatest sum of weights for the value at `place` of rows that agree with the literals, one from each table.
     ///
     /// # Errors
     /// Where memory is refused.
@@ -248,7 +203,7 @@ impl<'a> IndexedTables<'a> {
         Ok(total)
     }
 
-    /// The tables that have an atom of one of the literals in their scope.
+    /// The tables with an atom of a literal in their scope.
     fn named_by_literals(
         &self,
         alloc: Global,
@@ -263,8 +218,8 @@ impl<'a> IndexedTables<'a> {
         Ok(named)
     }
 
-    /// The tables that have an atom of one of the changes in their scope.
-    fn named_by_changes(
+    /// The tables with an atom of a change in their scope.
+    pub(crate) fn named_by_changes(
         &self,
         alloc: Global,
         changes: &[CountingChange<'_>],
@@ -279,7 +234,7 @@ impl<'a> IndexedTables<'a> {
     }
 }
 
-/// For each of so many atoms the tables that have it in their scope.
+/// The tables by the atoms of their scopes.
 fn by_atom(alloc: Global, width: u32, tables: &[IndexedTable<'_>]) -> Result<Lists, NoMemory>
     requires few { length tables.now < 2 ^ 24 }
     requires scopes { IsTrue (are_over width (map indexed_of tables.now)) }
@@ -290,4 +245,18 @@ fn by_atom(alloc: Global, width: u32, tables: &[IndexedTable<'_>]) -> Result<Lis
         lists.file_at_all(tables[number].table().scope(), number as u32)?;
     }
     Ok(lists)
+}
+
+/// The rows of each table by their keys.
+fn row_indexes<'a>(
+    alloc: Global,
+    tables: &[IndexedTable<'a>],
+) -> Result<Vec<RowIndex<'a>>, NoMemory>
+    ensures { IfOk result (λ rows. map indexed_in rows.items ≡ map indexed_of tables.now) }
+{
+    let mut rows = Vec::new(alloc);
+    for indexed in tables {
+        rows.push(RowIndex::new(alloc, indexed.table())?)?;
+    }
+    Ok(rows)
 }

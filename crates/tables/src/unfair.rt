@@ -1,36 +1,41 @@
-//! The first of several values that is not fair for an instance, in one walk over the instances.
-ghost use Rattle.std.specs.Prelude.{◌≡◌, ◌<◌, IfOk, OnOk, Some, length, slice_get};
+//! The first of several values that is not fair for an instance.
+ghost use Rattle.std.specs.Prelude.{◌≡◌, ◌<◌, IfOk, Some, length, slice_get};
 ghost use Rattle.grounding.specs.Ground.{task_in, atoms_in};
 ghost use Rattle.model.specs.NumberedLiterals.{literals_of_number};
 ghost use Rattle.model.specs.ConditionalChanges.{conditional_of_number};
 ghost use Rattle.model.specs.Task.{Instance};
 ghost use Rattle.model.specs.StaticallyFalse.{kept_instances};
-ghost use Rattle.table_functions.specs.FairTables.{IsFairAt};
+ghost use Rattle.lower_bounds.specs.FairTables.{IsFairAt};
 ghost use Rattle.tables.specs.AllTables.{tables_of, count_of};
 ghost use Rattle.tables.specs.Several.{several_of, width_of};
-ghost use Rattle.tables.specs.TotalLosses.{HasLosses, AreLossesByAll};
+ghost use Rattle.tables.specs.TotalLosses.{AreLossesByAll, IsKnownAfter};
 ghost use Rattle.tables.specs.Unfair.{function_in, allowance_in, places_in, earlier_of, IsFairIn, IsFirstOf, IsFirstUnfairValue};
 ghost use Rattle.tables.specs.Unfair as model;
 
-use crate::fairness::is_instance_shut_out;
-use crate::losses::Losses;
+use crate::losses::{Losses, Standing};
 use crate::several::TableFunctions;
 use faults::NoMemory;
 use grounding::Ground;
 use potentials::instance_count;
 use std::alloc::Global;
 
-/// The first of several values that is not fair for an instance, and the first instance for which it is not.
+/// The first of several values that is not fair for an instance, and the first such instance.
 #[derive(Clone, Copy)]
 pub(crate) struct Unfair {
-    /// The value's place, from 0. That for dead ends comes after the others.
+    /// The value's place, from 0. That for dead ends is the last.
     pub(crate) place: u32,
     /// The instance's number.
     pub(crate) number: u32,
 }
 
+/// The number of instances that a table is applied to before the next table is.
+const BLOCK: u32 = 512;
+
 impl TableFunctions<'_> {
-    /// The first value that is not fair for some kept instance, and the first such instance, if there is one.
+    /// The first value that is not fair for a kept instance, and the first such instance, if there is one.
+    ///
+    /// # Errors
+    /// An allocation failed.
     pub(crate) fn first_unfair(
         &self,
         alloc: Global,
@@ -39,11 +44,17 @@ impl TableFunctions<'_> {
         requires { width_of self.now ≡ length (atoms_in ground.now) }
         ensures { IfOk result (IsFirstUnfairValue (task_in ground.now) (atoms_in ground.now) (several_of self.now)) }
     {
-        let mut losses = Losses::new(alloc, self.tables.weight_count())?;
+        let count = instance_count(ground);
         let mut first = None;
-        for number in 0..instance_count(ground) {
-            let place = self.first_place(alloc, ground, number, &mut losses)?;
-            first = earlier(first, place, number);
+        for block in 0..count / BLOCK + 1 {
+            let start = block * BLOCK;
+            let losses = self
+                .tables
+                .losses(alloc, ground, start, BLOCK.min(count - start))?;
+            for index in 0..losses.len() {
+                let place = self.first_place(ground, &losses[index]);
+                first = earlier(first, place, start + index as u32);
+            }
             if self.places_before(first) == 0 {
                 return Ok(first);
             }
@@ -51,7 +62,7 @@ impl TableFunctions<'_> {
         Ok(first)
     }
 
-    /// How many values are before that, or how many there are with that for dead ends.
+    /// The number of values before this one; of all values, with that for dead ends, if there is none.
     pub(crate) fn places_before(&self, first: Option<Unfair>) -> u32
         ensures { result ≡ model.places_before (places_in (several_of self.now)) first }
     {
@@ -61,34 +72,21 @@ impl TableFunctions<'_> {
         }
     }
 
-    /// The place of the first value that is not fair for the instance of this number, if it is not shut out and there is one.
-    fn first_place(
-        &self,
-        alloc: Global,
-        ground: &Ground<'_>,
-        number: u32,
-        losses: &mut Losses,
-    ) -> Result<Option<u32>, NoMemory>
+    /// The place of the first value that is not fair for the instance with these losses by all tables, if there is one.
+    fn first_place(&self, ground: &Ground<'_>, losses: &Losses) -> Option<u32>
         requires fits { width_of self.now ≡ length (atoms_in ground.now) }
-        requires within { number < length (kept_instances (task_in ground.now)) }
-        requires room { HasLosses (count_of self.now.tables) losses.old }
-        ensures first { (i : Instance) → slice_get (kept_instances (task_in ground.now)) number ≡ Some i
-            → IfOk result (IsFirstOf (λ k. IsFairIn (task_in ground.now) (atoms_in ground.now) (several_of self.now) k i) (places_in (several_of self.now))) }
-        ensures room { OnOk result (HasLosses (count_of self.now.tables) losses.new) }
+        requires known { IsKnownAfter self.now.tables (task_in ground.now) (atoms_in ground.now) (length (tables_of self.now.tables)) losses.now }
+        ensures { (i : Instance) → slice_get (kept_instances (task_in ground.now)) losses.now.number ≡ Some i
+            → IsFirstOf (λ k. IsFairIn (task_in ground.now) (atoms_in ground.now) (several_of self.now) k i) (places_in (several_of self.now)) result }
     {
-        if is_instance_shut_out(alloc, ground, &self.tables, number)? {
-            return Ok(None);
+        match losses.standing {
+            Standing::ShutOut => None,
+            Standing::LeadsOut => Some(0),
+            Standing::Stays => self.first_place_with(ground, losses.number, &losses.total),
         }
-        let literals = ground.literals(number);
-        let changes = ground.counting(number);
-        if !self.tables.lose(alloc, literals, changes, losses)? {
-            return Ok(Some(0));
-        }
-        Ok(self.first_place_with(ground, number, &losses.total))
     }
 
-    /// The place of the first value that is not fair for the instance of this number, which loses by the tables so much at each
-    /// place.
+    /// The same for an instance that stays on rows, by its number and its greatest losses.
     fn first_place_with(&self, ground: &Ground<'_>, number: u32, total: &[i64]) -> Option<u32>
         requires fits { width_of self.now ≡ length (atoms_in ground.now) }
         requires within { number < length (kept_instances (task_in ground.now)) }
@@ -107,7 +105,7 @@ impl TableFunctions<'_> {
     }
 }
 
-/// The first value so far, or that at this place, which is not fair for the next instance, if it comes before.
+/// The first value so far, or that at this place, which is not fair for the next instance, if its place is lesser.
 fn earlier(first: Option<Unfair>, place: Option<u32>, number: u32) -> Option<Unfair>
     ensures { result ≡ earlier_of first place number }
 {
@@ -117,7 +115,7 @@ fn earlier(first: Option<Unfair>, place: Option<u32>, number: u32) -> Option<Unf
     }
 }
 
-/// The one whose value comes before, the first one where it is the same.
+/// The one whose value has the lesser place; `first`, if it is the same.
 fn least_of(first: Option<Unfair>, next: Unfair) -> Unfair
     ensures { result ≡ model.least_of first next }
 {

@@ -1,7 +1,7 @@
-//! The values of states.
+//! The values of states, found by what is known of another.
 ghost use Rattle.std.specs.Prelude.{◌≡◌, ◌<◌, ◌^◌, ◌+ℤ◌, ◌≤ℤ◌, pos, IsTrue, MatchOption, Some, false, true, length, max, nat_le, slice_get, slice_index_or};
 ghost use Rattle.packed_state.specs.Packed.{bits_of};
-ghost use Rattle.table_functions.specs.TableFunctions.{TableFunction, functions_of, dead_ends_of, greatest_value, is_dead_by, has_rows, value};
+ghost use Rattle.lower_bounds.specs.TableFunctions.{TableFunction, functions_of, dead_ends_of, greatest_value, is_dead_by, has_rows, value};
 ghost use Rattle.tables.specs.AllTables.{tables_of, count_of};
 ghost use Rattle.tables.specs.Several.{several_of, state_of, width_of, Knows};
 
@@ -11,8 +11,7 @@ use packed_state::Packed;
 use potentials::or_zero;
 
 impl TableFunctions<'_> {
-    /// The greatest of the values of the state, 0 where a table has no row for it. What is known is moved to the state. No memory
-    /// is taken.
+    /// The greatest of the values of the state, 0 where a table has no row for it. Brings `known` to the state. No memory is taken.
     pub fn value(&self, state: &Packed, known: &mut KnownState) -> u64
         requires width { length (bits_of state.now) ≡ width_of self.now }
         requires known { Knows self.now known.old }
@@ -26,8 +25,7 @@ impl TableFunctions<'_> {
         self.greatest(known)
     }
 
-    /// Whether the greatest of the values of the state is at least this: they are asked one after another until one is. What is
-    /// known is moved to the state. No memory is taken.
+    /// Whether some value of the state is at least this. Brings `known` to the state. No memory is taken.
     pub fn is_worth(&self, least: u64, state: &Packed, known: &mut KnownState) -> bool
         requires width { length (bits_of state.now) ≡ width_of self.now }
         requires known { Knows self.now known.old }
@@ -41,7 +39,7 @@ impl TableFunctions<'_> {
         self.is_worth_with_rows(least, known)
     }
 
-    /// The greatest of the values of the state, unless it is dead. What is known is moved to the state. No memory is taken.
+    /// The greatest of the values of the state, unless it is dead. Brings `known` to the state. No memory is taken.
     pub fn value_unless_dead(&self, state: &Packed, known: &mut KnownState) -> Option<u64>
         requires width { length (bits_of state.now) ≡ width_of self.now }
         requires known { Knows self.now known.old }
@@ -57,8 +55,7 @@ impl TableFunctions<'_> {
         self.value_with_rows(known)
     }
 
-    /// Whether the state is dead: whether the value for dead ends is at least 1. What is known is moved to the state. No memory is
-    /// taken.
+    /// Whether the state is dead: the value for dead ends is at least 1. Brings `known` to the state. No memory is taken.
     pub fn is_dead_end(&self, state: &Packed, known: &mut KnownState) -> bool
         requires width { length (bits_of state.now) ≡ width_of self.now }
         requires known { Knows self.now known.old }
@@ -86,7 +83,7 @@ impl TableFunctions<'_> {
         Some(self.greatest(known))
     }
 
-    /// Whether the greatest of the values of a state that has all its rows is at least this.
+    /// Whether some value of a state that has all its rows is at least this.
     fn is_worth_with_rows(&self, least: u64, known: &KnownState) -> bool
         requires known { Knows self.now known.now }
         requires rows { has_rows (tables_of self.now.tables) (state_of known.now) ≡ true }
@@ -125,7 +122,7 @@ impl TableFunctions<'_> {
         greatest
     }
 
-    /// Whether a state is dead that has all its rows.
+    /// Whether a state that has all its rows is dead.
     fn is_dead_with_rows(&self, known: &KnownState) -> bool
         requires known { Knows self.now known.now }
         requires rows { has_rows (tables_of self.now.tables) (state_of known.now) ≡ true }
@@ -134,7 +131,7 @@ impl TableFunctions<'_> {
         or_zero(self.total(self.values.len(), known)) > 0
     }
 
-    /// What the state's atoms and its rows give, by the value at this place, of which that for dead ends is the last.
+    /// The score of the state's atoms plus the sum of its rows' weights, for the value at this place. That for dead ends is last.
     fn total(&self, place: usize, known: &KnownState) -> i64
         requires known { Knows self.now known.now }
         requires place { place < count_of self.now.tables }

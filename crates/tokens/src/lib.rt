@@ -1,13 +1,15 @@
-//! Splits a PDDL text into words with their spans.
+//! Splits a PDDL text into words with their spans, and says which bytes are a name.
 #![tactic(auto)]
 
 mod form;
 mod laws;
+mod names;
 mod run;
 mod scanner;
 mod word;
 
 pub use form::{Form, part_end};
 pub use laws::{one_fault, one_reading};
+pub use names::is_name;
 pub use scanner::{LONGEST_TEXT, scan};
 pub use word::{Kind, Word};

@@ -6,8 +6,8 @@ ghost use Rattle.std.specs.Char.{is_ascii_digit};
 ghost use Rattle.tokens.specs.Word.{kind_of};
 ghost use Rattle.model.specs.Words.{is_name, is_marked_name, is_number, is_only, kind_of_run};
 
+use crate::names::is_name;
 use crate::word::Kind;
-use names::is_name;
 
 /// The kind of word that the run is, if it is a word.
 pub(crate) fn kind_of_run(run: &[u8]) -> Option<Kind>

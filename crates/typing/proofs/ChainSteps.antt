@@ -6,10 +6,10 @@ use Rattle.std.specs.Global.{Vec}
 use Rattle.indexmap.specs.IndexMap.{set_value_at}
 use Rattle.task.specs.declared.atoms.TypeId.{TypeId}
 use Rattle.task.specs.TaskParts.{type_entry_of, type_of}
-use Rattle.task_parts.specs.Scope.{keys_in}
+use Rattle.typing_names.specs.Scope.{keys_in}
 use Rattle.model.specs.Typing.{TypingFault, Declared, chain, comes_back, cycle_faults_from, refused_word, types_from, whole_chain}
-use Rattle.task_parts.specs.Walk.{found}
-use Rattle.task_parts.proofs.Found.{found-append}
+use Rattle.typing_names.specs.Walk.{Findings, found}
+use Rattle.typing_names.proofs.Found.{found-append}
 
 -- one more type, other than `object`
 pub one_type_more : (parents : List ℕ) (n i next after : ℕ) (so_far whole : List ℕ) → i < n → (next ≡ 0 → ⊥) → after ≡ slice_index parents next
@@ -43,7 +43,7 @@ back_fault false faults = refl
 
 -- one more type is examined
 pub cycle_step : {X : Type 0} (parents : List ℕ) (seen : X → Declared) (xs : List X) (i : ℕ) (d : X) → i < length xs
-    → (least new whole : Option TypingFault)
+    → (least new whole : Findings)
     → new ≡ found least (if comes_back parents (i + 1) then refused_word (seen (get_or xs i d)).file 15 (seen (get_or xs i d)).name else [])
     → found least (cycle_faults_from parents (i + 1) (map seen (drop i xs))) ≡ whole
     → found new (cycle_faults_from parents ((i + 1) + 1) (map seen (drop (i + 1) xs))) ≡ whole
@@ -55,7 +55,7 @@ cycle_step parents seen xs i d l least new whole finds h =
     ∙ sym (ap (λ ys. found least (cycle_faults_from parents (i + 1) (map seen ys))) (drop_more xs i d l)) ∙ h
 
 pub cycle_end : {X : Type 0} (parents : List ℕ) (seen : X → Declared) (xs : List X) (i : ℕ) → length xs ≤ i
-    → (least whole : Option TypingFault) → found least (cycle_faults_from parents (i + 1) (map seen (drop i xs))) ≡ whole → least ≡ whole
+    → (least whole : Findings) → found least (cycle_faults_from parents (i + 1) (map seen (drop i xs))) ≡ whole → least ≡ whole
 cycle_end parents seen xs i l least whole h =
     sym (ap (λ ys. found least (cycle_faults_from parents (i + 1) (map seen ys))) (drop_all i xs l)) ∙ h
 

@@ -5,14 +5,14 @@ use Rattle.std.specs.List.{list_any}
 use Rattle.std.specs.Option.{option_map, option_map_or, option_copied}
 use Rattle.std.proofs.lemmas.List.Folds.{list_any-append}
 use Rattle.std.proofs.Math.Bool.{or-false, or_assoc}
-use Rattle.syntax_tree.specs.declared.name.Name.{Name}
-use Rattle.syntax_tree.specs.Tree.{name_of}
+use Rattle.pddl_tree_parts.specs.declared.terms.Name.{Name}
+use Rattle.pddl_tree_parts.specs.Tree.{name_of}
 use Rattle.model.specs.Task as task
 use Rattle.model.specs.Trees.{TaskFile, problem_file}
 use Rattle.model.specs.Trees as tree
 use Rattle.model.specs.Typing.{Placed, TypingFault, folded, is_same, is_known, names_of_predicates, placed, predicate_in, refused, refused_word, total_cost, with_name}
-use Rattle.task_parts.specs.Walk.{found}
-use Rattle.task_parts.proofs.Found.{map-map}
+use Rattle.typing_names.specs.Walk.{Findings, found}
+use Rattle.typing_names.proofs.Found.{map-map}
 
 -- whether a name is among the declared ones, with one more, and after some more
 any_with : (q : task.Name) (before : List task.Name) (name : tree.Name) → list_any (is_same q) (with_name before name) ≡ (list_any (is_same q) before || is_same q (folded name))
@@ -52,14 +52,14 @@ metric_reported has_cost lent metric is = by lent ∙ ap (λ o. metric_faults ha
     by (Some n) = refl
 
 -- one more `=`, which is refused unless it is the first
-pub equals_more : (none_yet : Bool) (file : TaskFile) (word : tree.Name) (rest : List Placed) (old new : Option TypingFault)
+pub equals_more : (none_yet : Bool) (file : TaskFile) (word : tree.Name) (rest : List Placed) (old new : Findings)
     → new ≡ found old (if none_yet then [] else refused_word file 23 word)
     → found new (refused 23 rest) ≡ found old (refused 23 (drop (if none_yet then 1 else 0) (placed file word ∷ rest)))
 equals_more true file word rest old new is = ap (λ o. found o (refused 23 rest)) is
 equals_more false file word rest old new is = ap (λ o. found o (refused 23 rest)) is
 
 -- and the end
-pub equals_end : (none_yet : Bool) (least : Option TypingFault) → found least (refused 23 (drop (if none_yet then 1 else 0) [])) ≡ least
+pub equals_end : (none_yet : Bool) (least : Findings) → found least (refused 23 (drop (if none_yet then 1 else 0) [])) ≡ least
 equals_end true least = refl
 equals_end false least = refl
 

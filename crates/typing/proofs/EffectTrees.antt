@@ -5,14 +5,14 @@ use Rattle.std.specs.List.{flat_map}
 use mathlib.Core.Former.{Count}
 use Rattle.task.specs.declared.schemas.Effect.{Effect, Row_of-Effect, end_of-Effect, more_of-Effect, items-the_row-Effect, items_hidden-the_row-Effect-0}
 use Rattle.task.specs.declared.schemas.Effect as effect
-use Rattle.syntax_tree.specs.declared.tree.Effect as read_effect
-use Rattle.syntax_tree.specs.Tree as read
-use Rattle.syntax_tree.proofs.Rows as rows
+use Rattle.pddl_tree_parts.specs.declared.tree.Effect as read_effect
+use Rattle.pddl_tree_parts.specs.Tree as read
+use Rattle.pddl_tree_parts.proofs.Rows as rows
 use Rattle.task.specs.TaskParts.{effect_of, effects_of}
 use Rattle.model.specs.Task as task
 use Rattle.model.specs.Trees.{TaskFile, effects}
 use Rattle.model.specs.Typing.{Known, TypingFault, effect_in, effects_in, effect_faults, effects_faults, each_of}
-use Rattle.task_parts.specs.Walk.{found}
+use Rattle.typing_names.specs.Walk.{Findings, found}
 
 abbrev pub joined_effects : List task.Effect → task.Effects
 joined_effects [] = task.no_effect
@@ -49,7 +49,7 @@ module _ (file : TaskFile) (known : Known) (whole : read_effect.Effect) (parts :
       ∙ ap task.both (ap joined_effects (are ∙ ap (map (λ x. effect_in file known (read.effect_of x))) same) ∙ sym (effects_in-joined file known parts.items))
       ∙ ap (effect_in file known) (sym (ap read.effect_of is ∙ rows.effect_of-And parts))
 
-  pub both_faults_by_parts : (least before : Option TypingFault) → least ≡ found before (flat_map (λ x. effect_faults file known (read.effect_of x)) items)
+  pub both_faults_by_parts : (least before : Findings) → least ≡ found before (flat_map (λ x. effect_faults file known (read.effect_of x)) items)
       → least ≡ found before (effect_faults file known (read.effect_of whole))
   both_faults_by_parts least before finds =
       finds ∙ ap (λ ys. found before (flat_map (λ x. effect_faults file known (read.effect_of x)) ys)) same

@@ -8,3 +8,4 @@ pub mod ChainSteps
 pub mod WellTyped
 pub mod Tasks
 pub mod TypedTasks
+pub mod ListedLemmas

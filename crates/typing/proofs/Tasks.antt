@@ -13,16 +13,16 @@ use Rattle.model.proofs.Tests.{passes_got}
 use Rattle.typing.specs.declared.names.Declarations.{Declarations}
 use Rattle.typing.specs.declared.names.DeclaredObjects.{DeclaredObjects}
 use Rattle.typing.specs.declared.names.Start.{Start}
-use Rattle.task_parts.specs.declared.type_names.TypeTable.{TypeTable}
+use Rattle.typing_names.specs.declared.type_names.TypeTable.{TypeTable}
 use Rattle.typing.specs.Declarations.{type_faults_of, domain_faults, contents_faults, stated_faults_in, AreContents, AreTypesOf}
 use Rattle.task.specs.TaskParts.{task_of_parts}
 use Rattle.task.specs.declared.parts.TaskParts.{TaskParts}
-use Rattle.typing.specs.Task.{TaskFault, ReportsLeastOf, ReportsLeastFault}
-use Rattle.task_parts.specs.Scope.{narrow_atoms_in}
-use Rattle.task_parts.proofs.Reports.{reports_here, reports_later}
-use Rattle.task_parts.proofs.Empty.{nil_left, nil_right, not_refused, and_true}
+use Rattle.typing.specs.Task.{PairFault, ReportsAll, ReportsFaults}
+use Rattle.typing_names.specs.Scope.{narrow_atoms_in}
+use Rattle.typing_names.proofs.Reports.{reports_here, reports_later}
+use Rattle.typing_names.proofs.Empty.{nil_left, nil_right, not_refused, and_true}
 use Rattle.typing.proofs.ParentChains.{all_whole, descends_on_chain, type_at, among_Contains, Contains_among}
-use Rattle.task_parts.proofs.Declared.{names_are}
+use Rattle.typing_names.proofs.Declared.{names_are}
 use Rattle.typing.proofs.Declaring.{parents_low, none_comes_back}
 use Rattle.typing.proofs.WellTyped.{Fits, declared_count, arities_fit, schemas_fit, facts_fit, own_faults, formula_fits}
 
@@ -203,14 +203,14 @@ parts_of types objects names start has_metric = record {
 
 module _ (d : tree.Domain) (p : tree.Problem) where
   -- the fault reported for the types is the pair's
-  pub reported_of_types : (e : TaskFault) → ReportsLeastOf (type_faults_of d p) e → ReportsLeastFault d p e
-  reported_of_types e h = subst (λ fs. ReportsLeastOf fs e) (sym (faults_by_parts d p)) (reports_here (type_faults_of d p) _ e h)
+  pub reported_of_types : (e : PairFault) → ReportsAll (type_faults_of d p) e → ReportsFaults d p e
+  reported_of_types e h = subst (λ fs. ReportsAll fs e) (sym (faults_by_parts d p)) (reports_here (type_faults_of d p) _ e h)
 
   module _ (no_type : type_faults_of d p ≡ []) where
     -- and so is that of the other declarations and statements, if the types have none
-    pub reported_of_contents : (e : TaskFault) → ReportsLeastOf (contents_faults d p) e → ReportsLeastFault d p e
+    pub reported_of_contents : (e : PairFault) → ReportsAll (contents_faults d p) e → ReportsFaults d p e
     reported_of_contents e h =
-        subst (λ fs. ReportsLeastOf fs e) (sym (faults_by_parts d p)) (reports_later (type_faults_of d p) _ no_type e (reports_here (contents_faults d p) [] e h))
+        subst (λ fs. ReportsAll fs e) (sym (faults_by_parts d p)) (reports_later (type_faults_of d p) _ no_type e (reports_here (contents_faults d p) [] e h))
 
     pub made_by_phases : (types : TypeTable) → AreTypesOf d types → (objects : DeclaredObjects) (names : Declarations) (start : Start) → AreContents d p objects names start → (has_metric : Bool) → has_metric ≡ is_some p.metric
         → IsMade d p (task_of_parts (parts_of types objects names start has_metric))

@@ -10,8 +10,8 @@ use Rattle.model.specs.Trees as tree
 use Rattle.model.specs.Trees.{TaskFile}
 use Rattle.model.specs.Typing.{Known, TypingFault, atom_in, differing, fact_faults, facts_faults, in_function, is_named, value_faults, values_after, values_in, with_value}
 use Rattle.model.proofs.TypingFaultsPhases.{values_after-append}
-use Rattle.task_parts.specs.Walk.{found}
-use Rattle.task_parts.proofs.Found.{found-append}
+use Rattle.typing_names.specs.Walk.{Findings, found}
+use Rattle.typing_names.proofs.Found.{found-append}
 
 -- ---- one more value
 
@@ -63,7 +63,7 @@ module _ {X : Type 0} (known : Known) (seen : X → tree.Fact) (xs : List X) (i 
         ap (λ values. values_after known values (map seen (drop (i + 1) xs))) adds ∙ sym (values_after-append known old (seen x ∷ []) (map seen (drop (i + 1) xs)))
         ∙ ap (λ ys. values_after known old (map seen ys)) (sym split) ∙ h
 
-    pub facts_step : (file : TaskFile) (least reported whole : Option TypingFault) → reported ≡ found least (fact_faults file known (seen x) ++ value_faults file known old (seen x))
+    pub facts_step : (file : TaskFile) (least reported whole : Findings) → reported ≡ found least (fact_faults file known (seen x) ++ value_faults file known old (seen x))
         → found least (facts_faults file known old (map seen (drop i xs))) ≡ whole → found reported (facts_faults file known new (map seen (drop (i + 1) xs))) ≡ whole
     facts_step file least reported whole finds h =
         let rest = map seen (drop (i + 1) xs) in
@@ -76,5 +76,5 @@ module _ {X : Type 0} (known : Known) (seen : X → tree.Fact) (xs : List X) (i 
     pub values_end : (whole : List task.FunctionValue) → values_after known values (map seen (drop i xs)) ≡ whole → values ≡ whole
     values_end whole h = sym (ap (λ ys. values_after known values (map seen ys)) (drop_all i xs past)) ∙ h
 
-    pub facts_end : (file : TaskFile) (least whole : Option TypingFault) → found least (facts_faults file known values (map seen (drop i xs))) ≡ whole → least ≡ whole
+    pub facts_end : (file : TaskFile) (least whole : Findings) → found least (facts_faults file known values (map seen (drop i xs))) ≡ whole → least ≡ whole
     facts_end file least whole h = sym (ap (λ ys. found least (facts_faults file known values (map seen ys))) (drop_all i xs past)) ∙ h

@@ -1,25 +1,25 @@
 //! The actions of a domain.
 ghost use Rattle.std.specs.Prelude.{◌≡◌, [], map, IfErr, IfOk, OnOk};
 ghost use Rattle.task.specs.TaskParts as parts;
-ghost use Rattle.task_parts.specs.Scope.{known_outside, known_over};
-ghost use Rattle.typing.specs.Task.{file_of, ReportsLeastOf};
-ghost use Rattle.task_parts.specs.Walk.{Finds};
-ghost use Rattle.syntax_tree.specs.Tree as read;
+ghost use Rattle.typing_names.specs.Scope.{known_outside, known_over};
+ghost use Rattle.typing.specs.Task.{file_of, ReportsAll};
+ghost use Rattle.typing_names.specs.Walk.{Finds};
+ghost use Rattle.pddl_tree_parts.specs.Tree as read;
 ghost use Rattle.model.specs.Trees.{domain_file};
 ghost use Rattle.model.specs.Typing as typing;
 ghost use Rattle.std.specs.List.{flat_map};
 
 use crate::effects::effect;
 use crate::functions::increase;
-use crate::{TaskFault, TaskFile};
+use crate::{PairFault, TaskFile};
 use faults::NoMemory;
 use indexmap::IndexMap;
+use pddl_tree_parts::{Action, Domain};
 use std::alloc::Global;
-use syntax_tree::{Action, Domain};
 use task::{Schema, TypeUnion};
-use task_parts::domain::{declare, put};
-use task_parts::formulas::{enter, formula};
-use task_parts::{Globals, Walk};
+use typing_names::domain::{declare, put};
+use typing_names::formulas::{enter, formula};
+use typing_names::{Globals, Walk};
 
 /// The schema of an action with these parameters, given the variables in scope.
 fn body(
@@ -106,15 +106,29 @@ pub(crate) fn schemas(
     alloc: Global,
     globals: &Globals<'_>,
     domain: &Domain<'_>,
-) -> Result<IndexMap<Vec<u8>, Schema>, TaskFault>
+) -> Result<IndexMap<Vec<u8>, Schema>, PairFault>
     ensures ok { IfOk result
         (λ m. (typing.action_faults (known_outside globals.now) (read.domain_of domain.now).actions ≡ [])
         × (map parts.schema_of m.entries ≡ map (typing.schema_in (known_outside globals.now)) (read.domain_of domain.now).actions)) }
-    ensures err { IfErr result (ReportsLeastOf (typing.action_faults (known_outside globals.now) (read.domain_of domain.now).actions)) }
+    ensures err { IfErr result (ReportsAll (typing.action_faults (known_outside globals.now) (read.domain_of domain.now).actions)) }
 {
-    let mut walk = Walk::new(alloc);
-    let actions = domain.actions.as_slice();
-    declare_actions(alloc, &mut walk, actions)?;
-    let schemas = table(alloc, &mut walk, globals, actions)?;
+    let mut walk = Walk::new(alloc)?;
+    let schemas = walked_actions(alloc, &mut walk, globals, domain)?;
     walk.finish(schemas)
+}
+
+/// The same. Faults are recorded in the walk.
+pub(crate) fn walked_actions(
+    alloc: Global,
+    walk: &mut Walk,
+    globals: &Globals<'_>,
+    domain: &Domain<'_>,
+) -> Result<IndexMap<Vec<u8>, Schema>, NoMemory>
+    ensures table { IfOk result (λ m. typing.action_faults (known_outside globals.now) (read.domain_of domain.now).actions ≡ []
+        → map parts.schema_of m.entries ≡ map (typing.schema_in (known_outside globals.now)) (read.domain_of domain.now).actions) }
+    ensures finds { OnOk result (Finds walk.old walk.new (typing.action_faults (known_outside globals.now) (read.domain_of domain.now).actions)) }
+{
+    let actions = domain.actions.as_slice();
+    declare_actions(alloc, walk, actions)?;
+    table(alloc, walk, globals, actions)
 }

@@ -1,23 +1,23 @@
 //! The types of a domain and their chains of parents, up to `object`.
 ghost use Rattle.std.specs.Prelude.{◌≡◌, ◌≤◌, ◌<◌, ◌+◌, [], if◌then◌else◌, length, map, slice_index, IfErr, IfOk, OnOk};
 ghost use Rattle.task.specs.TaskParts as parts;
-ghost use Rattle.task_parts.specs.TypedLists.{declared_of};
-ghost use Rattle.task_parts.specs.Scope.{keys_in};
-ghost use Rattle.typing.specs.Task.{ReportsLeastOf};
+ghost use Rattle.typing_names.specs.TypedLists.{declared_of};
+ghost use Rattle.typing_names.specs.Scope.{keys_in};
+ghost use Rattle.typing.specs.Task.{ReportsAll};
 ghost use Rattle.typing.specs.Chains.{AreTypes, cycles};
 ghost use Rattle.typing.specs.Declarations.{type_faults_of, AreTypesOf};
-ghost use Rattle.task_parts.specs.Walk.{Finds};
-ghost use Rattle.syntax_tree.specs.Tree as read;
+ghost use Rattle.typing_names.specs.Walk.{Finds};
+ghost use Rattle.pddl_tree_parts.specs.Tree as read;
 ghost use Rattle.model.specs.Typing as typing;
 
-use crate::{TaskFault, TaskFile};
+use crate::{PairFault, TaskFile};
 use faults::{Code, NoMemory};
 use indexmap::IndexMap;
+use pddl_tree_parts::{Domain, Problem};
 use std::alloc::Global;
-use syntax_tree::{Domain, Problem};
 use task::TypeId;
-use task_parts::typed_lists::{Declared, collect};
-use task_parts::{TypeTable, Walk, domain};
+use typing_names::typed_lists::{Declared, collect};
+use typing_names::{TypeTable, Walk, domain};
 
 /// The parent of a type; `object` if there is no such type.
 fn parent(parents: &[TypeId], id: TypeId) -> TypeId
@@ -108,12 +108,12 @@ fn filled(
     alloc: Global,
     names: TypeTable,
     declared: &[Declared<'_>],
-) -> Result<TypeTable, TaskFault>
+) -> Result<TypeTable, PairFault>
     requires { length declared.now ≤ 4095 }
     ensures ok { IfOk result (λ t. AreTypes (keys_in names.by_name.entries) (map declared_of declared.now) t.by_name.entries) }
-    ensures err { IfErr result (ReportsLeastOf (cycles (keys_in names.by_name.entries) (map declared_of declared.now))) }
+    ensures err { IfErr result (ReportsAll (cycles (keys_in names.by_name.entries) (map declared_of declared.now))) }
 {
-    let mut walk = Walk::new(alloc);
+    let mut walk = Walk::new(alloc)?;
     let list = names.parents(alloc, &mut walk.folded, declared)?;
     let parents = list.as_slice();
     check_cycles(alloc, &mut walk, parents, declared)?;
@@ -127,10 +127,10 @@ pub fn types(
     alloc: Global,
     domain: &Domain<'_>,
     problem: &Problem<'_>,
-) -> Result<TypeTable, TaskFault>
+) -> Result<TypeTable, PairFault>
     ensures ok { IfOk result
         (λ t. (type_faults_of (read.domain_of domain.now) (read.problem_of problem.now) ≡ []) × AreTypesOf (read.domain_of domain.now) t) }
-    ensures err { IfErr result (ReportsLeastOf (type_faults_of (read.domain_of domain.now) (read.problem_of problem.now))) }
+    ensures err { IfErr result (ReportsAll (type_faults_of (read.domain_of domain.now) (read.problem_of problem.now))) }
 {
     let groups = domain.types.as_slice();
     let list = collect(alloc, TaskFile::Domain, groups)?;

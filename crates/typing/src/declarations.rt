@@ -1,24 +1,24 @@
 //! The domain's declarations of names with arguments: predicates and functions.
 ghost use Rattle.std.specs.Prelude.{◌≡◌, [], fold, map, IfErr, IfOk, OnOk};
 ghost use Rattle.task.specs.TaskParts as parts;
-ghost use Rattle.task_parts.specs.Scope.{keys_in};
-ghost use Rattle.typing.specs.Task.{ReportsLeastOf};
-ghost use Rattle.task_parts.specs.Walk.{Finds};
-ghost use Rattle.syntax_tree.specs.Tree as read;
+ghost use Rattle.typing_names.specs.Scope.{keys_in};
+ghost use Rattle.typing.specs.Task.{ReportsAll};
+ghost use Rattle.typing_names.specs.Walk.{Finds};
+ghost use Rattle.pddl_tree_parts.specs.Tree as read;
 ghost use Rattle.model.specs.Trees.{domain_file};
 ghost use Rattle.model.specs.Typing as typing;
 ghost use Rattle.std.specs.List.{flat_map};
 
-use crate::{TaskFault, TaskFile};
+use crate::{PairFault, TaskFile};
 use faults::NoMemory;
 use indexmap::IndexMap;
+use pddl_tree_parts::{Domain, Predicate as Declaration};
 use std::alloc::Global;
-use syntax_tree::{Domain, Predicate as Declaration};
 use task::{MAX_ARGUMENTS, Predicate, TypeUnion};
-use task_parts::domain::declare;
-use task_parts::typed_lists::{collect, limit};
-use task_parts::types::check_all;
-use task_parts::{TypeTable, Walk};
+use typing_names::domain::declare;
+use typing_names::typed_lists::{collect, limit};
+use typing_names::types::check_all;
+use typing_names::{TypeTable, Walk};
 
 /// The types of each argument of a declaration.
 fn arguments(
@@ -111,13 +111,13 @@ pub fn predicates(
     alloc: Global,
     types: &TypeTable,
     domain: &Domain<'_>,
-) -> Result<IndexMap<Vec<u8>, Predicate>, TaskFault>
+) -> Result<IndexMap<Vec<u8>, Predicate>, PairFault>
     ensures ok { IfOk result
         (λ m. (typing.declaration_faults (keys_in types.now.by_name.entries) (read.domain_of domain.now).predicates ≡ [])
         × (map parts.predicate_of m.entries ≡ map (typing.predicate_in (keys_in types.now.by_name.entries)) (read.domain_of domain.now).predicates)) }
-    ensures err { IfErr result (ReportsLeastOf (typing.declaration_faults (keys_in types.now.by_name.entries) (read.domain_of domain.now).predicates)) }
+    ensures err { IfErr result (ReportsAll (typing.declaration_faults (keys_in types.now.by_name.entries) (read.domain_of domain.now).predicates)) }
 {
-    let mut walk = Walk::new(alloc);
+    let mut walk = Walk::new(alloc)?;
     let predicates = declared(alloc, &mut walk, types, &domain.predicates)?;
     walk.finish(predicates)
 }

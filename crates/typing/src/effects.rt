@@ -2,21 +2,21 @@
 ghost use Rattle.std.specs.Prelude.{◌≡◌, ◌++◌, map, IfOk, OnOk};
 ghost use Rattle.std.specs.List.{flat_map};
 ghost use Rattle.task.specs.TaskParts as parts;
-ghost use Rattle.task_parts.specs.Scope.{known_over};
+ghost use Rattle.typing_names.specs.Scope.{known_over};
 ghost use Rattle.typing.specs.Task.{file_of};
-ghost use Rattle.task_parts.specs.Walk.{Finds};
-ghost use Rattle.syntax_tree.specs.Tree as read;
+ghost use Rattle.typing_names.specs.Walk.{Finds};
+ghost use Rattle.pddl_tree_parts.specs.Tree as read;
 ghost use Rattle.model.specs.Task as task;
 ghost use Rattle.model.specs.Typing as typing;
 
 use faults::NoMemory;
 use indexmap::IndexMap;
+use pddl_tree_parts as tree;
+use pddl_tree_parts::Group;
 use std::alloc::Global;
-use syntax_tree as tree;
-use syntax_tree::Group;
 use task::{Effect, EffectLiteral, TypeUnion};
-use task_parts::formulas::{enter, formula};
-use task_parts::{Globals, Walk};
+use typing_names::formulas::{enter, formula};
+use typing_names::{Globals, Walk};
 
 /// A literal of an effect.
 fn literal(

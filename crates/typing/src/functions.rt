@@ -3,23 +3,23 @@ ghost use Rattle.std.specs.Prelude.{◌≡◌, [], ◌++◌, drop, if◌then◌e
 ghost use Rattle.std.specs.List.{flat_map};
 ghost use Rattle.std.specs.Option.{option_map_or};
 ghost use Rattle.task.specs.TaskParts as parts;
-ghost use Rattle.task_parts.specs.Scope.{keys_in, known_over};
-ghost use Rattle.typing.specs.Task.{file_of, ReportsLeastOf};
-ghost use Rattle.task_parts.specs.Walk.{Finds};
-ghost use Rattle.syntax_tree.specs.Tree as read;
+ghost use Rattle.typing_names.specs.Scope.{keys_in, known_over};
+ghost use Rattle.typing.specs.Task.{file_of, ReportsAll};
+ghost use Rattle.typing_names.specs.Walk.{Finds};
+ghost use Rattle.pddl_tree_parts.specs.Tree as read;
 ghost use Rattle.model.specs.Trees.{problem_file};
 ghost use Rattle.model.specs.Task as task;
 ghost use Rattle.model.specs.Typing as typing;
 
 use crate::declarations::declared;
-use crate::{TaskFault, TaskFile};
+use crate::{PairFault, TaskFile};
 use faults::{Code, NoMemory};
 use indexmap::IndexMap;
+use pddl_tree_parts as tree;
+use pddl_tree_parts::{Action, Amount, Domain, Name, Problem};
 use std::alloc::Global;
-use syntax_tree as tree;
-use syntax_tree::{Action, Amount, Domain, Name, Problem};
 use task::{Increase, Predicate, TypeUnion};
-use task_parts::{Globals, TypeTable, Walk, declares_cost};
+use typing_names::{Globals, TypeTable, Walk, declares_cost};
 
 /// Refuses the metric if the total cost is not declared.
 fn check_metric(walk: &mut Walk, has_cost: bool, metric: Option<&Name<'_>>)
@@ -37,14 +37,14 @@ pub fn functions(
     types: &TypeTable,
     domain: &Domain<'_>,
     problem: &Problem<'_>,
-) -> Result<IndexMap<Vec<u8>, Predicate>, TaskFault>
+) -> Result<IndexMap<Vec<u8>, Predicate>, PairFault>
     requires { keys_in types.now.by_name.entries ≡ typing.type_names (read.domain_of domain.now) }
     ensures ok { IfOk result
         (λ m. (typing.function_faults (read.domain_of domain.now) (read.problem_of problem.now) ≡ [])
         × (map parts.predicate_of m.entries ≡ typing.functions_of (read.domain_of domain.now))) }
-    ensures err { IfErr result (ReportsLeastOf (typing.function_faults (read.domain_of domain.now) (read.problem_of problem.now))) }
+    ensures err { IfErr result (ReportsAll (typing.function_faults (read.domain_of domain.now) (read.problem_of problem.now))) }
 {
-    let mut walk = Walk::new(alloc);
+    let mut walk = Walk::new(alloc)?;
     let functions = declared(alloc, &mut walk, types, &domain.functions)?;
     let has_cost = declares_cost(&functions);
     check_metric(&mut walk, has_cost, problem.metric.as_ref());

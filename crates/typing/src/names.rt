@@ -1,12 +1,12 @@
 //! The names that a domain and a problem declare, and the problem's initial state and goal.
 ghost use Rattle.std.specs.Prelude.{◌≡◌, ◌≤◌, [], length, IfErr, IfOk};
 
-use crate::{TaskFault, TaskFile, actions, declarations, functions, statements};
+use crate::{PairFault, TaskFile, actions, declarations, functions, statements};
 use indexmap::IndexMap;
+use pddl_tree_parts::{Domain, Problem};
 use std::alloc::Global;
-use syntax_tree::{Domain, Problem};
 use task::{Atom, Formula, Predicate, Schema, TypeId};
-use task_parts::{Globals, TypeTable};
+use typing_names::{Globals, TypeTable};
 
 /// The constants, and all objects with the constants first.
 #[derive(Drop)]
@@ -36,10 +36,10 @@ pub(crate) struct Start {
 }
 
 impl Declarations {
-    ghost use Rattle.typing.specs.Task.{ReportsLeastOf};
+    ghost use Rattle.typing.specs.Task.{ReportsAll};
     ghost use Rattle.typing.specs.Declarations.{domain_faults, known_by, known_in, stated_faults_in, AreDeclared, AreSchemasOf, AreTypesOf, Starts};
     ghost use Rattle.typing.specs.DeclaredObjects.{AreObjectsOf};
-    ghost use Rattle.syntax_tree.specs.Tree.{domain_of, problem_of};
+    ghost use Rattle.pddl_tree_parts.specs.Tree.{domain_of, problem_of};
     ghost use Rattle.model.specs.Trees.{problem_file};
     ghost use Rattle.model.specs.Typing.{action_faults};
 
@@ -50,12 +50,12 @@ impl Declarations {
         objects: &DeclaredObjects,
         domain: &Domain<'_>,
         problem: &Problem<'_>,
-    ) -> Result<Declarations, TaskFault>
+    ) -> Result<Declarations, PairFault>
         requires types { AreTypesOf (domain_of domain.now) types.now }
         requires objects { AreObjectsOf (domain_of domain.now) (problem_of problem.now) objects.now }
         ensures ok { IfOk result
             (λ n. (domain_faults (domain_of domain.now) (problem_of problem.now) ≡ []) × AreDeclared (domain_of domain.now) n) }
-        ensures err { IfErr result (ReportsLeastOf (domain_faults (domain_of domain.now) (problem_of problem.now))) }
+        ensures err { IfErr result (ReportsAll (domain_faults (domain_of domain.now) (problem_of problem.now))) }
     {
         let predicates = declarations::predicates(alloc, types, domain)?;
         let functions = functions::functions(alloc, types, domain, problem)?;
@@ -82,9 +82,9 @@ impl Declarations {
         predicates: &IndexMap<Vec<u8>, Predicate>,
         functions: &IndexMap<Vec<u8>, Predicate>,
         domain: &Domain<'_>,
-    ) -> Result<IndexMap<Vec<u8>, Schema>, TaskFault>
+    ) -> Result<IndexMap<Vec<u8>, Schema>, PairFault>
         ensures ok { IfOk result (λ m. AreSchemasOf (known_in types.now objects.now.constants.entries predicates.now.entries functions.now.entries) (domain_of domain.now) m.entries) }
-        ensures err { IfErr result (ReportsLeastOf (action_faults (known_in types.now objects.now.constants.entries predicates.now.entries functions.now.entries) (domain_of domain.now).actions)) }
+        ensures err { IfErr result (ReportsAll (action_faults (known_in types.now objects.now.constants.entries predicates.now.entries functions.now.entries) (domain_of domain.now).actions)) }
     {
         let globals = Globals {
             file: TaskFile::Domain,
@@ -103,9 +103,9 @@ impl Declarations {
         types: &TypeTable,
         objects: &DeclaredObjects,
         problem: &Problem<'_>,
-    ) -> Result<Start, TaskFault>
+    ) -> Result<Start, PairFault>
         ensures ok { IfOk result (Starts problem_file (known_by types.now objects.now self.now) (problem_of problem.now)) }
-        ensures err { IfErr result (ReportsLeastOf (stated_faults_in problem_file (known_by types.now objects.now self.now) (problem_of problem.now))) }
+        ensures err { IfErr result (ReportsAll (stated_faults_in problem_file (known_by types.now objects.now self.now) (problem_of problem.now))) }
     {
         let globals = Globals {
             file: TaskFile::Problem,
@@ -119,19 +119,19 @@ impl Declarations {
 }
 
 impl Start {
-    ghost use Rattle.typing.specs.Task.{file_of, ReportsLeastOf};
-    ghost use Rattle.task_parts.specs.Scope.{known_outside};
+    ghost use Rattle.typing.specs.Task.{file_of, ReportsAll};
+    ghost use Rattle.typing_names.specs.Scope.{known_outside};
     ghost use Rattle.typing.specs.Declarations.{stated_faults_in, Starts};
-    ghost use Rattle.syntax_tree.specs.Tree.{problem_of};
+    ghost use Rattle.pddl_tree_parts.specs.Tree.{problem_of};
 
     /// The problem's initial state and goal, given the names visible in it.
     fn stated_in(
         alloc: Global,
         globals: &Globals<'_>,
         problem: &Problem<'_>,
-    ) -> Result<Start, TaskFault>
+    ) -> Result<Start, PairFault>
         ensures ok { IfOk result (Starts (file_of globals.now.file) (known_outside globals.now) (problem_of problem.now)) }
-        ensures err { IfErr result (ReportsLeastOf (stated_faults_in (file_of globals.now.file) (known_outside globals.now) (problem_of problem.now))) }
+        ensures err { IfErr result (ReportsAll (stated_faults_in (file_of globals.now.file) (known_outside globals.now) (problem_of problem.now))) }
     {
         let variables = IndexMap::new(alloc);
         let init = statements::init(alloc, globals, &variables, problem)?;

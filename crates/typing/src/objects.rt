@@ -1,26 +1,26 @@
 //! The domain's constants and the problem's objects, and their types.
 ghost use Rattle.std.specs.Prelude.{◌≡◌, ◌≤◌, [], ◌++◌, length, map, take, IfErr, IfOk, OnOk};
 ghost use Rattle.task.specs.TaskParts as parts;
-ghost use Rattle.task_parts.specs.TypedLists.{declared_of};
+ghost use Rattle.typing_names.specs.TypedLists.{declared_of};
 ghost use Rattle.typing.specs.DeclaredObjects.{AreMade, AreObjects};
-ghost use Rattle.task_parts.specs.Scope.{keys_in};
-ghost use Rattle.typing.specs.Task.{ReportsLeastOf};
-ghost use Rattle.task_parts.specs.Walk.{Finds};
-ghost use Rattle.syntax_tree.specs.Tree as read;
+ghost use Rattle.typing_names.specs.Scope.{keys_in};
+ghost use Rattle.typing.specs.Task.{ReportsAll};
+ghost use Rattle.typing_names.specs.Walk.{Finds};
+ghost use Rattle.pddl_tree_parts.specs.Tree as read;
 ghost use Rattle.model.specs.Trees.{domain_file, problem_file};
 ghost use Rattle.model.specs.Typing as typing;
 
 use crate::names::DeclaredObjects;
-use crate::{TaskFault, TaskFile};
+use crate::{PairFault, TaskFile};
 use faults::NoMemory;
 use indexmap::IndexMap;
+use pddl_tree_parts::{Domain, Group, Problem};
 use std::alloc::Global;
-use syntax_tree::{Domain, Group, Problem};
 use task::{MAX_OBJECTS, TypeId};
-use task_parts::domain::declare;
-use task_parts::typed_lists::{Declared, add, limit};
-use task_parts::types::check_all;
-use task_parts::{TypeTable, Walk};
+use typing_names::domain::declare;
+use typing_names::typed_lists::{Declared, add, limit};
+use typing_names::types::check_all;
+use typing_names::{TypeTable, Walk};
 
 /// The declared objects.
 fn table(
@@ -46,12 +46,12 @@ fn all(
     alloc: Global,
     types: &TypeTable,
     declared: &[Declared<'_>],
-) -> Result<IndexMap<Vec<u8>, TypeId>, TaskFault>
+) -> Result<IndexMap<Vec<u8>, TypeId>, PairFault>
     ensures ok { IfOk result (λ m. (typing.objects_faults (keys_in types.now.by_name.entries) (map declared_of declared.now) ≡ [])
         × ((map parts.object_entry_of m.entries ≡ map (typing.object_in (keys_in types.now.by_name.entries)) (map declared_of declared.now)) × (length m.entries ≤ 65535))) }
-    ensures err { IfErr result (ReportsLeastOf (typing.objects_faults (keys_in types.now.by_name.entries) (map declared_of declared.now))) }
+    ensures err { IfErr result (ReportsAll (typing.objects_faults (keys_in types.now.by_name.entries) (map declared_of declared.now))) }
 {
-    let mut walk = Walk::new(alloc);
+    let mut walk = Walk::new(alloc)?;
     check_all(&mut walk, &types.by_name, declared)?;
     let objects = table(alloc, &mut walk, types, declared)?;
     limit(&mut walk, declared, MAX_OBJECTS);
@@ -64,14 +64,14 @@ fn made(
     types: &TypeTable,
     declared: &[Declared<'_>],
     count: usize,
-) -> Result<DeclaredObjects, TaskFault>
+) -> Result<DeclaredObjects, PairFault>
     requires { count ≤ length declared.now }
     ensures ok { IfOk result (AreMade (keys_in types.now.by_name.entries) (take count (map declared_of declared.now)) (map declared_of declared.now)) }
-    ensures err { IfErr result (ReportsLeastOf (typing.objects_faults (keys_in types.now.by_name.entries) (map declared_of declared.now))) }
+    ensures err { IfErr result (ReportsAll (typing.objects_faults (keys_in types.now.by_name.entries) (map declared_of declared.now))) }
 {
     let all = all(alloc, types, declared)?;
     let (first, _) = declared.split_at(count);
-    let constants = table(alloc, &mut Walk::new(alloc), types, first)?;
+    let constants = table(alloc, &mut Walk::new(alloc)?, types, first)?;
     Ok(DeclaredObjects { constants, all })
 }
 
@@ -81,10 +81,10 @@ fn of_lists<'t>(
     types: &TypeTable,
     constants: &'t [Group<'t>],
     objects: &'t [Group<'t>],
-) -> Result<DeclaredObjects, TaskFault>
+) -> Result<DeclaredObjects, PairFault>
     ensures ok { IfOk result (AreMade (keys_in types.now.by_name.entries) (typing.declared domain_file (map read.group_of constants.now))
         (typing.declared domain_file (map read.group_of constants.now) ++ typing.declared problem_file (map read.group_of objects.now))) }
-    ensures err { IfErr result (ReportsLeastOf (typing.objects_faults (keys_in types.now.by_name.entries)
+    ensures err { IfErr result (ReportsAll (typing.objects_faults (keys_in types.now.by_name.entries)
         (typing.declared domain_file (map read.group_of constants.now) ++ typing.declared problem_file (map read.group_of objects.now)))) }
 {
     let mut list = Vec::new(alloc);
@@ -100,9 +100,9 @@ pub fn of_pair(
     types: &TypeTable,
     domain: &Domain<'_>,
     problem: &Problem<'_>,
-) -> Result<DeclaredObjects, TaskFault>
+) -> Result<DeclaredObjects, PairFault>
     ensures ok { IfOk result (AreObjects (keys_in types.now.by_name.entries) (read.domain_of domain.now) (read.problem_of problem.now)) }
-    ensures err { IfErr result (ReportsLeastOf (typing.objects_faults (keys_in types.now.by_name.entries) (typing.declared_objects (read.domain_of domain.now) (read.problem_of problem.now)))) }
+    ensures err { IfErr result (ReportsAll (typing.objects_faults (keys_in types.now.by_name.entries) (typing.declared_objects (read.domain_of domain.now) (read.problem_of problem.now)))) }
 {
     let constants = domain.constants.as_slice();
     let objects = problem.objects.as_slice();

@@ -1,16 +1,17 @@
 //! The task of a domain and a problem.
-ghost use Rattle.std.specs.Prelude.{◌≡◌, IfErr, IfOk, OnOk};
+ghost use Rattle.std.specs.Prelude.{◌≡◌, List, IfErr, IfOk, OnOk};
 ghost use Rattle.task.specs.Task.{task_of};
-ghost use Rattle.typing.specs.Task.{ReportsFault, ReportsLeastFault};
+ghost use Rattle.typing.specs.Task.{ReportsAll, ReportsFault, ReportsFaults, ReportsLeastFault, ReportsLeastOf};
 ghost use Rattle.model.specs.Task as task;
 ghost use Rattle.model.specs.TypingFaults as typing_faults;
-ghost use Rattle.syntax_tree.specs.Tree.{domain_of, problem_of};
-ghost use Rattle.model.specs.Typing.{task_of_trees, ListsNoFault};
+ghost use Rattle.pddl_tree_parts.specs.Tree.{domain_of, problem_of};
+ghost use Rattle.model.specs.Typing.{task_of_trees, ListsNoFault, TypingFault};
 
 use crate::names::Declarations;
-use crate::{TaskFault, chains, objects};
+use crate::{PairFault, TaskFault, chains, objects};
+use faults::Refused;
+use pddl_tree_parts::{Domain, Problem};
 use std::alloc::Global;
-use syntax_tree::{Domain, Problem};
 use task::{Task, TaskParts};
 
 /// A task can be built from trees.
@@ -52,6 +53,28 @@ fn of_trees(alloc: Global, domain: &Domain<'_>, problem: &Problem<'_>) -> Result
     ensures well_typed { OnOk result (ListsNoFault (domain_of domain.now) (problem_of problem.now)) }
     ensures task { IfOk result (λ t. task_of t ≡ task_of_trees (domain_of domain.now) (problem_of problem.now)) }
     ensures least { IfErr result (ReportsLeastFault (domain_of domain.now) (problem_of problem.now)) }
+{
+    match made(alloc, domain, problem) {
+        Ok(task) => Ok(task),
+        Err(fault) => Err(least(fault)),
+    }
+}
+
+/// The least of the faults.
+fn least(fault: PairFault) -> TaskFault
+    ensures { (faults : List TypingFault) → ReportsAll faults fault → ReportsLeastOf faults result }
+{
+    match fault {
+        Refused::At(refusal) => Refused::At(refusal.first),
+        Refused::NoMemory => Refused::NoMemory,
+    }
+}
+
+/// The same, with all faults of the first phase that has any.
+fn made(alloc: Global, domain: &Domain<'_>, problem: &Problem<'_>) -> Result<Task, PairFault>
+    ensures well_typed { OnOk result (ListsNoFault (domain_of domain.now) (problem_of problem.now)) }
+    ensures task { IfOk result (λ t. task_of t ≡ task_of_trees (domain_of domain.now) (problem_of problem.now)) }
+    ensures reported { IfErr result (ReportsFaults (domain_of domain.now) (problem_of problem.now)) }
 {
     let types = chains::types(alloc, domain, problem)?;
     let objects = objects::of_pair(alloc, &types, domain, problem)?;

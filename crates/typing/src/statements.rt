@@ -1,22 +1,22 @@
 //! The problem's statements: its initial state and its goal.
 ghost use Rattle.std.specs.Prelude.{◌≡◌, [], ◌∷◌, ◌++◌, drop, if◌then◌else◌, map, IfErr, IfOk, OnOk};
 ghost use Rattle.task.specs.TaskParts as parts;
-ghost use Rattle.typing.specs.Task.{file_of, ReportsLeastOf};
-ghost use Rattle.task_parts.specs.Scope.{known_of, known_outside, known_over, narrow_atoms_in};
-ghost use Rattle.task_parts.specs.Walk.{found, least_of, Finds};
-ghost use Rattle.syntax_tree.specs.Tree as read;
+ghost use Rattle.typing.specs.Task.{file_of, ReportsAll};
+ghost use Rattle.typing_names.specs.Scope.{known_of, known_outside, known_over, narrow_atoms_in};
+ghost use Rattle.typing_names.specs.Walk.{found, found_by, Finds};
+ghost use Rattle.pddl_tree_parts.specs.Tree as read;
 ghost use Rattle.model.specs.Trees as tree;
 ghost use Rattle.model.specs.Typing as typing;
 ghost use Rattle.std.specs.List.{flat_map};
 
-use crate::{TaskFault, TaskFile};
+use crate::{PairFault, TaskFile};
 use faults::{Code, NoMemory};
 use indexmap::IndexMap;
+use pddl_tree_parts::{Fact, InitialCost, InitialValue, Problem};
 use std::alloc::Global;
-use syntax_tree::{Fact, InitialCost, InitialValue, Problem};
 use task::{Atom, Formula, TypeUnion};
-use task_parts::formulas::formula;
-use task_parts::{Globals, Scope, Walk};
+use typing_names::formulas::formula;
+use typing_names::{Globals, Scope, Walk};
 
 /// The statements of `:init`: the atoms that are true, and the values of functions.
 #[derive(Drop)]
@@ -132,8 +132,8 @@ fn stated(
 
 /// Refuses an initial total cost after the first. Returns whether the first is still to come.
 fn check_equals(walk: &mut Walk, file: TaskFile, none_yet: bool, fact: &Fact<'_>) -> bool
-    ensures { (rest : _) → found (least_of walk.new) (typing.refused 23 (drop (if result then 1 else 0) (typing.equals_in (file_of file) rest)))
-        ≡ found (least_of walk.old) (typing.refused 23 (drop (if none_yet then 1 else 0) (typing.equals_in (file_of file) (read.fact_of fact.now ∷ rest)))) }
+    ensures { (rest : _) → found (found_by walk.new) (typing.refused 23 (drop (if result then 1 else 0) (typing.equals_in (file_of file) rest)))
+        ≡ found (found_by walk.old) (typing.refused 23 (drop (if none_yet then 1 else 0) (typing.equals_in (file_of file) (read.fact_of fact.now ∷ rest)))) }
 {
     match fact {
         Fact::InitialCost(cost) => {
@@ -162,19 +162,34 @@ pub(crate) fn init(
     globals: &Globals<'_>,
     variables: &IndexMap<Vec<u8>, TypeUnion>,
     problem: &Problem<'_>,
-) -> Result<Initial, TaskFault>
+) -> Result<Initial, PairFault>
     ensures ok { IfOk result
         (λ s. (typing.init_faults (file_of globals.now.file) (known_over globals.now variables.now.entries) (read.problem_of problem.now).init ≡ [])
         × ((map parts.atom_of s.atoms.items ≡ flat_map (narrow_atoms_in (known_over globals.now variables.now.entries)) (read.problem_of problem.now).init)
         × (map parts.value_of s.values.entries ≡ typing.values_after (known_over globals.now variables.now.entries) [] (read.problem_of problem.now).init))) }
-    ensures err { IfErr result (ReportsLeastOf (typing.init_faults (file_of globals.now.file) (known_over globals.now variables.now.entries) (read.problem_of problem.now).init)) }
+    ensures err { IfErr result (ReportsAll (typing.init_faults (file_of globals.now.file) (known_over globals.now variables.now.entries) (read.problem_of problem.now).init)) }
 {
-    let mut walk = Walk::new(alloc);
-    let facts = problem.init.as_slice();
+    let mut walk = Walk::new(alloc)?;
     let scope = globals.with(variables);
-    let init = stated(alloc, &mut walk, &scope, facts)?;
-    check_all_equals(&mut walk, globals.file, facts);
+    let init = walked_init(alloc, &mut walk, &scope, problem)?;
     walk.finish(init)
+}
+
+/// The same. Faults are recorded in the walk.
+pub(crate) fn walked_init(
+    alloc: Global,
+    walk: &mut Walk,
+    scope: &Scope<'_>,
+    problem: &Problem<'_>,
+) -> Result<Initial, NoMemory>
+    ensures atoms { IfOk result (λ s. map parts.atom_of s.atoms.items ≡ flat_map (narrow_atoms_in (known_of scope.now)) (read.problem_of problem.now).init) }
+    ensures values { IfOk result (λ s. map parts.value_of s.values.entries ≡ typing.values_after (known_of scope.now) [] (read.problem_of problem.now).init) }
+    ensures finds { OnOk result (Finds walk.old walk.new (typing.init_faults (file_of scope.now.file) (known_of scope.now) (read.problem_of problem.now).init)) }
+{
+    let facts = problem.init.as_slice();
+    let init = stated(alloc, walk, scope, facts)?;
+    check_all_equals(walk, scope.file, facts);
+    Ok(init)
 }
 
 /// The goal.
@@ -182,13 +197,13 @@ pub(crate) fn goal(
     alloc: Global,
     globals: &Globals<'_>,
     problem: &Problem<'_>,
-) -> Result<Formula, TaskFault>
+) -> Result<Formula, PairFault>
     ensures ok { IfOk result
         (λ f. (typing.formula_faults (file_of globals.now.file) (known_outside globals.now) (read.problem_of problem.now).goal ≡ [])
         × (parts.formula_of f ≡ typing.formula_in (file_of globals.now.file) (known_outside globals.now) (read.problem_of problem.now).goal)) }
-    ensures err { IfErr result (ReportsLeastOf (typing.formula_faults (file_of globals.now.file) (known_outside globals.now) (read.problem_of problem.now).goal)) }
+    ensures err { IfErr result (ReportsAll (typing.formula_faults (file_of globals.now.file) (known_outside globals.now) (read.problem_of problem.now).goal)) }
 {
-    let mut walk = Walk::new(alloc);
+    let mut walk = Walk::new(alloc)?;
     let mut variables = IndexMap::new(alloc);
     let goal = formula(alloc, &mut walk, globals, &mut variables, &problem.goal)?;
     walk.finish(goal)

@@ -1,4 +1,4 @@
-//! What a closed certificate shows, with the plan that was given.
+//! The answer to a closed certificate and a plan.
 ghost use Rattle.std.specs.Prelude.{◌≡◌, ℕ, None, IsTrue, IfErr, IfOk};
 ghost use Rattle.std.specs.List.{list_all};
 ghost use Rattle.std.specs.Option.{ForSome, option_map};
@@ -13,15 +13,14 @@ ghost use Rattle.model.specs.Claims.{ClaimHolds};
 ghost use Rattle.certificate_definitions.specs.Certificates.{Certificate, IsClosedFor};
 
 use crate::checker::Accepted;
+use crate::refusal::{Refusal, RefusalCode};
 use certificate::Claim;
 use formulas::Plan;
 use std::alloc::Global;
 use task::Task;
-use task_certificates::{Refusal, RefusalCode};
 use validator::{Verdict, validate};
 
-/// What a certificate's claim, which is true, shows: of all plans, or that the plan given, if it costs no more, is
-/// optimal.
+/// The answer to a true claim: a statement on all plans, or that the given plan is optimal.
 pub(super) fn answer(
     alloc: Global,
     task: &Task,

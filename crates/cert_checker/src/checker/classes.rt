@@ -1,12 +1,12 @@
-//! The classes of alike states that a certificate lists.
+//! The listed states of a certificate, by classes of alike states.
 ghost use Rattle.std.specs.Prelude.{◌≡◌, ◌+◌, ◌<◌, length, map, slice_get, true, Contains, IfOk, OnOk, MatchOption, Some};
 ghost use Rattle.std.specs.List.{list_all};
 ghost use Rattle.grounding.specs.Ground.{task_in, atoms_in};
 ghost use Rattle.packed_state.specs.Packed.{bits_of};
 ghost use Rattle.packed_state.specs.PooledView.{pooled_width};
-ghost use Rattle.symmetries.specs.Orbits.{keeps_atoms};
-ghost use Rattle.task_symmetries.specs.Exchange.{exchange_of};
-ghost use Rattle.representatives.specs.Representatives.{atoms_of};
+ghost use Rattle.symmetries_definitions.specs.Orbits.{keeps_atoms};
+ghost use Rattle.symmetries.specs.Exchange.{exchange_of};
+ghost use Rattle.symmetries.specs.Representatives.{atoms_of};
 ghost use Rattle.certificate.specs.Certificate.{certificate_of, store_in};
 ghost use Rattle.cert_checker.specs.Classified.{key_by, keys_in, AreOfOneWidth, AreCheapestUpTo, IsKeptFor, AreClassified};
 ghost use Rattle.cert_checker.specs.CheapestPlaces.{costs_of};
@@ -16,24 +16,22 @@ use certificate::Cert;
 use faults::NoMemory;
 use grounding::Ground;
 use packed_state::{Packed, PooledStore, StateStore};
-use representatives::Representatives;
 use std::alloc::Global;
-use task_symmetries::Exchange;
+use symmetries::{Exchange, Representatives};
 
-/// The states that a certificate lists, by classes of alike ones: those with the same representative. Only the cheapest of a class
-/// counts.
+/// The cheapest listed state of each class. States with the same representative are alike and form a class.
 #[derive(Drop)]
 pub(super) struct Classes<'a, 't> {
     cert: &'a Cert,
     representatives: Representatives<'a, 't, 'a>,
-    /// The representatives of the listed states.
+    /// The representatives of listed states.
     keys: PooledStore,
-    /// For each of them the place of the cheapest state that has it.
+    /// For each of them, the place of the cheapest line whose state has it.
     cheapest: Vec<u32>,
 }
 
 impl<'a, 't> Classes<'a, 't> {
-    /// Those of the certificate's states.
+    /// The classes of the certificate's states.
     fn new(
         alloc: Global,
         cert: &'a Cert,
@@ -60,7 +58,7 @@ impl<'a, 't> Classes<'a, 't> {
         Ok(classes)
     }
 
-    /// Takes the state at this place into its class. The other state is lent to work with.
+    /// Adds the state at this place to its class. `state` is scratch.
     fn take(&mut self, place: usize, state: &mut Packed) -> Result<(), NoMemory>
         requires place { place < length (certificate_of self.old.cert.now).lines }
         requires state { length (bits_of state.old) ≡ pooled_width (store_in self.old.cert.now) }
@@ -86,7 +84,7 @@ impl<'a, 't> Classes<'a, 't> {
         Ok(())
     }
 
-    /// The place of the cheapest state that the certificate lists with the representative of this one, which is made that.
+    /// The place of the cheapest line whose state is alike this one, if any is. The state becomes its representative.
     pub(super) fn cheapest(&self, state: &mut Packed) -> Option<u32>
         requires state { length (bits_of state.old) ≡ length (atoms_of self.now.representatives) }
         requires width { pooled_width self.now.keys ≡ length (atoms_of self.now.representatives) }
@@ -102,7 +100,7 @@ impl<'a, 't> Classes<'a, 't> {
     }
 }
 
-/// The cost at which the certificate lists the state at this place.
+/// The cost of the certificate's line at this place.
 pub(super) fn cost_at(cert: &Cert, place: usize) -> u64
     requires { place < length (certificate_of cert.now).lines }
     ensures { slice_get (costs_of (certificate_of cert.now)) place ≡ Some result }
@@ -110,8 +108,7 @@ pub(super) fn cost_at(cert: &Cert, place: usize) -> u64
     cert.marks()[place].cost
 }
 
-/// The classes of the certificate's states by these exchanges, which are its own. `None` where there are none: a state is alike
-/// itself alone.
+/// The classes of the certificate's states by its exchanges. `None` if it has none: each state is then alike itself alone.
 pub(super) fn classes_by<'a, 't>(
     alloc: Global,
     grounded: &'a Ground<'t>,

@@ -1,4 +1,4 @@
-//! A certificate's listing in the ground task.
+//! A certificate's listing, over packed states of the ground task.
 ghost use Rattle.std.proofs.Props.{props};
 ghost use Rattle.grounding.specs.Ground.{task_in, atoms_in};
 ghost use Rattle.certificate.specs.Certificate.{certificate_of, store_in};
@@ -18,9 +18,8 @@ use packed_state::{Packed, StateStore};
 use std::alloc::Global;
 use tables::{KnownState, TableFunctions};
 
-/// A certificate of a ground task in which the certificate's atoms have the first numbers, with its states packed as the ground
-/// task's are, its values with a weight for each numbered atom, and the representatives by its exchanges. The values of versions 1
-/// and 2 are over no tables, and each state represents itself there.
+/// A certificate over a ground task that numbers the certificate's atoms first: its packed states, its values with a weight for
+/// each numbered atom, and its classes of alike states. Versions 1 and 2 have values over no tables, and no classes.
 #[derive(Drop)]
 pub(super) struct PackedListing<'a, 't> {
     pub(super) grounded: &'a Ground<'t>,
@@ -44,7 +43,7 @@ impl<'a, 't> PackedListing<'a, 't> {
     ghost use Rattle.certificate_definitions.specs.Certificates.{is_dead_end_of, lines_of, value_of, AreAlikeFor};
     ghost use Rattle.certificate_definitions.specs.CertificateRefusals.{IsListed};
 
-    /// That of the certificate.
+    /// The listing of the certificate.
     pub(super) fn new(
         grounded: &'a Ground<'t>,
         cert: &'a Cert,
@@ -67,7 +66,7 @@ impl<'a, 't> PackedListing<'a, 't> {
         }
     }
 
-    /// Copies the state that the line at this place lists.
+    /// Copies the state of the line at this place.
     pub(super) fn get(&self, place: usize, into: &mut Packed)
         requires within { place < length (certificate_at self.now).lines }
         requires packed { IsPacked self.now into.old }
@@ -78,7 +77,7 @@ impl<'a, 't> PackedListing<'a, 't> {
         self.cert.sets().get(place as u32, into);
     }
 
-    /// The least cost at which a state is listed that is alike, if any is. The state is left as its representative.
+    /// The least cost of a listed state that is alike, if there is one. The state becomes its representative.
     pub(super) fn least_cost(&self, state: &mut Packed) -> Option<u64>
         requires { IsPacked self.now state.old }
         ensures packed { IsPacked self.now state.new }
@@ -92,7 +91,7 @@ impl<'a, 't> PackedListing<'a, 't> {
         }
     }
 
-    /// The place of the line that lists a state that is alike at the least cost, if any is. The state is left as its representative.
+    /// The place of the cheapest line whose state is alike, if there is one. The state becomes its representative.
     fn cheapest(&self, state: &mut Packed) -> Option<u32>
         requires { IsPacked self.now state.old }
         ensures packed { IsPacked self.now state.new }
@@ -106,14 +105,14 @@ impl<'a, 't> PackedListing<'a, 't> {
         }
     }
 
-    /// What is known of a state, to be lent to the calls that ask for the values of others.
+    /// An evaluation to start from; the calls below move it from state to state.
     pub(super) fn known_state(&self, alloc: Global) -> Result<KnownState, NoMemory>
         ensures { IfOk result (IsKnownIn self.now) }
     {
         self.values.known_state(alloc)
     }
 
-    /// Whether the state's value, which what is still to pay from it on does not fall short of, is at least this.
+    /// Whether the state's value, a lower bound on the remaining cost, is at least this.
     pub(super) fn is_worth(&self, least: u64, state: &Packed, known: &mut KnownState) -> bool
         requires state { IsPacked self.now state.now }
         requires known { IsKnownIn self.now known.old }
@@ -123,7 +122,7 @@ impl<'a, 't> PackedListing<'a, 't> {
         self.values.is_worth(least, state, known)
     }
 
-    /// Whether the certificate's value for dead ends says that the state is one.
+    /// Whether the state is a dead end by the certificate's value for dead ends.
     pub(super) fn is_dead_end(&self, state: &Packed, known: &mut KnownState) -> bool
         requires state { IsPacked self.now state.now }
         requires known { IsKnownIn self.now known.old }

@@ -1,11 +1,11 @@
-//! Whether no action leads out of the listing at less than is claimed.
+//! The test of a certificate against the ground task.
 ghost use Rattle.std.specs.Prelude.{◌≡◌, ◌≢◌, ℕ, ◌+◌, ◌<◌, ◌↔◌, AllPairs, List, length, map, slice_get, Option, None, Some, IsTrue, IfErr, IfOk, OnOk};
 ghost use Rattle.std.specs.List.{list_all};
 ghost use Rattle.task.specs.Task.{task_of};
 ghost use Rattle.packed_state.specs.Packed.{bits_of};
 ghost use Rattle.grounding.specs.Ground.{task_in, atoms_in, IsGroundOf};
 ghost use Rattle.certificate_reader.specs.Lines.{claim_of};
-ghost use Rattle.task_symmetries.specs.Exchange.{exchange_of};
+ghost use Rattle.symmetries.specs.Exchange.{exchange_of};
 ghost use Rattle.packed_state.specs.PooledView.{pooled_width};
 ghost use Rattle.certificate.specs.Certificate.{certificate_of, store_in};
 ghost use Rattle.cert_checker.specs.CertChecker.{IsFirstRefusal, IsTrueRefusal};
@@ -22,23 +22,23 @@ ghost use Rattle.model.specs.Grounding.{applicable_numbers};
 ghost use Rattle.certificate_definitions.specs.Certificates.{is_dead_end_of, lines_of, AreAlikeFor, AreFairFor};
 ghost use Rattle.cert_checker.specs.Weights.{AreCounted};
 ghost use Rattle.certificate_definitions.specs.CertificateRefusals.{state_line};
-ghost use Rattle.task_certificates.specs.declared.refusal.Refusal.TheVariants as Refusal;
+ghost use Rattle.cert_checker.specs.declared.refusal.Refusal.TheVariants as Refusal;
 
 use crate::checker::classes::classes_by;
 use crate::checker::packed::PackedListing;
 use crate::checker::symmetry::symmetric_exchanges;
 use crate::checker::values::fair_values;
+use crate::refusal::{Refusal, RefusalCode};
 use certificate::{Cert, Claim, Mark};
 use grounding::{Ground, GroundFault};
 use packed_state::Packed;
 use std::alloc::Global;
+use symmetries::Exchange;
 use tables::KnownState;
 use task::Task;
-use task_certificates::{Refusal, RefusalCode};
-use task_symmetries::Exchange;
 
-/// Grounds the task, and checks the certificate: whether its exchanges are symmetries, its values are fair and that for dead ends is
-/// dead-fair, whether a state that is alike the initial one is listed at cost 0, and the state lines in order.
+/// Grounds the task and checks, in this order: the exchanges are symmetries; the values are fair, that for dead ends dead-fair;
+/// a state alike the initial one is listed at cost 0; each state line is right.
 pub(super) fn check_cert(
     alloc: Global,
     task: &Task,
@@ -58,7 +58,7 @@ pub(super) fn check_cert(
     check_grounded(alloc, &grounded, cert)
 }
 
-/// The ground task in which the certificate's atoms have the first numbers.
+/// The ground task, which numbers the certificate's atoms first.
 fn ground_task<'t>(
     alloc: Global,
     task: &'t Task,
@@ -79,7 +79,7 @@ fn ground_task<'t>(
     }
 }
 
-/// Checks the certificate by the ground task in which its atoms have the first numbers.
+/// Checks the certificate against the ground task, which numbers its atoms first.
 fn check_grounded(alloc: Global, grounded: &Ground<'_>, cert: Cert) -> Result<(), Refusal>
     requires counted { AreCounted cert }
     requires said { IsTrue (list_all (is_said (task_in grounded.now)) (certificate_of cert).exchanges) }
@@ -94,7 +94,7 @@ fn check_grounded(alloc: Global, grounded: &Ground<'_>, cert: Cert) -> Result<()
     check_symmetric(alloc, grounded, &cert, exchanges.as_slice())
 }
 
-/// Checks the certificate, whose sets are as wide as the ground task's, by its exchanges, which are symmetries.
+/// Checks the certificate, whose exchanges are symmetries and whose sets are as wide as the ground task's.
 fn check_symmetric(
     alloc: Global,
     grounded: &Ground<'_>,
@@ -117,8 +117,8 @@ fn check_symmetric(
     check_packed(alloc, &packed)
 }
 
-/// Checks the certificate's states, where its values are fair and that for dead ends is dead-fair: whether a state that is
-/// alike the initial one is listed at cost 0, and the state lines in order.
+/// Checks the listing of a certificate with fair values: a state alike the initial one is listed at cost 0, and each state line is
+/// right.
 fn check_packed(alloc: Global, listing: &PackedListing) -> Result<(), Refusal>
     requires { AreFairFor (task_at listing.now) (certificate_at listing.now) }
     ensures right { OnOk result (IsRightGrounded (task_at listing.now) (certificate_at listing.now)) }
@@ -129,7 +129,7 @@ fn check_packed(alloc: Global, listing: &PackedListing) -> Result<(), Refusal>
     check_lines(alloc, listing)
 }
 
-/// Whether a state that is alike the initial one is listed at cost 0.
+/// Checks that a state alike the initial one is listed at cost 0.
 fn check_initial(alloc: Global, listing: &PackedListing) -> Result<(), Refusal>
     ensures right { OnOk result (IsListedWithin (AreAlikeFor (task_at listing.now) (certificate_at listing.now)) (lines_of (task_at listing.now) (certificate_at listing.now)) (meaning.system_of (task_at listing.now)).initial 0) }
     ensures wrong { IfErr result (IsTrueAnyway (task_at listing.now) (certificate_at listing.now)) }
@@ -144,8 +144,7 @@ fn check_initial(alloc: Global, listing: &PackedListing) -> Result<(), Refusal>
     }
 }
 
-/// Checks the state lines in order: the successors and the costs of open states, the bounds of cuts, and the values of dead
-/// ends.
+/// Checks the state lines in order.
 fn check_lines(alloc: Global, listing: &PackedListing) -> Result<(), Refusal>
     ensures right { OnOk result ((place : ℕ) (line : claims.Line meaning.State) → slice_get (lines_of (task_at listing.now) (certificate_at listing.now)) place ≡ Some line
         → IsLineClosed (task_at listing.now) (certificate_at listing.now) line) }
@@ -171,8 +170,7 @@ fn check_lines(alloc: Global, listing: &PackedListing) -> Result<(), Refusal>
     Ok(())
 }
 
-/// Checks the state line at this place. The state, the next one, the numbers and what is known of the state of a line
-/// before are lent to work with.
+/// Checks the state line at this place. The last four parameters are scratch; `known` moves from line to line.
 fn check_line(
     listing: &PackedListing,
     place: usize,
@@ -203,7 +201,7 @@ fn check_line(
     }
 }
 
-/// Checks this open state, which is listed at this place and this cost: its goal, and its successors in order.
+/// Checks an open state, its place and cost given: first the goal, then the successors in order.
 fn check_open(
     listing: &PackedListing,
     place: usize,
@@ -228,7 +226,7 @@ fn check_open(
     check_successors(listing, place, cost, state, numbers, next)
 }
 
-/// Checks the goal in this open state, which is listed at this place and this cost.
+/// Checks that an open state that meets the goal costs no less than claimed.
 fn check_goal(
     listing: &PackedListing,
     place: usize,
@@ -250,8 +248,8 @@ fn check_goal(
     }
 }
 
-/// Checks the successors of this open state, which is listed at this place and this cost: whether states that are alike are listed. The
-/// numbers are those of the instances that are applicable in it.
+/// Checks that for each successor of an open state, by the instances with these numbers, an alike state is listed, at no more than
+/// the cost of the step after `cost`.
 fn check_successors(
     listing: &PackedListing,
     place: usize,
@@ -285,8 +283,7 @@ fn check_successors(
     Ok(())
 }
 
-/// Checks the cut of this state, which is listed at this place and this cost, and reported to have at least `rest` still to
-/// pay.
+/// Checks a cut: the state's value is at least `rest`, and `cost` and `rest` together are no less than claimed.
 fn check_cut(
     listing: &PackedListing,
     place: usize,
@@ -313,7 +310,7 @@ fn check_cut(
     }
 }
 
-/// Checks this state, which is listed at this place as a dead end.
+/// Checks that the state, listed at this place as a dead end, is one by its value.
 fn check_dead(
     listing: &PackedListing,
     place: usize,
@@ -347,7 +344,7 @@ fn allows(claim: Claim, cost: u64) -> bool
     }
 }
 
-/// The refusal of the state line at this place, from 0, by its line.
+/// Refuses the state line at this place, from 0, by its line.
 fn state_line(code: RefusalCode, cert: &Cert, place: usize) -> Refusal
     requires { place < length (certificate_of cert.now).lines }
     ensures { result ≡ Refusal.Line code (state_line (certificate_of cert.now) place) }

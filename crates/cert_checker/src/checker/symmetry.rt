@@ -1,34 +1,33 @@
-//! The exchanges of a certificate, if they are symmetries of the task.
+//! The test that a certificate's exchanges are symmetries of the task.
 ghost use Rattle.std.specs.Prelude.{◌≡◌, ◌++◌, ◌<◌, ◌^◌, true, IsTrue, IfErr, IfOk, OnOk, Option, None, Some, if◌then◌else◌, map};
 ghost use Rattle.std.specs.List.{list_all};
 ghost use Rattle.std.specs.Option.{option_map};
 ghost use Rattle.task.specs.Task.{task_of};
 ghost use Rattle.grounding.specs.Ground.{task_in, atoms_in};
-ghost use Rattle.task_symmetries.specs.Exchange.{exchange_of};
-ghost use Rattle.task_symmetries.specs.Pairs.{exchange_among, pairs_in};
-ghost use Rattle.task_symmetries.specs.SymmetryTest.{task_tested};
-ghost use Rattle.symmetries.specs.Exchanges.{objects_in};
-ghost use Rattle.symmetries.specs.Orbits.{keeps_atoms};
+ghost use Rattle.symmetries.specs.Exchange.{exchange_of};
+ghost use Rattle.symmetries.specs.ObjectPairs.{exchange_among, pairs_in};
+ghost use Rattle.symmetries.specs.SymmetryTest.{task_tested};
+ghost use Rattle.symmetries_definitions.specs.Exchanges.{objects_in};
+ghost use Rattle.symmetries_definitions.specs.Orbits.{keeps_atoms};
 ghost use Rattle.certificate.specs.Certificate.{certificate_of};
 ghost use Rattle.certificate_definitions.specs.CertificateRefusals.{exchange_line};
 ghost use Rattle.cert_checker.specs.CheckedLines.{AreSymmetries, IsFirstGrounded, IsTrueAnyway};
 ghost use Rattle.cert_checker.specs.Exchanged.{is_said, is_symmetry_by};
 ghost use Rattle.cert_checker.specs.FluentAtoms.{AreFluent};
 ghost use Rattle.cert_checker.specs.Represented.{Represents};
-ghost use Rattle.task_certificates.specs.declared.refusal.Refusal.TheVariants as Refusal;
-ghost use Rattle.task_certificates.specs.declared.refusal.RefusalCode.TheVariants.{NotSymmetry};
+ghost use Rattle.cert_checker.specs.declared.refusal.Refusal.TheVariants as Refusal;
+ghost use Rattle.cert_checker.specs.declared.refusal.RefusalCode.TheVariants.{NotSymmetry};
 ghost use Rattle.model.specs.NumberedAtoms.{numbered_atoms};
 
+use crate::refusal::{Refusal, RefusalCode};
 use certificate::Cert;
 use faults::NoMemory;
 use grounding::Ground;
-use representatives::Representatives;
 use std::alloc::Global;
+use symmetries::{Exchange, Representatives, SymmetryTest, exchanged_numbers};
 use task::{ObjectId, Task};
-use task_certificates::{Refusal, RefusalCode};
-use task_symmetries::{Exchange, SymmetryTest, exchanged_numbers};
 
-/// The certificate's exchanges, each of which is a symmetry of the task and takes numbered atoms to numbered atoms.
+/// The certificate's exchanges, if each is a symmetry of the task and maps numbered atoms to numbered atoms.
 pub(super) fn symmetric_exchanges(
     alloc: Global,
     cert: &Cert,
@@ -49,7 +48,7 @@ pub(super) fn symmetric_exchanges(
     tested_exchanges(alloc, cert, grounded, &test)
 }
 
-/// The same, by the test of this task.
+/// The same, with the task's test of symmetry.
 fn tested_exchanges(
     alloc: Global,
     cert: &Cert,
@@ -76,7 +75,7 @@ fn tested_exchanges(
     Ok(made)
 }
 
-/// The exchange of these pairs, if it is a symmetry of the task and takes numbered atoms to numbered atoms.
+/// The exchange of these pairs, if it is a symmetry of the task and maps numbered atoms to numbered atoms.
 fn symmetric_exchange(
     alloc: Global,
     pairs: &[(ObjectId, ObjectId)],
@@ -114,7 +113,7 @@ fn exchange_with(
     Exchange::new(alloc, task, objects.as_slice())
 }
 
-/// Whether the exchange is a symmetry of the task and takes numbered atoms to numbered atoms.
+/// Whether the exchange is a symmetry of the task and maps numbered atoms to numbered atoms.
 fn is_symmetry(
     alloc: Global,
     exchange: &Exchange,
@@ -131,7 +130,7 @@ fn is_symmetry(
     Ok(numbers.is_some())
 }
 
-/// The refusal of the exchange at this place, from 0, by its line.
+/// Refuses the exchange at this place, from 0, by its line.
 fn swap_line(place: usize) -> Refusal
     requires { place < 2 ^ 32 }
     ensures { result ≡ Refusal.Line NotSymmetry (exchange_line place) }
@@ -142,7 +141,7 @@ fn swap_line(place: usize) -> Refusal
     }
 }
 
-/// The representatives by these exchanges, each of which takes numbered atoms to numbered atoms.
+/// The representatives by these exchanges, each of which maps numbered atoms to numbered atoms.
 pub(super) fn representatives_by<'g, 't, 'e>(
     alloc: Global,
     grounded: &'g Ground<'t>,

@@ -1,4 +1,4 @@
-//! The values of a certificate in its ground task, if they are fair.
+//! A certificate's values in its ground task, and their test of fairness.
 ghost use Rattle.std.specs.Prelude.{◌≡◌, ◌≤◌, All, false, true, IfErr, IfOk, OnOk, length, map};
 ghost use Rattle.grounding.specs.Ground.{task_in, atoms_in};
 ghost use Rattle.potentials.specs.Potentials.{potentials_of};
@@ -8,7 +8,7 @@ ghost use Rattle.certificate.specs.CertificateParts.{potential_of};
 ghost use Rattle.certificate.specs.declared.header.Potential as header;
 ghost use Rattle.certificate_definitions.specs.Certificates as certificates;
 ghost use Rattle.certificate_definitions.specs.Certificates.{has_tables, AreFairFor};
-ghost use Rattle.potential_functions.specs.PotentialFunctions.{PotentialFunction, AreInRange};
+ghost use Rattle.lower_bounds.specs.PotentialFunctions.{PotentialFunction, AreInRange};
 ghost use Rattle.tables.specs.Several.{several_of};
 ghost use Rattle.cert_checker.specs.FluentAtoms.{AreFluent};
 ghost use Rattle.cert_checker.specs.CheckedLines.{IsFirstSymmetric, IsTrueAnyway};
@@ -16,16 +16,16 @@ ghost use Rattle.cert_checker.specs.Weights.{HaveTheirWeights, AreCounted, AreWi
 ghost use Rattle.model.specs.NumberedAtoms.{numbered_atoms};
 
 use crate::checker::weights::{at_width, dead_fair_potentials, fair_potentials, kept_instance};
+use crate::refusal::{Refusal, RefusalCode};
 use certificate::{Cert, Potential, Version};
 use faults::NoMemory;
 use grounding::Ground;
 use potentials::Potentials;
 use std::alloc::Global;
 use tables::{IndexedTables, TableFunctions, ValuesFairness};
-use task_certificates::{Refusal, RefusalCode};
 
-/// The certificate's values, if they are fair for the ground task, in which its atoms have the first numbers, and that for dead
-/// ends is dead-fair.
+/// The certificate's values, if they are fair for the ground task, and that for dead ends dead-fair. The ground task numbers the
+/// certificate's atoms first.
 pub(super) fn fair_values<'a>(
     alloc: Global,
     cert: &'a Cert,
@@ -45,7 +45,7 @@ pub(super) fn fair_values<'a>(
     }
 }
 
-/// Those of versions 1 and 2, which are potential functions: of the instances none is shut out.
+/// The values of versions 1 and 2: two potential functions, which have to be fair for every kept instance; none is shut out.
 fn fair_without_tables<'a>(
     alloc: Global,
     cert: &'a Cert,
@@ -67,7 +67,7 @@ fn fair_without_tables<'a>(
     Ok(functions)
 }
 
-/// Those of version 3, which look at tables.
+/// The values of version 3, over tables.
 fn fair_with_tables<'a>(
     alloc: Global,
     cert: &'a Cert,
@@ -91,7 +91,7 @@ fn fair_with_tables<'a>(
     Ok(functions)
 }
 
-/// Whether the values, which are the certificate's, are fair and that for dead ends is dead-fair.
+/// Checks that these values of the certificate are fair, and that for dead ends dead-fair.
 fn check_fairness(
     alloc: Global,
     cert: &Cert,
@@ -119,8 +119,7 @@ fn check_fairness(
     }
 }
 
-/// These values and that for dead ends, with a weight for each numbered atom, over the certificate's tables, of whose rows no
-/// copy is made.
+/// These potential functions over the certificate's tables, whose rows are not copied. Each has a weight for each numbered atom.
 fn over_tables<'a>(
     alloc: Global,
     cert: &'a Cert,
@@ -140,7 +139,7 @@ fn over_tables<'a>(
     Ok(TableFunctions::new(values, dead_ends, tables))
 }
 
-/// Each of these potentials, with the weight 0 for each further number below the width.
+/// Copies of these potentials, widened by weights of 0.
 fn all_at_width(alloc: Global, said: &[Potential], width: u32) -> Result<Vec<Potentials>, NoMemory>
     requires range { All (λ (p : header.Potential). AreInRange (potential_of p)) said.now }
     requires enough { All (λ (p : header.Potential). length (potential_of p).weights ≤ width) said.now }

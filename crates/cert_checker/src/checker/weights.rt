@@ -1,4 +1,4 @@
-//! The potentials of a certificate of version 1 or 2 in its ground task.
+//! The potentials of a certificate of version 1 or 2 in its ground task, and their test of fairness.
 ghost use Rattle.std.specs.Prelude.{◌≡◌, ◌<◌, ◌≤◌, ◌↔◌, pos, All, false, IsTrue, Some, IfErr, IfOk, OnOk, length, slice_get};
 ghost use Rattle.formulas.specs.State.{instance_of};
 ghost use Rattle.grounding.specs.Ground.{task_in, atoms_in};
@@ -13,18 +13,18 @@ ghost use Rattle.cert_checker.specs.CheckedLines.{IsFirstSymmetric, IsTrueAnyway
 ghost use Rattle.cert_checker.specs.Weights.{HasItsWeights};
 ghost use Rattle.model.specs.StaticallyFalse.{kept_instances};
 ghost use Rattle.model.specs.NumberedAtoms.{numbered_atoms};
-ghost use Rattle.potential_functions.specs.PotentialFunctions.{AreInRange};
-ghost use Rattle.potential_functions.specs.Fair.{AreFair, AreDeadFair};
+ghost use Rattle.lower_bounds.specs.PotentialFunctions.{AreInRange};
+ghost use Rattle.lower_bounds.specs.FairPotentials.{AreFair, AreDeadFair};
 
+use crate::refusal::{Refusal, RefusalCode};
 use certificate::{Cert, Potential};
 use faults::NoMemory;
 use formulas::{Instance, copied};
 use grounding::Ground;
 use potentials::{Fairness, Potentials};
 use std::alloc::Global;
-use task_certificates::{Refusal, RefusalCode};
 
-/// The certificate's potentials, if they are fair for the ground task, in which its atoms have the first numbers.
+/// The certificate's potentials, if they are fair for the ground task, which numbers the certificate's atoms first.
 pub(super) fn fair_potentials(
     alloc: Global,
     cert: &Cert,
@@ -46,8 +46,8 @@ pub(super) fn fair_potentials(
     }
 }
 
-/// The certificate's potentials of dead ends, if they are dead-fair for the ground task, in which its atoms have the first
-/// numbers, and its potentials are fair.
+/// The certificate's potentials for dead ends, if they are dead-fair for the ground task, which numbers the certificate's atoms
+/// first. Its other potentials are fair.
 pub(super) fn dead_fair_potentials(
     alloc: Global,
     cert: &Cert,
@@ -70,8 +70,8 @@ pub(super) fn dead_fair_potentials(
     }
 }
 
-/// Whether these potentials are dead-fair for the ground task. Those that are all 0, as in version 1, are, so that no instance is
-/// looked at.
+/// Whether these potentials are dead-fair for the ground task. If all are 0, as in version 1, they are, and no instance is looked
+/// at.
 fn dead_fairness(
     alloc: Global,
     potentials: &Potentials,
@@ -87,14 +87,14 @@ fn dead_fairness(
     }
 }
 
-/// Whether each of these is 0.
+/// Whether all weights are 0.
 fn are_zero(weights: &[i64]) -> bool
     ensures { IsTrue result ↔ All (λ w. w ≡ pos 0) weights.now }
 {
     weights.iter().all(|weight| *weight == 0)
 }
 
-/// These potentials, with the weight 0 for each further number below the width.
+/// A copy of these potentials, widened by weights of 0.
 pub(super) fn at_width(alloc: Global, said: &Potential, width: u32) -> Result<Potentials, NoMemory>
     requires range { AreInRange (potential_of said.now) }
     requires enough { length (potential_of said.now).weights ≤ width }
@@ -105,7 +105,7 @@ pub(super) fn at_width(alloc: Global, said: &Potential, width: u32) -> Result<Po
     Ok(Potentials::new(said.constant, weights).unwrap())
 }
 
-/// A copy of the kept instance of this number.
+/// A copy of the kept instance with this number.
 pub(super) fn kept_instance(grounded: &Ground<'_>, number: u32) -> Instance
     requires { number < length (kept_instances (task_in grounded.now)) }
     ensures { slice_get (kept_instances (task_in grounded.now)) number ≡ Some (instance_of result) }

@@ -4,15 +4,15 @@ ghost use Rattle.std.specs.String.{string_bytes};
 ghost use Rattle.typing.specs.Task.{file_of, refusal_of};
 ghost use Rattle.file_answers.specs.FurtherFaults.{AreFurther, IsFaultOfTexts, IsReportedAt, SayFault, further_text};
 ghost use Rattle.file_answers.specs.Explanations.{IsExplainedAlone, IsFaultExplained};
-ghost use Rattle.source_text.specs.Files.{file_view, name_in, text_in};
+ghost use Rattle.explain_hints.specs.Files.{file_view, name_in, text_in};
 ghost use Rattle.model.specs.Files.{of_task};
 
 use crate::explaining::of_plan::joined;
 use crate::explanation::{Explanation, FurtherFault};
 use crate::files::faults_of_files;
-use explained_faults::{FileRefusal, explain_fault};
-use faults::NoMemory;
-use source_text::{File, NamedTexts};
+use explain_faults::{FileRefusal, explain_fault};
+use explain_hints::{File, NamedTexts};
+use faults::{Code, NoMemory};
 use std::alloc::Global;
 use typing::{TaskFile, TaskRefusal};
 
@@ -65,12 +65,20 @@ fn further_faults(
 ) -> Result<Vec<FurtherFault>, NoMemory>
     ensures { IfOk result (λ further. AreFurther texts.now further.items) }
 {
-    let found = faults_of_files(alloc, texts.domain.text, texts.problem.text)?;
     let mut further = Vec::new(alloc);
-    'faults: for refusal in &found.gathered {
+    if !is_of_typing(first.code) {
+        return Ok(further);
+    }
+    let found = faults_of_files(alloc, texts.domain.text, texts.problem.text)?;
+    'faults: for refusal in &found {
         add_fault(alloc, texts, first, &mut further, *refusal)?;
     }
     Ok(further)
+}
+
+/// Whether typing reports this code. Other faults come alone, so the files need not be read again for them.
+fn is_of_typing(code: Code) -> bool {
+    matches!(code.number(), 14..=25)
 }
 
 /// Adds a fault with its lines, unless already reported or the limit is reached.
@@ -135,12 +143,34 @@ fn is_told(
             .any(|other| comes_of(texts, fault, other.fault))
 }
 
-/// Whether a fault may come from the same mistake as another: they are equal, or the same word is refused with the same code, and
-/// if it is a variable, in the same action or in the problem.
+/// Whether a fault may come from the same mistake as another: they are equal, it follows from the other, or the same word is refused
+/// with the same code, and if it is a variable, in the same action or in the problem.
 fn comes_of(texts: &NamedTexts<'_>, fault: FileRefusal, other: FileRefusal) -> bool {
     let (word, told) = (word_of(texts, fault), word_of(texts, other));
     let is_again = fault.code == other.code && word.eq_ignore_ascii_case(told);
-    is_again && (!word.starts_with(b"?") || are_in_one_scope(texts, fault, other))
+    let is_same = is_again && (!word.starts_with(b"?") || are_in_one_scope(texts, fault, other));
+    is_same || follows(texts, fault, other)
+}
+
+/// Whether a fault seems to follow from another. Each type of a cycle is refused. A term is of a wrong type if the terms of its list are
+/// in the wrong order, or if it is a variable in the scope of a declaration that is refused. An unknown variable may be the one that a
+/// variable declared twice was meant to be.
+fn follows(texts: &NamedTexts<'_>, fault: FileRefusal, other: FileRefusal) -> bool {
+    match (fault.code, other.code) {
+        (Code::TypeCycle, Code::TypeCycle) => true,
+        (Code::WrongType, Code::WrongType) => are_in_one_list(texts, fault, other),
+        (Code::WrongType, Code::UnknownType | Code::Duplicate | Code::Shadowed)
+        | (Code::UnknownName, Code::Duplicate) => {
+            word_of(texts, fault).starts_with(b"?") && are_in_one_scope(texts, fault, other)
+        }
+        _ => false,
+    }
+}
+
+/// Whether no parenthesis stands between two faults of a file.
+fn are_in_one_list(texts: &NamedTexts<'_>, fault: FileRefusal, other: FileRefusal) -> bool {
+    let is_parenthesis = |byte: &u8| matches!(*byte, b'(' | b')');
+    fault.file == other.file && !between(texts, fault, other).iter().any(is_parenthesis)
 }
 
 /// The bytes that a fault is reported for.
@@ -151,10 +181,15 @@ fn word_of<'a>(texts: &NamedTexts<'a>, fault: FileRefusal) -> &'a [u8] {
 
 /// Whether two faults are in the problem, or in the domain without a beginning of an action between them.
 fn are_in_one_scope(texts: &NamedTexts<'_>, fault: FileRefusal, other: FileRefusal) -> bool {
+    fault.file == other.file
+        && (fault.file == File::Problem || !has_action(between(texts, fault, other)))
+}
+
+/// The bytes of the first fault's file from the start of the one fault to that of the other.
+fn between<'a>(texts: &NamedTexts<'a>, fault: FileRefusal, other: FileRefusal) -> &'a [u8] {
     let start = fault.span.start.min(other.span.start);
     let end = fault.span.start.max(other.span.start);
-    let between = texts.domain.text.get(start..end).unwrap_or(b"");
-    fault.file == other.file && (fault.file == File::Problem || !has_action(between))
+    texts.text(fault.file).get(start..end).unwrap_or(b"")
 }
 
 /// Whether an action begins in this piece of a domain.

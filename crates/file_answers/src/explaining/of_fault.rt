@@ -5,9 +5,9 @@ ghost use Rattle.file_answers.specs.Explanations.{IsExplainedAlone, IsOfFault};
 use crate::explaining::further::with_further;
 use crate::explanation::{Explanation, Location, Subject};
 use crate::files::FileFault;
-use explained_faults::{FileRefusal, explain_fault};
+use explain_faults::{FileRefusal, explain_fault};
+use explain_hints::{File, NamedTexts};
 use faults::{Code, NoMemory, Span};
-use source_text::{File, NamedTexts};
 use std::alloc::Global;
 
 /// Explains the fault of a file.

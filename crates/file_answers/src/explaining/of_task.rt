@@ -2,17 +2,16 @@
 ghost use Rattle.std.specs.Prelude.{◌≡◌, ◌++◌, IfOk, map};
 ghost use Rattle.std.specs.String.{string_bytes};
 ghost use Rattle.task.specs.Task.{task_of};
-ghost use Rattle.explained_plans.specs.Said.{summary_text};
+ghost use Rattle.explain_tasks.specs.Summary.{summary_text};
 ghost use Rattle.file_answers.specs.ExplanationLines.{grounded_line, on_lines};
 ghost use Rattle.file_answers.specs.Explanations.{IsGrounded, IsTaskExplained};
 
 use crate::explanation::{Explanation, Grounded, Subject};
-use explained_plans::Summary;
+use explain_tasks::{GroundNotes, Summary, TaskNotes};
 use faults::{NoMemory, Refused};
-use grounding_kept::{GroundLimit, Numbering};
+use grounding_instances::{GroundLimit, Numbering};
 use std::alloc::{AllocError, Global};
 use task::Task;
-use task_notes::{GroundNotes, TaskNotes};
 
 /// The outcome of grounding a task, and the notes it leads to, a line each.
 #[derive(Drop)]

@@ -1,10 +1,10 @@
 //! `check`: what a certificate shows, from files.
 ghost use Rattle.std.specs.Prelude.{◌≡◌, ℕ, IfErr, IfOk, IfSome, IsErr, IsTrue, List, ◌∷◌, Option};
-ghost use Rattle.task_certificates.specs.Reading.{CountsRefusal, IsFresh};
+ghost use Rattle.cert_checker.specs.Reading.{CountsRefusal, IsFresh};
 ghost use Rattle.file_answers.specs.Checked.{IsChecked};
 ghost use Rattle.file_answers.specs.SaidOf.{IsCheckLineOf};
 ghost use Rattle.model.specs.Files.{IsTaskOf};
-ghost use Rattle.progress_lines.specs.Said.{AreSaid, stream};
+ghost use Rattle.devices.specs.Progress.{AreSaid, stream};
 ghost use Rattle.planner_main.specs.Progress.{IsCheckingLine};
 ghost use Rattle.task.specs.Task.{task_of};
 ghost use Rattle.certificate_reader.specs.Reader.{source_of};

@@ -7,7 +7,7 @@ ghost use Rattle.task.specs.Task.{task_of};
 ghost use Rattle.file_answers.specs.Files.{reported_in};
 ghost use Rattle.file_answers.specs.SaidOf.{IsTrueLineOf};
 ghost use Rattle.planner_main.specs.Progress.{HasEndedIf, IsSearchLine};
-ghost use Rattle.progress_lines.specs.Said.{AreSaid, stream};
+ghost use Rattle.devices.specs.Progress.{AreSaid, stream};
 ghost use Rattle.solver.specs.Said.{HasEnded};
 ghost use Rattle.solver.specs.Solver.{IsTrueAnswer};
 

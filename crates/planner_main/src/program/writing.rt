@@ -10,7 +10,7 @@ ghost use Rattle.devices.specs.Written.{AreWritten};
 ghost use Rattle.devices.specs.Devices.{CountsDevice};
 ghost use Rattle.devices.specs.declared.device.IoFault.TheVariants.{NoMemory};
 ghost use Rattle.planner_main.specs.Progress.{IsCertificateLine, IsFailedLineOf, IsWritingLine, SaysIf, failed_line, line_if, size_in, size_line, size_line_for};
-ghost use Rattle.progress_lines.specs.Said.{AreSaid, stream};
+ghost use Rattle.devices.specs.Progress.{AreSaid, stream};
 ghost use Rattle.std.specs.String.{string_bytes};
 ghost use Rattle.task.specs.Task.{task_of};
 ghost use Rattle.certificate.specs.Certificate.{certificate_of};

@@ -10,8 +10,8 @@ use Rattle.cert_checker.specs.Checking.{Refuses}
 use Rattle.cert_checker.proofs.AcceptLemmas.{accepts_read, counts_judged, none_at_fault, not_refused, refuses_read}
 use Rattle.cert_checker.proofs.ExchangesLemmas.{exchanges_of_text}
 use Rattle.cert_checker.proofs.FirstLemmas.{cuts_allowed}
-use Rattle.cert_checker.proofs.SaidLemmas.{whole_said}
-use Rattle.progress_lines.proofs.SaidLemmas.{said_after, said_of_more}
+use Rattle.cert_checker.proofs.CheckProgressLemmas.{whole_said}
+use Rattle.devices.proofs.ProgressLemmas.{said_after, said_of_more}
 use Rattle.cert_checker.proofs.checker.check_and_say.Goals as goal
 
 pub returns-in_err-cert-clause-refused : goal.returns-in_err-cert-clause-refused

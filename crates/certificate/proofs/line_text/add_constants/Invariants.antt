@@ -1,5 +1,5 @@
 use Rattle.std.proofs.Common.{◌≡◌, ◌++◌, map, take}
-use Rattle.potential_functions.specs.PotentialFunctions.{PotentialFunction}
+use Rattle.lower_bounds.specs.PotentialFunctions.{PotentialFunction}
 use Rattle.certificate_definitions.specs.CertificateText.{weights_text}
 use Rattle.certificate.specs.CertificateParts.{potential_of}
 use Rattle.certificate.proofs.line_text.add_constants.Given as goal

@@ -2,8 +2,8 @@ use Rattle.std.proofs.Common.{◌≡◌, ◌++◌, take}
 use Rattle.std.specs.List.{flat_map}
 use Rattle.task.specs.Task.{task_of}
 use Rattle.model.specs.PlanWriting.{object_text}
-use Rattle.symmetries.specs.Exchanges.{objects_in}
-use Rattle.task_symmetries.specs.Pairs.{pairs_in}
+use Rattle.symmetries_definitions.specs.Exchanges.{objects_in}
+use Rattle.symmetries.specs.ObjectPairs.{pairs_in}
 use Rattle.certificate.proofs.line_text.add_pairs.Given as goal
 
 -- the text has the names of the pairs so far

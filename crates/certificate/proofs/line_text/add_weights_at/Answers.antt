@@ -4,7 +4,7 @@ use Rattle.std.specs.Prelude.{ℤ, pos}
 use Rattle.std.proofs.lemmas.Int.{to_z-of_z}
 use Rattle.std.proofs.lemmas.List.{get_or_read}
 use Rattle.certificate.specs.declared.header.Potential.{Potential}
-use Rattle.potential_functions.specs.PotentialFunctions.{PotentialFunction}
+use Rattle.lower_bounds.specs.PotentialFunctions.{PotentialFunction}
 use Rattle.certificate_definitions.specs.CertificateNames.{weights_in}
 use Rattle.certificate_definitions.specs.CertificateText.{weights_text}
 use Rattle.certificate_reader.specs.Lines.{version_of}

@@ -1,6 +1,6 @@
 use Rattle.std.proofs.Common.{◌≡◌, ◌++◌, get_or, map, take}
 use Rattle.std.specs.Prelude.{pos}
-use Rattle.potential_functions.specs.PotentialFunctions.{PotentialFunction}
+use Rattle.lower_bounds.specs.PotentialFunctions.{PotentialFunction}
 use Rattle.certificate_definitions.specs.CertificateText.{weights_text}
 use Rattle.certificate.specs.CertificateParts.{potential_of}
 use Rattle.certificate.proofs.line_text.add_weights_at.Given as goal

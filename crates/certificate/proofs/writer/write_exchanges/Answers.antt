@@ -4,7 +4,7 @@ use Rattle.std.specs.Option.{option_map}
 use Rattle.std.proofs.lemmas.List.{length-map}
 use Rattle.std.proofs.lemmas.Option.{slice_get-map, slice_get_read}
 use Rattle.task.specs.Task.{task_of}
-use Rattle.task_symmetries.specs.Pairs.{pairs_in}
+use Rattle.symmetries.specs.ObjectPairs.{pairs_in}
 use Rattle.certificate.specs.CertificateParts.{exchange_in}
 use Rattle.certificate.specs.Gathering.{swap_line}
 use Rattle.certificate.proofs.GatheringLemmas.{added_begun, added_passed, all_passed, next_begun, next_passed, so_far_begun}

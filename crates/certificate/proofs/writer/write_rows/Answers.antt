@@ -2,7 +2,7 @@ use Rattle.std.proofs.Common.{◌≡◌, ℕ, ◌∙◌, ◌++◌, List, [], ari
 use Rattle.std.specs.Prelude.{Some, slice_get}
 use Rattle.std.proofs.lemmas.List.FromFn.{length-map-range_with_len}
 use Rattle.std.proofs.lemmas.Option.{slice_get-get_or}
-use Rattle.table_functions.specs.TableFunctions.{Row}
+use Rattle.lower_bounds.specs.TableFunctions.{Row}
 use Rattle.table_rows.specs.Tables.{table_of}
 use Rattle.certificate.specs.Gathering.{row_line}
 use Rattle.certificate.proofs.GatheringLemmas.{added_begun, added_passed, all_passed, next_begun, next_passed, passed_nothing, so_far_begun}

@@ -2,7 +2,7 @@ use Rattle.std.proofs.Common.{ap}
 use Rattle.std.proofs.lemmas.Result.{err_from_is_err_and}
 use Rattle.file_answers.specs.Files.{text_in}
 use Rattle.file_answers.proofs.CheckedLemmas.{plan_input}
-use Rattle.progress_lines.specs.Said.{nothing}
+use Rattle.devices.specs.Progress.{nothing}
 use Rattle.file_answers.proofs.checking.answer_on.Goals as goal
 
 pub returns-in_err-plan-clause-refused : goal.returns-in_err-plan-clause-refused

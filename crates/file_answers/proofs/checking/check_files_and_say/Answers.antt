@@ -1,5 +1,5 @@
 use Rattle.std.proofs.lemmas.Result.{err_from_is_err_and, IfOk-weaker}
-use Rattle.progress_lines.specs.Said.{nothing}
+use Rattle.devices.specs.Progress.{nothing}
 use Rattle.task.specs.Task.{task_of}
 use Rattle.model.proofs.TaskNames.{task_has_names}
 use Rattle.file_answers.specs.Files.{text_in}

@@ -1,5 +1,5 @@
 use Rattle.task.specs.Task.{task_of}
-use Rattle.progress_lines.proofs.SaidLemmas.{said_of_more}
+use Rattle.devices.proofs.ProgressLemmas.{said_of_more}
 use Rattle.file_answers.proofs.checking.check_task.Goals as goal
 
 pub returns-in-Ok-clause-said : goal.returns-in-Ok-clause-said

@@ -1,6 +1,6 @@
 use Rattle.std.proofs.Common.{Option, ℕ, List, ap, subst}
 use Rattle.std.specs.Prelude.{IfOk}
-use Rattle.explained_plans.specs.NamesView.{names_of}
+use Rattle.explain_plans.specs.NamesView.{names_of}
 use Rattle.task.specs.Task.{task_of}
 use Rattle.file_answers.specs.Files.{reported_in}
 use Rattle.file_answers.proofs.FilesRead.{task_input}

@@ -1,7 +1,7 @@
 use Rattle.std.proofs.Common.{arith, subst, sym}
 use Rattle.std.proofs.lemmas.Result.{IfOk-weaker}
 use Rattle.std.specs.Prelude.{All}
-use Rattle.syntax_tree.specs.Tree.{domain_of, problem_of}
+use Rattle.pddl_tree_parts.specs.Tree.{domain_of, problem_of}
 use Rattle.typing.specs.Task.{refusal_of}
 use Rattle.file_answers.specs.FurtherFaults.{IsFaultOfTexts}
 use Rattle.file_answers.proofs.files.faults_of_files.Goals as goal
@@ -16,8 +16,8 @@ returns-in-Ok c =
       problem_reads = c.in-Ok.ensures.problem;
       is_fault = are k r below;
     })
-    c.listed_faults.ensures
+    c.listed_faults.ensures.each
 
 pub returns-in-Err-At : goal.returns-in-Err-At
 returns-in-Err-At c =
-    subst (All (λ r. IsFaultOfTexts c.args.domain.now c.args.problem.now (refusal_of r))) (sym c.new.ensures) (λ k r below. absurd (omega (arith, below)))
+    subst (All (λ r. IsFaultOfTexts c.args.domain.now c.args.problem.now (refusal_of r))) (sym c.new.ensures.items) (λ k r below. absurd (omega (arith, below)))

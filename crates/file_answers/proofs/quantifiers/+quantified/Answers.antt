@@ -1,6 +1,6 @@
 use Rattle.std.proofs.Common.{◌≡◌, ◌++◌, subst, sym}
 use Rattle.std.specs.Prelude.{OnOk}
-use Rattle.explained_plans.specs.NamesView.{names_in}
+use Rattle.explain_plans.specs.NamesView.{names_in}
 use Rattle.file_answers.proofs.QuantifiedLemmas.{names_by_and, names_by_or}
 use Rattle.file_answers.proofs.quantifiers.+quantified.Goals as goal
 

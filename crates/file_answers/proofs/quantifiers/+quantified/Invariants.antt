@@ -1,7 +1,7 @@
 use Rattle.std.proofs.Common.{◌≡◌, take, ◌++◌}
 use Rattle.std.specs.List.{flat_map}
-use Rattle.syntax_tree.specs.Tree.{formula_of}
-use Rattle.explained_plans.specs.NamesView.{names_in}
+use Rattle.pddl_tree_parts.specs.Tree.{formula_of}
+use Rattle.explain_plans.specs.NamesView.{names_in}
 use Rattle.file_answers.specs.QuantifiedNames.{quantified_names}
 use Rattle.file_answers.proofs.quantifiers.+quantified.Given as goal
 

@@ -1,4 +1,4 @@
-use Rattle.explained_plans.specs.NamesView.{names_in}
+use Rattle.explain_plans.specs.NamesView.{names_in}
 use Rattle.file_answers.proofs.QuantifiedLemmas.{group_added}
 use Rattle.file_answers.proofs.quantifiers.add_declared.Goals as goal
 

@@ -1,6 +1,6 @@
 use Rattle.std.proofs.Common.{◌≡◌, map, take, ◌++◌}
-use Rattle.syntax_tree.specs.Tree.{group_of}
-use Rattle.explained_plans.specs.NamesView.{names_in}
+use Rattle.pddl_tree_parts.specs.Tree.{group_of}
+use Rattle.explain_plans.specs.NamesView.{names_in}
 use Rattle.file_answers.specs.QuantifiedNames.{declared_names}
 use Rattle.file_answers.proofs.quantifiers.add_declared.Given as goal
 

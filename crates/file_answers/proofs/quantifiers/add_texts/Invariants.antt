@@ -1,5 +1,5 @@
 use Rattle.std.proofs.Common.{◌≡◌, map, take, ◌++◌}
-use Rattle.explained_plans.specs.NamesView.{names_in}
+use Rattle.explain_plans.specs.NamesView.{names_in}
 use Rattle.file_answers.proofs.quantifiers.add_texts.Given as goal
 
 -- the texts so far are added

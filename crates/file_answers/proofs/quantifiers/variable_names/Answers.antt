@@ -4,10 +4,10 @@ use Rattle.std.specs.Borrow.{Bor}
 use Rattle.std.specs.Global.{Vec}
 use Rattle.std.proofs.lemmas.List.{map_push}
 use Rattle.formulas.proofs.ChangeLists.{mapped_more, mapped_whole, map_twice}
-use Rattle.syntax_tree.specs.declared.tree.Action.{Action}
-use Rattle.syntax_tree.specs.Tree.{action_of, formula_of}
+use Rattle.pddl_tree_parts.specs.declared.tree.Action.{Action}
+use Rattle.pddl_tree_parts.specs.Tree.{action_of, formula_of}
 use Rattle.model.specs.Trees as tree
-use Rattle.explained_plans.specs.NamesView.{names_in}
+use Rattle.explain_plans.specs.NamesView.{names_in}
 use Rattle.file_answers.specs.QuantifiedNames.{quantified_names}
 use Rattle.file_answers.proofs.quantifiers.variable_names.Goals as goal
 

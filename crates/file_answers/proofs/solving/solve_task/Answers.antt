@@ -2,7 +2,7 @@ use Rattle.std.proofs.Common.{ℕ, List}
 use Rattle.model.specs.Files.{IsTaskOf}
 use Rattle.task.specs.Task.{task_of}
 use Rattle.solver.specs.Said.{IsTrueLine}
-use Rattle.progress_lines.proofs.SaidLemmas.{goes_on_of_more}
+use Rattle.devices.proofs.ProgressLemmas.{goes_on_of_more}
 use Rattle.file_answers.specs.SaidOf.{IsTrueLineOf}
 use Rattle.file_answers.proofs.solving.solve_task.Goals as goal
 

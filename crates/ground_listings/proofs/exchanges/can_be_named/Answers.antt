@@ -5,8 +5,8 @@ use Rattle.std.proofs.lemmas.Iterator.{YieldsList-from_slice}
 use Rattle.std.proofs.lemmas.Iterator.Search.{all_from_yields_List}
 use Rattle.task.specs.declared.atoms.ObjectId.{ObjectId}
 use Rattle.task.specs.Task.{task_of}
-use Rattle.task_symmetries.specs.Pairs.{pair_of, pairs_in}
-use Rattle.symmetries.specs.Exchanges.{objects_in}
+use Rattle.symmetries.specs.ObjectPairs.{pair_of, pairs_in}
+use Rattle.symmetries_definitions.specs.Exchanges.{objects_in}
 use Rattle.ground_listings.specs.Exchanges.{most_pairs}
 use Rattle.ground_listings.proofs.exchanges.can_be_named.Goals as goal
 

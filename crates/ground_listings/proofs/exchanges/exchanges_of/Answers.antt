@@ -1,5 +1,5 @@
 use Rattle.grounding.specs.Ground.{task_in}
-use Rattle.symmetries.specs.Symmetries.{is_symmetry}
+use Rattle.symmetries_definitions.specs.Symmetries.{is_symmetry}
 use Rattle.ground_listings.proofs.ExchangeLemmas.{first_of_left}
 use Rattle.ground_listings.proofs.exchanges.exchanges_of.Goals as goal
 

@@ -1,8 +1,8 @@
 use Rattle.std.proofs.Common.{◌≡◌, true, map}
 use Rattle.std.specs.List.{list_all}
 use Rattle.grounding.specs.Ground.{task_in}
-use Rattle.symmetries.specs.Symmetries.{is_symmetry}
-use Rattle.task_symmetries.specs.Exchange.{exchange_of}
+use Rattle.symmetries_definitions.specs.Symmetries.{is_symmetry}
+use Rattle.symmetries.specs.Exchange.{exchange_of}
 use Rattle.ground_listings.specs.Exchanges.{AreExchangesFor}
 use Rattle.ground_listings.proofs.exchanges.exchanges_of.Given as goal
 

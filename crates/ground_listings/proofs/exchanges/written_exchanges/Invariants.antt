@@ -1,6 +1,6 @@
 use Rattle.std.proofs.Common.{◌≡◌, map, take}
 use Rattle.certificate.specs.CertificateParts.{exchange_in}
-use Rattle.task_symmetries.specs.Exchange.{exchange_of}
+use Rattle.symmetries.specs.Exchange.{exchange_of}
 use Rattle.ground_listings.proofs.exchanges.written_exchanges.Given as goal
 
 -- the pairs of those so far

@@ -1,9 +1,9 @@
 use Rattle.std.proofs.Common.{◌≡◌, ◌∙◌, None, Some, ap, map, subst, sym}
 use Rattle.task.specs.TaskParts.{object_of, formula_of}
 use Rattle.formulas.specs.State.{FitsFormula}
-use Rattle.grounding_kept.specs.Numbering.{task_in, atoms_in}
-use Rattle.grounding_kept.specs.declared.changes.Guard as code
-use Rattle.grounding_kept.specs.KeptChanges.{guard_in}
+use Rattle.grounding_instances.specs.Numbering.{task_in, atoms_in}
+use Rattle.grounding_instances.specs.declared.changes.Guard as code
+use Rattle.grounding_instances.specs.KeptChanges.{guard_in}
 use Rattle.grounding.specs.NumberedEffects.{Guard}
 use Rattle.grounding.specs.Changes.{IsCompiled}
 use Rattle.grounding.proofs.changes.counting_change.Goals.{in-Some+in_ok-compiled-in-Some, in-None}

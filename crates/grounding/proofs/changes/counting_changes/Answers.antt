@@ -1,9 +1,9 @@
 use Rattle.std.proofs.Common.{◌≡◌, ◌∙◌, ◌++◌, ◌∷◌, [], List, None, Some, ap, map, sym}
 use Rattle.std.specs.Prelude.{slice_get}
 use Rattle.std.proofs.lemmas.List.{map_push, take_all}
-use Rattle.grounding_kept.specs.Numbering.{task_in, atoms_in}
-use Rattle.grounding_kept.specs.KeptChanges.{effect_of}
-use Rattle.grounding_kept.proofs.KeptLemmas.{mapped-more}
+use Rattle.grounding_instances.specs.Numbering.{task_in, atoms_in}
+use Rattle.grounding_instances.specs.KeptChanges.{effect_of}
+use Rattle.grounding_instances.proofs.KeptLemmas.{mapped-more}
 use Rattle.grounding.specs.declared.changes.CountingChange.{CountingChange}
 use Rattle.grounding.specs.Changes.{effect_in}
 use Rattle.grounding.proofs.GroundLemmas.{got-mapped, compiled-more}

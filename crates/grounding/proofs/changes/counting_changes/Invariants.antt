@@ -1,6 +1,6 @@
 use Rattle.std.proofs.Common.{◌≡◌, map, take}
-use Rattle.grounding_kept.specs.Numbering.{task_in, atoms_in}
-use Rattle.grounding_kept.specs.KeptChanges.{effect_of}
+use Rattle.grounding_instances.specs.Numbering.{task_in, atoms_in}
+use Rattle.grounding_instances.specs.KeptChanges.{effect_of}
 use Rattle.grounding.specs.Changes.{effect_in, AreCompiled}
 use Rattle.grounding.proofs.changes.counting_changes.Given as goal
 

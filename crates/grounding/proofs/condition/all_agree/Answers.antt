@@ -1,6 +1,6 @@
 use Rattle.std.proofs.Common.{◌∙◌, length, sym}
 use Rattle.packed_state.specs.Packed.{bits_of}
-use Rattle.grounding_kept.specs.Numbers.{numbered_of}
+use Rattle.grounding_instances.specs.Numbers.{numbered_of}
 use Rattle.model.specs.NumberedLiterals as model
 use Rattle.model.proofs.Tests.{passes_not_index, passes_whole, passes_map}
 use Rattle.grounding.proofs.LiteralLists.{below-at}

@@ -1,7 +1,7 @@
 use Rattle.std.proofs.Common.{◌≡◌, true, take}
 use Rattle.std.specs.List.{list_all}
 use Rattle.packed_state.specs.Packed.{bits_of}
-use Rattle.grounding_kept.specs.Numbers.{numbered_of}
+use Rattle.grounding_instances.specs.Numbers.{numbered_of}
 use Rattle.model.specs.NumberedLiterals.{agrees}
 use Rattle.grounding.proofs.condition.all_agree.Given as goal
 

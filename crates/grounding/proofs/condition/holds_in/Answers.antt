@@ -1,7 +1,7 @@
 use Rattle.std.proofs.Common.{map}
 use Rattle.task.specs.TaskParts.{object_of, formula_of}
 use Rattle.packed_state.specs.Packed.{bits_of}
-use Rattle.grounding_kept.specs.Numbering.{task_in, atoms_in}
+use Rattle.grounding_instances.specs.Numbering.{task_in, atoms_in}
 use Rattle.grounding.proofs.Conditions.{literals-below}
 use Rattle.grounding.proofs.condition.holds_in.Goals as goal
 

@@ -1,8 +1,8 @@
 use Rattle.std.proofs.Common.{◌≡◌, ◌∙◌, ◌≤◌, ◌+◌, [], ap, map, get_or, length, take, drop, sym, subst, arith}
 use Rattle.std.specs.Prelude.{slice_get}
 use Rattle.std.proofs.lemmas.List.{length-map, drop-drop}
-use Rattle.grounding_kept.specs.Numbering.{task_in, atoms_in, instances_in}
-use Rattle.grounding_kept.specs.KeptChanges.{effect_of}
+use Rattle.grounding_instances.specs.Numbering.{task_in, atoms_in, instances_in}
+use Rattle.grounding_instances.specs.KeptChanges.{effect_of}
 use Rattle.model.specs.Task.{Instance}
 use Rattle.grounding.specs.Changes.{AreChangesOf}
 use Rattle.grounding.specs.NumberedEffects.{effects_of_instance}

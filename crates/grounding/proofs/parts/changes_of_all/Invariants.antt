@@ -1,7 +1,7 @@
 use Rattle.std.proofs.Common.{◌≡◌, ◌≤◌, length, map, drop}
 use Rattle.std.specs.List.{flat_map}
-use Rattle.grounding_kept.specs.Numbering.{task_in, atoms_in, instances_in}
-use Rattle.grounding_kept.specs.KeptChanges.{effect_of}
+use Rattle.grounding_instances.specs.Numbering.{task_in, atoms_in, instances_in}
+use Rattle.grounding_instances.specs.KeptChanges.{effect_of}
 use Rattle.grounding.specs.Changes.{AreChangesOf}
 use Rattle.grounding.specs.NumberedEffects.{effects_of_instance}
 use Rattle.grounding.proofs.InPlaceLemmas.{AreSoFar}

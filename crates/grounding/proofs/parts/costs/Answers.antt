@@ -1,7 +1,7 @@
 use Rattle.std.proofs.Common.{◌≡◌, ◌∙◌, ◌++◌, ◌∷◌, [], Some, ap, map}
 use Rattle.std.specs.Prelude.{slice_get}
 use Rattle.formulas.specs.State.{instance_of}
-use Rattle.grounding_kept.specs.Numbering.{task_in}
+use Rattle.grounding_instances.specs.Numbering.{task_in}
 use Rattle.model.specs.Task.{Task}
 use Rattle.model.specs.Meaning.{cost_of}
 use Rattle.grounding.proofs.GroundLemmas.{got-mapped, costs-more}

@@ -1,6 +1,6 @@
 use Rattle.std.proofs.Common.{◌≡◌, map, take}
 use Rattle.formulas.specs.State.{instance_of}
-use Rattle.grounding_kept.specs.Numbering.{task_in}
+use Rattle.grounding_instances.specs.Numbering.{task_in}
 use Rattle.model.specs.Meaning.{cost_of}
 use Rattle.grounding.proofs.parts.costs.Given as goal
 

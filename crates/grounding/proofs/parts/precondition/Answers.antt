@@ -3,7 +3,7 @@ use Rattle.std.specs.Prelude.{slice_get}
 use Rattle.std.specs.Option.{option_map}
 use Rattle.task.specs.TaskParts.{object_of, shape_of, shape_of_schema}
 use Rattle.formulas.proofs.Instances.{precondition_fits}
-use Rattle.grounding_kept.specs.Numbering.{task_in}
+use Rattle.grounding_instances.specs.Numbering.{task_in}
 use Rattle.model.specs.Task.{Task}
 use Rattle.grounding.proofs.parts.precondition.Goals as goal
 

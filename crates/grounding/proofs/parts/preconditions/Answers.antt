@@ -2,7 +2,7 @@ use Rattle.std.proofs.Common.{◌≡◌, ◌∙◌, Some, ap, map, sym, subst, a
 use Rattle.std.specs.Prelude.{slice_get}
 use Rattle.std.proofs.lemmas.List.{length-map}
 use Rattle.formulas.specs.State.{instance_of}
-use Rattle.grounding_kept.specs.Numbering.{task_in, atoms_in}
+use Rattle.grounding_instances.specs.Numbering.{task_in, atoms_in}
 use Rattle.grounding.specs.Preconditions.{IsPrecondition}
 use Rattle.grounding.specs.InPlace.{AreInPlace}
 use Rattle.grounding.proofs.GroundLemmas.{got-mapped}

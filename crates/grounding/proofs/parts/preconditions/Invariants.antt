@@ -1,6 +1,6 @@
 use Rattle.std.proofs.Common.{map}
 use Rattle.formulas.specs.State.{instance_of}
-use Rattle.grounding_kept.specs.Numbering.{task_in, atoms_in}
+use Rattle.grounding_instances.specs.Numbering.{task_in, atoms_in}
 use Rattle.grounding.specs.Preconditions.{IsPrecondition}
 use Rattle.grounding.proofs.InPlaceLemmas.{AreSoFar}
 use Rattle.grounding.proofs.parts.preconditions.Given as goal

@@ -2,7 +2,7 @@ use Rattle.std.proofs.Common.{rules, ◌∙◌, ◌∷◌, ◌+◌, ap, sym, map
 use Rattle.task.specs.declared.schemas.Formula.{the_lemmas}
 use Rattle.task.specs.TaskParts.{object_of, formula_of}
 use Rattle.formulas.proofs.Trees.{typed_by_all}
-use Rattle.grounding_kept.specs.Numbering.{task_in}
+use Rattle.grounding_instances.specs.Numbering.{task_in}
 use Rattle.model.specs.WellTyped.{is_formula}
 use Rattle.model.proofs.Tests.{passes_at, passes_map}
 use Rattle.grounding.specs.Settled as settled

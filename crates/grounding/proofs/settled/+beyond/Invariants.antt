@@ -1,7 +1,7 @@
 use Rattle.std.proofs.Common.{◌≡◌, map}
 use Rattle.std.proofs.Math.ListN.{drop}
 use Rattle.task.specs.TaskParts.{formula_of, object_of}
-use Rattle.grounding_kept.specs.Numbering.{task_in}
+use Rattle.grounding_instances.specs.Numbering.{task_in}
 use Rattle.grounding.specs.Settled.{beyond_each}
 use Rattle.grounding.proofs.settled.+beyond.Given as goal
 

@@ -1,6 +1,6 @@
 use Rattle.std.proofs.Common.{◌∙◌, sym}
 use Rattle.task.specs.TaskParts.{formula_of}
-use Rattle.grounding_kept.specs.Numbering.{task_in}
+use Rattle.grounding_instances.specs.Numbering.{task_in}
 use Rattle.model.proofs.Tests.{passes_not, passes_whole, passes_map}
 use Rattle.grounding.specs.Settled as settled
 use Rattle.grounding.proofs.SettledLemmas.{static_by_all, static_by_some}

@@ -1,7 +1,7 @@
 use Rattle.std.proofs.Common.{◌≡◌, true, take}
 use Rattle.std.specs.List.{list_all}
 use Rattle.task.specs.TaskParts.{formula_of}
-use Rattle.grounding_kept.specs.Numbering.{task_in}
+use Rattle.grounding_instances.specs.Numbering.{task_in}
 use Rattle.grounding.specs.Settled.{is_static}
 use Rattle.grounding.proofs.settled.+is_static.Given as goal
 

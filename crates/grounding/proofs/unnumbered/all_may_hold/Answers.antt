@@ -1,7 +1,7 @@
 use Rattle.std.proofs.Common.{◌∙◌, sym}
 use Rattle.formulas.specs.Literals.{literal_of}
 use Rattle.model.proofs.Tests.{passes_not, passes_whole, passes_map}
-use Rattle.grounding_kept.specs.Numbering.{task_in, atoms_in}
+use Rattle.grounding_instances.specs.Numbering.{task_in, atoms_in}
 use Rattle.grounding.specs.Unnumbered as unnumbered
 use Rattle.grounding.proofs.unnumbered.all_may_hold.Goals as goal
 

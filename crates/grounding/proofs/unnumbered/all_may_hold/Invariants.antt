@@ -1,7 +1,7 @@
 use Rattle.std.proofs.Common.{◌≡◌, true, take}
 use Rattle.std.specs.List.{list_all}
 use Rattle.formulas.specs.Literals.{literal_of}
-use Rattle.grounding_kept.specs.Numbering.{task_in, atoms_in}
+use Rattle.grounding_instances.specs.Numbering.{task_in, atoms_in}
 use Rattle.grounding.specs.Unnumbered.{may_hold}
 use Rattle.grounding.proofs.unnumbered.all_may_hold.Given as goal
 

@@ -1,6 +1,6 @@
 use Rattle.std.proofs.Common.{length, map}
 use Rattle.std.specs.Prelude.{IfSome}
-use Rattle.grounding_kept.specs.Numbers.{numbered_of}
+use Rattle.grounding_instances.specs.Numbers.{numbered_of}
 use Rattle.grounding.specs.Watched.{IsWatchable}
 use Rattle.grounding.proofs.watch_lists.rarest.Given as goal
 

@@ -9,7 +9,7 @@ use Rattle.planner_main.specs.Solution.{WritesReport}
 use Rattle.planner_main.proofs.ProgramWords.{can_be_reported, either_since, refused_and, without_fault}
 use Rattle.planner_main.proofs.ProgramReported.{reported_as, partly_as, report_written}
 use Rattle.planner_main.specs.Asked.{outputs_in}
-use Rattle.progress_lines.specs.Said.{stream}
+use Rattle.devices.specs.Progress.{stream}
 use Rattle.planner_main.proofs.ProgressReported.{said_of_both, ended_written}
 use Rattle.planner_main.proofs.program.carry_out.Goals as goal
 

@@ -6,8 +6,8 @@ use Rattle.std.proofs.lemmas.Result.{IfErr-weaker}
 use Rattle.planner_main.proofs.OrderWanted.{wanted_of_check, wanted_of_explain, wanted_of_solve}
 use Rattle.planner_main.proofs.ProgramWords.{without_fault}
 use Rattle.std.specs.Prelude.{IfOk, Result, Ok, Err, ⊤}
-use Rattle.progress_lines.specs.Said.{AreSaid, nothing, stream}
-use Rattle.progress_lines.proofs.SaidLemmas.{said_of_more}
+use Rattle.devices.specs.Progress.{AreSaid, nothing, stream}
+use Rattle.devices.proofs.ProgressLemmas.{said_of_more}
 use Rattle.planner_main.specs.Progress.{HasEndedFor, IsProgressOn}
 use Rattle.planner_main.specs.declared.failures.Failure.{Failure}
 use Rattle.printed_answers.specs.declared.reports.Report.{Report}

@@ -1,7 +1,7 @@
 use Rattle.std.proofs.Common.{inl, inr, refl, arith}
 use Rattle.devices.specs.Devices.{IsWritten}
 use Rattle.command_line.specs.View.{texts, wanted_of}
-use Rattle.progress_lines.specs.Said.{nothing as none_yet, stream}
+use Rattle.devices.specs.Progress.{nothing as none_yet, stream}
 use Rattle.planner_main.specs.Progress.{IsProgress, SaysAfter}
 use Rattle.planner_main.specs.Program.{inputs_of, nothing, texts_of}
 use Rattle.planner_main.proofs.ProgramWords.{refuses_of_words, no_failure, failed_status, device_reported, memory_reported, unread_status, files_named, device_has_failed, others_have_not_failed, words_failed, words_status, words_reported, words_memory, words_refuse_no_text, words_fail_no_device, unread_words, words_no_answer}

@@ -1,8 +1,8 @@
 use Rattle.std.proofs.Common.{map, arith}
 use Rattle.std.proofs.lemmas.Int.{ints}
 use Rattle.grounding.specs.Views.{numbered_of}
-use Rattle.potential_functions.specs.Fair.{goal_gives}
-use Rattle.potential_functions.proofs.Sums.{sum-next}
+use Rattle.lower_bounds.specs.FairPotentials.{goal_gives}
+use Rattle.lower_bounds.proofs.Sums.{sum-next}
 use Rattle.potentials.proofs.LossLemmas.{gives-is}
 use Rattle.potentials.proofs.goals.goal_gives_at_most.Goals as goal
 

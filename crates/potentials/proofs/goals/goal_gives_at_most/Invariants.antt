@@ -1,7 +1,7 @@
 use Rattle.std.proofs.Common.{◌≡◌, ◌*◌, map, pos, neg_ℤ, ◌≤ℤ◌}
 use Rattle.grounding.specs.Views.{numbered_of}
-use Rattle.potential_functions.specs.PotentialFunctions.{sum_below}
-use Rattle.potential_functions.specs.Fair.{goal_gives}
+use Rattle.lower_bounds.specs.PotentialFunctions.{sum_below}
+use Rattle.lower_bounds.specs.FairPotentials.{goal_gives}
 use Rattle.potentials.proofs.goals.goal_gives_at_most.Given as goal
 
 abbrev pub invariant-loop-place : goal.invariant-loop-place

@@ -5,8 +5,8 @@ use Rattle.std.specs.Int.{w64}
 use Rattle.grounding.specs.Views.{numbered_of}
 use Rattle.grounding.specs.declared.changes.CountingChange.{CountingChange}
 use Rattle.grounding.specs.Changes.{counting_of}
-use Rattle.potential_functions.specs.PotentialFunctions.{weight}
-use Rattle.potential_functions.specs.Fair.{touches, worst}
+use Rattle.lower_bounds.specs.PotentialFunctions.{weight}
+use Rattle.lower_bounds.specs.FairPotentials.{touches, worst}
 use Rattle.potentials.proofs.LossLemmas.{worst-of}
 use Rattle.potentials.proofs.losses.loses_by.Goals as goal
 

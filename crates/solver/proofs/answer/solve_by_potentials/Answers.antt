@@ -3,7 +3,7 @@ use Rattle.grounding.specs.declared.ground.Ground.{Ground}
 use Rattle.grounding.specs.Ground.{task_in, atoms_in}
 use Rattle.model.specs.Runs.{System}
 use Rattle.model.specs.Grounding.{ground_system}
-use Rattle.potential_functions.specs.PotentialFunctions.{PotentialFunction, score, is_dead_by}
+use Rattle.lower_bounds.specs.PotentialFunctions.{PotentialFunction, score, is_dead_by}
 use Rattle.potentials_improved.specs.FairPotentials as fair
 use Rattle.potentials_improved.specs.Potentials.{potentials_of}
 use Rattle.potentials_improved.specs.FairPotentials.{potentials_in}
@@ -36,7 +36,7 @@ search_in_parts-requires-clause-system g c = ap (λ f. system_of (fair.ground_in
 
 pub answer_by_potentials-requires-clause-guidance : goal.answer_by_potentials-requires-clause-guidance
 answer_by_potentials-requires-clause-guidance g c =
-    let space = c.args.space in
+    let space = c.args.setting.space in
     let f = c.args.estimate.now in
     let d = c.args.dead_ends.now in
     let p = potentials_in f in
@@ -54,7 +54,7 @@ answer_by_potentials-requires-clause-guidance g c =
 
 pub answer_by_potentials-requires-clause-searched : goal.answer_by_potentials-requires-clause-searched
 answer_by_potentials-requires-clause-searched g c =
-    let space = c.args.space in
+    let space = c.args.setting.space in
     let guide = c.new-guide.result in
     let outcome = c.in-ByGuide.searched.outcome in
     let marks = c.in-ByGuide.searched.marks.items in
@@ -64,6 +64,6 @@ answer_by_potentials-requires-clause-searched g c =
     let dead_ends : potentials_in guide.dead_ends.now ≡ dead = ap potentials_in c.new-guide.ensures.dead_ends ∙ sym c.potentials-2.ensures in
     let estimates = value_by-value (score (potentials_in guide.estimate.now)) value (ap score values) ∙ sym (same_estimates space value dead) in
     let reports = ap is_dead_by dead_ends ∙ sym (same_reports space value dead) in
-    subst (λ (e : List Bool → ℕ). IsSearched space e (reports_dead (by_potentials_of space value dead)) c.args.limits.states outcome marks) estimates
-    (subst (λ (r : List Bool → Bool). IsSearched space (value_by (score (potentials_in guide.estimate.now))) r c.args.limits.states outcome marks) reports
-    (subst (IsTrueEnd space (value_by (score (potentials_in guide.estimate.now))) (is_dead_by (potentials_in guide.dead_ends.now)) c.args.limits) c.in-ByGuide.is c.in_ok-answer.ensures.end))
+    subst (λ (e : List Bool → ℕ). IsSearched space e (reports_dead (by_potentials_of space value dead)) c.args.setting.limits.states outcome marks) estimates
+    (subst (λ (r : List Bool → Bool). IsSearched space (value_by (score (potentials_in guide.estimate.now))) r c.args.setting.limits.states outcome marks) reports
+    (subst (IsTrueEnd space (value_by (score (potentials_in guide.estimate.now))) (is_dead_by (potentials_in guide.dead_ends.now)) c.args.setting.limits) c.in-ByGuide.is c.in_ok-answer.ensures.end))

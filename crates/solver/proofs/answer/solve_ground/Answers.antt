@@ -1,6 +1,6 @@
 use Rattle.std.proofs.Common.{map, sym, subst}
 use Rattle.grounding.specs.Ground.{task_in}
-use Rattle.task_symmetries.specs.Exchange.{exchange_of}
+use Rattle.symmetries.specs.Exchange.{exchange_of}
 use Rattle.ground_listings.specs.Exchanges.{AreExchangesFor}
 use Rattle.solver.proofs.answer.solve_ground.Goals as goal
 

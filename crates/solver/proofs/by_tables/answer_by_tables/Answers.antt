@@ -2,10 +2,10 @@ use Rattle.std.proofs.Common.{◌≤◌, length, sym, subst}
 use Rattle.certificate.specs.CertificateParts.{bounds_of}
 use Rattle.grounding.specs.Ground.{task_in, atoms_in}
 use Rattle.model.specs.Grounding.{ground_system}
-use Rattle.potential_functions.specs.PotentialFunctions.{PotentialFunction}
-use Rattle.potential_functions.specs.Settled.{initial_value}
+use Rattle.lower_bounds.specs.PotentialFunctions.{PotentialFunction}
+use Rattle.lower_bounds.specs.Settled.{initial_value}
 use Rattle.potentials.specs.Potentials.{potentials_of}
-use Rattle.table_functions.specs.FairTables.{AreFair}
+use Rattle.lower_bounds.specs.FairTables.{AreFair}
 use Rattle.solver.specs.declared.searched.Searched.{Searched}
 use Rattle.solver.specs.Attempts.{IfDone}
 use Rattle.solver.specs.Guidance.{by_tables, estimate_by, reports_dead}
@@ -17,13 +17,13 @@ use Rattle.solver.proofs.by_tables.answer_by_tables.Goals as goal
 
 pub answer_of-requires-clause-guidance : goal.answer_of-requires-clause-guidance
 answer_of-requires-clause-guidance g c =
-    let known = ground_in c.args.space in
+    let known = ground_in c.args.setting.space in
     let task = task_in known in
     let atoms = atoms_in known in
-    let values = bounds_of c.args.bounds in
+    let values = bounds_of c.args.draft.bounds in
     let start = estimate_by (by_tables values) (ground_system task atoms).initial in
     record {
-      written = tables-written (length atoms) c.args.bounds c.requires.within_limits;
+      written = tables-written (length atoms) c.args.draft.bounds c.requires.within_limits;
       exchanges = c.requires.space.written;
       fair = subst (IfDone (λ (s : Searched). AreFair task atoms values)) c.in-Done.is c.in_ok-attempt.ensures.fair;
       improved = subst (AreSettledOrHigh task atoms) (sym c.requires.first) c.requires.improved;
@@ -34,5 +34,5 @@ answer_of-requires-clause-guidance g c =
 
 pub answer_of-requires-clause-searched : goal.answer_of-requires-clause-searched
 answer_of-requires-clause-searched g c =
-    let guidance = by_tables (bounds_of c.args.bounds) in
-    subst (IfDone (λ (s : Searched). IsSearched c.args.space (estimate_by guidance) (reports_dead guidance) c.args.limits.states s.outcome s.marks.items)) c.in-Done.is c.in_ok-attempt.ensures.searched
+    let guidance = by_tables (bounds_of c.args.draft.bounds) in
+    subst (IfDone (λ (s : Searched). IsSearched c.args.setting.space (estimate_by guidance) (reports_dead guidance) c.args.setting.limits.states s.outcome s.marks.items)) c.in-Done.is c.in_ok-attempt.ensures.searched

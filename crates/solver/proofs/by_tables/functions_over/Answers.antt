@@ -6,8 +6,8 @@ use Rattle.task.specs.TaskParts.{atom_of}
 use Rattle.grounding.specs.Ground.{atoms_in}
 use Rattle.certificate_definitions.specs.Certificates.{three}
 use Rattle.potentials.specs.Potentials.{potentials_of}
-use Rattle.table_functions.specs.Laws.{are_over}
-use Rattle.table_functions.specs.TableFunctions.{SeveralValues}
+use Rattle.lower_bounds.specs.TableLaws.{are_over}
+use Rattle.lower_bounds.specs.TableFunctions.{SeveralValues}
 use Rattle.table_rows.specs.Tables.{table_of}
 use Rattle.tables.specs.AllTables.{tables_of}
 use Rattle.solver.specs.SeveralOver.{several_over}

@@ -7,10 +7,10 @@ use Rattle.grounding.specs.declared.ground.Ground.{Ground}
 use Rattle.grounding.specs.Ground.{task_in, atoms_in}
 use Rattle.ground_listings.specs.SearchSpace.{ground_in}
 use Rattle.model.specs.Grounding.{ground_system}
-use Rattle.potential_functions.specs.Settled.{initial_value}
+use Rattle.lower_bounds.specs.Settled.{initial_value}
 use Rattle.potentials.specs.Potentials.{potentials_of}
-use Rattle.table_functions.specs.FairTables.{AreFair}
-use Rattle.table_functions.specs.TableFunctions.{SeveralValues, functions_of, greatest_value}
+use Rattle.lower_bounds.specs.FairTables.{AreFair}
+use Rattle.lower_bounds.specs.TableFunctions.{SeveralValues, functions_of, greatest_value}
 use Rattle.table_rows.specs.Tables.{table_of}
 use Rattle.tables.specs.declared.several.TableFunctions.{TableFunctions}
 use Rattle.tables.specs.Several.{several_of, width_of}
@@ -27,23 +27,23 @@ use Rattle.solver.proofs.by_tables.search_by_tables.Goals as goal
 use Rattle.solver.proofs.by_tables.search_by_tables.Goals.{After-deref, In-Some}
 
 -- the values are those of the bounds
-same : (g : Over) (c : After-deref g) → several_over c.args.values.items c.args.dead_ends c.deref.result.now ≡ bounds_of c.args.bounds.now
+same : (g : Over) (c : After-deref g) → several_over c.args.over.values.items c.args.over.dead_ends c.deref.result.now ≡ bounds_of c.args.over.bounds.now
 same g c = λ i. record { values = c.requires.values i; dead_ends = c.requires.dead_ends i; tables = map table_of (c.deref.ensures.value i) }
 
 pub functions_over-requires : goal.functions_over-requires
 functions_over-requires g c = record {
   within_limits = subst (λ (s : SeveralValues). IsTrue (are_bounds three (length (atoms_in c.ground-ground.result.now)) s)) (sym (same g (goal.at.functions_over-requires g c).After-deref))
-      (subst (λ (k : Ground). IsTrue (are_bounds three (length (atoms_in k)) (bounds_of c.args.bounds.now))) (sym c.ground-ground.ensures) c.requires.within_limits);
+      (subst (λ (k : Ground). IsTrue (are_bounds three (length (atoms_in k)) (bounds_of c.args.over.bounds.now))) (sym c.ground-ground.ensures) c.requires.within_limits);
 }
 
 -- and so are those in memory
-in_memory : (g : Over) (c : In-Some g) → several_of c.in-Some.functions ≡ bounds_of c.args.bounds.now
+in_memory : (g : Over) (c : In-Some g) → several_of c.in-Some.functions ≡ bounds_of c.args.over.bounds.now
 in_memory g c =
-    subst (λ (o : Option TableFunctions). IfSome o (λ (f : TableFunctions). several_of f ≡ several_over c.args.values.items c.args.dead_ends c.deref.result.now)) c.in-Some.is c.in_ok-functions.ensures
+    subst (λ (o : Option TableFunctions). IfSome o (λ (f : TableFunctions). several_of f ≡ several_over c.args.over.values.items c.args.over.dead_ends c.deref.result.now)) c.in-Some.is c.in_ok-functions.ensures
     ∙ (λ i. record { values = c.requires.values i; dead_ends = c.requires.dead_ends i; tables = map table_of (c.deref.ensures.value i) })
 
-width : (g : Over) (c : In-Some g) → width_of c.in-Some.functions ≡ length (atoms_in (ground_in c.args.space))
-width g c = ap (λ (s : SeveralValues). length s.dead_ends.weights) (in_memory g c) ∙ dead_ends_weighed (length (atoms_in (ground_in c.args.space))) (bounds_of c.args.bounds.now) c.requires.within_limits
+width : (g : Over) (c : In-Some g) → width_of c.in-Some.functions ≡ length (atoms_in (ground_in c.args.setting.space))
+width g c = ap (λ (s : SeveralValues). length s.dead_ends.weights) (in_memory g c) ∙ dead_ends_weighed (length (atoms_in (ground_in c.args.setting.space))) (bounds_of c.args.over.bounds.now) c.requires.within_limits
 
 pub starts_no_lower-requires-clause-functions : goal.starts_no_lower-requires-clause-functions
 starts_no_lower-requires-clause-functions g c = width g (goal.at.starts_no_lower-requires-clause-functions g c).In-Some ∙ ap (λ (k : Ground). length (atoms_in k)) (sym c.ground-ground.ensures)
@@ -63,7 +63,7 @@ whatever (Err e) is = tt
 
 pub returns-then-is_worth-clause-no_lower : goal.returns-then-is_worth-clause-no_lower
 returns-then-is_worth-clause-no_lower g c =
-    let known = ground_in c.args.space in
+    let known = ground_in c.args.setting.space in
     let first = potentials_of c.args.stopped.now.potentials.now in
     let start = (ground_system (task_in known) (atoms_in known)).initial in
     whatever c.search_if_fair.result
@@ -74,10 +74,10 @@ returns-then-is_worth-clause-no_lower g c =
 
 pub returns-then-is_worth-clause-fair : goal.returns-then-is_worth-clause-fair
 returns-then-is_worth-clause-fair g c =
-    subst (λ (s : SeveralValues). IfOk c.search_if_fair.result (IfDone (λ (_ : Searched). AreFair (task_in (ground_in c.args.space)) (atoms_in (ground_in c.args.space)) s)))
+    subst (λ (s : SeveralValues). IfOk c.search_if_fair.result (IfDone (λ (_ : Searched). AreFair (task_in (ground_in c.args.setting.space)) (atoms_in (ground_in c.args.setting.space)) s)))
     (in_memory g (goal.at.returns-then-is_worth-clause-fair g c).In-Some) c.search_if_fair.ensures.fair
 
 pub returns-then-is_worth-clause-searched : goal.returns-then-is_worth-clause-searched
 returns-then-is_worth-clause-searched g c =
-    subst (λ (s : SeveralValues). IfOk c.search_if_fair.result (IfDone (λ (f : Searched). IsSearched c.args.space (estimate_by (by_tables s)) (reports_dead (by_tables s)) c.args.limits.states f.outcome f.marks.items)))
+    subst (λ (s : SeveralValues). IfOk c.search_if_fair.result (IfDone (λ (f : Searched). IsSearched c.args.setting.space (estimate_by (by_tables s)) (reports_dead (by_tables s)) c.args.setting.limits.states f.outcome f.marks.items)))
     (in_memory g (goal.at.returns-then-is_worth-clause-searched g c).In-Some) c.search_if_fair.ensures.searched

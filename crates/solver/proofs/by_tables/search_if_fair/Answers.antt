@@ -3,9 +3,9 @@ use Rattle.grounding.specs.declared.ground.Ground.{Ground}
 use Rattle.grounding.specs.Ground.{task_in, atoms_in}
 use Rattle.model.specs.Runs.{System}
 use Rattle.model.specs.Grounding.{ground_system}
-use Rattle.table_functions.specs.FairTables.{AreFair}
-use Rattle.table_functions.specs.Laws.{AreAllNumbered}
-use Rattle.table_functions.specs.TableFunctions.{SeveralValues}
+use Rattle.lower_bounds.specs.FairTables.{AreFair}
+use Rattle.lower_bounds.specs.TableLaws.{AreAllNumbered}
+use Rattle.lower_bounds.specs.TableFunctions.{SeveralValues}
 use Rattle.table_guides.proofs.GuideLemmas.{all_numbered}
 use Rattle.table_guides.specs.FairTables.{functions_in}
 use Rattle.tables.specs.Several.{several_of, ReportsValues}
@@ -16,7 +16,7 @@ use Rattle.solver.proofs.by_tables.search_if_fair.Goals as goal
 
 pub new-guide-requires-clause-numbered : goal.new-guide-requires-clause-numbered
 new-guide-requires-clause-numbered g c =
-    subst (λ (k : Ground). AreAllNumbered (task_in k) (atoms_in k)) (sym c.ground-ground.ensures) (all_numbered (ground_in c.args.space) [] c.requires.space.atoms)
+    subst (λ (k : Ground). AreAllNumbered (task_in k) (atoms_in k)) (sym c.ground-ground.ensures) (all_numbered (ground_in c.args.setting.space) [] c.requires.space.atoms)
 
 pub new-guide-requires-clause-fair : goal.new-guide-requires-clause-fair
 new-guide-requires-clause-fair g c = subst (ReportsValues (task_in c.ground-ground.result.now) (atoms_in c.ground-ground.result.now) (several_of c.args.functions)) c.in-Fair.is c.in_ok-fairness.ensures
@@ -24,14 +24,14 @@ new-guide-requires-clause-fair g c = subst (ReportsValues (task_in c.ground-grou
 pub returns-in-Fair-clause-fair : goal.returns-in-Fair-clause-fair
 returns-in-Fair-clause-fair g c =
     let guide = c.new-guide.result in
-    let known = ground_in c.args.space in
+    let known = ground_in c.args.setting.space in
     subst (AreFair (task_in known) (atoms_in known)) c.new-guide.ensures.functions
     (subst (λ (g : Ground). AreFair (task_in g) (atoms_in g) (functions_in guide)) (c.new-guide.ensures.ground ∙ c.ground-ground.ensures) guide.fair)
 
 pub returns-in-Fair-clause-searched : goal.returns-in-Fair-clause-searched
 returns-in-Fair-clause-searched g c =
     let searched = c.in_ok-searched-in-Fair.searched in
-    subst (λ (s : SeveralValues). IsSearched c.args.space (estimate_by (by_tables s)) (reports_dead (by_tables s)) c.args.limits.states searched.outcome searched.marks.items)
+    subst (λ (s : SeveralValues). IsSearched c.args.setting.space (estimate_by (by_tables s)) (reports_dead (by_tables s)) c.args.setting.limits.states searched.outcome searched.marks.items)
     c.new-guide.ensures.functions c.in_ok-searched-in-Fair.ensures.searched
 
 abbrev means : Ground → System (List Bool) ℕ

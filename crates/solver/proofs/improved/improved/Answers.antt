@@ -1,8 +1,8 @@
 use Rattle.std.proofs.Common.{◌∙◌, length, subst, sym}
 use Rattle.grounding.specs.declared.ground.Ground.{Ground}
 use Rattle.grounding.specs.Ground.{task_in, atoms_in}
-use Rattle.potential_functions.specs.Fair.{AreFairAt}
-use Rattle.potential_functions.proofs.Zero.{zero-fair_at}
+use Rattle.lower_bounds.specs.FairPotentials.{AreFairAt}
+use Rattle.lower_bounds.proofs.Zero.{zero-fair_at}
 use Rattle.potentials_improved.specs.Potentials.{potentials_of}
 use Rattle.potentials_improved.specs.FairPotentials.{potentials_in, ground_in}
 use Rattle.solver.specs.Improved.{AreSettledOrHighAt}

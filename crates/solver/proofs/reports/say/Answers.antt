@@ -1,7 +1,7 @@
 use Rattle.std.proofs.Common.{ℕ, List, ◌∙◌, refl, subst}
 use Rattle.devices.specs.Devices.{IsWritten}
 use Rattle.solver.specs.Said.{IsTrueLine, line_of}
-use Rattle.progress_lines.proofs.SaidLemmas.{one_line}
+use Rattle.devices.proofs.ProgressLemmas.{one_line}
 use Rattle.solver.proofs.reports.say.Goals as goal
 
 pub returns-in-Ok-clause-said : goal.returns-in-Ok-clause-said

@@ -23,13 +23,13 @@ for_limit P (Err e) limit each some = tt
 
 pub returns : goal.returns
 returns g c =
-    let guide = c.args.guide.now in
+    let guide = c.args.session.now.guide.now in
     let estimate = g.G.Guide.estimate_of guide in
     let is_dead = g.G.Guide.is_dead guide in
     let fits = g.G.Guide.fits guide in
-    let space = c.args.space in
-    let limit = c.args.limits.states in
-    let some = leb-true 1 limit (and_parts (nat_le 1 limit) (nat_le limit 16777216) c.args.limits.states_within).0 in
+    let space = c.args.session.now.setting.space in
+    let limit = c.args.session.now.setting.limits.states in
+    let some = leb-true 1 limit (and_parts (nat_le 1 limit) (nat_le limit 16777216) c.args.session.now.setting.limits.states_within).0 in
     for_limit (IsUnderWay space estimate is_dead fits) c.begin.result limit
     (subst (λ (k : Ground). IfOk c.begin.result (λ s. (n : ℕ) → 1 ≤ n
     → under_way.IsUnderWay (ground_system (task_in k) (atoms_in k)) (class_in space) estimate is_dead fits listed_states listed_class listed_width (length (atoms_in k)) n s)) c.ground.ensures

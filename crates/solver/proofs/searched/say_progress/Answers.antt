@@ -16,8 +16,8 @@ use Rattle.solver.proofs.searched.say_progress.Goals as goal
 
 pub returns : goal.returns
 returns g c =
-    let space = c.args.space in
-    let guide = c.args.guide.now in
+    let space = c.args.session.now.setting.space in
+    let guide = c.args.session.now.guide.now in
     let known = ground_in space in
     let task = task_in known in
     let atoms = atoms_in known in
@@ -27,11 +27,11 @@ returns g c =
     let t = system_of space in
     let class_of = class_in space in
     let p = c.args.search.now.progress in
-    let search = c.requires.open.0 in
+    let search = c.requires.successors.0 in
     let admissible = subst (λ (u : System (List Bool) ℕ). IsAdmissible u estimate) c.requires.system (g.met.G.Guide.is_admissible guide) in
     let reports = subst (λ (u : System (List Bool) ℕ). ReportsDeadEnds u is_dead) c.requires.system (g.met.G.Guide.reports_dead_ends guide) in
     let least = subst (IsLeastSum p.open_list) c.in-Some.is c.bound.ensures in
-    let costs = bound_holds t class_of estimate is_dead listed_states p search (classes_reach_alike space c.requires.space) admissible reports c.requires.open.1 c.in-Some.bound least in
+    let costs = bound_holds t class_of estimate is_dead listed_states p search (classes_reach_alike space c.requires.space) admissible reports c.requires.successors.1 c.in-Some.bound least in
     let count : length (listed_states p.store) ≡ c.len-listed.result = ap (λ (s : GroundListing). length (listed_states s)) (sym c.store.ensures) ∙ sym c.len-listed.ensures in
     let found : AreReachable t c.len-listed.result =
     (listed_states p.store, distinct t class_of estimate is_dead listed_states p search, reachable t class_of estimate is_dead listed_states p search, count) in

@@ -1,8 +1,8 @@
 use Rattle.std.proofs.Common.{◌∙◌, ◌<◌, map, Some, sym, ap, subst}
 use Rattle.std.specs.Prelude.{All}
 use Rattle.std.proofs.lemmas.Option.{slice_get-get_or}
-use Rattle.table_losses.specs.Lists.{IsFiledAt}
-use Rattle.table_losses.specs.Losses.{indexed_of}
+use Rattle.table_rows.specs.Lists.{IsFiledAt}
+use Rattle.table_rows.specs.Losses.{indexed_of}
 use Rattle.table_rows.specs.Tables.{table_of}
 use Rattle.tables.proofs.TablesLemmas.{by-atom-none, by-atom-more, mapped-at, scope-below}
 use Rattle.tables.proofs.tables.by_atom.Goals as goal

@@ -1,6 +1,6 @@
 use Rattle.std.proofs.Common.{◌≡◌, map, length}
 use Rattle.tables.specs.ByAtom.{IsByAtom}
-use Rattle.table_losses.specs.Losses.{indexed_of}
+use Rattle.table_rows.specs.Losses.{indexed_of}
 use Rattle.tables.proofs.tables.by_atom.Given as goal
 
 abbrev pub invariant-loop-number : goal.invariant-loop-number

@@ -3,12 +3,12 @@ use Rattle.std.specs.List.{flat_map}
 use Rattle.std.proofs.lemmas.List.{append_assoc}
 use Rattle.typing.specs.Task.{file_of}
 use Rattle.task.specs.TaskParts as parts
-use Rattle.task_parts.specs.Scope.{known_over}
-use Rattle.task_parts.specs.Walk.{found, least_of}
-use Rattle.syntax_tree.specs.Tree as read
+use Rattle.typing_names.specs.Scope.{known_over}
+use Rattle.typing_names.specs.Walk.{found, found_by}
+use Rattle.pddl_tree_parts.specs.Tree as read
 use Rattle.model.specs.Trees as tree
 use Rattle.model.specs.Typing as typing
-use Rattle.task_parts.proofs.Found.{found_after}
+use Rattle.typing_names.proofs.Found.{found_after}
 use Rattle.typing.proofs.actions.body.Goals.{In_ok-effect}
 use Rattle.typing.proofs.actions.body.Goals as goal
 
@@ -33,7 +33,7 @@ returns-clause-finds c =
     let s = (goal.at.returns-clause-finds c).In_ok-effect in
     let a = read.action_of c.args.action.now in
     let file = file_of c.args.globals.now.file in let known = known_over c.args.globals.now c.args.variables.now.entries in
-    let before = least_of c.args.walk.now in let middle = least_of c.formula.new.walk in let last = least_of c.effect.new.walk in
+    let before = found_by c.args.walk.now in let middle = found_by c.formula.new.walk in let last = found_by c.effect.new.walk in
     let first = typing.formula_faults file known a.precondition in let second = typing.effect_faults file known a.effect in
     let increases = typing.increase_faults file known a in
     let amounts = λ (k : typing.Known). flat_map (λ (i : tree.Increase). typing.amount_faults file k i.amount) a.increases in

@@ -1,13 +1,13 @@
 use Rattle.std.proofs.Common.{◌≡◌, ◌∙◌, List, [], map, ap}
 use Rattle.std.proofs.lemmas.Result.{IfOk-weaker}
 use Rattle.task.specs.TaskParts as parts
-use Rattle.task_parts.specs.Scope.{known_outside, variable_entry_of}
-use Rattle.task_parts.specs.Walk.{found, least_of}
-use Rattle.syntax_tree.specs.Tree as read
+use Rattle.typing_names.specs.Scope.{known_outside, variable_entry_of}
+use Rattle.typing_names.specs.Walk.{found, found_by}
+use Rattle.pddl_tree_parts.specs.Tree as read
 use Rattle.model.specs.Trees.{domain_file}
 use Rattle.model.specs.Typing as typing
-use Rattle.task_parts.proofs.Found.{found_after}
-use Rattle.task_parts.proofs.Reports.{on_ok_weaker}
+use Rattle.typing_names.proofs.Found.{found_after}
+use Rattle.typing_names.proofs.Reports.{on_ok_weaker}
 use Rattle.typing.proofs.actions.schema.Goals.{In_ok-parameters}
 use Rattle.typing.proofs.actions.schema.Goals as goal
 
@@ -31,7 +31,7 @@ pub returns-clause-finds : goal.returns-clause-finds
 returns-clause-finds c =
     let known = known_outside c.args.globals.now in let a = read.action_of c.args.action.now in
     let is = same (goal.at.returns-clause-finds c).In_ok-parameters in
-    let before = least_of c.args.walk.now in let middle = least_of c.enter.new.walk in
+    let before = found_by c.args.walk.now in let middle = found_by c.enter.new.walk in
     let faults = λ (vs : List typing.Variable). typing.variable_faults known.type_names vs (typing.declared domain_file a.parameters) in
     on_ok_weaker c.body.result
     (λ finds. found_after before middle _ (faults []) (typing.body_faults domain_file (typing.known_in_action known a) a)

@@ -1,13 +1,13 @@
 use Rattle.std.proofs.Common.{map}
-use Rattle.task_parts.specs.Walk.{least_of}
+use Rattle.typing_names.specs.Walk.{found_by}
 use Rattle.task.specs.TaskParts as parts
-use Rattle.task_parts.specs.Scope.{known_outside}
-use Rattle.syntax_tree.specs.Tree as read
+use Rattle.typing_names.specs.Scope.{known_outside}
+use Rattle.pddl_tree_parts.specs.Tree as read
 use Rattle.model.specs.Trees.{domain_file}
 use Rattle.model.specs.Typing as typing
 use Rattle.typing.proofs.TableSteps as tables
-use Rattle.task_parts.proofs.Found as finding
-use Rattle.syntax_tree.specs.declared.tree.Action.{Action}
+use Rattle.typing_names.proofs.Found as finding
+use Rattle.pddl_tree_parts.specs.declared.tree.Action.{Action}
 use Rattle.typing.proofs.actions.table.Goals as goal
 
 pub loop-action-preserved : goal.loop-action-preserved
@@ -19,7 +19,7 @@ loop-action-preserved c =
     let shape = c.in_ok-schema.ensures.shape in
     record {
       finds = finding.found_step (λ (a : Action). typing.schema_faults known (read.action_of a)) xs i x c.loop-action-test.true c.action-item.is
-          (least_of c.loop-action.walk) (least_of c.schema.new.walk) _ c.in_ok-schema.ensures.finds c.loop-action.invariant.finds;
+          (found_by c.loop-action.walk) (found_by c.schema.new.walk) _ c.in_ok-schema.ensures.finds c.loop-action.invariant.finds;
       table = λ once. tables.table_step placed_as made parts.schema_of xs i x c.loop-action-test.true c.action-item.is
           c.loop-action.schemas.entries c.put.new.table.entries c.in_ok-schema.schema (map made xs)
           (λ key is j. record { name = is j; parameters = (shape j).0; precondition = (shape j).1; effect = (shape j).2; increase = (shape j).3 })

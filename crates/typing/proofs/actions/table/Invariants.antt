@@ -1,17 +1,17 @@
 use Rattle.std.proofs.Common.{◌≡◌, [], ◌++◌, map, drop}
 use Rattle.std.specs.List.{flat_map}
-use Rattle.task_parts.specs.Walk.{found, least_of}
+use Rattle.typing_names.specs.Walk.{found, found_by}
 use Rattle.task.specs.TaskParts as parts
-use Rattle.task_parts.specs.Scope.{keys_in, known_outside}
-use Rattle.syntax_tree.specs.Tree as read
+use Rattle.typing_names.specs.Scope.{keys_in, known_outside}
+use Rattle.pddl_tree_parts.specs.Tree as read
 use Rattle.model.specs.Trees.{domain_file}
 use Rattle.model.specs.Typing as typing
 use Rattle.typing.proofs.actions.table.Given as goal
 
 abbrev pub invariant-loop-action : goal.invariant-loop-action
 invariant-loop-action l = record {
-  finds : found (least_of l.walk) (flat_map (λ a. typing.schema_faults (known_outside l.globals) (read.action_of a)) (drop l.action-index l.actions))
-      ≡ found (least_of l.initial.walk) (flat_map (λ a. typing.schema_faults (known_outside l.globals) (read.action_of a)) l.actions);
+  finds : found (found_by l.walk) (flat_map (λ a. typing.schema_faults (known_outside l.globals) (read.action_of a)) (drop l.action-index l.actions))
+      ≡ found (found_by l.initial.walk) (flat_map (λ a. typing.schema_faults (known_outside l.globals) (read.action_of a)) l.actions);
   table : typing.repeated_after [] (map (λ a. typing.placed domain_file (read.name_of a.name)) l.actions) ≡ []
       → (typing.repeated_after (keys_in l.schemas.entries) (map (λ a. typing.placed domain_file (read.name_of a.name)) (drop l.action-index l.actions)) ≡ [])
       × (map parts.schema_of l.schemas.entries ++ map (λ a. typing.schema_in (known_outside l.globals) (read.action_of a)) (drop l.action-index l.actions)

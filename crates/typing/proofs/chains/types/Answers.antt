@@ -1,17 +1,17 @@
 use Rattle.std.proofs.Common.{◌≡◌, ◌≤◌, ◌∙◌, [], ◌∷◌, ◌++◌, codes, map, length, ap, sym, subst, arith}
 use Rattle.std.proofs.lemmas.List.{length-map}
 use Rattle.std.proofs.lemmas.Result.{IfErr-weaker, IfOk-weaker}
-use Rattle.syntax_tree.specs.Tree.{domain_of, problem_of, group_of}
+use Rattle.pddl_tree_parts.specs.Tree.{domain_of, problem_of, group_of}
 use Rattle.typing.specs.Chains.{cycles}
-use Rattle.typing.specs.Task.{ReportsLeastOf}
-use Rattle.task_parts.specs.TypedLists.{declared_of}
+use Rattle.typing.specs.Task.{ReportsAll}
+use Rattle.typing_names.specs.TypedLists.{declared_of}
 use Rattle.typing.specs.Declarations.{type_faults_of, AreTypesOf}
 use Rattle.model.specs.Trees.{domain_file}
 use Rattle.model.specs.Trees as tree
 use Rattle.model.specs.Typing as typing
-use Rattle.task_parts.proofs.Empty as empty
+use Rattle.typing_names.proofs.Empty as empty
 use Rattle.model.specs.Typing.{first_filled}
-use Rattle.task_parts.proofs.Reports.{reports_here, reports_later}
+use Rattle.typing_names.proofs.Reports.{reports_here, reports_later}
 use Rattle.faults.proofs.Results.{passed_on}
 use Rattle.typing.proofs.chains.types.Goals.{In_ok-names}
 use Rattle.typing.proofs.chains.types.Goals as goal
@@ -46,16 +46,16 @@ filled-requires c =
 pub returns-in_err-names-clause-err : goal.returns-in_err-names-clause-err
 returns-in_err-names-clause-err c =
     let d = domain_of c.args.domain.now in let p = problem_of c.args.problem.now in let e = c.in_err-names.field-0.0 in
-    passed_on (ReportsLeastOf (type_faults_of d p)) c.from_residual-in_err-names.result e c.from_residual-in_err-names.ensures.1
+    passed_on (ReportsAll (type_faults_of d p)) c.from_residual-in_err-names.result e c.from_residual-in_err-names.ensures.1
     (reports_here (typing.domain_name_faults d p ++ typing.type_declaration_faults d) _ e c.in_err-names.ensures.err)
 
 pub returns-clause-err : goal.returns-clause-err
 returns-clause-err c =
     let s = (goal.at.returns-clause-err c).In_ok-names in
     let d = domain_of c.args.domain.now in let p = problem_of c.args.problem.now in
-    IfErr-weaker c.filled.result _ (ReportsLeastOf (type_faults_of d p))
+    IfErr-weaker c.filled.result _ (ReportsAll (type_faults_of d p))
     (λ e reported. reports_later (typing.domain_name_faults d p ++ typing.type_declaration_faults d) _ c.in_ok-names.ensures.ok.0 e
-    (reports_here (typing.cycle_faults d) [] e (subst (λ fs. ReportsLeastOf fs e) (λ i. cycles (c.in_ok-names.ensures.ok.1 i) (same s i)) reported))) c.filled.ensures.err
+    (reports_here (typing.cycle_faults d) [] e (subst (λ fs. ReportsAll fs e) (λ i. cycles (c.in_ok-names.ensures.ok.1 i) (same s i)) reported))) c.filled.ensures.err
 
 pub returns-clause-ok : goal.returns-clause-ok
 returns-clause-ok c =

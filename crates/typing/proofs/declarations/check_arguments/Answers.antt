@@ -1,11 +1,11 @@
 use Rattle.std.proofs.Common.{◌∙◌, ◌++◌, List, ap, map}
-use Rattle.task_parts.specs.TypedLists.{declared_of}
-use Rattle.task_parts.specs.Walk.{found, least_of}
-use Rattle.task_parts.specs.Scope.{keys_in}
-use Rattle.syntax_tree.specs.Tree as read
+use Rattle.typing_names.specs.TypedLists.{declared_of}
+use Rattle.typing_names.specs.Walk.{found, found_by}
+use Rattle.typing_names.specs.Scope.{keys_in}
+use Rattle.pddl_tree_parts.specs.Tree as read
 use Rattle.model.specs.Trees.{domain_file}
 use Rattle.model.specs.Typing as typing
-use Rattle.task_parts.proofs.Found.{found_after}
+use Rattle.typing_names.proofs.Found.{found_after}
 use Rattle.typing.proofs.declarations.check_arguments.Goals as goal
 
 pub returns : goal.returns
@@ -14,5 +14,5 @@ returns c =
     let many = λ (xs : List typing.Declared). typing.refused 25 (typing.one_after 8 (typing.words_of xs)) in
     let xs = map declared_of c.as_slice-declared.result.now in
     let same = ap (map declared_of) c.as_slice-declared.ensures.value ∙ c.in_ok-list.ensures ∙ ap (λ gs. typing.declared domain_file (map read.group_of gs)) c.as_slice-groups.ensures.value in
-    found_after (least_of c.args.walk.now) _ _ (faults xs) (many xs) c.in_ok-check_all.ensures c.limit.ensures
-    ∙ ap (λ ys. found (least_of c.args.walk.now) (faults ys ++ many ys)) same
+    found_after (found_by c.args.walk.now) _ _ (faults xs) (many xs) c.in_ok-check_all.ensures c.limit.ensures
+    ∙ ap (λ ys. found (found_by c.args.walk.now) (faults ys ++ many ys)) same

@@ -1,15 +1,15 @@
 use Rattle.std.proofs.Common.{◌≡◌, ◌∙◌, List, [], ◌++◌, map, fold, refl, ap, sym}
 use Rattle.std.specs.List.{flat_map}
-use Rattle.task_parts.specs.Walk.{found, least_of}
-use Rattle.task_parts.specs.Scope.{keys_in}
-use Rattle.syntax_tree.specs.Tree as read
+use Rattle.typing_names.specs.Walk.{found, found_by}
+use Rattle.typing_names.specs.Scope.{keys_in}
+use Rattle.pddl_tree_parts.specs.Tree as read
 use Rattle.model.specs.Trees.{domain_file}
 use Rattle.model.specs.Typing as typing
 use Rattle.task.specs.TaskParts as parts
-use Rattle.task_parts.proofs.Found as finding
-use Rattle.task_parts.proofs.Tables.{keys_in-named}
-use Rattle.task_parts.proofs.Empty as empty
-use Rattle.syntax_tree.specs.declared.tree.Predicate.{Predicate}
+use Rattle.typing_names.proofs.Found as finding
+use Rattle.typing_names.proofs.Tables.{keys_in-named}
+use Rattle.typing_names.proofs.Empty as empty
+use Rattle.pddl_tree_parts.specs.declared.tree.Predicate.{Predicate}
 use Rattle.model.specs.Task as task
 use Rattle.model.specs.Trees as tree
 use Rattle.std.proofs.lemmas.List.Folds.{flat_map-map}
@@ -45,5 +45,5 @@ pub returns-clause-finds : goal.returns-clause-finds
 unfolding twice inner
 returns-clause-finds c =
     let xs = c.args.declarations.now in let names = keys_in c.args.types.now.by_name.entries in
-    finding.found_after (least_of c.args.walk.now) (least_of c.table.new.walk) _ (twice xs) (inner names xs) c.in_ok-table.ensures.finds c.in_ok-check_declarations.ensures
-    ∙ ap (found (least_of c.args.walk.now)) (all_faults names xs)
+    finding.found_after (found_by c.args.walk.now) (found_by c.table.new.walk) _ (twice xs) (inner names xs) c.in_ok-table.ensures.finds c.in_ok-check_declarations.ensures
+    ∙ ap (found (found_by c.args.walk.now)) (all_faults names xs)

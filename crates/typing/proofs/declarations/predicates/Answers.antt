@@ -1,10 +1,10 @@
 use Rattle.std.proofs.Common.{◌≡◌, ◌∙◌, [], map, None, ap}
-use Rattle.task_parts.specs.Walk.{found, least_of}
+use Rattle.typing_names.specs.Walk.{found, found_by, nothing}
 use Rattle.task.specs.TaskParts as parts
-use Rattle.task_parts.specs.Scope.{keys_in}
-use Rattle.syntax_tree.specs.Tree as read
+use Rattle.typing_names.specs.Scope.{keys_in}
+use Rattle.pddl_tree_parts.specs.Tree as read
 use Rattle.model.specs.Typing as typing
-use Rattle.task_parts.proofs.Reports as printing
+use Rattle.typing_names.proofs.Reports as printing
 use Rattle.typing.proofs.declarations.predicates.Goals as goal
 
 pub returns : goal.returns
@@ -14,8 +14,8 @@ returns c =
     let predicates = c.in_ok-predicates.predicates in
     let faults = typing.declaration_faults names (map read.predicate_of ys) in
     let whole = map (typing.predicate_in names) (map read.predicate_of ys) in
-    let total : least_of c.declared.new.walk ≡ found None faults =
-    c.in_ok-predicates.ensures.finds ∙ (λ i. found (c.new-walk.ensures i) (typing.declaration_faults names (map read.predicate_of (c.deref.ensures.value i)))) in
+    let total : found_by c.declared.new.walk ≡ found nothing faults =
+    c.in_ok-predicates.ensures.finds ∙ (λ i. found (c.in_ok-walk.ensures i) (typing.declaration_faults names (map read.predicate_of (c.deref.ensures.value i)))) in
     let table : faults ≡ [] → map parts.predicate_of predicates.entries ≡ whole =
     λ none. c.in_ok-predicates.ensures.table (ap (λ zs. typing.declaration_faults names (map read.predicate_of zs)) c.deref.ensures.value ∙ none)
     ∙ ap (λ zs. map (typing.predicate_in names) (map read.predicate_of zs)) c.deref.ensures.value in

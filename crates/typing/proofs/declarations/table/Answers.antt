@@ -1,13 +1,13 @@
 use Rattle.std.proofs.Common.{map}
-use Rattle.task_parts.specs.Walk.{least_of}
+use Rattle.typing_names.specs.Walk.{found_by}
 use Rattle.task.specs.TaskParts as parts
-use Rattle.task_parts.specs.Scope.{keys_in}
-use Rattle.syntax_tree.specs.Tree as read
+use Rattle.typing_names.specs.Scope.{keys_in}
+use Rattle.pddl_tree_parts.specs.Tree as read
 use Rattle.model.specs.Trees.{domain_file}
 use Rattle.model.specs.Typing as typing
 use Rattle.typing.proofs.TableSteps as tables
-use Rattle.task_parts.proofs.Found as finding
-use Rattle.syntax_tree.specs.declared.tree.Predicate.{Predicate}
+use Rattle.typing_names.proofs.Found as finding
+use Rattle.pddl_tree_parts.specs.declared.tree.Predicate.{Predicate}
 use Rattle.typing.proofs.declarations.table.Goals as goal
 
 pub loop-declaration-preserved : goal.loop-declaration-preserved
@@ -19,7 +19,7 @@ loop-declaration-preserved c =
     let after = c.declare.new.table.entries in
     record {
       finds = finding.found_declared placed_as xs i x c.loop-declaration-test.true c.declaration-item.is (keys_in before) (keys_in after)
-          (least_of c.loop-declaration.walk) (least_of c.declare.new.walk) _ c.in_ok-declare.ensures.names c.in_ok-declare.ensures.finds c.loop-declaration.invariant.finds;
+          (found_by c.loop-declaration.walk) (found_by c.declare.new.walk) _ c.in_ok-declare.ensures.names c.in_ok-declare.ensures.finds c.loop-declaration.invariant.finds;
       names = tables.names_step (λ (q : Predicate). read.name_of q.name) xs i x c.loop-declaration-test.true c.declaration-item.is (keys_in before) (keys_in after) _
           c.in_ok-declare.ensures.names c.loop-declaration.invariant.names;
       table = λ once. tables.table_step placed_as made parts.predicate_of xs i x c.loop-declaration-test.true c.declaration-item.is

@@ -1,16 +1,16 @@
 use Rattle.std.proofs.Common.{◌≡◌, [], ◌++◌, map, fold, drop}
-use Rattle.task_parts.specs.Walk.{found, least_of}
+use Rattle.typing_names.specs.Walk.{found, found_by}
 use Rattle.task.specs.TaskParts as parts
-use Rattle.task_parts.specs.Scope.{keys_in}
-use Rattle.syntax_tree.specs.Tree as read
+use Rattle.typing_names.specs.Scope.{keys_in}
+use Rattle.pddl_tree_parts.specs.Tree as read
 use Rattle.model.specs.Trees.{domain_file}
 use Rattle.model.specs.Typing as typing
 use Rattle.typing.proofs.declarations.table.Given as goal
 
 abbrev pub invariant-loop-declaration : goal.invariant-loop-declaration
 invariant-loop-declaration l = record {
-  finds : found (least_of l.walk) (typing.refused 16 (typing.repeated_after (keys_in l.predicates.entries) (map (λ q. typing.placed domain_file (read.name_of q.name)) (drop l.declaration-index l.declarations))))
-      ≡ found (least_of l.initial.walk) (typing.refused 16 (typing.repeated_after [] (map (λ q. typing.placed domain_file (read.name_of q.name)) l.declarations)));
+  finds : found (found_by l.walk) (typing.refused 16 (typing.repeated_after (keys_in l.predicates.entries) (map (λ q. typing.placed domain_file (read.name_of q.name)) (drop l.declaration-index l.declarations))))
+      ≡ found (found_by l.initial.walk) (typing.refused 16 (typing.repeated_after [] (map (λ q. typing.placed domain_file (read.name_of q.name)) l.declarations)));
   names : fold typing.with_name (keys_in l.predicates.entries) (map (λ q. read.name_of q.name) (drop l.declaration-index l.declarations))
       ≡ fold typing.with_name [] (map (λ q. read.name_of q.name) l.declarations);
   table : typing.repeated_after [] (map (λ q. typing.placed domain_file (read.name_of q.name)) l.declarations) ≡ []

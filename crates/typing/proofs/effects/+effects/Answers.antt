@@ -1,6 +1,6 @@
 use Rattle.typing.specs.Task.{file_of}
-use Rattle.task_parts.specs.Scope.{known_over}
-use Rattle.task_parts.specs.Walk.{least_of}
+use Rattle.typing_names.specs.Scope.{known_over}
+use Rattle.typing_names.specs.Walk.{found_by}
 use Rattle.typing.proofs.EffectTrees.{both_by_parts, both_faults_by_parts}
 use Rattle.typing.proofs.effects.+effects.Goals as goal
 
@@ -12,4 +12,4 @@ effect-returns-in_ok-parts-in-And-clause-value t c =
 pub effect-returns-in_ok-parts-in-And-clause-finds : goal.effect-returns-in_ok-parts-in-And-clause-finds
 effect-returns-in_ok-parts-in-And-clause-finds t c =
     both_faults_by_parts (file_of c.args.globals.now.file) (known_over c.args.globals.now c.args.variables.now.entries) c.args.given.now c.in-And.parts c.deref.result.now c.deref.ensures.value
-    c.in-And.is (least_of c.several.new.walk) (least_of c.args.walk.now) c.in_ok-parts-in-And.ensures.finds
+    c.in-And.is (found_by c.several.new.walk) (found_by c.args.walk.now) c.in_ok-parts-in-And.ensures.finds

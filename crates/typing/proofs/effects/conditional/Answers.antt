@@ -2,12 +2,12 @@ use Rattle.std.proofs.Common.{◌∙◌, map, ap, sym}
 use Rattle.std.specs.List.{flat_map}
 use Rattle.std.proofs.lemmas.List.Folds.{flat_map-map}
 use Rattle.typing.specs.Task.{file_of}
-use Rattle.task_parts.specs.Scope.{known_over}
-use Rattle.task_parts.specs.Walk.{found, least_of}
-use Rattle.syntax_tree.specs.Tree as read
+use Rattle.typing_names.specs.Scope.{known_over}
+use Rattle.typing_names.specs.Walk.{found, found_by}
+use Rattle.pddl_tree_parts.specs.Tree as read
 use Rattle.model.specs.Task as task
 use Rattle.model.specs.Typing as typing
-use Rattle.task_parts.proofs.Found.{found_after, map-map}
+use Rattle.typing_names.proofs.Found.{found_after, map-map}
 use Rattle.typing.proofs.effects.conditional.Goals as goal
 
 pub returns-clause-value : goal.returns-clause-value
@@ -22,8 +22,8 @@ pub returns-clause-finds : goal.returns-clause-finds
 returns-clause-finds c =
     let g = c.args.globals.now in let file = file_of g.file in let known = known_over g c.args.variables.now.entries in
     let is = ap (known_over g) c.in_ok-condition.ensures.variables in
-    let middle = least_of c.formula.new.walk in
-    found_after (least_of c.args.walk.now) middle _ (typing.formula_faults file known (read.formula_of c.args.condition.now))
+    let middle = found_by c.formula.new.walk in
+    found_after (found_by c.args.walk.now) middle _ (typing.formula_faults file known (read.formula_of c.args.condition.now))
     (flat_map (typing.effect_literal_faults file known) (map read.effect_literal_of c.args.given.now.items)) c.in_ok-condition.ensures.finds
     (c.in_ok-literals.ensures.finds
     ∙ (λ i. found middle (flat_map (λ l. typing.effect_literal_faults file (is i) (read.effect_literal_of l)) (c.as_slice-given.ensures.value i)))

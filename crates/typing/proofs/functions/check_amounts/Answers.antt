@@ -1,20 +1,20 @@
 use Rattle.std.proofs.Common.{refl}
 use Rattle.typing.specs.Task.{file_of}
-use Rattle.task_parts.specs.Scope.{known_over}
-use Rattle.task_parts.specs.Walk.{least_of}
-use Rattle.syntax_tree.specs.declared.tree.Increase.{Increase}
-use Rattle.syntax_tree.specs.Tree as read
+use Rattle.typing_names.specs.Scope.{known_over}
+use Rattle.typing_names.specs.Walk.{found_by}
+use Rattle.pddl_tree_parts.specs.declared.tree.Increase.{Increase}
+use Rattle.pddl_tree_parts.specs.Tree as read
 use Rattle.model.specs.Typing as typing
-use Rattle.task_parts.proofs.Found as finding
+use Rattle.typing_names.proofs.Found as finding
 use Rattle.typing.proofs.functions.check_amounts.Goals as goal
 
 pub loop-increase-preserved : goal.loop-increase-preserved
 loop-increase-preserved c =
     let faults = λ (i : Increase). typing.amount_faults (file_of c.args.globals.now.file) (known_over c.args.globals.now c.args.variables.now.entries) (read.amount_of i.amount) in
     finding.found_step faults c.args.increases.now c.loop-increase.increase-index c.increase-item.result c.loop-increase-test.true c.increase-item.is
-    (least_of c.loop-increase.walk) _ _ c.in_ok-amount.ensures.finds c.loop-increase.invariant
+    (found_by c.loop-increase.walk) _ _ c.in_ok-amount.ensures.finds c.loop-increase.invariant
 
 pub returns : goal.returns
 returns c =
     let faults = λ (i : Increase). typing.amount_faults (file_of c.args.globals.now.file) (known_over c.args.globals.now c.args.variables.now.entries) (read.amount_of i.amount) in
-    finding.found_to_end faults c.args.increases.now c.args.increases.now c.loop-increase.increase-index (least_of c.loop-increase.walk) (least_of c.args.walk.now) c.loop-increase.invariant c.loop-increase-test.false refl
+    finding.found_to_end faults c.args.increases.now c.args.increases.now c.loop-increase.increase-index (found_by c.loop-increase.walk) (found_by c.args.walk.now) c.loop-increase.invariant c.loop-increase-test.false refl

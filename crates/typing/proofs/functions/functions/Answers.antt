@@ -1,16 +1,16 @@
 use Rattle.std.proofs.Common.{◌≡◌, ◌∙◌, [], ◌++◌, if◌then◌else◌, map, fold, None, ap}
 use Rattle.std.specs.List.{list_any}
 use Rattle.std.specs.Option.{option_map_or}
-use Rattle.task_parts.specs.Scope.{keys_in}
-use Rattle.task_parts.specs.Walk.{found, least_of}
+use Rattle.typing_names.specs.Scope.{keys_in}
+use Rattle.typing_names.specs.Walk.{found, found_by, nothing}
 use Rattle.task.specs.TaskParts as parts
-use Rattle.syntax_tree.specs.Tree as read
+use Rattle.pddl_tree_parts.specs.Tree as read
 use Rattle.model.specs.Trees as tree
 use Rattle.model.specs.Trees.{problem_file}
 use Rattle.model.specs.Typing as typing
-use Rattle.task_parts.proofs.Empty as empty
-use Rattle.task_parts.proofs.Found as finding
-use Rattle.task_parts.proofs.Reports as printing
+use Rattle.typing_names.proofs.Empty as empty
+use Rattle.typing_names.proofs.Found as finding
+use Rattle.typing_names.proofs.Reports as printing
 use Rattle.typing.proofs.Costs.{cost_declared, metric_faults, metric_reported}
 use Rattle.typing.proofs.functions.functions.Goals as goal
 
@@ -26,11 +26,11 @@ returns c =
     ∙ ap (λ zs. list_any (typing.is_same typing.total_cost) (fold typing.with_name [] (map (λ (q : tree.Predicate). q.name) (map read.predicate_of zs)))) c.deref.ensures.value
     ∙ cost_declared (typing.type_names d) d.functions in
     let metric = metric_reported has c.as_ref.result c.args.problem.now.metric c.as_ref.ensures.value ∙ ap (λ b. metric_faults b p.metric) is in
-    let total : least_of c.check_metric.new.walk ≡ found None (typing.function_faults d p) =
-    finding.found_after (least_of c.new-walk.result) (least_of c.declared.new.walk) _
+    let total : found_by c.check_metric.new.walk ≡ found nothing (typing.function_faults d p) =
+    finding.found_after (found_by c.in_ok-walk.walk) (found_by c.declared.new.walk) _
     (typing.declaration_faults (keys_in c.args.types.now.by_name.entries) (map read.predicate_of c.deref.result.now))
     (option_map_or (λ n. if has then [] else typing.refused_word problem_file 22 (read.name_of n.now)) c.as_ref.result []) c.in_ok-functions.ensures.finds c.check_metric.ensures
-    ∙ (λ i. found (c.new-walk.ensures i) (declared i ++ metric i)) in
+    ∙ (λ i. found (c.in_ok-walk.ensures i) (declared i ++ metric i)) in
     let table : typing.function_faults d p ≡ [] → map parts.predicate_of functions.entries ≡ typing.functions_of d =
     λ none. c.in_ok-functions.ensures.table (declared ∙ empty.nil_left (typing.declaration_faults (typing.type_names d) d.functions) (metric_faults (typing.declares_cost d) p.metric) none)
     ∙ (λ i. map (typing.predicate_in (c.requires i)) (map read.predicate_of (c.deref.ensures.value i))) in

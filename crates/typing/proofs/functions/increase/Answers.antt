@@ -2,21 +2,21 @@ use Rattle.std.proofs.Common.{◌≡◌, ◌∙◌, List, drop, if◌then◌else
 use Rattle.std.specs.List.{flat_map}
 use Rattle.std.proofs.lemmas.List.Folds.{flat_map-map}
 use Rattle.typing.specs.Task.{file_of}
-use Rattle.task_parts.specs.Scope.{known_over}
-use Rattle.task_parts.specs.Walk.{found, least_of}
-use Rattle.syntax_tree.specs.declared.tree.Increase.{Increase}
-use Rattle.syntax_tree.specs.Tree as read
+use Rattle.typing_names.specs.Scope.{known_over}
+use Rattle.typing_names.specs.Walk.{found, found_by}
+use Rattle.pddl_tree_parts.specs.declared.tree.Increase.{Increase}
+use Rattle.pddl_tree_parts.specs.Tree as read
 use Rattle.model.specs.Trees as tree
 use Rattle.model.specs.Typing as typing
-use Rattle.task_parts.proofs.Found.{found_after}
-use Rattle.task_parts.proofs.Reports.{on_ok_weaker}
+use Rattle.typing_names.proofs.Found.{found_after}
+use Rattle.typing_names.proofs.Reports.{on_ok_weaker}
 use Rattle.typing.proofs.functions.increase.Goals as goal
 
 pub returns-clause-finds : goal.returns-clause-finds
 returns-clause-finds c =
     let a = read.action_of c.args.action.now in
     let file = file_of c.args.globals.now.file in let known = known_over c.args.globals.now c.args.variables.now.entries in
-    let before = least_of c.args.walk.now in let middle = least_of c.check_increases.new.walk in
+    let before = found_by c.args.walk.now in let middle = found_by c.check_increases.new.walk in
     let amounts = λ (i : tree.Increase). typing.amount_faults file known i.amount in
     let first : middle ≡ found before (typing.increase_faults file known a) =
     c.check_increases.ensures

@@ -1,10 +1,10 @@
 use Rattle.std.proofs.Common.{◌≡◌, ◌∙◌, ◌∷◌, ◌+◌, ap, sym, map, drop}
 use Rattle.std.proofs.lemmas.List.{drop_more, drop_all}
 use Rattle.typing.specs.Task.{file_of}
-use Rattle.task_parts.specs.Walk.{found, least_of}
-use Rattle.syntax_tree.specs.declared.tree.TaskFile.{TaskFile}
-use Rattle.syntax_tree.specs.declared.tree.Increase.{Increase}
-use Rattle.syntax_tree.specs.Tree as read
+use Rattle.typing_names.specs.Walk.{found, found_by}
+use Rattle.pddl_tree_parts.specs.declared.tree.TaskFile.{TaskFile}
+use Rattle.pddl_tree_parts.specs.declared.tree.Increase.{Increase}
+use Rattle.pddl_tree_parts.specs.Tree as read
 use Rattle.model.specs.Typing as typing
 use Rattle.typing.proofs.functions.refuse_increases.Goals as goal
 
@@ -18,12 +18,12 @@ loop-increase-preserved c =
     let x = c.increase-item.result in
     let split : drop i xs ≡ x ∷ drop (i + 1) xs = drop_more xs i x c.loop-increase-test.true ∙ ap (λ y. y ∷ drop (i + 1) xs) (sym c.increase-item.is) in
     ap (λ o. found o (typing.refused 23 (map (word c.args.file) (drop (i + 1) xs)))) c.refuse.ensures
-    ∙ ap (λ ys. found (least_of c.loop-increase.walk) (typing.refused 23 (map (word c.args.file) ys))) (sym split)
+    ∙ ap (λ ys. found (found_by c.loop-increase.walk) (typing.refused 23 (map (word c.args.file) ys))) (sym split)
     ∙ c.loop-increase.invariant
 
 pub returns : goal.returns
 unfolding word
 returns c =
     let xs = c.args.increases.now in
-    sym (ap (λ ys. found (least_of c.loop-increase.walk) (typing.refused 23 (map (word c.args.file) ys))) (drop_all c.loop-increase.increase-index xs c.loop-increase-test.false))
+    sym (ap (λ ys. found (found_by c.loop-increase.walk) (typing.refused 23 (map (word c.args.file) ys))) (drop_all c.loop-increase.increase-index xs c.loop-increase-test.false))
     ∙ c.loop-increase.invariant

@@ -1,13 +1,13 @@
 use Rattle.std.proofs.Common.{◌≡◌, ◌≤◌, ◌∙◌, [], ◌++◌, map, length, None, ap, arith}
-use Rattle.task_parts.specs.Walk.{found, least_of}
+use Rattle.typing_names.specs.Walk.{found, found_by, nothing}
 use Rattle.task.specs.TaskParts as parts
-use Rattle.task_parts.specs.TypedLists.{declared_of}
-use Rattle.task_parts.specs.Scope.{keys_in}
+use Rattle.typing_names.specs.TypedLists.{declared_of}
+use Rattle.typing_names.specs.Scope.{keys_in}
 use Rattle.model.specs.Typing as typing
 use Rattle.std.proofs.lemmas.List.{length-map}
-use Rattle.task_parts.proofs.Found as finding
-use Rattle.task_parts.proofs.Reports as printing
-use Rattle.task_parts.proofs.Empty as empty
+use Rattle.typing_names.proofs.Found as finding
+use Rattle.typing_names.proofs.Reports as printing
+use Rattle.typing_names.proofs.Empty as empty
 use Rattle.typing.proofs.objects.all.Goals as goal
 
 pub returns : goal.returns
@@ -20,9 +20,9 @@ returns c =
     let twice = typing.refused 16 (typing.repeated (typing.words_of ys)) in
     let many = typing.refused 25 (typing.one_after 65535 (typing.words_of ys)) in
     let whole = map (typing.object_in names) ys in
-    let total : least_of c.limit.new.walk ≡ found None faults =
-    finding.found_after None (least_of c.table.new.walk) _ (unknown ++ twice) many
-    (finding.found_after None (least_of c.check_all.new.walk) _ unknown twice (c.in_ok-check_all.ensures ∙ ap (λ o. found o unknown) c.new-walk.ensures) c.in_ok-objects.ensures.finds) c.limit.ensures in
+    let total : found_by c.limit.new.walk ≡ found nothing faults =
+    finding.found_after nothing (found_by c.table.new.walk) _ (unknown ++ twice) many
+    (finding.found_after nothing (found_by c.check_all.new.walk) _ unknown twice (c.in_ok-check_all.ensures ∙ ap (λ o. found o unknown) c.in_ok-walk.ensures) c.in_ok-objects.ensures.finds) c.limit.ensures in
     let table : faults ≡ [] → map parts.object_entry_of objects.entries ≡ whole =
     λ none. c.in_ok-objects.ensures.table (empty.not_refused 16 (typing.repeated (typing.words_of ys)) (empty.nil_right unknown twice (empty.nil_left (unknown ++ twice) many none))) in
     let few : faults ≡ [] → length objects.entries ≤ 65535 =

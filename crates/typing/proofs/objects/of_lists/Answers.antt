@@ -1,11 +1,11 @@
 use Rattle.std.proofs.Common.{◌≡◌, ◌∙◌, List, ◌++◌, map, length, take, ap, subst, arith, IfErr, IfOk}
 use Rattle.std.proofs.Math.Seq.{take-append_seam}
 use Rattle.std.proofs.lemmas.List.{length-append, length-map}
-use Rattle.syntax_tree.specs.Tree as read
-use Rattle.task_parts.specs.Scope.{keys_in}
+use Rattle.pddl_tree_parts.specs.Tree as read
+use Rattle.typing_names.specs.Scope.{keys_in}
 use Rattle.typing.specs.DeclaredObjects.{AreMade}
-use Rattle.typing.specs.Task.{ReportsLeastOf}
-use Rattle.task_parts.specs.TypedLists.{declared_of}
+use Rattle.typing.specs.Task.{ReportsAll}
+use Rattle.typing_names.specs.TypedLists.{declared_of}
 use Rattle.model.specs.Trees.{domain_file, problem_file}
 use Rattle.model.specs.Typing as typing
 use Rattle.typing.proofs.objects.of_lists.Goals.{After-as_slice}
@@ -44,4 +44,4 @@ returns-clause-ok c =
 pub returns-clause-err : goal.returns-clause-err
 returns-clause-err c =
     let a = (goal.at.returns-clause-err c).After-as_slice in
-    subst (λ xs. IfErr c.made.result (ReportsLeastOf (typing.objects_faults (keys_in c.args.types.now.by_name.entries) xs))) (all a) c.made.ensures.err
+    subst (λ xs. IfErr c.made.result (ReportsAll (typing.objects_faults (keys_in c.args.types.now.by_name.entries) xs))) (all a) c.made.ensures.err

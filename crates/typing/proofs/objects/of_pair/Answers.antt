@@ -1,9 +1,9 @@
 use Rattle.std.proofs.Common.{◌≡◌, ◌∙◌, ◌++◌, map, ap, sym, subst, IfErr}
 use Rattle.std.proofs.lemmas.Result.{IfOk-weaker}
-use Rattle.syntax_tree.specs.Tree as read
-use Rattle.task_parts.specs.Scope.{keys_in}
+use Rattle.pddl_tree_parts.specs.Tree as read
+use Rattle.typing_names.specs.Scope.{keys_in}
 use Rattle.typing.specs.DeclaredObjects.{AreObjects}
-use Rattle.typing.specs.Task.{ReportsLeastOf}
+use Rattle.typing.specs.Task.{ReportsAll}
 use Rattle.model.specs.Trees.{domain_file, problem_file}
 use Rattle.model.specs.Typing as typing
 use Rattle.typing.proofs.objects.of_pair.Goals.{After-as_slice-objects}
@@ -27,4 +27,4 @@ returns-clause-ok c =
 pub returns-clause-err : goal.returns-clause-err
 returns-clause-err c =
     let names = keys_in c.args.types.now.by_name.entries in
-    subst (λ xs. IfErr c.of_lists.result (ReportsLeastOf (typing.objects_faults names xs))) (all (goal.at.returns-clause-err c).After-as_slice-objects) c.of_lists.ensures.err
+    subst (λ xs. IfErr c.of_lists.result (ReportsAll (typing.objects_faults names xs))) (all (goal.at.returns-clause-err c).After-as_slice-objects) c.of_lists.ensures.err

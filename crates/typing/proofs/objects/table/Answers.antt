@@ -1,13 +1,13 @@
 use Rattle.std.proofs.Common.{◌∙◌, [], map, ap, sym}
-use Rattle.task_parts.specs.Walk.{found, least_of}
+use Rattle.typing_names.specs.Walk.{found, found_by}
 use Rattle.task.specs.TaskParts as parts
-use Rattle.task_parts.specs.TypedLists.{declared_of, placed_of}
-use Rattle.task_parts.specs.Scope.{keys_in}
+use Rattle.typing_names.specs.TypedLists.{declared_of, placed_of}
+use Rattle.typing_names.specs.Scope.{keys_in}
 use Rattle.model.specs.Typing as typing
 use Rattle.std.proofs.lemmas.List.{drop_all}
-use Rattle.task_parts.specs.declared.typed_lists.Declared.{Declared}
+use Rattle.typing_names.specs.declared.typed_lists.Declared.{Declared}
 use Rattle.typing.proofs.TableSteps as tables
-use Rattle.task_parts.proofs.Found as finding
+use Rattle.typing_names.proofs.Found as finding
 use Rattle.typing.proofs.objects.table.Goals as goal
 
 pub loop-one-preserved : goal.loop-one-preserved
@@ -18,7 +18,7 @@ loop-one-preserved c =
     let after = c.declare.new.table.entries in
     record {
       finds = finding.found_declared_at placed_of xs i _ c.loop-one-test.true (keys_in before) (keys_in after)
-          (least_of c.loop-one.walk) (least_of c.declare.new.walk) _ c.in_ok-declare.ensures.names c.in_ok-declare.ensures.finds c.loop-one.invariant.finds;
+          (found_by c.loop-one.walk) (found_by c.declare.new.walk) _ c.in_ok-declare.ensures.names c.in_ok-declare.ensures.finds c.loop-one.invariant.finds;
       table = λ once. tables.table_step_at placed_of made parts.object_entry_of xs i _ c.loop-one-test.true
           before after c.in_ok-of_type.of_type (map made xs) (λ key is j. record { name = is j; type = c.in_ok-of_type.ensures j })
           c.in_ok-declare.ensures.names c.in_ok-declare.ensures.added (c.loop-one.invariant.table once);
@@ -35,6 +35,6 @@ returns-clause-table c = λ once.
 pub returns-clause-finds : goal.returns-clause-finds
 returns-clause-finds c =
     let xs = c.args.declared.now in
-    sym (ap (λ ys. found (least_of c.loop-one.walk) (typing.refused 16 (typing.repeated_after (keys_in c.loop-one.objects.entries) (map placed_of ys)))) (drop_all c.loop-one.one-index xs c.loop-one-test.false))
+    sym (ap (λ ys. found (found_by c.loop-one.walk) (typing.refused 16 (typing.repeated_after (keys_in c.loop-one.objects.entries) (map placed_of ys)))) (drop_all c.loop-one.one-index xs c.loop-one-test.false))
     ∙ c.loop-one.invariant.finds
-    ∙ ap (λ ws. found (least_of c.args.walk.now) (typing.refused 16 (typing.repeated_after [] ws))) (sym (finding.map-map (λ (y : typing.Declared). typing.placed y.file y.name) declared_of xs))
+    ∙ ap (λ ws. found (found_by c.args.walk.now) (typing.refused 16 (typing.repeated_after [] ws))) (sym (finding.map-map (λ (y : typing.Declared). typing.placed y.file y.name) declared_of xs))

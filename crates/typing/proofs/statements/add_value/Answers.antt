@@ -1,13 +1,13 @@
 use Rattle.std.proofs.Common.{◌≡◌, ◌∙◌, None, Some, if◌then◌else◌, map, ap, sym}
 use Rattle.std.specs.Option.{option_map}
-use Rattle.task_parts.specs.Scope.{known_of}
-use Rattle.task_parts.specs.Walk.{found, least_of}
+use Rattle.typing_names.specs.Scope.{known_of}
+use Rattle.typing_names.specs.Walk.{found, found_by}
 use Rattle.task.specs.TaskParts as parts
-use Rattle.syntax_tree.specs.Tree as read
+use Rattle.pddl_tree_parts.specs.Tree as read
 use Rattle.model.specs.Trees as tree
 use Rattle.model.specs.Typing as typing
-use Rattle.task_parts.proofs.Found.{found_after}
-use Rattle.task_parts.proofs.Reports.{on_ok_weaker}
+use Rattle.typing_names.proofs.Found.{found_after}
+use Rattle.typing_names.proofs.Reports.{on_ok_weaker}
 use Rattle.typing.proofs.Values.{reported_of_named}
 use Rattle.typing.proofs.statements.add_value.Goals as goal
 
@@ -22,8 +22,8 @@ returns-in-Some-clause-finds c =
     sym (ap (option_map parts.atom_of) c.in-Some.is) ∙ c.in_ok-function.ensures.value
     ∙ ap (λ k. if typing.is_named k v.function then Some (typing.atom_in k v.function) else None) is_known in
     let own = typing.ground_atom_faults file (typing.in_function known) v.function in
-    let first : least_of c.named_atom.new.walk ≡ found (least_of c.args.walk.now) own =
-    c.in_ok-function.ensures.finds ∙ (λ i. found (least_of c.args.walk.now) (typing.ground_atom_faults (ap read.file_of c.in_function-functions.ensures.file i) (is_known i) v.function)) in
+    let first : found_by c.named_atom.new.walk ≡ found (found_by c.args.walk.now) own =
+    c.in_ok-function.ensures.finds ∙ (λ i. found (found_by c.args.walk.now) (typing.ground_atom_faults (ap read.file_of c.in_function-functions.ensures.file i) (is_known i) v.function)) in
     on_ok_weaker c.put_value.result
-    (λ finds. found_after (least_of c.args.walk.now) (least_of c.named_atom.new.walk) _ own (typing.value_faults file known values (tree.initial_value v)) first
-    (finds ∙ ap (found (least_of c.named_atom.new.walk)) (reported_of_named known values v (parts.atom_of c.in-Some.function) named other))) c.put_value.ensures.finds
+    (λ finds. found_after (found_by c.args.walk.now) (found_by c.named_atom.new.walk) _ own (typing.value_faults file known values (tree.initial_value v)) first
+    (finds ∙ ap (found (found_by c.named_atom.new.walk)) (reported_of_named known values v (parts.atom_of c.in-Some.function) named other))) c.put_value.ensures.finds

@@ -1,8 +1,8 @@
 use Rattle.std.proofs.Common.{◌≡◌, ◌∙◌, map, ap, sym}
 use Rattle.indexmap.proofs.CallerLemmas.{insert_entry-new}
-use Rattle.task_parts.specs.Walk.{found, least_of}
+use Rattle.typing_names.specs.Walk.{found, found_by}
 use Rattle.task.specs.TaskParts as parts
-use Rattle.syntax_tree.specs.Tree.{file_of, name_of}
+use Rattle.pddl_tree_parts.specs.Tree.{file_of, name_of}
 use Rattle.std.proofs.lemmas.List.{map_push}
 use Rattle.model.specs.Task as task
 use Rattle.model.specs.Meaning.{value_in}
@@ -31,7 +31,7 @@ unfolding value
 returns-in-Some-clause-finds c =
     let s = (goal.at.returns-in-Some-clause-finds c).After-copied in
     c.refuse_unless.ensures
-    ∙ ap (found (least_of c.args.walk.now))
+    ∙ ap (found (found_by c.args.walk.now))
     (reported_by_first (map parts.value_of c.args.values.now.entries) (value s) c.in-Some.first (looked s ∙ c.in-Some.is) (typing.refused_word (file_of c.args.file) 16 (name_of c.args.given.now.function.predicate)))
 
 pub returns-in_ok-insert-in-None-clause-value : goal.returns-in_ok-insert-in-None-clause-value
@@ -48,5 +48,5 @@ pub returns-in_ok-insert-in-None-clause-finds : goal.returns-in_ok-insert-in-Non
 unfolding value
 returns-in_ok-insert-in-None-clause-finds c =
     let s = (goal.at.returns-in_ok-insert-in-None-clause-finds c).After-copied in
-    ap (found (least_of c.args.walk.now))
+    ap (found (found_by c.args.walk.now))
     (not_reported (map parts.value_of c.args.values.now.entries) (value s) (looked s ∙ c.in-None.is) (typing.refused_word (file_of c.args.file) 16 (name_of c.args.given.now.function.predicate)))

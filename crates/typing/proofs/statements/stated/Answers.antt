@@ -2,13 +2,13 @@ use Rattle.std.proofs.Common.{◌∙◌, ◌++◌, map, ap, sym}
 use Rattle.std.specs.List.{flat_map}
 use Rattle.std.proofs.lemmas.List.Folds.{flat_map-map}
 use Rattle.typing.specs.Task.{file_of}
-use Rattle.task_parts.specs.Walk.{found, least_of}
+use Rattle.typing_names.specs.Walk.{found, found_by}
 use Rattle.task.specs.TaskParts as parts
-use Rattle.task_parts.specs.Scope.{known_of, narrow_atoms_in}
-use Rattle.syntax_tree.specs.Tree as read
+use Rattle.typing_names.specs.Scope.{known_of, narrow_atoms_in}
+use Rattle.pddl_tree_parts.specs.Tree as read
 use Rattle.model.specs.Typing as typing
-use Rattle.syntax_tree.specs.declared.tree.Fact.{Fact}
-use Rattle.task_parts.proofs.Found as finding
+use Rattle.pddl_tree_parts.specs.declared.tree.Fact.{Fact}
+use Rattle.typing_names.proofs.Found as finding
 use Rattle.typing.proofs.Values.{values_step, facts_step, values_end, facts_end}
 use Rattle.typing.proofs.statements.stated.Goals as goal
 
@@ -18,7 +18,7 @@ loop-fact-init c =
     record {
       atoms = ap (λ as'. map parts.atom_of as' ++ flat_map (λ (f : Fact). narrow_atoms_in known (read.fact_of f)) c.args.facts.now) c.in_ok-atoms.ensures.items;
       values = ap (λ vs. typing.values_after known (map parts.value_of vs) facts) c.new-values.ensures.empty;
-      finds = ap (λ vs. found (least_of c.args.walk.now) (typing.facts_faults (file_of c.args.scope.now.file) known (map parts.value_of vs) facts)) c.new-values.ensures.empty;
+      finds = ap (λ vs. found (found_by c.args.walk.now) (typing.facts_faults (file_of c.args.scope.now.file) known (map parts.value_of vs) facts)) c.new-values.ensures.empty;
     }
 
 pub loop-fact-preserved : goal.loop-fact-preserved
@@ -31,7 +31,7 @@ loop-fact-preserved c =
           (map parts.atom_of c.loop-fact.atoms.items) _ _ step.atoms c.loop-fact.invariant.atoms;
       values = values_step known read.fact_of xs i x c.loop-fact-test.true c.fact-item.is old _ step.values _ c.loop-fact.invariant.values;
       finds = facts_step known read.fact_of xs i x c.loop-fact-test.true c.fact-item.is old _ step.values (file_of c.args.scope.now.file)
-          (least_of c.loop-fact.walk) _ _ step.finds c.loop-fact.invariant.finds;
+          (found_by c.loop-fact.walk) _ _ step.finds c.loop-fact.invariant.finds;
     }
 
 pub returns-clause-atoms : goal.returns-clause-atoms
@@ -47,4 +47,4 @@ returns-clause-values c =
 pub returns-clause-finds : goal.returns-clause-finds
 returns-clause-finds c =
     facts_end (known_of c.args.scope.now) read.fact_of c.args.facts.now c.loop-fact.fact-index c.loop-fact-test.false (map parts.value_of c.loop-fact.values.entries)
-    (file_of c.args.scope.now.file) (least_of c.loop-fact.walk) _ c.loop-fact.invariant.finds
+    (file_of c.args.scope.now.file) (found_by c.loop-fact.walk) _ c.loop-fact.invariant.finds

@@ -1,10 +1,10 @@
 use Rattle.std.proofs.Common.{◌≡◌, [], ◌++◌, map, drop}
 use Rattle.std.specs.List.{flat_map}
 use Rattle.typing.specs.Task.{file_of}
-use Rattle.task_parts.specs.Walk.{found, least_of}
+use Rattle.typing_names.specs.Walk.{found, found_by}
 use Rattle.task.specs.TaskParts as parts
-use Rattle.task_parts.specs.Scope.{known_of, narrow_atoms_in}
-use Rattle.syntax_tree.specs.Tree as read
+use Rattle.typing_names.specs.Scope.{known_of, narrow_atoms_in}
+use Rattle.pddl_tree_parts.specs.Tree as read
 use Rattle.model.specs.Typing as typing
 use Rattle.typing.proofs.statements.stated.Given as goal
 
@@ -14,6 +14,6 @@ invariant-loop-fact l = record {
       ≡ flat_map (λ f. narrow_atoms_in (known_of l.scope) (read.fact_of f)) l.facts;
   values : typing.values_after (known_of l.scope) (map parts.value_of l.values.entries) (map read.fact_of (drop l.fact-index l.facts))
       ≡ typing.values_after (known_of l.scope) [] (map read.fact_of l.facts);
-  finds : found (least_of l.walk) (typing.facts_faults (file_of l.scope.file) (known_of l.scope) (map parts.value_of l.values.entries) (map read.fact_of (drop l.fact-index l.facts)))
-      ≡ found (least_of l.initial.walk) (typing.facts_faults (file_of l.scope.file) (known_of l.scope) [] (map read.fact_of l.facts));
+  finds : found (found_by l.walk) (typing.facts_faults (file_of l.scope.file) (known_of l.scope) (map parts.value_of l.values.entries) (map read.fact_of (drop l.fact-index l.facts)))
+      ≡ found (found_by l.initial.walk) (typing.facts_faults (file_of l.scope.file) (known_of l.scope) [] (map read.fact_of l.facts));
 }

@@ -2,7 +2,7 @@ use Rattle.std.proofs.Common.{◌≡◌, ◌∙◌, length, map, sym, subst}
 use Rattle.std.proofs.lemmas.Bool.{eqb-true}
 use Rattle.std.proofs.lemmas.Option.{same_Some}
 use Rattle.grounding.specs.Ground.{task_in, atoms_in}
-use Rattle.task_symmetries.specs.Exchange.{exchange_of}
+use Rattle.symmetries.specs.Exchange.{exchange_of}
 use Rattle.certificate.specs.Certificate.{certificate_of, store_in}
 use Rattle.cert_checker.specs.Classified.{AreClassesOf}
 use Rattle.cert_checker.proofs.ClassLemmas.{made_of, none_of}

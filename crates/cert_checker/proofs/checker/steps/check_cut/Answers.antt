@@ -4,7 +4,7 @@ use Rattle.std.proofs.lemmas.Bool.{cases_lt}
 use Rattle.certificate_definitions.specs.Certificates.{value_of}
 use Rattle.certificate_reader.specs.Lines.{claim_of}
 use Rattle.cert_checker.specs.PackedListing.{task_at, certificate_at, state_at}
-use Rattle.task_certificates.specs.declared.refusal.RefusalCode.TheVariants.{CutWeak}
+use Rattle.cert_checker.specs.declared.refusal.RefusalCode.TheVariants.{CutWeak}
 use Rattle.certificate_definitions.specs.CertificateRefusals.{cut_weak, state_line}
 use Rattle.cert_checker.proofs.OrderLemmas.{first_in_line}
 use Rattle.cert_checker.proofs.FirstLemmas.{reported_first}

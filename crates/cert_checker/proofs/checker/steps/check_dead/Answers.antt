@@ -1,6 +1,6 @@
 use Rattle.std.proofs.Common.{◌∙◌, refl, sym, arith}
 use Rattle.cert_checker.specs.PackedListing.{task_at, certificate_at, state_at}
-use Rattle.task_certificates.specs.declared.refusal.RefusalCode.TheVariants.{NotDead}
+use Rattle.cert_checker.specs.declared.refusal.RefusalCode.TheVariants.{NotDead}
 use Rattle.certificate_definitions.specs.CertificateRefusals.{not_dead, state_line}
 use Rattle.cert_checker.proofs.OrderLemmas.{first_in_line}
 use Rattle.cert_checker.proofs.FirstLemmas.{reported_first}

@@ -1,7 +1,7 @@
 use Rattle.std.proofs.Common.{sym, ◌∙◌, refl, arith}
 use Rattle.certificate_reader.specs.Lines.{claim_of}
 use Rattle.cert_checker.specs.PackedListing.{task_at, certificate_at, state_at}
-use Rattle.task_certificates.specs.declared.refusal.RefusalCode.TheVariants.{GoalOpen}
+use Rattle.cert_checker.specs.declared.refusal.RefusalCode.TheVariants.{GoalOpen}
 use Rattle.certificate_definitions.specs.CertificateRefusals.{goal_open, state_line}
 use Rattle.cert_checker.proofs.OrderLemmas.{first_in_line}
 use Rattle.cert_checker.proofs.FirstLemmas.{reported_first}

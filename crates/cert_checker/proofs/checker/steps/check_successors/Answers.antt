@@ -2,7 +2,7 @@ use Rattle.certificate.specs.Certificate.{store_in}
 use Rattle.std.proofs.Common.{◌≡◌, ◌∙◌, ◌+◌, ℕ, Some, ap, map, get_or, refl, subst, sym, arith}
 use Rattle.std.proofs.lemmas.List.{get_or_default}
 use Rattle.packed_state.specs.Packed.{bits_of}
-use Rattle.task_certificates.specs.declared.refusal.RefusalCode.TheVariants.{SuccessorMissing, SuccessorDearer}
+use Rattle.cert_checker.specs.declared.refusal.RefusalCode.TheVariants.{SuccessorMissing, SuccessorDearer}
 use Rattle.cert_checker.specs.CertChecker.{IsFirstToLeave}
 use Rattle.cert_checker.specs.CheckedLines.{IsLeastCost}
 use Rattle.cert_checker.specs.PackedListing.{task_at, atoms_at, certificate_at, state_at}

@@ -6,8 +6,8 @@ use Rattle.grounding.specs.Ground.{task_in, atoms_in}
 use Rattle.faults.proofs.Results.{passed_on}
 use Rattle.model.specs.Task.{Task}
 use Rattle.model.specs.NumberedAtoms.{numbered_atoms}
-use Rattle.symmetries.specs.Orbits.{keeps_atoms}
-use Rattle.task_symmetries.specs.Exchange.{exchange_of}
+use Rattle.symmetries_definitions.specs.Orbits.{keeps_atoms}
+use Rattle.symmetries.specs.Exchange.{exchange_of}
 use Rattle.certificate_definitions.specs.Certificates.{Certificate, AreFairFor}
 use Rattle.cert_checker.specs.CheckedLines.{IsFirstGrounded, IsRightGrounded, IsTrueAnyway}
 use Rattle.cert_checker.specs.PackedListing.{task_at, certificate_at}

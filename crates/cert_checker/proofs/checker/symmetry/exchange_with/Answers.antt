@@ -4,9 +4,9 @@ use Rattle.std.specs.Option.{option_map}
 use Rattle.std.proofs.lemmas.List.{take_all}
 use Rattle.task.specs.Task.{task_of}
 use Rattle.task.specs.TaskParts.{object_of}
-use Rattle.task_symmetries.specs.Exchange.{exchange_of}
-use Rattle.task_symmetries.specs.Pairs.{exchange_among, pairs_in}
-use Rattle.symmetries.specs.Exchanges.{objects_in}
+use Rattle.symmetries.specs.Exchange.{exchange_of}
+use Rattle.symmetries.specs.ObjectPairs.{exchange_among, pairs_in}
+use Rattle.symmetries_definitions.specs.Exchanges.{objects_in}
 use Rattle.cert_checker.proofs.checker.symmetry.exchange_with.Goals as goal
 
 pub returns : goal.returns

@@ -1,7 +1,7 @@
 use Rattle.std.proofs.Common.{◌≡◌, map, take}
 use Rattle.task.specs.TaskParts.{object_of}
-use Rattle.task_symmetries.specs.Pairs.{pairs_in}
-use Rattle.symmetries.specs.Exchanges.{objects_in}
+use Rattle.symmetries.specs.ObjectPairs.{pairs_in}
+use Rattle.symmetries_definitions.specs.Exchanges.{objects_in}
 use Rattle.cert_checker.proofs.checker.symmetry.exchange_with.Given as goal
 
 -- the objects of the pairs so far

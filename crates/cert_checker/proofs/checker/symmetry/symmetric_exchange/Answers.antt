@@ -1,10 +1,10 @@
 use Rattle.std.proofs.Common.{◌≡◌, ◌∙◌, Option, None, Some, ap, sym}
 use Rattle.std.specs.Option.{option_map}
 use Rattle.grounding.specs.Ground.{task_in, atoms_in}
-use Rattle.task_symmetries.specs.declared.exchange.Exchange.{Exchange}
-use Rattle.task_symmetries.specs.Exchange.{exchange_of}
-use Rattle.task_symmetries.specs.Pairs.{exchange_among, pairs_in}
-use Rattle.symmetries.specs.Exchanges.{objects_in}
+use Rattle.symmetries.specs.declared.exchange.Exchange.{Exchange}
+use Rattle.symmetries.specs.Exchange.{exchange_of}
+use Rattle.symmetries.specs.ObjectPairs.{exchange_among, pairs_in}
+use Rattle.symmetries_definitions.specs.Exchanges.{objects_in}
 use Rattle.cert_checker.proofs.SymmetriesLemmas.{is_symmetric, none_symmetric, not_symmetric}
 use Rattle.cert_checker.proofs.checker.symmetry.symmetric_exchange.Goals as goal
 

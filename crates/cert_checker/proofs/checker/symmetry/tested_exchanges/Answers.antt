@@ -5,13 +5,13 @@ use Rattle.std.proofs.lemmas.List.{length-map}
 use Rattle.faults.proofs.Results.{passed_on}
 use Rattle.model.proofs.Tests.{passes_got}
 use Rattle.grounding.specs.Ground.{task_in, atoms_in}
-use Rattle.task_symmetries.specs.Exchange.{exchange_of}
-use Rattle.task_symmetries.specs.Pairs.{pairs_in}
+use Rattle.symmetries.specs.Exchange.{exchange_of}
+use Rattle.symmetries.specs.ObjectPairs.{pairs_in}
 use Rattle.certificate.specs.Certificate.{certificate_of}
 use Rattle.certificate.specs.CertificateParts.{exchange_in}
 use Rattle.certificate_definitions.specs.CertificateRefusals.{exchange_line}
-use Rattle.task_certificates.specs.declared.refusal.Refusal.TheVariants as refusal
-use Rattle.task_certificates.specs.declared.refusal.RefusalCode.TheVariants.{NotSymmetry}
+use Rattle.cert_checker.specs.declared.refusal.Refusal.TheVariants as refusal
+use Rattle.cert_checker.specs.declared.refusal.RefusalCode.TheVariants.{NotSymmetry}
 use Rattle.cert_checker.specs.CheckedLines.{IsFirstGrounded, IsTrueAnyway}
 use Rattle.cert_checker.specs.Exchanged.{is_said, is_symmetry_by}
 use Rattle.cert_checker.proofs.FirstLemmas.{reported_first}

@@ -1,8 +1,8 @@
 use Rattle.std.proofs.Common.{◌≡◌, ℕ, ◌<◌, true, Some, map, take}
 use Rattle.std.specs.Prelude.{slice_get}
 use Rattle.grounding.specs.Ground.{task_in}
-use Rattle.task_symmetries.specs.Exchange.{exchange_of}
-use Rattle.symmetries.specs.Exchanges.{Exchange}
+use Rattle.symmetries.specs.Exchange.{exchange_of}
+use Rattle.symmetries_definitions.specs.Exchanges.{Exchange}
 use Rattle.certificate.specs.Certificate.{certificate_of}
 use Rattle.certificate_definitions.specs.Certificates.{is_symmetry_for}
 use Rattle.cert_checker.proofs.checker.symmetry.tested_exchanges.Given as goal

@@ -5,7 +5,7 @@ use Rattle.certificate.specs.declared.header.Potential.{Potential}
 use Rattle.certificate.specs.CertificateParts.{potential_of}
 use Rattle.potentials.specs.Potentials.{potentials_of}
 use Rattle.potentials.proofs.ListLemmas.{map-take-more}
-use Rattle.potential_functions.specs.PotentialFunctions.{AreInRange}
+use Rattle.lower_bounds.specs.PotentialFunctions.{AreInRange}
 use Rattle.tables.proofs.TablesLemmas.{each-at}
 use Rattle.cert_checker.specs.Weights.{AreWidened}
 use Rattle.cert_checker.proofs.MadeLemmas.{widened_more}

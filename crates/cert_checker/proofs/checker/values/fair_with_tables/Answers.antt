@@ -8,7 +8,7 @@ use Rattle.certificate.specs.CertificateParts.{potential_of}
 use Rattle.certificate_definitions.specs.Certificates as certificates
 use Rattle.certificate_definitions.specs.Certificates.{is_weight}
 use Rattle.potentials.specs.Potentials.{potentials_of}
-use Rattle.table_functions.specs.TableFunctions.{SeveralValues}
+use Rattle.lower_bounds.specs.TableFunctions.{SeveralValues}
 use Rattle.tables.specs.Several.{several_of}
 use Rattle.cert_checker.specs.Weights.{AreWidened, HasItsWeights, HaveTheirWeights}
 use Rattle.cert_checker.proofs.MadeLemmas.{each_as_wide, each_weighed, have_weights}

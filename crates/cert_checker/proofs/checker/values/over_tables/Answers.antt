@@ -5,13 +5,13 @@ use Rattle.std.proofs.lemmas.List.{length-map}
 use Rattle.task.specs.TaskParts.{atom_of}
 use Rattle.grounding.specs.Ground.{atoms_in}
 use Rattle.certificate.specs.Certificate.{certificate_of, tables_in}
-use Rattle.potential_functions.specs.PotentialFunctions.{IsInRange}
-use Rattle.table_functions.specs.Laws.{are_over}
-use Rattle.table_functions.specs.TableFunctions.{Row}
+use Rattle.lower_bounds.specs.PotentialFunctions.{IsInRange}
+use Rattle.lower_bounds.specs.TableLaws.{are_over}
+use Rattle.lower_bounds.specs.TableFunctions.{Row}
 use Rattle.table_rows.specs.declared.table.Table.{Table}
 use Rattle.table_rows.specs.Tables.{table_of, weight_count_of}
 use Rattle.tables.specs.AllTables.{tables_of}
-use Rattle.task_certificates.proofs.LimitsLemmas.{limits_of}
+use Rattle.cert_checker.proofs.LimitsLemmas.{limits_of}
 use Rattle.cert_checker.proofs.MadeLemmas.{few_values, tables_in_range}
 use Rattle.cert_checker.proofs.StaysLemmas.{scopes_within}
 use Rattle.cert_checker.proofs.checker.values.over_tables.Goals as goal

@@ -2,7 +2,7 @@ use Rattle.std.proofs.Common.{rules, ◌≡◌, ◌∙◌, ◌-◌, ◌++◌, ta
 use Rattle.std.specs.Int.{w64}
 use Rattle.std.proofs.lemmas.Int.{to_z-of_z}
 use Rattle.std.specs.Prelude.{IfSome}
-use Rattle.potential_functions.specs.PotentialFunctions.{PotentialFunction}
+use Rattle.lower_bounds.specs.PotentialFunctions.{PotentialFunction}
 use Rattle.certificate.specs.CertificateParts.{potential_of}
 use Rattle.potentials.specs.Potentials.{potentials_of}
 use Rattle.cert_checker.specs.Weights.{HasItsWeights}

@@ -2,12 +2,12 @@ use Rattle.std.proofs.Common.{refl, subst, arith, length}
 use Rattle.std.proofs.lemmas.Option.{slice_get_within}
 use Rattle.formulas.specs.State.{instance_of}
 use Rattle.grounding.specs.Ground.{task_in, atoms_in}
-use Rattle.potential_functions.specs.Fair.{nothing}
+use Rattle.lower_bounds.specs.FairPotentials.{nothing}
 use Rattle.potentials.specs.Potentials.{potentials_of}
 use Rattle.potentials.specs.Fairness.{DetectsDead}
 use Rattle.certificate.specs.Certificate.{certificate_of}
 use Rattle.certificate.specs.CertificateParts.{potential_of}
-use Rattle.table_functions.specs.TableFunctions.{SeveralValues}
+use Rattle.lower_bounds.specs.TableFunctions.{SeveralValues}
 use Rattle.certificate_definitions.specs.Certificates.{is_weight}
 use Rattle.model.specs.StaticallyFalse.{kept_instances}
 use Rattle.certificate_definitions.specs.CertificateRefusals.{dead_unfair, dead_unfair_goal}

@@ -2,7 +2,7 @@ use Rattle.std.proofs.Common.{refl, subst, arith, length}
 use Rattle.std.proofs.lemmas.Option.{slice_get_within}
 use Rattle.formulas.specs.State.{instance_of}
 use Rattle.grounding.specs.Ground.{task_in, atoms_in}
-use Rattle.potential_functions.specs.PotentialFunctions.{PotentialFunction}
+use Rattle.lower_bounds.specs.PotentialFunctions.{PotentialFunction}
 use Rattle.model.specs.Meaning.{cost_of}
 use Rattle.potentials.specs.Potentials.{potentials_of}
 use Rattle.potentials.specs.Fairness.{Reports}
@@ -12,7 +12,7 @@ use Rattle.model.specs.StaticallyFalse.{kept_instances}
 use Rattle.certificate_definitions.specs.Certificates as certificates
 use Rattle.certificate_definitions.specs.Certificates.{is_weight}
 use Rattle.certificate_definitions.specs.CertificateRefusals.{unfair, unfair_goal, IsUnfairAtGoalsIn}
-use Rattle.potential_functions.specs.Fair.{IsFairAtGoals}
+use Rattle.lower_bounds.specs.FairPotentials.{IsFairAtGoals}
 use Rattle.cert_checker.specs.Weights.{HasItsWeights}
 use Rattle.cert_checker.proofs.OrderLemmas.{atoms_right, instances_asked, none_asked, states_right_all, first_asked}
 use Rattle.cert_checker.proofs.PackedListingLemmas.{numbered_after}

@@ -1,9 +1,9 @@
 use Rattle.std.proofs.Common.{subst}
 use Rattle.std.proofs.lemmas.Result.{IfOk-weaker}
 use Rattle.std.specs.String.{string_bytes}
-use Rattle.source_text.specs.Files.{name_in, text_in}
-use Rattle.explained_faults.specs.Explained.{BeginsWith, heading}
-use Rattle.fault_help.specs.declared.refusal.FileRefusal.{FileRefusal}
+use Rattle.explain_hints.specs.Files.{name_in, text_in}
+use Rattle.explain_faults.specs.Explained.{BeginsWith, heading}
+use Rattle.explain_hints.specs.declared.refusal.FileRefusal.{FileRefusal}
 use Rattle.file_answers.specs.FurtherFaults.{SayFault}
 use Rattle.file_answers.proofs.explaining.further.text_of.Goals as goal
 

@@ -1,6 +1,6 @@
 use Rattle.std.proofs.Common.{◌≡◌, ◌∙◌, ◌++◌, ap}
 use Rattle.std.specs.String.{string_bytes}
-use Rattle.explained_faults.specs.Explained.{heading}
+use Rattle.explain_faults.specs.Explained.{heading}
 use Rattle.file_answers.specs.ExplanationLines.{place_in}
 use Rattle.file_answers.specs.FurtherFaults.{further_text}
 use Rattle.file_answers.specs.declared.explanation.Location.{Location}

@@ -1,6 +1,6 @@
 use Rattle.std.specs.Prelude.{Some}
 use Rattle.formulas.specs.State.{plan_of}
-use Rattle.explained_plans.specs.NamesView.{names_of}
+use Rattle.explain_plans.specs.NamesView.{names_of}
 use Rattle.task.specs.Task.{task_of}
 use Rattle.file_answers.specs.ExplanationLines.{named_of}
 use Rattle.file_answers.specs.Explanations.{files_in}

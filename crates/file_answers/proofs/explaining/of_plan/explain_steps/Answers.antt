@@ -1,7 +1,7 @@
-use Rattle.explained_plans.specs.NamesView.{names_of}
+use Rattle.explain_plans.specs.NamesView.{names_of}
 use Rattle.task.specs.Task.{task_of}
 use Rattle.formulas.specs.State.{plan_of}
-use Rattle.explained_plans.specs.Explanations as plans
+use Rattle.explain_plans.specs.Explanations as plans
 use Rattle.file_answers.specs.ExplanationLines.{named_of}
 use Rattle.file_answers.proofs.ExplanationLemmas.{explained_told, step_of_text}
 use Rattle.file_answers.proofs.explaining.of_plan.explain_steps.Goals as goal

@@ -6,7 +6,7 @@ use Rattle.packed_state.specs.declared.pooled.PooledStore.{PooledStore}
 use Rattle.packed_state.specs.Packed.{bits_of}
 use Rattle.packed_state.specs.PooledView.{pooled_width, pooled_states}
 use Rattle.ground_listings.specs.States.{states_width, states_of}
-use Rattle.representatives.specs.Representatives.{atoms_of}
+use Rattle.symmetries.specs.Representatives.{atoms_of}
 use Rattle.ground_listings.specs.RecentStates.{AreNotedByKeys}
 use Rattle.ground_listings.specs.Orbits.{key_by, states_in}
 use Rattle.ground_listings.proofs.OrbitLemmas.{put_new, linked_superseded, other_is, other_wide, class_there, other_current, has_key}

@@ -1,6 +1,6 @@
 use Rattle.std.proofs.Common.{◌≡◌, ◌∙◌, [], length, ap}
 use Rattle.packed_state.proofs.PackedLemmas.{length-set_of}
-use Rattle.representatives.specs.Representatives.{atoms_of}
+use Rattle.symmetries.specs.Representatives.{atoms_of}
 use Rattle.ground_listings.proofs.OrbitLemmas.{linked_none}
 use Rattle.ground_listings.proofs.orbits.Orbits.new.Goals as goal
 

@@ -4,8 +4,8 @@ use Rattle.task.specs.TaskParts.{object_of, formula_of}
 use Rattle.formulas.specs.Literals.{literal_of}
 use Rattle.model.specs.SureLiterals.{sure}
 use Rattle.model.specs.NumberedLiterals.{numbered_literal}
-use Rattle.grounding_kept.specs.Numbering.{task_in, atoms_in}
-use Rattle.grounding_kept.specs.Numbers.{numbered_of}
+use Rattle.grounding_instances.specs.Numbering.{task_in, atoms_in}
+use Rattle.grounding_instances.specs.Numbers.{numbered_of}
 use Rattle.grounding.specs.Settled.{beyond}
 use Rattle.grounding.specs.Unnumbered.{may_hold}
 use Rattle.grounding.specs.Conditions.{beyond_of}

@@ -1,4 +1,4 @@
-use Rattle.std.proofs.Common.{◌≡◌, ◌∙◌, ◌<◌, None, Some, ap, map, length, sym, subst, arith}
+use Rattle.std.proofs.Common.{◌≡◌, ◌∙◌, ◌<◌, None, Some, ap, map, length, sym, arith}
 use Rattle.std.specs.Prelude.{slice_get}
 use Rattle.std.specs.Option.{option_map}
 use Rattle.std.proofs.lemmas.List.{length-map}
@@ -7,13 +7,12 @@ use Rattle.task.specs.TaskParts.{object_of, shape_of, shape_of_schema}
 use Rattle.task.proofs.Shapes.{Shape, found}
 use Rattle.formulas.specs.State.{instance_of}
 use Rattle.formulas.proofs.Instances.{precondition_fits}
-use Rattle.grounding.specs.Conditions.{IsConditionOf}
 use Rattle.model.specs.Task.{Task, Formula, Schema}
 use Rattle.model.specs.Meaning.{holds}
 use Rattle.model.specs.StaticallyFalse.{kept_instances}
 use Rattle.model.specs.Grounding.{state_of_bits}
 use Rattle.grounding.specs.Ground.{task_in, atoms_in}
-use Rattle.grounding.proofs.GroundLemmas.{got-mapped, schema-of, condition-at}
+use Rattle.grounding.proofs.GroundLemmas.{got-mapped, schema-of}
 use Rattle.grounding.proofs.StepLemmas.{kept-is_instance, applies}
 use Rattle.grounding.proofs.ground.Ground.precondition_holds.Goals.{After-schema, In-Some}
 use Rattle.grounding.proofs.ground.Ground.precondition_holds.Goals as goal
@@ -33,20 +32,12 @@ shape_is c = c.in-Some.ensures.shape ∙ ap (λ (u : Task). option_map shape_of_
 it : (c : In-Some) → (s : Schema) × (slice_get (task_in c.args.self.now).schemas c.index-instances-number.result.schema.0 ≡ Some s) × (shape_of c.in-Some.schema.now ≡ shape_of_schema s)
 it c = found (slice_get (task_in c.args.self.now).schemas c.index-instances-number.result.schema.0) (shape_of c.in-Some.schema.now) (shape_is c)
 
-pub holds_in-requires-clause-condition : goal.holds_in-requires-clause-condition
-holds_in-requires-clause-condition c =
-    let g = c.args.self.now in
-    let item = c.index-instances-number.result in
-    let s = it (goal.at.holds_in-requires-clause-condition c).In-Some in
-    let condition = condition-at g c.args.number (instance_of item) (at (goal.at.holds_in-requires-clause-condition c).After-schema) c.index-condition.result.now c.index-condition.ensures s.0 s.1 in
-    subst (λ (f : Formula). IsConditionOf (task_in g) (atoms_in g) f (map object_of item.objects.items) c.index-condition.result.now) (sym (ap (λ (shape : Shape). shape.1) s.2)) condition
-
-pub holds_in-requires-clause-fits : goal.holds_in-requires-clause-fits
-holds_in-requires-clause-fits c =
+pub evaluate-requires-clause-fits : goal.evaluate-requires-clause-fits
+evaluate-requires-clause-fits c =
     let t = task_in c.args.self.now in
     let item = c.index-instances-number.result in
-    precondition_fits t item.schema.0 (shape_of c.in-Some.schema.now) (shape_is (goal.at.holds_in-requires-clause-fits c).In-Some) (map object_of item.objects.items)
-    (kept-is_instance t c.args.number (instance_of item) (at (goal.at.holds_in-requires-clause-fits c).After-schema)) c.args.self.now.numbering.statics.task.now.well_typed
+    precondition_fits t item.schema.0 (shape_of c.in-Some.schema.now) (shape_is (goal.at.evaluate-requires-clause-fits c).In-Some) (map object_of item.objects.items)
+    (kept-is_instance t c.args.number (instance_of item) (at (goal.at.evaluate-requires-clause-fits c).After-schema)) c.args.self.now.numbering.statics.task.now.well_typed
 
 pub unreachable-requires : goal.unreachable-requires
 unreachable-requires c =
@@ -65,6 +56,6 @@ returns c =
     let item = c.index-instances-number.result in
     let s = it (goal.at.returns c).In-Some in
     let bits = bits_of c.args.state.now in
-    c.holds_in.ensures
+    c.evaluate.ensures
     ∙ ap (λ (f : Formula). holds t f (map object_of item.objects.items) (state_of_bits t (atoms_in g) bits)) (ap (λ (shape : Shape). shape.1) s.2)
     ∙ sym (applies t (atoms_in g) bits c.args.number (instance_of item) (at (goal.at.returns c).After-schema) s.0 s.1)

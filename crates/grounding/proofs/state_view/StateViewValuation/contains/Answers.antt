@@ -1,7 +1,7 @@
 use Rattle.std.proofs.Common.{◌∙◌, sym}
 use Rattle.task.specs.TaskParts.{atom_of}
 use Rattle.packed_state.specs.Packed.{bits_of}
-use Rattle.grounding_kept.specs.Numbering.{task_in, atoms_in}
+use Rattle.grounding_instances.specs.Numbering.{task_in, atoms_in}
 use Rattle.grounding.proofs.PackedTruth.{contains-bit, contains-static}
 use Rattle.grounding.proofs.state_view.StateViewValuation.contains.Goals as goal
 

@@ -2,7 +2,7 @@ use Rattle.std.proofs.Common.{◌≡◌, ◌∙◌, ◌-◌, ◌<◌, ◌++◌, 
 use Rattle.std.specs.List.{All}
 use Rattle.std.proofs.lemmas.List.{length-drop, take_all}
 use Rattle.std.proofs.lemmas.List.Sorted.{All-permutation}
-use Rattle.grounding_kept.specs.Numbers.{numbered_of}
+use Rattle.grounding_instances.specs.Numbers.{numbered_of}
 use Rattle.grounding.specs.MatchNodes.{AgreesWith, IsTreeOf, IsGroup}
 use Rattle.grounding.proofs.TreeLemmas.{tree-branch, tree-groups, tree-moved, longer-agrees}
 use Rattle.grounding.proofs.tree_builder.TreeBuilder.+subtree.Goals as goal

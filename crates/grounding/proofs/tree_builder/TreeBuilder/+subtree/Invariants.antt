@@ -1,5 +1,5 @@
 use Rattle.std.proofs.Common.{◌≤◌, ◌-◌, ◌+◌, ◌*◌, length, map, take}
-use Rattle.grounding_kept.specs.Numbers.{numbered_of}
+use Rattle.grounding_instances.specs.Numbers.{numbered_of}
 use Rattle.grounding.specs.MatchNodes.{AgreesWith, IsTreeOf}
 use Rattle.grounding.proofs.tree_builder.TreeBuilder.+subtree.Given as goal
 

@@ -1,5 +1,5 @@
 use Rattle.std.proofs.Common.{◌∷◌, [], map}
-use Rattle.grounding_kept.specs.Numbers.{numbered_of}
+use Rattle.grounding_instances.specs.Numbers.{numbered_of}
 use Rattle.grounding.specs.MatchNodes.{AgreesWith}
 use Rattle.grounding.proofs.TreeLemmas.{tree-own}
 use Rattle.grounding.proofs.tree_builder.TreeBuilder.alone.Goals as goal

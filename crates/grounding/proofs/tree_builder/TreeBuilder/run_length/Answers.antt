@@ -1,5 +1,5 @@
 use Rattle.std.proofs.Common.{◌∙◌, ap, sym, arith}
-use Rattle.grounding_kept.specs.Numbers.{numbered_of}
+use Rattle.grounding_instances.specs.Numbers.{numbered_of}
 use Rattle.grounding.specs.Conditions.{literals_in}
 use Rattle.grounding.proofs.TreeLemmas.{wanted-more}
 use Rattle.grounding.proofs.tree_builder.TreeBuilder.run_length.Goals as goal

@@ -1,5 +1,5 @@
 use Rattle.std.proofs.Common.{◌∷◌, [], drop, map}
-use Rattle.grounding_kept.specs.Numbers.{numbered_of}
+use Rattle.grounding_instances.specs.Numbers.{numbered_of}
 use Rattle.grounding.specs.MatchNodes.{AgreesWith, IsTree}
 use Rattle.grounding.proofs.tree_builder.TreeBuilder.single.Given as goal
 

@@ -1,8 +1,8 @@
-use Rattle.std.proofs.Common.{◌∙◌, length, sym}
+use Rattle.std.proofs.Common.{sym}
 use Rattle.packed_state.proofs.PoolLemmas.{length-rows}
 use Rattle.packed_state.proofs.pool.Pool.len.Goals as goal
 
 pub returns : goal.returns
 returns c =
     let p = c.args.self.now in
-    c.len.ensures.len ∙ sym (length-rows p.stride p.words.items (length p.keys.keys))
+    sym (length-rows p.stride p.words.items p.table.count)

@@ -7,13 +7,13 @@ pub invariant_of-result : goal.invariant_of-result
 invariant_of-result c =
     record {
       pooled = record {
-        enough = omega (arith, c.words_for.ensures.enough, c.new-pool.ensures.rows.1);
-        no_more = omega (arith, c.words_for.ensures.no_more, c.new-pool.ensures.rows.1);
-        linked = c.new-pool.ensures.linked;
-        stored = subst (λ (rows : List (List ℕ)). AreStored c.args.width rows) (sym c.new-pool.ensures.rows.0) (none_stored c.args.width);
+        enough = omega (arith, c.words_for.ensures.enough, c.in_ok-pool.ensures.rows.1);
+        no_more = omega (arith, c.words_for.ensures.no_more, c.in_ok-pool.ensures.rows.1);
+        linked = c.in_ok-pool.ensures.linked;
+        stored = subst (λ (rows : List (List ℕ)). AreStored c.args.width rows) (sym c.in_ok-pool.ensures.rows.0) (none_stored c.args.width);
       };
     }
 
 pub returns-clause-states : goal.returns-clause-states
 unfolding sets_in
-returns-clause-states c = ap (sets_in c.args.width) c.before.new-pool.ensures.rows.0
+returns-clause-states c = ap (sets_in c.args.width) c.in_ok-pool.ensures.rows.0

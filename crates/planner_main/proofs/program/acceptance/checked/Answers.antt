@@ -1,8 +1,8 @@
 use Rattle.std.proofs.Common.{ℕ, List, subst}
 use Rattle.certificate_reader.specs.Reader.{source_of}
 use Rattle.file_answers.specs.SaidOf.{IsCheckLineOf}
-use Rattle.progress_lines.specs.Said.{nothing}
-use Rattle.progress_lines.proofs.SaidLemmas.{said_of_more}
+use Rattle.devices.specs.Progress.{nothing}
+use Rattle.devices.proofs.ProgressLemmas.{said_of_more}
 use Rattle.planner_main.proofs.program.acceptance.checked.Goals as goal
 
 pub returns-then-asked-clause-progress : goal.returns-then-asked-clause-progress

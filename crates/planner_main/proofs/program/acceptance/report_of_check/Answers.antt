@@ -4,8 +4,8 @@ use Rattle.certificate_reader.specs.Reader.{source_of}
 use Rattle.file_answers.specs.Files.{text_in}
 use Rattle.planner_main.proofs.ProgramWords.{text_if_named_kept}
 use Rattle.planner_main.proofs.CertificateReported.{check_on_inputs}
-use Rattle.progress_lines.specs.Said.{nothing}
-use Rattle.progress_lines.proofs.SaidLemmas.{said_of_more}
+use Rattle.devices.specs.Progress.{nothing}
+use Rattle.devices.proofs.ProgressLemmas.{said_of_more}
 use Rattle.planner_main.proofs.ProgressReported.{known_of_kept}
 use Rattle.planner_main.proofs.program.acceptance.report_of_check.Goals as goal
 

@@ -1,8 +1,8 @@
 use Rattle.std.proofs.Common.{refl}
 use Rattle.std.proofs.lemmas.Result.{err_from_is_err_and}
 use Rattle.planner_main.specs.declared.program.inputs.TaskTexts.{TaskTexts}
-use Rattle.progress_lines.specs.Said.{nothing}
-use Rattle.progress_lines.proofs.SaidLemmas.{said_of_more}
+use Rattle.devices.specs.Progress.{nothing}
+use Rattle.devices.proofs.ProgressLemmas.{said_of_more}
 use Rattle.planner_main.proofs.ProgramWords.{refused_on_two, device_counted}
 use Rattle.planner_main.proofs.program.solution.report_of_solve.Goals as goal
 

@@ -1,7 +1,7 @@
 use Rattle.std.proofs.Common.{ℕ, List, subst}
 use Rattle.file_answers.specs.SaidOf.{IsTrueLineOf}
-use Rattle.progress_lines.specs.Said.{nothing, stream}
-use Rattle.progress_lines.proofs.SaidLemmas.{said_of_more}
+use Rattle.devices.specs.Progress.{nothing, stream}
+use Rattle.devices.proofs.ProgressLemmas.{said_of_more}
 use Rattle.planner_main.proofs.program.solution.solved.Goals as goal
 
 pub returns-then-progress-clause-progress : goal.returns-then-progress-clause-progress

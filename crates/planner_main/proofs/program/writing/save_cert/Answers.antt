@@ -1,8 +1,8 @@
 use Rattle.std.proofs.Common.{◌∙◌, inl, sym}
 use Rattle.std.specs.Option.{option_map}
 use Rattle.file_answers.specs.Files.{text_in}
-use Rattle.progress_lines.specs.Said.{nothing, stream}
-use Rattle.progress_lines.proofs.SaidLemmas.{said_of_more}
+use Rattle.devices.specs.Progress.{nothing, stream}
+use Rattle.devices.proofs.ProgressLemmas.{said_of_more}
 use Rattle.planner_main.proofs.SizeReported.{size_said}
 use Rattle.planner_main.proofs.program.writing.save_cert.Goals as goal
 

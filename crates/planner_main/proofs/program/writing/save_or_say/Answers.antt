@@ -1,4 +1,4 @@
-use Rattle.progress_lines.specs.Said.{nothing}
+use Rattle.devices.specs.Progress.{nothing}
 use Rattle.planner_main.proofs.program.writing.save_or_say.Goals as goal
 
 pub returns-in-Ok-clause-progress : goal.returns-in-Ok-clause-progress

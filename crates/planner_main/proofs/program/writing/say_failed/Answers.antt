@@ -1,8 +1,8 @@
 use Rattle.std.proofs.Common.{rules, ◌∙◌, ap, IsTrue}
 use Rattle.file_answers.specs.Files.{text_in}
 use Rattle.planner_main.specs.Progress.{IsFailedLineOf}
-use Rattle.progress_lines.specs.Said.{nothing}
-use Rattle.progress_lines.proofs.SaidLemmas.{said_once}
+use Rattle.devices.specs.Progress.{nothing}
+use Rattle.devices.proofs.ProgressLemmas.{said_once}
 use Rattle.planner_main.proofs.program.writing.say_failed.Goals as goal
 
 pub returns-in_default : goal.returns-in_default

@@ -8,8 +8,8 @@ use Rattle.printed_answers.specs.Reported.{status_of}
 use Rattle.planner_main.specs.Solution.{files_for}
 use Rattle.planner_main.proofs.ProgramReported.{both_written, partly_in_cert, partly_in_plan, reported_is}
 use Rattle.planner_main.proofs.SizeReported.{said_of_cert, said_of_files, sized_of_cert}
-use Rattle.progress_lines.specs.Said.{nothing, stream}
-use Rattle.progress_lines.proofs.SaidLemmas.{said_after, said_of_more}
+use Rattle.devices.specs.Progress.{nothing, stream}
+use Rattle.devices.proofs.ProgressLemmas.{said_after, said_of_more}
 use Rattle.planner_main.proofs.program.writing.write_report.Goals as goal
 
 pub plan_text-plan-requires : goal.plan_text-plan-requires

@@ -2,7 +2,7 @@ use Rattle.std.proofs.Common.{◌≡◌, ◌+◌, ◌*◌, ℤ, pos, neg_ℤ, �
 use Rattle.std.specs.Int.{w64}
 use Rattle.std.proofs.lemmas.Int.{ints}
 use Rattle.packed_state.specs.Packed.{bits_of}
-use Rattle.potential_functions.specs.PotentialFunctions.{sum_below, given}
+use Rattle.lower_bounds.specs.PotentialFunctions.{sum_below, given}
 use Rattle.potentials.specs.Words.{gained_in_word}
 use Rattle.potentials.proofs.WordLemmas.{word-given, word-range, given-past, so_far-range}
 use Rattle.potentials.proofs.potentials.Potentials.score.Goals as goal

@@ -1,6 +1,6 @@
 use Rattle.std.proofs.Common.{◌≡◌, ◌*◌, ◌+ℤ◌}
 use Rattle.packed_state.specs.Packed.{bits_of}
-use Rattle.potential_functions.specs.PotentialFunctions.{sum_below, given}
+use Rattle.lower_bounds.specs.PotentialFunctions.{sum_below, given}
 use Rattle.potentials.proofs.potentials.Potentials.score.Given as goal
 
 abbrev pub invariant-words : goal.invariant-words

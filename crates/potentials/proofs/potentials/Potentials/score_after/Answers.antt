@@ -4,7 +4,7 @@ use Rattle.std.proofs.lemmas.Int.{ints}
 use Rattle.std.specs.Int.Bits.{bit_xor}
 use Rattle.packed_state.specs.Words.{bits_in, AreWordsOf}
 use Rattle.packed_state.specs.Packed.{bits_of}
-use Rattle.potential_functions.specs.PotentialFunctions.{sum_below, given}
+use Rattle.lower_bounds.specs.PotentialFunctions.{sum_below, given}
 use Rattle.potentials.specs.Words.{gained_in_word}
 use Rattle.potentials.proofs.WordLemmas.{word-gained, word-range, given-past, words-range}
 use Rattle.potentials.proofs.potentials.Potentials.score_after.Goals.{After-gained_in_word-total}

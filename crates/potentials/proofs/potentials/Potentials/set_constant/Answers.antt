@@ -1,8 +1,8 @@
 use Rattle.std.proofs.Common.{sym, ap, subst}
 use Rattle.std.specs.Int.{w64}
 use Rattle.std.proofs.lemmas.Int.{to_z-of_z}
-use Rattle.potential_functions.specs.PotentialFunctions.{IsInRange}
-use Rattle.potential_functions.proofs.Settling.{potentials}
+use Rattle.lower_bounds.specs.PotentialFunctions.{IsInRange}
+use Rattle.lower_bounds.proofs.Settling.{potentials}
 use Rattle.potentials.proofs.potentials.Potentials.set_constant.Goals as goal
 
 pub invariant_of-self : goal.invariant_of-self

@@ -1,11 +1,11 @@
 use Rattle.std.proofs.Common.{◌∙◌, subst, sym, ap, pos}
 use Rattle.std.specs.Prelude.{All, replicate}
 use Rattle.grounding.specs.Ground.{task_in, atoms_in}
-use Rattle.potential_functions.specs.PotentialFunctions.{IsInRange}
-use Rattle.potential_functions.specs.Fair.{AreFair}
-use Rattle.potential_functions.proofs.Ranges.{zero-range}
-use Rattle.potential_functions.proofs.Settling.{potentials}
-use Rattle.potential_functions.proofs.Zero.{zero-fair, zeros-range}
+use Rattle.lower_bounds.specs.PotentialFunctions.{IsInRange}
+use Rattle.lower_bounds.specs.FairPotentials.{AreFair}
+use Rattle.lower_bounds.proofs.Ranges.{zero-range}
+use Rattle.lower_bounds.proofs.Settling.{potentials}
+use Rattle.lower_bounds.proofs.Zero.{zero-fair, zeros-range}
 use Rattle.potentials.proofs.potentials.Potentials.zero.Goals as goal
 
 pub invariant_of-result : goal.invariant_of-result

@@ -3,8 +3,8 @@ use Rattle.std.specs.Prelude.{All}
 use Rattle.std.specs.Int.{w64}
 use Rattle.std.proofs.lemmas.Int.{ints, to_z-of_z}
 use Rattle.grounding.specs.Ground.{task_in, atoms_in}
-use Rattle.potential_functions.specs.PotentialFunctions.{PotentialFunction, score, IsInRange}
-use Rattle.potential_functions.proofs.Settling.{potentials}
+use Rattle.lower_bounds.specs.PotentialFunctions.{PotentialFunction, score, IsInRange}
+use Rattle.lower_bounds.proofs.Settling.{potentials}
 use Rattle.potentials.specs.Potentials.{potentials_of}
 use Rattle.potentials.proofs.GroundLemmas.{few-atoms}
 use Rattle.potentials.proofs.FairLemmas.{goal-is}

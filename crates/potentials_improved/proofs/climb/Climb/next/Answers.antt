@@ -4,9 +4,9 @@ use Rattle.std.proofs.lemmas.Int.{ints, to_z-of_z}
 use Rattle.grounding.specs.Ground.{task_in, atoms_in}
 use Rattle.model.specs.NumberedLiterals.{literals_of_goal}
 use Rattle.model.specs.Grounding.{ground_system}
-use Rattle.potential_functions.specs.PotentialFunctions.{score, or_zero}
-use Rattle.potential_functions.specs.Fair.{goal_gives_at_most}
-use Rattle.potential_functions.proofs.Settling.{potentials}
+use Rattle.lower_bounds.specs.PotentialFunctions.{score, or_zero}
+use Rattle.lower_bounds.specs.FairPotentials.{goal_gives_at_most}
+use Rattle.lower_bounds.proofs.Settling.{potentials}
 use Rattle.potentials.specs.Potentials.{potentials_of}
 use Rattle.potentials.proofs.GroundLemmas.{few-atoms}
 use Rattle.potentials_improved.proofs.ClimbLemmas.{none-too_high, next-none, next-some, score-range}

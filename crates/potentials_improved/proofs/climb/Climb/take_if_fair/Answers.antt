@@ -3,8 +3,8 @@ use Rattle.std.specs.Int.{w64}
 use Rattle.std.proofs.lemmas.Int.{to_z-of_z}
 use Rattle.std.proofs.lemmas.Bool.{iff_false}
 use Rattle.grounding.specs.Ground.{task_in, atoms_in}
-use Rattle.potential_functions.specs.PotentialFunctions.{PotentialFunction}
-use Rattle.potential_functions.proofs.Settling.{potentials}
+use Rattle.lower_bounds.specs.PotentialFunctions.{PotentialFunction}
+use Rattle.lower_bounds.proofs.Settling.{potentials}
 use Rattle.potentials.specs.Potentials.{potentials_of}
 use Rattle.potentials_drafted.specs.Incidence.{number_of, row_of}
 use Rattle.potentials_improved.specs.Climb.{AreFairAmong}

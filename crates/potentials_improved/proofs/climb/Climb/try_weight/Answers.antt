@@ -4,8 +4,8 @@ use Rattle.std.specs.Int.{w64}
 use Rattle.std.proofs.lemmas.Int.{to_z-of_z}
 use Rattle.std.proofs.lemmas.Bool.{iff_false}
 use Rattle.grounding.specs.Ground.{task_in, atoms_in}
-use Rattle.potential_functions.specs.PotentialFunctions.{IsInRange}
-use Rattle.potential_functions.proofs.Settling.{IsNoneBetter}
+use Rattle.lower_bounds.specs.PotentialFunctions.{IsInRange}
+use Rattle.lower_bounds.proofs.Settling.{IsNoneBetter}
 use Rattle.potentials.specs.Potentials.{potentials_of}
 use Rattle.potentials_improved.specs.Climb.{IsWeightTried}
 use Rattle.potentials_improved.proofs.ClimbLemmas.{tried-kept}

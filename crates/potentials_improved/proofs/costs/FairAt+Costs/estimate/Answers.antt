@@ -3,7 +3,7 @@ use Rattle.packed_state.specs.Packed.{bits_of}
 use Rattle.grounding.specs.Ground.{task_in, atoms_in}
 use Rattle.model.specs.Runs.{cost_of_all}
 use Rattle.model.specs.Grounding.{ground_system}
-use Rattle.potential_functions.proofs.LowerBound.{are_lower_bounds}
+use Rattle.lower_bounds.proofs.PotentialLowerBound.{are_lower_bounds}
 use Rattle.potentials.specs.Potentials.{potentials_of}
 use Rattle.potentials.proofs.GroundLemmas.{numberable}
 use Rattle.potentials_improved.proofs.costs.FairAt+Costs.estimate.Goals as goal

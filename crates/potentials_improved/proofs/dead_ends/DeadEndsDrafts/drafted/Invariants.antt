@@ -1,5 +1,5 @@
 use Rattle.grounding.specs.Ground.{task_in, atoms_in}
-use Rattle.potential_functions.specs.Fair.{nothing}
+use Rattle.lower_bounds.specs.FairPotentials.{nothing}
 use Rattle.potentials.specs.Potentials.{potentials_of}
 use Rattle.potentials_improved.specs.Drafted.{IsNoWorseAt}
 use Rattle.potentials_improved.proofs.dead_ends.DeadEndsDrafts.drafted.Given as goal

@@ -1,9 +1,9 @@
 use Rattle.std.proofs.Common.{◌∙◌, sym, ap, subst, length}
 use Rattle.grounding.specs.declared.ground.Ground.{Ground}
 use Rattle.grounding.specs.Ground.{task_in, atoms_in}
-use Rattle.potential_functions.specs.PotentialFunctions.{PotentialFunction}
-use Rattle.potential_functions.specs.Fair.{AreFairAt}
-use Rattle.potential_functions.specs.Settled.{IsImprovedAt}
+use Rattle.lower_bounds.specs.PotentialFunctions.{PotentialFunction}
+use Rattle.lower_bounds.specs.FairPotentials.{AreFairAt}
+use Rattle.lower_bounds.specs.Settled.{IsImprovedAt}
 use Rattle.potentials.specs.Potentials.{potentials_of}
 use Rattle.potentials_improved.proofs.improve.FairAtImprove.improve.Goals as goal
 

@@ -1,6 +1,6 @@
 use Rattle.std.proofs.Common.{◌∙◌, sym}
 use Rattle.packed_state.specs.Packed.{bits_of}
-use Rattle.table_functions.specs.TableFunctions.{functions_of, dead_ends_of, greatest_value, is_dead_by}
+use Rattle.lower_bounds.specs.TableFunctions.{functions_of, dead_ends_of, greatest_value, is_dead_by}
 use Rattle.table_guides.specs.FairTables.{functions_in}
 use Rattle.table_guides.proofs.GuideLemmas.{told}
 use Rattle.table_guides.proofs.fair_tables.FairTablesGuide.value.Goals as goal

@@ -5,7 +5,7 @@ use Rattle.grounding.specs.Ground.{task_in, atoms_in}
 use Rattle.grounding.specs.Views.{numbered_of}
 use Rattle.potentials.proofs.GroundLemmas.{few-atoms}
 use Rattle.tables.specs.Fairness.{function_of}
-use Rattle.table_losses.specs.Losses.{indexed_of}
+use Rattle.table_rows.specs.Losses.{indexed_of}
 use Rattle.tables.proofs.FairnessLemmas.{decides-goals}
 use Rattle.tables.proofs.fairness.TableValue.is_fair_at_goals.Goals as goal
 

@@ -5,8 +5,8 @@ use Rattle.std.proofs.lemmas.List.{length-map}
 use Rattle.grounding.specs.Ground.{task_in, atoms_in}
 use Rattle.grounding.specs.Views.{numbered_of}
 use Rattle.grounding.specs.Changes.{counting_of, conditional_of}
-use Rattle.potential_functions.specs.PotentialFunctions.{IsInRange}
-use Rattle.potential_functions.specs.Fair.{loses_at_most}
+use Rattle.lower_bounds.specs.PotentialFunctions.{IsInRange}
+use Rattle.lower_bounds.specs.FairPotentials.{loses_at_most}
 use Rattle.model.specs.NumberedLiterals.{NumberedLiteral}
 use Rattle.model.specs.ConditionalChanges.{ConditionalChange}
 use Rattle.potentials.specs.Potentials.{potentials_of}
@@ -15,9 +15,9 @@ use Rattle.potentials.proofs.FairLemmas.{below-counting}
 use Rattle.tables.specs.AllTables.{tables_of}
 use Rattle.tables.specs.ByAtom.{LosesByAll}
 use Rattle.tables.specs.Fairness.{function_of, allowed_by}
-use Rattle.table_losses.specs.Losses.{indexed_of}
+use Rattle.table_rows.specs.Losses.{indexed_of}
 use Rattle.tables.proofs.FairnessLemmas.{atoms-range, decides-within}
-use Rattle.table_losses.proofs.PlacingLemmas.{changes-in}
+use Rattle.table_rows.proofs.PlacingLemmas.{changes-in}
 use Rattle.tables.proofs.fairness.TableValue.is_fair_with.Goals as goal
 
 pub loses_at_most-by_atoms-requires-clause-below : goal.loses_at_most-by_atoms-requires-clause-below

@@ -2,10 +2,6 @@ use Rattle.std.proofs.Common.{◌≡◌, ◌∙◌, length, refl, pos, arith, ap
 use Rattle.std.specs.Prelude.{slice_set}
 use Rattle.std.proofs.lemmas.Int.{ints}
 use Rattle.std.proofs.lemmas.Option.{slice_get_read, get_or_from_slice_get}
-use Rattle.packed_state.specs.Packed.{bits_of}
-use Rattle.packed_state.specs.declared.packed.Packed.{Packed}
-use Rattle.potential_functions.specs.PotentialFunctions.{score}
-use Rattle.potentials.specs.Potentials.{potentials_of}
 use Rattle.tables.proofs.known_state.KnownState.score_after.Goals as goal
 
 pub score_after-requires-clause-score : goal.score_after-requires-clause-score
@@ -13,11 +9,7 @@ score_after-requires-clause-score c =
     let scores = c.args.self.now.scores.items in
     let read = get_or_from_slice_get scores c.args.place c.index-score.result.now (pos 0) (slice_get_read scores (length scores) c.args.place c.index-score.result.now refl c.requires.there c.index-score.ensures) in
     let is = c.requires.score in
-    let state = ap (λ (s : Packed). score (potentials_of c.args.by.now) (bits_of s)) c.state.ensures in
     omega (arith, ints)
-
-pub returns-clause-rows : goal.returns-clause-rows
-returns-clause-rows c = λ tables count known. known
 
 pub returns-clause-scores : goal.returns-clause-scores
 returns-clause-scores c =

@@ -1,13 +1,13 @@
 use Rattle.std.proofs.Common.{◌≡◌, ◌∙◌, List, length, refl, sym, ap, subst, arith, ℤ}
 use Rattle.std.specs.Prelude.{All}
-use Rattle.potential_functions.specs.PotentialFunctions.{IsInRange}
-use Rattle.table_functions.specs.TableFunctions.{Row}
+use Rattle.lower_bounds.specs.PotentialFunctions.{IsInRange}
+use Rattle.lower_bounds.specs.TableFunctions.{Row}
 use Rattle.table_rows.specs.Tables.{table_of, weight_count_of}
 use Rattle.table_rows.proofs.TableLemmas.{rows-weighed}
-use Rattle.table_losses.proofs.FateLemmas.{row-there}
+use Rattle.table_rows.proofs.FateLemmas.{row-there}
 use Rattle.tables.specs.AllTables.{tables_of, count_of}
 use Rattle.tables.specs.RowSums.{AreAdded}
-use Rattle.tables.proofs.RowSumsLemmas.{all-small, all-ranged, few-tables, sums-on, some-missing}
+use Rattle.tables.proofs.RowSumsLemmas.{as-losses, all-small, all-ranged, few-tables, sums-on, some-missing}
 use Rattle.tables.proofs.TablesLemmas.{each-at}
 use Rattle.tables.proofs.row_sums.RowSums.put_on.Goals as goal
 
@@ -25,7 +25,7 @@ pub add_each-requires-clause-range : goal.add_each-requires-clause-range
 add_each-requires-clause-range c =
     let t = table_of c.table.result.now in
     let it = row-there t.rows c.args.row (c.requires.row t c.table.ensures.table) in
-    subst (All IsInRange) (sym (c.weights.ensures it.0 it.1)) (each-at (λ (r : Row). All IsInRange r.weights) t.rows c.args.row it.0 it.1 c.table.ensures.range)
+    as-losses c.weights.result.now (subst (All IsInRange) (sym (c.weights.ensures it.0 it.1)) (each-at (λ (r : Row). All IsInRange r.weights) t.rows c.args.row it.0 it.1 c.table.ensures.range))
 
 pub add_each-requires-clause-small : goal.add_each-requires-clause-small
 add_each-requires-clause-small c = all-small (tables_of c.args.tables.now) (count_of c.args.tables.now) c.args.self.now (all-ranged c.args.tables.now) (few-tables c.args.tables.now) c.requires.sums

@@ -1,14 +1,14 @@
 use Rattle.std.proofs.Common.{◌≡◌, ◌∙◌, ◌<◌, None, Some, List, length, get_or, refl, sym, ap, subst, arith, ℤ}
 use Rattle.std.specs.Prelude.{All, IfSome}
 use Rattle.std.proofs.lemmas.Option.{slice_get_read, get_or_from_slice_get}
-use Rattle.potential_functions.specs.PotentialFunctions.{IsInRange}
-use Rattle.table_functions.specs.TableFunctions.{Row}
+use Rattle.lower_bounds.specs.PotentialFunctions.{IsInRange}
+use Rattle.lower_bounds.specs.TableFunctions.{Row}
 use Rattle.table_rows.specs.Tables.{table_of, weight_count_of}
 use Rattle.table_rows.proofs.TableLemmas.{rows-weighed}
-use Rattle.table_losses.proofs.FateLemmas.{row-there}
+use Rattle.table_rows.proofs.FateLemmas.{row-there}
 use Rattle.tables.specs.AllTables.{tables_of, count_of}
 use Rattle.tables.specs.RowSums.{AreAdded}
-use Rattle.tables.proofs.RowSumsLemmas.{all-small, all-ranged, few-tables, sums-off, lacking-most}
+use Rattle.tables.proofs.RowSumsLemmas.{as-losses, all-small, all-ranged, few-tables, sums-off, lacking-most}
 use Rattle.tables.proofs.TablesLemmas.{each-at}
 use Rattle.tables.proofs.row_sums.RowSums.take_off.Goals as goal
 use Rattle.tables.proofs.row_sums.RowSums.take_off.Goals.{After-table}
@@ -37,7 +37,7 @@ pub take_each-requires-clause-range : goal.take_each-requires-clause-range
 take_each-requires-clause-range c =
     let t = table_of c.table.result.now in
     let it = row-there t.rows c.in-Some.row (below (goal.at.take_each-requires-clause-range c).After-table) in
-    subst (All IsInRange) (sym (c.weights.ensures it.0 it.1)) (each-at (λ (r : Row). All IsInRange r.weights) t.rows c.in-Some.row it.0 it.1 c.table.ensures.range)
+    as-losses c.weights.result.now (subst (All IsInRange) (sym (c.weights.ensures it.0 it.1)) (each-at (λ (r : Row). All IsInRange r.weights) t.rows c.in-Some.row it.0 it.1 c.table.ensures.range))
 
 pub take_each-requires-clause-small : goal.take_each-requires-clause-small
 take_each-requires-clause-small c = all-small (tables_of c.args.tables.now) (count_of c.args.tables.now) c.args.self.now (all-ranged c.args.tables.now) (few-tables c.args.tables.now) c.requires.sums

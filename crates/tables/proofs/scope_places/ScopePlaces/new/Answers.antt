@@ -2,9 +2,9 @@ use Rattle.std.proofs.Common.{◌≡◌, ◌∙◌, ◌<◌, ◌≤◌, ◌++◌
 use Rattle.std.specs.Prelude.{All, slice_get}
 use Rattle.std.proofs.lemmas.List.{length-map, length-take-le}
 use Rattle.std.proofs.lemmas.Option.{slice_get-get_or}
-use Rattle.table_functions.specs.TableFunctions.{Table}
-use Rattle.table_losses.specs.Losses.{indexed_of}
-use Rattle.table_losses.proofs.FateLemmas.{take-at}
+use Rattle.lower_bounds.specs.TableFunctions.{Table}
+use Rattle.table_rows.specs.Losses.{indexed_of}
+use Rattle.table_rows.proofs.FateLemmas.{take-at}
 use Rattle.table_rows.specs.Tables.{table_of}
 use Rattle.tables.specs.ScopePlaces.{scopes_of, AreScopePlaces}
 use Rattle.tables.proofs.TablesLemmas.{mapped-at, scope-below}

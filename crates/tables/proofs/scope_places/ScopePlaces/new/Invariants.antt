@@ -1,5 +1,5 @@
 use Rattle.std.proofs.Common.{◌≡◌, length, map, take}
-use Rattle.table_losses.specs.Losses.{indexed_of}
+use Rattle.table_rows.specs.Losses.{indexed_of}
 use Rattle.tables.specs.ScopePlaces.{scopes_of, AreScopePlaces}
 use Rattle.tables.proofs.scope_places.ScopePlaces.new.Given as goal
 

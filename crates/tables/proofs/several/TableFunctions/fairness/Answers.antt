@@ -3,8 +3,8 @@ use Rattle.std.proofs.lemmas.Bool.{cases_eq, iff_false}
 use Rattle.std.proofs.lemmas.List.{length-map}
 use Rattle.grounding.specs.Ground.{task_in, atoms_in}
 use Rattle.potentials.specs.Potentials.{potentials_of}
-use Rattle.table_functions.specs.TableFunctions.{TableFunction}
-use Rattle.table_functions.specs.FairTables.{IsFairAtGoals}
+use Rattle.lower_bounds.specs.TableFunctions.{TableFunction}
+use Rattle.lower_bounds.specs.FairTables.{IsFairAtGoals}
 use Rattle.tables.specs.AllTables.{count_of}
 use Rattle.tables.specs.Several.{several_of, ReportsValues}
 use Rattle.tables.specs.Unfair.{places_in, places_before, function_in}

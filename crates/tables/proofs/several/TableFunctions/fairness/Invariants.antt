@@ -1,6 +1,6 @@
 use Rattle.std.proofs.Common.{ℕ, ◌<◌}
 use Rattle.grounding.specs.Ground.{task_in, atoms_in}
-use Rattle.table_functions.specs.FairTables.{IsFairAtGoals}
+use Rattle.lower_bounds.specs.FairTables.{IsFairAtGoals}
 use Rattle.tables.specs.Several.{several_of}
 use Rattle.tables.specs.Unfair.{function_in}
 use Rattle.tables.proofs.several.TableFunctions.fairness.Given as goal

@@ -8,8 +8,8 @@ use Rattle.model.specs.StaticallyFalse.{kept_instances}
 use Rattle.model.specs.NumberedLiterals.{literals_of_number}
 use Rattle.model.specs.ConditionalChanges.{conditional_of_number}
 use Rattle.potentials.specs.Potentials.{potentials_of}
-use Rattle.table_functions.specs.FairTables.{IsFairAt}
-use Rattle.table_losses.specs.Losses.{indexed_of}
+use Rattle.lower_bounds.specs.FairTables.{IsFairAt}
+use Rattle.table_rows.specs.Losses.{indexed_of}
 use Rattle.tables.specs.AllTables.{tables_of, count_of}
 use Rattle.tables.specs.ByAtom.{LosesByAll}
 use Rattle.tables.specs.Fairness.{function_of, allowed_by}

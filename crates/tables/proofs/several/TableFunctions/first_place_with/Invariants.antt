@@ -3,7 +3,7 @@ use Rattle.std.specs.Prelude.{slice_get}
 use Rattle.grounding.specs.Ground.{task_in, atoms_in}
 use Rattle.model.specs.Task.{Instance}
 use Rattle.model.specs.StaticallyFalse.{kept_instances}
-use Rattle.table_functions.specs.FairTables.{IsFairAt}
+use Rattle.lower_bounds.specs.FairTables.{IsFairAt}
 use Rattle.tables.specs.Several.{several_of}
 use Rattle.tables.specs.Unfair.{function_in, allowance_in}
 use Rattle.tables.proofs.several.TableFunctions.first_place_with.Given as goal

@@ -1,8 +1,8 @@
 use Rattle.std.proofs.Common.{◌∙◌, ◌≤◌, length, map, ap, arith}
 use Rattle.std.proofs.lemmas.List.{length-map, take_all}
 use Rattle.potentials.specs.Potentials.{potentials_of}
-use Rattle.table_functions.specs.TableFunctions.{functions_of, greatest_value}
-use Rattle.table_losses.proofs.FateLemmas.{row-there}
+use Rattle.lower_bounds.specs.TableFunctions.{functions_of, greatest_value}
+use Rattle.table_rows.proofs.FateLemmas.{row-there}
 use Rattle.tables.specs.AllTables.{tables_of}
 use Rattle.tables.specs.Several.{several_of, state_of}
 use Rattle.tables.proofs.SeveralLemmas.{length-over}

@@ -1,5 +1,5 @@
 use Rattle.std.proofs.Common.{◌≡◌, ◌<◌, ◌^◌, take}
-use Rattle.table_functions.specs.TableFunctions.{functions_of, greatest_value}
+use Rattle.lower_bounds.specs.TableFunctions.{functions_of, greatest_value}
 use Rattle.tables.specs.Several.{several_of, state_of}
 use Rattle.tables.proofs.several.TableFunctions.greatest.Given as goal
 

@@ -1,6 +1,6 @@
 use Rattle.std.proofs.Common.{◌≡◌, ◌∙◌, false, sym, ap, subst}
 use Rattle.packed_state.specs.Packed.{bits_of}
-use Rattle.table_functions.specs.TableFunctions.{dead_ends_of, is_dead_by, has_rows}
+use Rattle.lower_bounds.specs.TableFunctions.{dead_ends_of, is_dead_by, has_rows}
 use Rattle.tables.specs.AllTables.{tables_of, count_of}
 use Rattle.tables.specs.Several.{several_of}
 use Rattle.tables.proofs.ValueLemmas.{none-dead}

@@ -1,7 +1,7 @@
 use Rattle.std.proofs.Common.{◌≡◌, ◌∙◌, map, false, sym, ap, subst}
 use Rattle.packed_state.specs.Packed.{bits_of}
 use Rattle.potentials.specs.Potentials.{potentials_of}
-use Rattle.table_functions.specs.TableFunctions.{functions_of, greatest_value, has_rows}
+use Rattle.lower_bounds.specs.TableFunctions.{functions_of, greatest_value, has_rows}
 use Rattle.tables.specs.AllTables.{tables_of, count_of}
 use Rattle.tables.specs.Several.{several_of}
 use Rattle.tables.proofs.ValueLemmas.{none-greatest}

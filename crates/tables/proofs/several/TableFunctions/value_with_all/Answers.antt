@@ -1,10 +1,10 @@
 use Rattle.std.proofs.Common.{◌≡◌, ◌∙◌, ◌+◌, ◌<◌, map, get_or, Some, sym, ap, arith, pos, to_z, of_z, w64}
 use Rattle.std.proofs.lemmas.Int.{ints}
 use Rattle.std.proofs.lemmas.Option.{same_Some}
-use Rattle.potential_functions.proofs.Falls.{or_zero-most}
+use Rattle.lower_bounds.proofs.PotentialFalls.{or_zero-most}
 use Rattle.potentials.specs.Potentials.{potentials_of}
-use Rattle.table_functions.specs.TableFunctions.{TableFunction, value}
-use Rattle.table_losses.proofs.FateLemmas.{row-there}
+use Rattle.lower_bounds.specs.TableFunctions.{TableFunction, value}
+use Rattle.table_rows.proofs.FateLemmas.{row-there}
 use Rattle.tables.specs.AllTables.{tables_of, count_of}
 use Rattle.tables.specs.Several.{state_of}
 use Rattle.tables.proofs.SeveralLemmas.{function_at, over-at}

@@ -5,11 +5,11 @@ use Rattle.std.proofs.lemmas.List.{length-map}
 use Rattle.std.proofs.lemmas.Option.{slice_get_read}
 use Rattle.grounding.specs.Views.{numbered_of}
 use Rattle.packed_state.specs.Packed.{bits_of}
-use Rattle.table_functions.specs.TableFunctions.{Row, Table}
-use Rattle.table_functions.specs.FairTables.{agrees}
+use Rattle.lower_bounds.specs.TableFunctions.{Row, Table}
+use Rattle.lower_bounds.specs.FairTables.{agrees}
 use Rattle.table_rows.specs.Tables.{table_of}
 use Rattle.tables.specs.AllTables.{tables_of}
-use Rattle.table_losses.specs.Losses.{indexed_of}
+use Rattle.table_rows.specs.Losses.{indexed_of}
 use Rattle.tables.proofs.TablesLemmas.{all-agree, read-at, by-all}
 use Rattle.tables.proofs.tables.IndexedTables.agrees_in.Goals as goal
 

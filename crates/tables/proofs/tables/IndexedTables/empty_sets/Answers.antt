@@ -4,10 +4,10 @@ use Rattle.std.proofs.lemmas.List.{map_push}
 use Rattle.std.proofs.lemmas.Option.{slice_get-get_or}
 use Rattle.packed_state.specs.Packed.{bits_of}
 use Rattle.packed_state.specs.Sets.{set_of}
-use Rattle.table_functions.specs.TableFunctions.{Table}
+use Rattle.lower_bounds.specs.TableFunctions.{Table}
 use Rattle.table_rows.specs.Tables.{table_of}
-use Rattle.table_losses.specs.Losses.{indexed_of}
-use Rattle.table_losses.proofs.FateLemmas.{taken-more}
+use Rattle.table_rows.specs.Losses.{indexed_of}
+use Rattle.table_rows.proofs.FateLemmas.{taken-more}
 use Rattle.tables.specs.AllTables.{tables_of}
 use Rattle.tables.proofs.TablesLemmas.{mapped-at}
 use Rattle.tables.proofs.tables.IndexedTables.empty_sets.Goals as goal

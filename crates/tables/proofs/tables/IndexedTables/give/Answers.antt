@@ -2,9 +2,9 @@ use Rattle.std.proofs.Common.{◌<◌, length, map, refl, arith}
 use Rattle.std.proofs.lemmas.Int.{ints}
 use Rattle.std.proofs.lemmas.Option.{slice_get_read}
 use Rattle.grounding.specs.Views.{numbered_of}
-use Rattle.table_functions.specs.FairTables.{table_gives}
+use Rattle.lower_bounds.specs.FairTables.{table_gives}
 use Rattle.tables.specs.AllTables.{tables_of}
-use Rattle.table_losses.specs.Losses.{indexed_of}
+use Rattle.table_rows.specs.Losses.{indexed_of}
 use Rattle.tables.proofs.TablesLemmas.{sum-more, mapped-at}
 use Rattle.tables.proofs.tables.IndexedTables.give.Goals as goal
 

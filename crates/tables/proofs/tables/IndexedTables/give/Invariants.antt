@@ -1,7 +1,7 @@
 use Rattle.std.proofs.Common.{◌≡◌, ◌*◌, map, take, pos, neg_ℤ, ◌≤ℤ◌}
 use Rattle.grounding.specs.Views.{numbered_of}
-use Rattle.table_functions.specs.TableFunctions.{sum_over}
-use Rattle.table_functions.specs.FairTables.{table_gives}
+use Rattle.lower_bounds.specs.TableFunctions.{sum_over}
+use Rattle.lower_bounds.specs.FairTables.{table_gives}
 use Rattle.tables.specs.AllTables.{tables_of}
 use Rattle.tables.proofs.tables.IndexedTables.give.Given as goal
 

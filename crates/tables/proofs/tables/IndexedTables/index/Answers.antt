@@ -3,13 +3,13 @@ use Rattle.std.specs.Prelude.{All}
 use Rattle.std.proofs.lemmas.List.{map_push}
 use Rattle.std.proofs.lemmas.List.Elements.{All-append, All-cons, All-nil}
 use Rattle.std.proofs.lemmas.Option.{slice_get-get_or}
-use Rattle.potential_functions.specs.PotentialFunctions.{IsInRange}
-use Rattle.table_functions.specs.TableFunctions.{Row}
+use Rattle.lower_bounds.specs.PotentialFunctions.{IsInRange}
+use Rattle.lower_bounds.specs.TableFunctions.{Row}
 use Rattle.table_rows.specs.Tables.{table_of, weight_count_of}
 use Rattle.table_rows.specs.declared.table.Table.{Table}
-use Rattle.table_losses.specs.Losses.{indexed_of, indexed_count_of}
-use Rattle.table_losses.specs.declared.indexed.IndexedTable.{IndexedTable}
-use Rattle.table_losses.proofs.FateLemmas.{taken-more}
+use Rattle.table_rows.specs.Losses.{indexed_of, indexed_count_of}
+use Rattle.table_rows.specs.declared.indexed.IndexedTable.{IndexedTable}
+use Rattle.table_rows.proofs.FateLemmas.{taken-more}
 use Rattle.tables.proofs.TablesLemmas.{each-at}
 use Rattle.tables.proofs.tables.IndexedTables.index.Goals as goal
 

@@ -1,8 +1,8 @@
 use Rattle.std.proofs.Common.{◌≡◌, map, take}
 use Rattle.std.specs.Prelude.{All}
 use Rattle.table_rows.specs.Tables.{table_of}
-use Rattle.table_losses.specs.Losses.{indexed_of, indexed_count_of}
-use Rattle.table_losses.specs.declared.indexed.IndexedTable.{IndexedTable}
+use Rattle.table_rows.specs.Losses.{indexed_of, indexed_count_of}
+use Rattle.table_rows.specs.declared.indexed.IndexedTable.{IndexedTable}
 use Rattle.tables.proofs.tables.IndexedTables.index.Given as goal
 
 abbrev pub invariant-loop-table : goal.invariant-loop-table

@@ -2,12 +2,12 @@ use Rattle.std.proofs.Common.{◌∙◌, not, map, sym, ap, arith}
 use Rattle.std.specs.List.{list_any}
 use Rattle.std.proofs.lemmas.List.{length-map, take_all}
 use Rattle.grounding.specs.Views.{numbered_of}
-use Rattle.table_functions.specs.TableFunctions.{Row, Table}
-use Rattle.table_functions.specs.FairTables.{agrees, is_shut_out}
+use Rattle.lower_bounds.specs.TableFunctions.{Row, Table}
+use Rattle.lower_bounds.specs.FairTables.{agrees, is_shut_out}
 use Rattle.tables.specs.AllTables.{tables_of}
-use Rattle.table_losses.specs.Losses.{indexed_of}
-use Rattle.table_losses.proofs.AgreeingLemmas.{none-more, some-here}
-use Rattle.table_losses.proofs.FateLemmas.{row-there}
+use Rattle.table_rows.specs.Losses.{indexed_of}
+use Rattle.table_rows.proofs.AgreeingLemmas.{none-more, some-here}
+use Rattle.table_rows.proofs.FateLemmas.{row-there}
 use Rattle.tables.proofs.tables.IndexedTables.is_shut_out.Goals as goal
 
 pub returns-then-not-branch : goal.returns-then-not-branch

@@ -1,6 +1,6 @@
 use Rattle.std.proofs.Common.{◌≡◌, false, map, take}
 use Rattle.grounding.specs.Views.{numbered_of}
-use Rattle.table_functions.specs.FairTables.{is_shut_out}
+use Rattle.lower_bounds.specs.FairTables.{is_shut_out}
 use Rattle.tables.specs.AllTables.{tables_of}
 use Rattle.tables.proofs.tables.IndexedTables.is_shut_out.Given as goal
 

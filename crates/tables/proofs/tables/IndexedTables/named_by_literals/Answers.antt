@@ -3,7 +3,7 @@ use Rattle.std.proofs.lemmas.List.{length-map}
 use Rattle.packed_state.specs.Sets.{set_of}
 use Rattle.tables.specs.AllTables.{tables_of}
 use Rattle.tables.specs.ByAtom.{AreMarked}
-use Rattle.table_losses.specs.Losses.{indexed_of}
+use Rattle.table_rows.specs.Losses.{indexed_of}
 use Rattle.tables.proofs.TablesLemmas.{marked-none}
 use Rattle.tables.proofs.tables.IndexedTables.named_by_literals.Goals as goal
 

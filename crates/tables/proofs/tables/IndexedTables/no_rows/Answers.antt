@@ -1,7 +1,7 @@
 use Rattle.std.proofs.Common.{◌≡◌, ◌∙◌, ◌∷◌, ◌++◌, [], length, sym, ap, refl, pos, None, arith}
 use Rattle.std.specs.Prelude.{replicate}
 use Rattle.std.proofs.lemmas.List.{length-map, replicate_more}
-use Rattle.table_losses.specs.Losses.{indexed_of}
+use Rattle.table_rows.specs.Losses.{indexed_of}
 use Rattle.tables.specs.AllTables.{tables_of, count_of}
 use Rattle.tables.proofs.RowSumsLemmas.{no-sums}
 use Rattle.tables.proofs.tables.IndexedTables.no_rows.Goals as goal

@@ -1,6 +1,6 @@
 use Rattle.std.proofs.Common.{length, ap, arith}
 use Rattle.std.proofs.lemmas.List.{length-map}
-use Rattle.table_losses.specs.Losses.{indexed_of}
+use Rattle.table_rows.specs.Losses.{indexed_of}
 use Rattle.tables.specs.AllTables.{tables_of}
 use Rattle.tables.proofs.ProjectionsLemmas.{empty-projections}
 use Rattle.tables.proofs.tables.IndexedTables.projections.Goals as goal

@@ -1,5 +1,5 @@
 use Rattle.std.proofs.lemmas.Result.{IfOk-weaker}
-use Rattle.syntax_tree.specs.Tree.{domain_of}
+use Rattle.pddl_tree_parts.specs.Tree.{domain_of}
 use Rattle.typing.specs.Declarations.{known_in, AreSchemasOf}
 use Rattle.typing.proofs.names.Declarations.schemas.Goals as goal
 

@@ -2,7 +2,7 @@ use Rattle.std.proofs.Common.{◌≡◌, ◌∙◌, Some, List, Bool, ap, length
 use Rattle.std.specs.Prelude.{Contains}
 use Rattle.std.proofs.lemmas.Option.{slice_get_within}
 use Rattle.packed_state.specs.Packed.{bits_of}
-use Rattle.representatives.specs.Representatives.{task_of, atoms_of, exchanges_of}
+use Rattle.symmetries.specs.Representatives.{task_of, atoms_of, exchanges_of}
 use Rattle.cert_checker.specs.Classified.{keys_in}
 use Rattle.cert_checker.proofs.CertCheckerLemmas.{got}
 use Rattle.cert_checker.proofs.ClassLemmas.{length-representative}

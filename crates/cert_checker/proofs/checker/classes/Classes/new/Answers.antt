@@ -3,8 +3,8 @@ use Rattle.packed_state.specs.Packed.{bits_of}
 use Rattle.packed_state.specs.PooledView.{pooled_states, pooled_width}
 use Rattle.certificate.specs.declared.cert.Cert.{Cert}
 use Rattle.certificate.specs.Certificate.{certificate_of, store_in}
-use Rattle.representatives.specs.Representatives.{task_of, atoms_of, exchanges_of}
-use Rattle.symmetries.specs.Orbits.{packed_representative}
+use Rattle.symmetries.specs.Representatives.{task_of, atoms_of, exchanges_of}
+use Rattle.symmetries_definitions.specs.Orbits.{packed_representative}
 use Rattle.cert_checker.specs.CheapestPlaces.{costs_of}
 use Rattle.cert_checker.specs.Classified.{AreCheapestUpTo}
 use Rattle.cert_checker.proofs.CheapestLemmas.{none_by}

@@ -6,10 +6,10 @@ use Rattle.std.proofs.lemmas.Option.{slice_get_within}
 use Rattle.packed_state.specs.declared.pooled.PooledStore.{PooledStore}
 use Rattle.packed_state.specs.Packed.{bits_of}
 use Rattle.packed_state.specs.PooledView.{pooled_states, pooled_width}
-use Rattle.representatives.specs.Representatives.{task_of, atoms_of, exchanges_of}
+use Rattle.symmetries.specs.Representatives.{task_of, atoms_of, exchanges_of}
 use Rattle.certificate.specs.Certificate.{certificate_of, store_in}
 use Rattle.certificate.proofs.NumbersLemmas.{sets_are}
-use Rattle.task_certificates.proofs.LimitsLemmas.{limits_of}
+use Rattle.cert_checker.proofs.LimitsLemmas.{limits_of}
 use Rattle.cert_checker.specs.CheapestPlaces.{AreCheapest, costs_of}
 use Rattle.cert_checker.specs.Classified.{key_by, keys_in}
 use Rattle.cert_checker.specs.PackedLines.{packed_line}

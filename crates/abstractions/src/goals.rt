@@ -1,0 +1,71 @@
+//! The values of variables that the goal allows.
+use crate::numbers::place_of;
+use crate::variables::Variables;
+use faults::NoMemory;
+use grounding::NumberedLiteral;
+use std::alloc::Global;
+
+/// For each variable, which of its values the goal allows.
+#[derive(Drop)]
+pub struct GoalValues {
+    is_allowed: Vec<Vec<bool>>,
+    is_asked: Vec<bool>,
+}
+
+impl GoalValues {
+    /// The values that these goal literals allow.
+    pub fn new(
+        alloc: Global,
+        variables: &Variables,
+        literals: &[NumberedLiteral],
+    ) -> Result<GoalValues, NoMemory> {
+        let mut goals = GoalValues {
+            is_allowed: Vec::new(alloc),
+            is_asked: Vec::new(alloc),
+        };
+        for variable in 0..variables.count() {
+            let count = place_of(variables.value_count(variable));
+            goals.is_allowed.push(vec![in alloc; true; count]?)?;
+            goals.is_asked.push(false)?;
+        }
+        for literal in literals {
+            for value in variables.of_atom(literal.atom) {
+                goals.ask(value.variable, value.value, literal.value);
+            }
+        }
+        Ok(goals)
+    }
+
+    /// Requires the variable to have this value, or forbids it.
+    fn ask(&mut self, variable: u32, value: u32, has: bool) {
+        if let Some(is_asked) = self.is_asked.get_mut(place_of(variable)) {
+            *is_asked = true;
+        }
+        if let Some(allowed) = self.is_allowed.get_mut(place_of(variable)) {
+            for (place, is_allowed) in allowed.iter_mut().enumerate() {
+                if (place == place_of(value)) != has {
+                    *is_allowed = false;
+                }
+            }
+        }
+    }
+
+    /// Whether the goal allows this value of the variable.
+    pub(crate) fn allow(&self, variable: u32, value: u32) -> bool {
+        match self.is_allowed.get(place_of(variable)) {
+            Some(allowed) => match allowed.get(place_of(value)) {
+                Some(is_allowed) => *is_allowed,
+                None => false,
+            },
+            None => false,
+        }
+    }
+
+    /// Whether the goal constrains the variable.
+    pub fn ask_of(&self, variable: u32) -> bool {
+        match self.is_asked.get(place_of(variable)) {
+            Some(is_asked) => *is_asked,
+            None => false,
+        }
+    }
+}

@@ -1,0 +1,192 @@
+//! The effect of an instance on a variable, for each value in which it may be applicable.
+use crate::variables::Variables;
+use faults::NoMemory;
+use grounding::{CountingChange, NumberedLiteral};
+use std::alloc::Global;
+
+/// The target of a move.
+#[derive(Clone, Copy, Debug, PartialEq, Eq, PartialOrd, Ord)]
+pub(crate) enum Target {
+    /// This value.
+    Value(u32),
+    /// No value of the variable: two of its atoms become true.
+    NoValue,
+}
+
+/// A move of a variable from one value.
+#[derive(Clone, Copy, Debug, PartialEq, Eq, PartialOrd, Ord)]
+pub(crate) struct Move {
+    pub(crate) from: u32,
+    pub(crate) to: Target,
+}
+
+/// When a change of a variable's atom takes effect.
+#[derive(Clone, Copy, Debug, PartialEq, Eq)]
+enum Made {
+    /// Whenever the instance is applied.
+    Always,
+    /// Under a `when`.
+    Sometimes,
+}
+
+/// The part of an instance that concerns one variable.
+#[derive(Clone, Copy)]
+pub(crate) struct InstancePart<'a, 't> {
+    pub(crate) variables: &'a Variables,
+    pub(crate) variable: u32,
+    pub(crate) literals: &'a [NumberedLiteral],
+    pub(crate) changes: &'a [CountingChange<'t>],
+}
+
+impl InstancePart<'_, '_> {
+    /// The moves from each value that the literals allow, in ascending order of these values.
+    pub(crate) fn moves(&self, alloc: Global) -> Result<Vec<Move>, NoMemory> {
+        let mut moves = Vec::new(alloc);
+        for from in self.first_value()..self.variables.value_count(self.variable) {
+            if self.allows(self.literals, from) {
+                self.add_moves(from, &mut moves)?;
+                if self.wants_atom() {
+                    return Ok(moves);
+                }
+            }
+        }
+        Ok(moves)
+    }
+
+    /// The first value that the literals may allow.
+    fn first_value(&self) -> u32 {
+        for literal in self.literals {
+            if literal.value {
+                if let Some(value) = self.value_of(literal.atom) {
+                    return value;
+                }
+            }
+        }
+        0
+    }
+
+    /// Whether a literal requires one of the variable's atoms.
+    fn wants_atom(&self) -> bool {
+        self.literals.iter().any(|literal| literal.value && self.value_of(literal.atom).is_some())
+    }
+
+    /// The value that the atom stands for, if it is an atom of the variable.
+    fn value_of(&self, atom: u32) -> Option<u32> {
+        for value in self.variables.of_atom(atom) {
+            if value.variable == self.variable {
+                return Some(value.value);
+            }
+        }
+        None
+    }
+
+    /// Whether no literal excludes the value.
+    fn allows(&self, literals: &[NumberedLiteral], from: u32) -> bool {
+        literals.iter().all(|literal| match self.value_of(literal.atom) {
+            Some(value) => (value == from) == literal.value,
+            None => true,
+        })
+    }
+
+    /// Adds the moves from this value.
+    fn add_moves(&self, from: u32, moves: &mut Vec<Move>) -> Result<(), NoMemory> {
+        let certain = self.certain_target(from);
+        let Target::Value(value) = certain else {
+            moves.push(Move { from, to: certain })?;
+            return Ok(());
+        };
+        moves.push(Move { from, to: certain })?;
+        if value > 0
+            && !self.makes(Made::Always, true, value, from)
+            && self.makes(Made::Sometimes, false, value, from)
+        {
+            let to = Target::Value(0);
+            moves.push(Move { from, to })?;
+        }
+        self.add_uncertain_adds(from, value, moves)
+    }
+
+    /// The target of the unconditional changes from this value.
+    fn certain_target(&self, from: u32) -> Target {
+        let mut value = from;
+        if from > 0 && self.makes(Made::Always, false, from, from) {
+            value = 0;
+        }
+        for change in self.changes {
+            if change.value && change.is_unconditional() {
+                if let Some(added) = self.value_of(change.atom) {
+                    if value > 0 && value != added {
+                        return Target::NoValue;
+                    }
+                    value = added;
+                }
+            }
+        }
+        Target::Value(value)
+    }
+
+    /// Adds the moves in which a change under a `when` adds an atom, given the target of the others.
+    fn add_uncertain_adds(
+        &self,
+        from: u32,
+        value: u32,
+        moves: &mut Vec<Move>,
+    ) -> Result<(), NoMemory> {
+        let mut first = value;
+        for change in self.changes {
+            if change.value && !change.is_unconditional() && self.is_open(change, from) {
+                if let Some(added) = self.value_of(change.atom) {
+                    if first > 0 && first != added {
+                        let to = Target::NoValue;
+                        moves.push(Move { from, to })?;
+                        return Ok(());
+                    }
+                    if first != added {
+                        let to = Target::Value(added);
+                        moves.push(Move { from, to })?;
+                    }
+                    first = added;
+                }
+            }
+        }
+        Ok(())
+    }
+
+    /// Whether a change of this kind adds (or deletes) the atom of this value, from that value.
+    fn makes(&self, made: Made, is_add: bool, value: u32, from: u32) -> bool {
+        self.changes.iter().any(|change| {
+            change.value == is_add
+                && change.is_unconditional() == (made == Made::Always)
+                && self.value_of(change.atom) == Some(value)
+                && self.is_open(change, from)
+        })
+    }
+
+    /// Whether the change may take effect from the value.
+    fn is_open(&self, change: &CountingChange<'_>, from: u32) -> bool {
+        !change.wants_unnumbered() && self.allows(change.condition(), from)
+    }
+}
+
+/// The moves from this value.
+pub(crate) fn moves_from(moves: &[Move], from: u32) -> &[Move] {
+    let start = moves.partition_point(|it| it.from < from);
+    let end = moves.partition_point(|it| it.from <= from);
+    match moves.get(start..end) {
+        Some(those) => those,
+        None => &[],
+    }
+}
+
+/// The number of values that have moves.
+pub(crate) fn source_count(moves: &[Move]) -> u32 {
+    let mut count = 0u32;
+    let mut last = None;
+    for it in moves {
+        if last != Some(it.from) {
+            count = count.saturating_add(1);
+        }
+        last = Some(it.from);
+    }
+    count
+}

@@ -1,0 +1,231 @@
+//! The reachable rows of a table, and the arcs between them.
+use crate::goals::GoalValues;
+use crate::numbers::{number_of, place_of};
+use crate::variables::Variables;
+use faults::NoMemory;
+use std::alloc::Global;
+
+/// Instances with the same behaviour in a table.
+#[derive(Clone, Copy, Debug)]
+pub struct RowClass {
+    /// Their start among the instances of all classes.
+    pub(crate) start: u32,
+    /// Their end.
+    pub(crate) end: u32,
+    /// Whether applying one of them may leave some row unchanged.
+    pub stays: bool,
+    /// The number of rows that allow them.
+    pub row_count: u32,
+}
+
+/// An arc: the instances of a class may lead from this row to another.
+#[derive(Clone, Copy, Debug)]
+pub struct Arc {
+    /// The number of the source row.
+    pub from: u32,
+    /// The number of the class.
+    pub class: u32,
+}
+
+/// The reachable rows of a table, by number, the initial state's first, with the arcs between them.
+#[derive(Drop)]
+pub struct RowGraph {
+    pub(crate) variables: Vec<u32>,
+    /// The increase of a row's index for each increment of a variable's value.
+    pub(crate) radices: Vec<u32>,
+    /// The index of each row.
+    pub(crate) rows: Vec<u32>,
+    /// Pairs of a row's index and its number, sorted by index.
+    pub(crate) by_index: Vec<(u32, u32)>,
+    pub(crate) is_goal: Vec<bool>,
+    pub(crate) classes: Vec<RowClass>,
+    pub(crate) instances: Vec<u32>,
+    /// The end of the arcs into each row, among the arcs that lead to another row.
+    pub(crate) ends: Vec<u32>,
+    pub(crate) arcs: Vec<Arc>,
+}
+
+impl RowGraph {
+    /// The table's variables, in ascending order.
+    pub fn variables(&self) -> &[u32] {
+        &self.variables
+    }
+
+    /// The number of rows.
+    pub fn row_count(&self) -> usize {
+        self.rows.len()
+    }
+
+    /// The number of arcs that lead to another row.
+    pub fn arc_count(&self) -> usize {
+        self.arcs.len()
+    }
+
+    /// The number of instances in classes.
+    pub fn instance_count(&self) -> usize {
+        self.instances.len()
+    }
+
+    /// The number of row tests needed to test the loss of every instance: for each instance, the rows that allow it.
+    pub fn test_count(&self) -> u64 {
+        let mut count = 0u64;
+        for class in &self.classes {
+            let instances = self.instances_of(class).len() as u64;
+            count = count.saturating_add(instances.saturating_mul(u64::from(class.row_count)));
+        }
+        count
+    }
+
+    /// The classes, by their numbers.
+    pub fn classes(&self) -> &[RowClass] {
+        &self.classes
+    }
+
+    /// The instances of the class, in ascending order.
+    pub fn instances_of(&self, class: &RowClass) -> &[u32] {
+        match self
+            .instances
+            .get(place_of(class.start)..place_of(class.end))
+        {
+            Some(instances) => instances,
+            None => &[],
+        }
+    }
+
+    /// Whether the goal allows the row with this number.
+    pub fn is_goal(&self, row: u32) -> bool {
+        match self.is_goal.get(place_of(row)) {
+            Some(is_goal) => *is_goal,
+            None => false,
+        }
+    }
+
+    /// The arcs from other rows to the row with this number.
+    pub fn arcs_to(&self, row: u32) -> &[Arc] {
+        let start = match place_of(row).checked_sub(1) {
+            Some(before) => self.end(before),
+            None => 0,
+        };
+        match self.arcs.get(start..self.end(place_of(row))) {
+            Some(arcs) => arcs,
+            None => &[],
+        }
+    }
+
+    /// The end of the arcs into the row with this number.
+    fn end(&self, place: usize) -> usize {
+        match self.ends.get(place) {
+            Some(end) => place_of(*end),
+            None => 0,
+        }
+    }
+
+    /// The instances that no row allows.
+    pub fn shut_out(&self, alloc: Global) -> Result<Vec<u32>, NoMemory> {
+        let mut found = Vec::new(alloc);
+        for class in &self.classes {
+            if class.row_count == 0 {
+                found.extend_from_slice(self.instances_of(class))?;
+            }
+        }
+        Ok(found)
+    }
+
+    /// The number of the row with these values, indexed by variable, if it was reached.
+    pub fn row_of(&self, values: &[u32]) -> Option<u32> {
+        let index = self.index_of(values);
+        match self
+            .by_index
+            .binary_search_by_key(&index, |(index, _)| *index)
+        {
+            Ok(place) => match self.by_index.get(place) {
+                Some((_, row)) => Some(*row),
+                None => None,
+            },
+            Err(_) => None,
+        }
+    }
+
+    /// The index of the row with these values.
+    fn index_of(&self, values: &[u32]) -> u32 {
+        let mut index = 0u32;
+        for (variable, radix) in self.variables.iter().zip(&self.radices) {
+            if let Some(value) = values.get(place_of(*variable)) {
+                index = index.saturating_add(value.saturating_mul(*radix));
+            }
+        }
+        index
+    }
+
+    /// The true atoms in the row with this number, in ascending order.
+    pub fn atoms_of(
+        &self,
+        alloc: Global,
+        variables: &Variables,
+        row: u32,
+    ) -> Result<Vec<u32>, NoMemory> {
+        let mut atoms = Vec::new(alloc);
+        let Some(index) = self.rows.get(place_of(row)) else {
+            return Ok(atoms);
+        };
+        for (variable, radix) in self.variables.iter().zip(&self.radices) {
+            let value = value_at(*index, *radix, variables.value_count(*variable));
+            if let Some(place) = place_of(value).checked_sub(1) {
+                if let Some(atom) = variables.atoms(*variable).get(place) {
+                    atoms.push(*atom)?;
+                }
+            }
+        }
+        atoms.sort_unstable();
+        Ok(atoms)
+    }
+
+    /// The atoms of the table's scope, in ascending order.
+    pub fn scope(&self, alloc: Global, variables: &Variables) -> Result<Vec<u32>, NoMemory> {
+        let mut scope = Vec::new(alloc);
+        for variable in &self.variables {
+            scope.extend_from_slice(variables.atoms(*variable))?;
+        }
+        scope.sort_unstable();
+        scope.dedup();
+        Ok(scope)
+    }
+}
+
+/// The value at this radix in an index, for a variable with this many values.
+pub(crate) fn value_at(index: u32, radix: u32, count: u32) -> u32 {
+    if radix == 0 || count == 0 {
+        return 0;
+    }
+    index / radix % count
+}
+
+/// Whether the goal allows each of the rows with these indices.
+pub(crate) fn goal_rows(
+    alloc: Global,
+    goals: &GoalValues,
+    variables: &Variables,
+    of_table: &[u32],
+    radices: &[u32],
+    rows: &[u32],
+) -> Result<Vec<bool>, NoMemory> {
+    let mut are_goals = Vec::with_capacity(alloc, rows.len())?;
+    for index in rows {
+        let is_goal = of_table.iter().zip(radices).all(|(variable, radix)| {
+            let value = value_at(*index, *radix, variables.value_count(*variable));
+            goals.allow(*variable, value)
+        });
+        are_goals.push(is_goal)?;
+    }
+    Ok(are_goals)
+}
+
+/// The numbers of the rows, sorted by index.
+pub(crate) fn by_index(alloc: Global, rows: &[u32]) -> Result<Vec<(u32, u32)>, NoMemory> {
+    let mut by_index = Vec::with_capacity(alloc, rows.len())?;
+    for (place, index) in rows.iter().enumerate() {
+        by_index.push((*index, number_of(place)))?;
+    }
+    by_index.sort_unstable();
+    Ok(by_index)
+}

@@ -1,0 +1,207 @@
+//! The effects of all instances on each variable.
+use crate::moves::{InstancePart, Move, moves_from, source_count};
+use crate::numbers::{number_of, place_of};
+use crate::variables::Variables;
+use faults::NoMemory;
+use grounding::{CountingChange, Ground, NumberedLiteral};
+use potentials::instance_count;
+use std::alloc::Global;
+
+/// The maximum number of moves kept in total.
+const MAX_MOVES: usize = 4_000_000;
+
+/// An instance, and the variable's step that it takes.
+#[derive(Clone, Copy, Debug, PartialEq, Eq, PartialOrd, Ord)]
+pub(crate) struct StepUse {
+    pub(crate) instance: u32,
+    pub(crate) step: u32,
+}
+
+/// The effects of instances on one variable: its steps, each a list of moves, and the instances that take them.
+#[derive(Drop)]
+pub(crate) struct VariableSteps {
+    steps: Vec<Vec<Move>>,
+    /// In ascending order of instances.
+    uses: Vec<StepUse>,
+}
+
+/// The effects of all instances on each variable.
+#[derive(Drop)]
+pub struct Steps {
+    variables: Vec<VariableSteps>,
+}
+
+/// The instances that are shut out: they are applicable in no reachable state.
+#[derive(Drop)]
+pub struct Shutters {
+    is_shut_out: Vec<bool>,
+}
+
+/// For each variable, the effects of instances on it, still in the order of instances.
+#[derive(Drop)]
+struct Drafts {
+    moves: Vec<Vec<(Vec<Move>, u32)>>,
+    count: usize,
+}
+
+impl Steps {
+    /// The steps of the ground task's instances; `None` if there would be too many moves.
+    pub fn new(
+        alloc: Global,
+        ground: &Ground<'_>,
+        variables: &Variables,
+    ) -> Result<Option<Steps>, NoMemory> {
+        let mut drafts = Drafts {
+            moves: Vec::new(alloc),
+            count: 0,
+        };
+        for _ in 0..variables.count() {
+            drafts.moves.push(Vec::new(alloc))?;
+        }
+        for number in 0..instance_count(ground) {
+            drafts.add(
+                alloc,
+                variables,
+                number,
+                ground.literals(number),
+                ground.counting(number),
+            )?;
+            if drafts.count > MAX_MOVES {
+                return Ok(None);
+            }
+        }
+        let Drafts { moves, .. } = drafts;
+        let mut steps = Steps {
+            variables: Vec::new(alloc),
+        };
+        for of_variable in moves {
+            steps
+                .variables
+                .push(VariableSteps::new(alloc, of_variable)?)?;
+        }
+        Ok(Some(steps))
+    }
+
+    /// The effects of instances on the variable with this number.
+    pub(crate) fn of(&self, variable: u32) -> Option<&VariableSteps> {
+        self.variables.get(place_of(variable))
+    }
+}
+
+impl Drafts {
+    /// Adds the effect of the instance with these literals and changes on each variable of their atoms.
+    fn add<'a, 't>(
+        &mut self,
+        alloc: Global,
+        variables: &'a Variables,
+        number: u32,
+        literals: &'a [NumberedLiteral],
+        changes: &'a [CountingChange<'t>],
+    ) -> Result<(), NoMemory> {
+        let mut mentioned = variables.of_literals(alloc, literals)?;
+        mentioned.extend_from_slice(&variables.of_changes(alloc, changes)?)?;
+        mentioned.sort_unstable();
+        mentioned.dedup();
+        for variable in mentioned {
+            let part = InstancePart {
+                variables,
+                variable,
+                literals,
+                changes,
+            };
+            let moves = part.moves(alloc)?;
+            self.count = self.count.saturating_add(moves.len());
+            if let Some(all) = self.moves.get_mut(place_of(variable)) {
+                all.push((moves, number))?;
+            }
+        }
+        Ok(())
+    }
+}
+
+impl VariableSteps {
+    /// The steps for these lists of moves, each distinct list once, and the instances that take them.
+    fn new(alloc: Global, mut drafts: Vec<(Vec<Move>, u32)>) -> Result<VariableSteps, NoMemory> {
+        drafts.sort_unstable();
+        let mut of_variable = VariableSteps {
+            steps: Vec::new(alloc),
+            uses: Vec::new(alloc),
+        };
+        for (moves, instance) in drafts {
+            of_variable.take(moves, instance)?;
+        }
+        of_variable.uses.sort_unstable();
+        Ok(of_variable)
+    }
+
+    /// Records that the instance takes these moves, which are those of the last step or come after them.
+    fn take(&mut self, moves: Vec<Move>, instance: u32) -> Result<(), NoMemory> {
+        if self.steps.last() != Some(&moves) {
+            self.steps.push(moves)?;
+        }
+        let step = number_of(self.steps.len()).saturating_sub(1);
+        self.uses.push(StepUse { instance, step })?;
+        Ok(())
+    }
+
+    /// The instances that mention the variable, in ascending order, each with its step.
+    pub(crate) fn uses(&self) -> &[StepUse] {
+        &self.uses
+    }
+
+    /// The number of steps.
+    pub(crate) fn step_count(&self) -> usize {
+        self.steps.len()
+    }
+
+    /// The moves of this step.
+    fn moves(&self, step: u32) -> &[Move] {
+        match self.steps.get(place_of(step)) {
+            Some(moves) => moves,
+            None => &[],
+        }
+    }
+
+    /// The moves of this step from the value.
+    pub(crate) fn moves_from(&self, step: u32, value: u32) -> &[Move] {
+        moves_from(self.moves(step), value)
+    }
+
+    /// The number of values from which this step has moves.
+    pub(crate) fn source_count(&self, step: u32) -> u32 {
+        source_count(self.moves(step))
+    }
+
+    /// All moves of this step, in ascending order of source values.
+    pub(crate) fn all_moves(&self, step: u32) -> &[Move] {
+        self.moves(step)
+    }
+}
+
+impl Shutters {
+    /// The instances of the ground task that require an atom without a number.
+    pub fn new(alloc: Global, ground: &Ground<'_>) -> Result<Shutters, NoMemory> {
+        let mut is_shut_out = Vec::new(alloc);
+        for number in 0..instance_count(ground) {
+            is_shut_out.push(ground.wants_unnumbered(number))?;
+        }
+        Ok(Shutters { is_shut_out })
+    }
+
+    /// Whether the instance is shut out.
+    pub fn is_shut_out(&self, instance: u32) -> bool {
+        match self.is_shut_out.get(place_of(instance)) {
+            Some(is_shut_out) => *is_shut_out,
+            None => false,
+        }
+    }
+
+    /// Shuts out these instances too.
+    pub fn shut_out(&mut self, instances: &[u32]) {
+        for instance in instances {
+            if let Some(is_shut_out) = self.is_shut_out.get_mut(place_of(*instance)) {
+                *is_shut_out = true;
+            }
+        }
+    }
+}

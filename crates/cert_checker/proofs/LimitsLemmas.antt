@@ -1,0 +1,398 @@
+-- The certificate that a text denotes is within the limits, has a weight for each atom, and is unique.
+use Rattle.std.proofs.Common.{◌≡◌, ℕ, zero, suc, ◌+◌, ◌-◌, ◌≤◌, Bool, true, false, List, [], ◌∷◌, ◌++◌, map, length, length-append, refl, sym, ap, ◌∙◌, subst, arith}
+use Rattle.std.specs.Prelude.{◌&&◌, ◌==◌, ℤ, pos, IsTrue, All, nat_le}
+use Rattle.std.specs.List.{flat_map, list_all, range_with_len}
+use Rattle.std.proofs.lemmas.Bool.{and_parts, eq-eqb, eqb-true, false≢true, le-leb, leb-true}
+use Rattle.std.proofs.lemmas.List.{get_or_past, length-map, map-append}
+use Rattle.std.proofs.lemmas.List.Elements.{All-map}
+use Rattle.std.proofs.lemmas.List.Folds.{list_all-append, list_all-map}
+use Rattle.std.proofs.lemmas.List.FromFn.{length-range_with_len}
+use Rattle.model.specs.Task.{Atom, Task}
+use Rattle.lower_bounds.specs.PotentialFunctions.{PotentialFunction}
+use Rattle.lower_bounds.specs.TableFunctions.{Row, Table, is_among}
+use Rattle.certificate_definitions.specs.Certificates.{Version, one, two, three, Certificate, StateLine, are_exchanges, are_potentials, are_tables, are_weights, has_tables, is_claim, is_dead_end_weight, is_row, is_state_line, is_value_count, is_weight, keeps_limits, rows_of}
+use Rattle.certificate_definitions.specs.CertificateText.{NamedAtom, WeightedAtom, TableLine, scope, row, NamedCertificate, Format, TextLine, swapped, atom, tabled, listed, last, begin_with_scope, format_of, is_line, is_table_line, is_weight_count, keeps_text_limits, line_text, longest_line, most_atoms, most_rows, most_states, most_swaps, most_tables, row_count, scope_count, text_lines}
+use Rattle.certificate_definitions.specs.CertificateNames.{AllName, IsTextOf, dead_ends_said, exchange_said, table_lines, value_count, value_said, values_said, weight_said}
+use Rattle.certificate_reader.specs.Words.{are_lower}
+use Rattle.certificate_reader.proofs.OneText as one_text
+use Rattle.cert_checker.proofs.NamedExchanges.{exchanges_kept}
+use Rattle.cert_checker.proofs.NamesLemmas.{one_named}
+
+-- ---- the limits of a certificate, one by one
+
+pub record AreLimits (c : Certificate) : Type 0 where
+  pub claim : is_claim c.claim ≡ true
+  pub few_atoms : nat_le (length c.atoms) most_atoms ≡ true
+  pub few_states : nat_le (length c.lines) most_states ≡ true
+  pub states : list_all (is_state_line c.version (length c.atoms)) c.lines ≡ true
+  pub value_count : is_value_count c.version (length c.values) ≡ true
+  pub values : list_all (are_potentials is_weight (length c.atoms)) c.values ≡ true
+  pub dead_ends : are_potentials (is_dead_end_weight c.version) (length c.atoms) c.dead_ends ≡ true
+  pub tables : are_tables c.version (length c.atoms) (length c.values + 1) c.tables ≡ true
+  pub few_tables : nat_le (length c.tables) most_tables ≡ true
+  pub few_rows : nat_le (length (rows_of c.tables)) most_rows ≡ true
+  pub exchanges : are_exchanges c.version c.exchanges ≡ true
+  pub few_exchanges : nat_le (length c.exchanges) most_swaps ≡ true
+
+pub limits_of : (c : Certificate) → IsTrue (keeps_limits c) → AreLimits c
+limits_of c keeps =
+    let claims = is_claim c.claim in
+    let atoms = nat_le (length c.atoms) most_atoms in
+    let lines = nat_le (length c.lines) most_states in
+    let states = list_all (is_state_line c.version (length c.atoms)) c.lines in
+    let count = is_value_count c.version (length c.values) in
+    let values = list_all (are_potentials is_weight (length c.atoms)) c.values in
+    let dead_ends = are_potentials (is_dead_end_weight c.version) (length c.atoms) c.dead_ends in
+    let tables = are_tables c.version (length c.atoms) (length c.values + 1) c.tables in
+    let scopes = nat_le (length c.tables) most_tables in
+    let rows = nat_le (length (rows_of c.tables)) most_rows in
+    let exchanges = are_exchanges c.version c.exchanges in
+    let (first, few_exchanges) =
+    and_parts (claims && atoms && lines && states && count && values && dead_ends && tables && scopes && rows && exchanges) (nat_le (length c.exchanges) most_swaps) keeps in
+    let (first, exchanges_are) = and_parts (claims && atoms && lines && states && count && values && dead_ends && tables && scopes && rows) exchanges first in
+    let (first, few_rows) = and_parts (claims && atoms && lines && states && count && values && dead_ends && tables && scopes) rows first in
+    let (first, few_tables) = and_parts (claims && atoms && lines && states && count && values && dead_ends && tables) scopes first in
+    let (first, tables_are) = and_parts (claims && atoms && lines && states && count && values && dead_ends) tables first in
+    let (first, dead_ends_are) = and_parts (claims && atoms && lines && states && count && values) dead_ends first in
+    let (first, values_are) = and_parts (claims && atoms && lines && states && count) values first in
+    let (first, count_is) = and_parts (claims && atoms && lines && states) count first in
+    let (first, states_are) = and_parts (claims && atoms && lines) states first in
+    let (first, few_states) = and_parts (claims && atoms) lines first in
+    let (claim, few_atoms) = and_parts claims atoms first in
+    record {
+      claim = claim;
+      few_atoms = few_atoms;
+      few_states = few_states;
+      states = states_are;
+      value_count = count_is;
+      values = values_are;
+      dead_ends = dead_ends_are;
+      tables = tables_are;
+      few_tables = few_tables;
+      few_rows = few_rows;
+      exchanges = exchanges_are;
+      few_exchanges = few_exchanges;
+    }
+
+-- ---- the limits of a text, one by one
+
+record AreTextLimits (said : NamedCertificate) : Type 0 where
+  few_swaps : nat_le (length said.swaps) most_swaps ≡ true
+  few_atoms : nat_le (length said.atoms) most_atoms ≡ true
+  few_tables : nat_le (scope_count said.tables) most_tables ≡ true
+  few_rows : nat_le (row_count said.tables) most_rows ≡ true
+  few_states : nat_le (length said.lines) most_states ≡ true
+  claim : is_claim said.claim ≡ true
+  constant_count : is_weight_count said.version (length said.constants) ≡ true
+  constants : are_weights (length said.constants) said.constants ≡ true
+  swaps : list_all (is_line (format_of said)) (map (λ names. swapped names) said.swaps) ≡ true
+  atoms : list_all (is_line (format_of said)) (map (λ a. atom a) said.atoms) ≡ true
+  tables : list_all (is_line (format_of said)) (map (λ t. tabled t) said.tables) ≡ true
+  states : list_all (is_state_line said.version (length said.atoms)) said.lines ≡ true
+
+text_limits : (said : NamedCertificate) → IsTrue (keeps_text_limits said) → AreTextLimits said
+text_limits said keeps =
+    let test : TextLine → Bool = is_line (format_of said) in
+    let swaps : List TextLine = map (λ names. swapped names) said.swaps in
+    let atoms : List TextLine = map (λ a. atom a) said.atoms in
+    let tables : List TextLine = map (λ t. tabled t) said.tables in
+    let states : List TextLine = map (λ l. listed l) said.lines in
+    let end : List TextLine = last (length said.lines) ∷ [] in
+    let begins : Bool = begin_with_scope said.tables && nat_le (scope_count said.tables) most_tables in
+    let count_is : Bool = is_weight_count said.version (length said.constants) in
+    let in_order : Bool = begins && nat_le (row_count said.tables) most_rows in
+    let counted : Bool = nat_le (length said.swaps) most_swaps && nat_le (length said.atoms) most_atoms in
+    let (counts, each) = and_parts (counted && in_order && nat_le (length said.lines) most_states) (list_all test (text_lines said)) keeps in
+    let (few, few_states) = and_parts (counted && in_order) (nat_le (length said.lines) most_states) counts in
+    let (few_both, ordered) = and_parts counted in_order few in
+    let (few_swaps, few_atoms) = and_parts (nat_le (length said.swaps) most_swaps) (nat_le (length said.atoms) most_atoms) few_both in
+    let (begun, few_rows) = and_parts begins (nat_le (row_count said.tables) most_rows) ordered in
+    let few_tables = (and_parts (begin_with_scope said.tables) (nat_le (scope_count said.tables) most_tables) begun).1 in
+    let (claim, others) = and_parts (is_claim said.claim) ((count_is && list_all is_weight said.constants) && list_all test ((((swaps ++ atoms) ++ tables) ++ states) ++ end)) each in
+    let (constants, following) = and_parts (count_is && list_all is_weight said.constants) (list_all test ((((swaps ++ atoms) ++ tables) ++ states) ++ end)) others in
+    let (count, weights) = and_parts count_is (list_all is_weight said.constants) constants in
+    let heads : List TextLine = swaps ++ atoms in
+    let body = (and_parts (list_all test ((heads ++ tables) ++ states)) (list_all test end) (sym (list_all-append test ((heads ++ tables) ++ states) end) ∙ following)).0 in
+    let (front, states_are) = and_parts (list_all test (heads ++ tables)) (list_all test states) (sym (list_all-append test (heads ++ tables) states) ∙ body) in
+    let (heads_are, tables_are) = and_parts (list_all test heads) (list_all test tables) (sym (list_all-append test heads tables) ∙ front) in
+    let (swaps_are, atoms_are) = and_parts (list_all test swaps) (list_all test atoms) (sym (list_all-append test swaps atoms) ∙ heads_are) in
+    record {
+      few_atoms = few_atoms;
+      few_tables = few_tables;
+      few_rows = few_rows;
+      few_states = few_states;
+      claim = claim;
+      constant_count = count;
+      few_swaps = few_swaps;
+      swaps = swaps_are;
+      constants = λ i. eq-eqb (length said.constants) (length said.constants) refl i && weights i;
+      atoms = atoms_are;
+      tables = tables_are;
+      states = sym (list_all-map test (λ (l : StateLine). listed l) said.lines) ∙ states_are;
+    }
+
+-- ---- values
+
+-- the weight at an index passes a test that all weights and 0 pass, 0 being the default
+pub said_kept : (test : ℤ → Bool) → test (pos 0) ≡ true → (weights : List ℤ) (place : ℕ) → list_all test weights ≡ true → test (weight_said place weights) ≡ true
+said_kept test nothing [] place all = nothing
+said_kept test nothing (w ∷ weights) zero all = (and_parts (test w) (list_all test weights) all).0
+said_kept test nothing (w ∷ weights) (suc place) all = said_kept test nothing weights place (and_parts (test w) (list_all test weights) all).1
+
+weight_kept : (count : ℕ) (weights : List ℤ) (place : ℕ) → are_weights count weights ≡ true → is_weight (weight_said place weights) ≡ true
+weight_kept count weights place are = said_kept is_weight refl weights place (and_parts (length weights == count) (list_all is_weight weights) are).1
+
+-- the weights for dead ends are within the limits: they are 0 in version 1
+dead_end_kept : (v : Version) (count : ℕ) (weights : List ℤ) → are_weights count weights ≡ true → is_dead_end_weight v (weight_said (value_count v count) weights) ≡ true
+dead_end_kept one count weights are =
+    let long : length weights ≡ count = eqb-true (length weights) count (and_parts (length weights == count) (list_all is_weight weights) are).0 in
+    ap (is_dead_end_weight one) (get_or_past weights count (pos 0) (omega (arith, long)))
+dead_end_kept two count weights are = weight_kept count weights (count - 1) are
+dead_end_kept three count weights are = weight_kept count weights (count - 1) are
+
+value_count_kept : (v : Version) (count : ℕ) → is_weight_count v count ≡ true → is_value_count v (value_count v count) ≡ true
+value_count_kept one count is = is
+value_count_kept two count is = let same = eqb-true count 2 is in eq-eqb (count - 1) 1 (omega (arith, same))
+value_count_kept three count is =
+    let (some, few) = and_parts (nat_le 2 count) (nat_le count 33) is in
+    let above = leb-true 2 count some in
+    let below = leb-true count 33 few in
+    λ i. le-leb 1 (count - 1) (omega (arith, above)) i && le-leb (count - 1) 32 (omega (arith, below)) i
+
+-- a version with tables has a constant for each value and one for dead ends
+pub one_constant_more : (v : Version) (count : ℕ) → has_tables v ≡ true → is_weight_count v count ≡ true → value_count v count + 1 ≡ count
+one_constant_more one count has is = absurd (false≢true has)
+one_constant_more two count has is = absurd (false≢true has)
+one_constant_more three count has is = let some = leb-true 2 count (and_parts (nat_le 2 count) (nat_le count 33) is).0 in omega (arith, some)
+
+pub few_constants : (v : Version) (count : ℕ) → is_weight_count v count ≡ true → count ≤ 33
+few_constants one count is = let same = eqb-true count 1 is in omega (arith, same)
+few_constants two count is = let same = eqb-true count 2 is in omega (arith, same)
+few_constants three count is = leb-true count 33 (and_parts (nat_le 2 count) (nat_le count 33) is).1
+
+always : {X : Type 0} (test : X → Bool) → ((x : X) → test x ≡ true) → (xs : List X) → list_all test xs ≡ true
+always test each [] = refl
+always test each (x ∷ xs) = λ i. each x i && always test each xs i
+
+-- a test that the weights of each atom pass
+weights_kept : (f : Format) (test : List ℤ → Bool) → ((weights : List ℤ) → are_weights f.weights weights ≡ true → test weights ≡ true) → (atoms : List WeightedAtom)
+    → list_all (is_line f) (map (λ a. atom a) atoms) ≡ true → list_all (λ (a : WeightedAtom). test a.weights) atoms ≡ true
+weights_kept f test each [] all = refl
+weights_kept f test each (a ∷ atoms) all =
+    let (here, more) = and_parts (is_line f (atom a)) (list_all (is_line f) (map (λ a. atom a) atoms)) all in
+    let lower = (and_parts (are_weights f.weights a.weights && are_lower a.atom) (nat_le (length (line_text (atom a))) longest_line) here).0 in
+    let weights = (and_parts (are_weights f.weights a.weights) (are_lower a.atom) lower).0 in
+    λ i. each a.weights weights i && weights_kept f test each atoms more i
+
+module _ (said : NamedCertificate) (limits : AreTextLimits said) where
+  value_kept : (is_in_range : ℤ → Bool) (place : ℕ) → ((weights : List ℤ) → are_weights (length said.constants) weights ≡ true → is_in_range (weight_said place weights) ≡ true)
+      → are_potentials is_in_range (length said.atoms) (value_said said place) ≡ true
+  value_kept is_in_range place each =
+      let weight_of : WeightedAtom → ℤ = λ a. weight_said place a.weights in
+      let constant_is = each said.constants limits.constants in
+      let many = eq-eqb (length (map weight_of said.atoms)) (length said.atoms) (length-map said.atoms weight_of) in
+      let weights = list_all-map is_in_range weight_of said.atoms ∙ weights_kept (format_of said) (λ weights. is_in_range (weight_said place weights)) each said.atoms limits.atoms in
+      λ i. (constant_is i && many i) && weights i
+
+  values_kept : list_all (are_potentials is_weight (length said.atoms)) (values_said said) ≡ true
+  values_kept =
+      let places = range_with_len 0 (value_count said.version (length said.constants)) in
+      let test = are_potentials is_weight (length said.atoms) in
+      list_all-map test (value_said said) places
+      ∙ always (λ place. test (value_said said place))
+      (λ place. value_kept is_weight place (λ weights are. weight_kept (length said.constants) weights place are)) places
+
+  dead_ends_kept : are_potentials (is_dead_end_weight said.version) (length said.atoms) (dead_ends_said said) ≡ true
+  dead_ends_kept = value_kept (is_dead_end_weight said.version) (value_count said.version (length said.constants)) (dead_end_kept said.version (length said.constants))
+
+  values_length : length (values_said said) ≡ value_count said.version (length said.constants)
+  values_length =
+      let count = value_count said.version (length said.constants) in
+      length-map (range_with_len 0 count) (value_said said) ∙ length-range_with_len 0 count
+
+  value_count_is : is_value_count said.version (length (values_said said)) ≡ true
+  value_count_is = ap (is_value_count said.version) values_length ∙ value_count_kept said.version (length said.constants) limits.constant_count
+
+-- ---- tables
+
+scopes_behind_rows : (rows : List Row) (more : List TableLine) → scope_count (map (λ r. row r) rows ++ more) ≡ scope_count more
+scopes_behind_rows [] more = refl
+scopes_behind_rows (r ∷ rows) more = scopes_behind_rows rows more
+
+rows_before : (rows : List Row) (more : List TableLine) → row_count (map (λ r. row r) rows ++ more) ≡ length rows + row_count more
+rows_before [] more = omega arith
+rows_before (r ∷ rows) more = let rest = rows_before rows more in omega (arith, rest)
+
+-- there are as many scopes as tables, and as many row lines as rows of tables
+pub scopes_are : (tables : List Table) → scope_count (flat_map table_lines tables) ≡ length tables
+scopes_are [] = refl
+scopes_are (t ∷ tables) = let rest = scopes_behind_rows t.rows (flat_map table_lines tables) ∙ scopes_are tables in omega (arith, rest)
+
+pub rows_are : (tables : List Table) → row_count (flat_map table_lines tables) ≡ length (rows_of tables)
+rows_are [] = refl
+rows_are (t ∷ tables) =
+    let rest = rows_are tables in
+    omega (arith, rest, rows_before t.rows (flat_map table_lines tables), length-append t.rows (rows_of tables))
+
+-- a version without tables has no table lines
+no_lines_of_tables : (f : Format) → has_tables f.version ≡ false → (lines : List TableLine) → list_all (is_line f) (map (λ t. tabled t) lines) ≡ true → lines ≡ []
+no_lines_of_tables f none [] all = refl
+no_lines_of_tables f none (t ∷ lines) all =
+    let here = (and_parts (is_line f (tabled t)) (list_all (is_line f) (map (λ t. tabled t) lines)) all).0 in
+    absurd (false≢true (sym none ∙ (and_parts (has_tables f.version) (is_table_line f t) here).0))
+
+no_lines : (tables : List Table) → flat_map table_lines tables ≡ [] → tables ≡ []
+no_lines [] same = refl
+no_lines (t ∷ tables) same = absurd (cc same)
+
+-- rows whose lines are within the limits, and whose atoms are in this scope
+rows_kept : (f : Format) (atoms : List ℕ) (rows : List Row) → All (λ (r : Row). list_all (is_among atoms) r.atoms ≡ true) rows → list_all (is_line f) (map (λ t. tabled t) (map (λ r. row r) rows)) ≡ true
+    → list_all (is_row f.atoms f.weights atoms) rows ≡ true
+rows_kept f atoms [] among all = refl
+rows_kept f atoms (r ∷ rows) among all =
+    let (here, more) = and_parts (is_line f (tabled (row r))) (list_all (is_line f) (map (λ t. tabled t) (map (λ r. row r) rows))) all in
+    let (_, is) = and_parts (has_tables f.version) (is_table_line f (row r)) here in
+    let of_scope = among 0 r (omega arith) in
+    let rest = rows_kept f atoms rows (λ k d below. among (suc k) d (omega (arith, below))) more in
+    λ i. (is i && of_scope i) && rest i
+
+-- the same for the rows of these tables, each with its scope
+abbrev pub AreOfScopes : List Table → Type 0
+AreOfScopes tables = All (λ (t : Table). All (λ (r : Row). list_all (is_among t.scope) r.atoms ≡ true) t.rows) tables
+
+tables_kept : (f : Format) (tables : List Table) → AreOfScopes tables → list_all (is_line f) (map (λ t. tabled t) (flat_map table_lines tables)) ≡ true → are_tables f.version f.atoms f.weights tables ≡ true
+tables_kept f [] among all = refl
+tables_kept f (t ∷ tables) among all =
+    let test : TextLine → Bool = is_line f in
+    let rows : List TextLine = map (λ t. tabled t) (map (λ r. row r) t.rows) in
+    let others : List TextLine = map (λ t. tabled t) (flat_map table_lines tables) in
+    let (here, following) = and_parts (test (tabled (scope t.scope))) (list_all test (map (λ t. tabled t) (map (λ r. row r) t.rows ++ flat_map table_lines tables))) all in
+    let split = ap (list_all test) (map-append (λ t. tabled t) (map (λ r. row r) t.rows) (flat_map table_lines tables)) ∙ list_all-append test rows others in
+    let (rows_are, more) = and_parts (list_all test rows) (list_all test others) (sym split ∙ following) in
+    let (has, scope_is) = and_parts (has_tables f.version) (is_table_line f (scope t.scope)) here in
+    let own = rows_kept f t.scope t.rows (among 0 t (omega arith)) rows_are in
+    let rest = tables_kept f tables (λ k d below. among (suc k) d (omega (arith, below))) more in
+    λ i. (has i && (scope_is i && own i)) && rest i
+
+-- ---- the certificate of a text
+
+as_many_names : (task : Task) (names : List NamedAtom) (atoms : List Atom) → AllName task names atoms → length names ≡ length atoms
+as_many_names task [] [] are = refl
+as_many_names task [] (a ∷ atoms) are = absurd are
+as_many_names task (name ∷ names) [] are = absurd are
+as_many_names task (name ∷ names) (a ∷ atoms) (here, are) = let rest = as_many_names task names atoms are in omega (arith, rest)
+
+module _ (task : Task) (text : List ℕ) (c : Certificate) (is : IsTextOf task text c) where
+  limits : AreTextLimits is.said
+  limits = text_limits is.said is.text.within
+
+  as_many_atoms : length is.said.atoms ≡ length c.atoms
+  as_many_atoms = sym (length-map is.said.atoms (λ (a : WeightedAtom). a.atom)) ∙ as_many_names task (map (λ (a : WeightedAtom). a.atom) is.said.atoms) c.atoms is.atoms
+
+  -- it has as many values as its version allows
+  pub as_many_values : IsTrue (is_value_count c.version (length c.values))
+  as_many_values = (λ i. is_value_count (sym is.version i) (length (is.values i))) ∙ value_count_is is.said limits
+
+  -- each with a weight for each atom
+  pub one_weight_an_atom : All (λ (p : PotentialFunction). length p.weights ≡ length c.atoms) c.values
+  one_weight_an_atom =
+      subst (All (λ (p : PotentialFunction). length p.weights ≡ length c.atoms)) (sym is.values)
+      (All-map (λ (p : PotentialFunction). length p.weights ≡ length c.atoms) (value_said is.said) (range_with_len 0 (value_count is.said.version (length is.said.constants)))
+      (λ k place below. length-map is.said.atoms (λ (a : WeightedAtom). weight_said _ a.weights) ∙ as_many_atoms))
+
+  pub one_dead_end_weight_an_atom : length c.dead_ends.weights ≡ length c.atoms
+  one_dead_end_weight_an_atom =
+      ap (λ (p : PotentialFunction). length p.weights) is.dead_ends
+      ∙ length-map is.said.atoms (λ (a : WeightedAtom). weight_said (value_count is.said.version (length is.said.constants)) a.weights) ∙ as_many_atoms
+
+  -- in a version without tables neither the text nor the certificate has any
+  no_tables_said : has_tables c.version ≡ false → is.said.tables ≡ []
+  no_tables_said none = no_lines_of_tables (format_of is.said) (ap has_tables is.version ∙ none) is.said.tables limits.tables
+
+  no_tables : has_tables c.version ≡ false → c.tables ≡ []
+  no_tables none = no_lines c.tables (sym is.tables ∙ no_tables_said none)
+
+  -- its tables are within the limits if each row is in its table's scope, which the text's own limits do not ensure
+  pub tables_in_limits : AreOfScopes c.tables → IsTrue (are_tables c.version (length c.atoms) (length c.values + 1) c.tables)
+  tables_in_limits among = by_version (has_tables c.version) refl
+    where
+      by_version : (has : Bool) → has_tables c.version ≡ has → are_tables c.version (length c.atoms) (length c.values + 1) c.tables ≡ true
+      by_version false none = ap (are_tables c.version (length c.atoms) (length c.values + 1)) (no_tables none)
+      by_version true has =
+          let f = format_of is.said in
+          let many : length c.values + 1 ≡ length is.said.constants =
+          ap (λ n. n + 1) (ap length is.values ∙ values_length is.said limits) ∙ one_constant_more is.said.version (length is.said.constants) (ap has_tables is.version ∙ has) limits.constant_count in
+          (λ i. are_tables (sym is.version i) (sym as_many_atoms i) (many i) c.tables)
+          ∙ tables_kept f c.tables among (subst (λ lines. list_all (is_line f) (map (λ t. tabled t) lines) ≡ true) is.tables limits.tables)
+
+  -- and so does the whole certificate
+  pub limits_kept : IsTrue (are_tables c.version (length c.atoms) (length c.values + 1) c.tables) → IsTrue (keeps_limits c)
+  limits_kept tables_are =
+      let claim = ap is_claim (sym is.claim) ∙ limits.claim in
+      let few_atoms = ap (λ n. nat_le n most_atoms) (sym as_many_atoms) ∙ limits.few_atoms in
+      let few_states = ap (λ (lines : List StateLine). nat_le (length lines) most_states) (sym is.lines) ∙ limits.few_states in
+      let states = (λ i. list_all (is_state_line (sym is.version i) (sym as_many_atoms i)) (sym is.lines i)) ∙ limits.states in
+      let values = (λ i. list_all (are_potentials is_weight (sym as_many_atoms i)) (is.values i)) ∙ values_kept is.said limits in
+      let dead_ends = (λ i. are_potentials (is_dead_end_weight (sym is.version i)) (sym as_many_atoms i) (is.dead_ends i)) ∙ dead_ends_kept is.said limits in
+      let few_tables = ap (λ n. nat_le n most_tables) (sym (scopes_are c.tables) ∙ ap scope_count (sym is.tables)) ∙ limits.few_tables in
+      let few_rows = ap (λ n. nat_le n most_rows) (sym (rows_are c.tables) ∙ ap row_count (sym is.tables)) ∙ limits.few_rows in
+      let exchanges = (λ i. are_exchanges (sym is.version i) (is.exchanges i)) ∙ exchanges_kept task (format_of is.said) is.said.swaps limits.swaps in
+      let few_exchanges = ap (λ n. nat_le n most_swaps) (ap length is.exchanges ∙ length-map is.said.swaps (exchange_said task)) ∙ limits.few_swaps in
+      λ i. ((((((((((claim i && few_atoms i) && few_states i) && states i) && as_many_values i) && values i) && dead_ends i) && tables_are i) && few_tables i) && few_rows i) && exchanges i) && few_exchanges i
+
+-- ---- one certificate for a text
+
+same_atoms : (task : Task) (names : List NamedAtom) (a b : List Atom) → AllName task names a → AllName task names b → a ≡ b
+same_atoms task [] [] [] are others = refl
+same_atoms task [] [] (y ∷ b) are others = absurd others
+same_atoms task [] (x ∷ a) b are others = absurd are
+same_atoms task (n ∷ names) [] b are others = absurd are
+same_atoms task (n ∷ names) (x ∷ a) [] are others = absurd others
+same_atoms task (n ∷ names) (x ∷ a) (y ∷ b) (here, are) (there, others) =
+    let first = one_named task n x y here there in
+    let more = same_atoms task names a b are others in
+    λ i. first i ∷ more i
+
+-- rows and what follows them: the lines of tables, the first of which is not a row
+same_rows : (a b : List Row) (more others : List Table) → map (λ r. row r) a ++ flat_map table_lines more ≡ map (λ r. row r) b ++ flat_map table_lines others
+    → (a ≡ b) × (flat_map table_lines more ≡ flat_map table_lines others)
+same_rows [] [] more others same = (refl, same)
+same_rows [] (q ∷ b) [] others same = absurd (cc same)
+same_rows [] (q ∷ b) (t ∷ more) others same = absurd (cc same)
+same_rows (r ∷ a) [] more [] same = absurd (cc same)
+same_rows (r ∷ a) [] more (u ∷ others) same = absurd (cc same)
+same_rows (r ∷ a) (q ∷ b) more others same =
+    let here : r ≡ q = cc same in
+    let (rest, following) = same_rows a b more others (rest_is r q (map (λ r. row r) a ++ flat_map table_lines more) (map (λ r. row r) b ++ flat_map table_lines others) same) in
+    ((λ i. here i ∷ rest i), following)
+  where
+    rest_is : (r q : Row) (xs ys : List TableLine) → row r ∷ xs ≡ row q ∷ ys → xs ≡ ys
+    rest_is r q xs ys same = cc same
+
+pub same_tables : (a b : List Table) → flat_map table_lines a ≡ flat_map table_lines b → a ≡ b
+same_tables [] [] same = refl
+same_tables [] (u ∷ b) same = absurd (cc same)
+same_tables (t ∷ a) [] same = absurd (cc same)
+same_tables (t ∷ a) (u ∷ b) same =
+    let (scopes, following) = first_parts t.scope u.scope (map (λ r. row r) t.rows ++ flat_map table_lines a) (map (λ r. row r) u.rows ++ flat_map table_lines b) same in
+    let (rows, others) = same_rows t.rows u.rows a b following in
+    let rest = same_tables a b others in
+    λ i. record { scope = scopes i; rows = rows i } ∷ rest i
+  where
+    first_parts : (s t : List ℕ) (xs ys : List TableLine) → scope s ∷ xs ≡ scope t ∷ ys → (s ≡ t) × (xs ≡ ys)
+    first_parts s t xs ys same = (cc same, cc same)
+
+-- a text is at most one certificate of the task
+pub one_certificate : (task : Task) (text : List ℕ) (c d : Certificate) → IsTextOf task text c → IsTextOf task text d → c ≡ d
+one_certificate task text c d is other =
+    let said : is.said ≡ other.said = one_text.one_certificate text is.said other.said is.text other.text in
+    let version_is : c.version ≡ d.version = sym is.version ∙ ap (λ (n : NamedCertificate). n.version) said ∙ other.version in
+    let claim : c.claim ≡ d.claim = sym is.claim ∙ ap (λ (n : NamedCertificate). n.claim) said ∙ other.claim in
+    let lines : c.lines ≡ d.lines = sym is.lines ∙ ap (λ (n : NamedCertificate). n.lines) said ∙ other.lines in
+    let values : c.values ≡ d.values = is.values ∙ ap values_said said ∙ sym other.values in
+    let dead_ends : c.dead_ends ≡ d.dead_ends = is.dead_ends ∙ ap dead_ends_said said ∙ sym other.dead_ends in
+    let exchanges : c.exchanges ≡ d.exchanges = is.exchanges ∙ ap (λ (n : NamedCertificate). map (exchange_said task) n.swaps) said ∙ sym other.exchanges in
+    let tables : c.tables ≡ d.tables = same_tables c.tables d.tables (sym is.tables ∙ ap (λ (n : NamedCertificate). n.tables) said ∙ other.tables) in
+    let atoms : c.atoms ≡ d.atoms = same_atoms task (map (λ (a : WeightedAtom). a.atom) other.said.atoms) c.atoms d.atoms
+    (subst (λ (n : NamedCertificate). AllName task (map (λ (a : WeightedAtom). a.atom) n.atoms) c.atoms) said is.atoms) other.atoms in
+    λ i. record { version = version_is i; claim = claim i; exchanges = exchanges i; atoms = atoms i; values = values i; dead_ends = dead_ends i; tables = tables i; lines = lines i }

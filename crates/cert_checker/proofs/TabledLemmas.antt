@@ -1,0 +1,325 @@
+-- What lines of tables give.
+use Rattle.std.proofs.Common.{◌≡◌, ◌∙◌, ℕ, ◌+◌, ◌<◌, true, false, true≢false, List, [], ◌∷◌, ◌++◌, map, length, Some, refl, sym, ap, subst, append_assoc, append-nil, arith}
+use Rattle.std.specs.Prelude.{◌&&◌, ◌==◌, nat_le, nat_lt, Bool, Contains}
+use Rattle.std.specs.List.{flat_map, list_all, range_with_len}
+use Rattle.std.proofs.lemmas.Bool.{and_parts, eqb-true, ltb-true}
+use Rattle.std.proofs.lemmas.List.{length-map, map-append}
+use Rattle.std.proofs.lemmas.List.Elements.{All-contains, All-nil, filter_map-append}
+use Rattle.std.proofs.lemmas.List.FromFn.{length-range_with_len}
+use Rattle.std.proofs.lemmas.Grind.{flat_map-append}
+use Rattle.model.specs.Task.{Task}
+use Rattle.model.proofs.ListLemmas.{Contains-here, Contains-there}
+use Rattle.lower_bounds.specs.TableFunctions as model
+use Rattle.lower_bounds.specs.TableFunctions.{Row, is_among}
+use Rattle.table_rows.specs.Tables.{table_of, weight_count_of}
+use Rattle.table_rows.specs.declared.by_atoms.Added.TheVariants.{New}
+use Rattle.table_rows.specs.declared.table.Table.{Table}
+use Rattle.certificate_definitions.specs.Certificates.{are_weights, has_tables, is_weight, rise}
+use Rattle.certificate_definitions.specs.CertificateText.{TableLine, scope, row, TextLine, version, claims, constant, swapped, atom, tabled, listed, last, Beginning, BeginCertificate, format_in, head_lines, is_line, is_table_line, is_weight_count, most_atoms, most_rows, most_tables, row_count, scope_count}
+use Rattle.certificate_definitions.specs.CertificateNames.{table_lines, value_count}
+use Rattle.certificate_definitions.specs.CertificateMachine.{Body, CertificatePlace, at_version, at_claim, at_constant, in_body, ended, atom_follows, atom_more, next_place, row_follows, row_more, scope_more}
+use Rattle.certificate_definitions.specs.CertificateChecking.{EndInTable, IsWrongAfter, is_of_scope, not_of_scope, repeated_row, not_fluent, repeated_atom, repeated_state, cut_not_allowed}
+use Rattle.certificate_definitions.proofs.Beginnings.{body_lines, tables_of_body}
+use Rattle.certificate_definitions.proofs.Machine.{ComesBefore, IsBody, Keeps, body_of, never, no_states, no_tables, only_where}
+use Rattle.certificate.specs.declared.header.Header.{Header}
+use Rattle.certificate.specs.CertificateParts.{potential_of}
+use Rattle.cert_checker.specs.declared.refusal.Refusal.{Refusal}
+use Rattle.cert_checker.specs.declared.refusal.Refusal.TheVariants as refusal
+use Rattle.cert_checker.specs.declared.refusal.RefusalCode.TheVariants.{CertForm, Repeated}
+use Rattle.cert_checker.specs.Given.{Heading, HaveGiven, atoms_given, table_in, tables_given, value_given}
+use Rattle.cert_checker.specs.Tabled.{AreWeighed, HaveWeights, IsAddedToLast, IsFitHead, IsRowRefused, with_scope, with_tables}
+use Rattle.cert_checker.specs.Taking.{HasTaken, IsWrongNow, heading_of}
+use Rattle.cert_checker.proofs.GivenLemmas.{placed, reported_tables}
+use Rattle.cert_checker.proofs.LimitsLemmas.{few_constants, one_constant_more, rows_are, scopes_are}
+use Rattle.cert_checker.proofs.TableLinesLemmas.{one_end, rising_few, rising_from, rows_of_one}
+
+-- ---- the position of a table line
+
+-- for a row there must be a table, and room in it
+abbrev HasRoomFor : Beginning → TableLine → Type 0
+HasRoomFor g (scope s) = Unit {0}
+HasRoomFor g (row r) = (0 < scope_count g.tables) × (row_count g.tables < most_rows)
+
+-- it comes after these first lines, which list no state
+pub record FollowsTables (before : List TextLine) (t : TableLine) : Type 0 where
+  pub beginning : Beginning
+  pub keeps : Keeps beginning
+  pub lines_are : before ≡ head_lines beginning
+  pub no_states : beginning.states ≡ []
+  pub line_is : is_line (format_in beginning) (tabled t) ≡ true
+  pub room : HasRoomFor beginning t
+
+pub follows_tables : (before : List TextLine) (t : TableLine) → BeginCertificate (before ++ tabled t ∷ []) → FollowsTables before t
+follows_tables before t begun = let at = placed before (tabled t) begun in by_place at.place at.occurs at.next at.leads
+  where
+    of_body : (b : Body) → IsBody b before → (t : TableLine) (next : CertificatePlace) → next_place (in_body b) (tabled t) ≡ Some next → FollowsTables before t
+    of_body b body (scope s) next leads =
+        let g : Beginning = body.beginning in
+        let c : Body = body_of g in
+        let leads_on : next_place (in_body c) (tabled (scope s)) ≡ Some next = subst (λ b. next_place (in_body b) (tabled (scope s)) ≡ Some next) (sym body.body_is) leads in
+        let (holds, _) = only_where ((c.states == 0) && nat_lt c.tables most_tables && is_line c.format (tabled (scope s))) (in_body (scope_more c)) next leads_on in
+        let (counts, is) = and_parts ((c.states == 0) && nat_lt c.tables most_tables) (is_line c.format (tabled (scope s))) holds in
+        let (empty, _) = and_parts (c.states == 0) (nat_lt c.tables most_tables) counts in
+        record { beginning = g; keeps = body.keeps; lines_are = body.lines_are; no_states = no_states g.states (eqb-true c.states 0 empty); line_is = is; room = tt }
+    of_body b body (row r) next leads =
+        let g : Beginning = body.beginning in
+        let c : Body = body_of g in
+        let leads_on : next_place (in_body c) (tabled (row r)) ≡ Some next = subst (λ b. next_place (in_body b) (tabled (row r)) ≡ Some next) (sym body.body_is) leads in
+        let (holds, _) = only_where (row_follows c && nat_lt c.rows most_rows && is_line c.format (tabled (row r))) (in_body (row_more c)) next leads_on in
+        let (counts, is) = and_parts (row_follows c && nat_lt c.rows most_rows) (is_line c.format (tabled (row r))) holds in
+        let (follows, below) = and_parts (row_follows c) (nat_lt c.rows most_rows) counts in
+        let (begun, empty) = and_parts (nat_lt 0 c.tables) (c.states == 0) follows in
+        record {
+          beginning = g;
+          keeps = body.keeps;
+          lines_are = body.lines_are;
+          no_states = no_states g.states (eqb-true c.states 0 empty);
+          line_is = is;
+          room = (ltb-true 0 c.tables begun, ltb-true c.rows most_rows below);
+        }
+
+    by_place : (place : CertificatePlace) → ComesBefore place before → (next : CertificatePlace) → next_place place (tabled t) ≡ Some next → FollowsTables before t
+    by_place at_version are next leads = never next leads
+    by_place (at_claim v) are next leads = never next leads
+    by_place (at_constant v) are next leads = never next leads
+    by_place (in_body b) body next leads = of_body b body t next leads
+    by_place ended are next leads = never next leads
+
+-- ---- one more line
+
+module _ (task : Task) (before : List TextLine) (heading : Heading) (reported : HaveGiven task before heading) where
+  module _ (t : TableLine) (at : FollowsTables before t) where
+    abbrev opening : Beginning
+    opening = at.beginning
+
+    abbrev further : List TextLine
+    further = body_lines opening.swaps opening.atoms opening.tables opening.states
+
+    lines_of_tables : opening.tables ≡ flat_map table_lines heading.bounds.tables
+    lines_of_tables = sym (tables_of_body opening.swaps opening.atoms opening.tables opening.states) ∙ sym (ap tables_given at.lines_are) ∙ sym reported.tables
+
+    count_is : is_weight_count opening.version (length opening.constants) ≡ true
+    count_is = (and_parts (is_weight_count opening.version (length opening.constants)) (list_all is_weight opening.constants) at.keeps.constants_are).0
+
+    -- there is a constant for each value and one for dead ends
+    as_many_values : length heading.bounds.values + 1 ≡ length opening.constants
+    as_many_values =
+        let v = opening.version in
+        let k = opening.constants in
+        let version_is = reported.one_version v (subst (λ lines. Contains lines (version v)) (sym at.lines_are) (Contains-here (version v) (claims opening.claim ∷ constant k ∷ further))) in
+        let there : Contains before (constant k) = subst (λ lines. Contains lines (constant k)) (sym at.lines_are)
+        (Contains-there (version v) (claims opening.claim ∷ constant k ∷ further) (constant k)
+        (Contains-there (claims opening.claim) (constant k ∷ further) (constant k) (Contains-here (constant k) further))) in
+        let count = value_count heading.version (length k) in
+        let many : length heading.bounds.values ≡ count = ap length (reported.given k there).values ∙ length-map (range_with_len 0 count) (value_given k (atoms_given before)) ∙ length-range_with_len 0 count in
+        ap (λ n. n + 1) (many ∙ ap (λ v. value_count v (length k)) version_is)
+        ∙ one_constant_more v (length k) (and_parts (has_tables v) (is_table_line (format_in opening) t) at.line_is).0 count_is
+
+  -- ---- a scope
+
+  scope_is_right : (s : List ℕ) (line : TextLine) (number : ℕ) → IsWrongAfter task before line number → line ≡ tabled (scope s) → ⊥
+  scope_is_right s line number (not_of_scope r atoms rows ends other) same = absurd (cc same)
+  scope_is_right s line number (repeated_row r atoms rows ends of_scope there) same = absurd (cc same)
+  scope_is_right s line number (not_fluent a none_is) same = absurd (cc same)
+  scope_is_right s line number (repeated_atom a is there) same = absurd (cc same)
+  scope_is_right s line number (repeated_state l there) same = absurd (cc same)
+  scope_is_right s line number (cut_not_allowed l new cut there) same = absurd (cc same)
+
+  pub reported_scope : (s : List ℕ)
+      → HaveGiven task (before ++ tabled (scope s) ∷ []) (record { version = heading.version; claim = heading.claim; exchanges = heading.exchanges; atoms = heading.atoms; bounds = with_scope heading.bounds s })
+  reported_scope s =
+      let table : model.Table = record { scope = s; rows = [] } in
+      reported_tables task before heading reported (scope s) (heading.bounds.tables ++ table ∷ [])
+      (flat_map-append table_lines heading.bounds.tables (table ∷ []) ∙ ap (λ lines. lines ++ scope s ∷ []) reported.tables)
+      (λ number wrong. scope_is_right s (tabled (scope s)) number wrong refl)
+
+  -- ---- a row
+
+  module _ (front : List model.Table) (t : model.Table) (tables_are : heading.bounds.tables ≡ front ++ t ∷ []) where
+    abbrev lines : List TableLine
+    lines = flat_map table_lines front
+
+    -- the lines end in the last table
+    given_end : tables_given before ≡ lines ++ scope t.scope ∷ map row t.rows
+    given_end =
+        sym reported.tables ∙ ap (flat_map table_lines) tables_are ∙ flat_map-append table_lines front (t ∷ []) ∙ ap (λ more. lines ++ more) (append-nil (scope t.scope ∷ map row t.rows))
+
+    rows_of_lines : (rows : List Row) → map tabled (map row rows) ≡ map (λ (r : Row). tabled (row r)) rows
+    rows_of_lines [] = refl
+    rows_of_lines (r ∷ rows) = ap (λ lines. tabled (row r) ∷ lines) (rows_of_lines rows)
+
+    end_in_table : (r : TableLine) → FollowsTables before r → EndInTable before t.scope t.rows
+    end_in_table r at =
+        let g : Beginning = at.beginning in
+        let first_three : List TextLine → List TextLine = λ lines. version g.version ∷ claims g.claim ∷ constant g.constants ∷ lines in
+        let lines_are : g.tables ≡ lines ++ scope t.scope ∷ map row t.rows = lines_of_tables r at ∙ reported.tables ∙ given_end in
+        let heads : List TextLine = map swapped g.swaps ++ map atom g.atoms in
+        let table : List TextLine = tabled (scope t.scope) ∷ map (λ (r : Row). tabled (row r)) t.rows in (
+          first_three (heads ++ map tabled lines),
+          at.lines_are
+              ∙ (λ i. first_three (body_lines g.swaps g.atoms (lines_are i) (at.no_states i)))
+              ∙ ap first_three (append-nil (heads ++ map tabled (lines ++ scope t.scope ∷ map row t.rows))
+              ∙ ap (λ lines. heads ++ lines) (map-append tabled lines (scope t.scope ∷ map row t.rows) ∙ ap (λ rows. map tabled lines ++ tabled (scope t.scope) ∷ rows) (rows_of_lines t.rows))
+              ∙ sym (append_assoc heads (map tabled lines) table)),
+        )
+
+    tables_of_rows : (rows : List Row) → tables_given (map (λ (r : Row). tabled (row r)) rows) ≡ map row rows
+    tables_of_rows [] = refl
+    tables_of_rows (r ∷ rows) = ap (λ lines. row r ∷ lines) (tables_of_rows rows)
+
+    -- and in no other
+    only_end : (atoms : List ℕ) (rows : List Row) → EndInTable before atoms rows → (atoms ≡ t.scope) × (rows ≡ t.rows)
+    only_end atoms rows (others, ends) =
+        let table : List TextLine = tabled (scope atoms) ∷ map (λ (r : Row). tabled (row r)) rows in
+        one_end (tables_given others) lines atoms t.scope rows t.rows
+        (sym (ap tables_given ends ∙ filter_map-append table_in others table ∙ ap (λ rows. tables_given others ++ scope atoms ∷ rows) (tables_of_rows rows)) ∙ given_end)
+
+    module _ (r : Row) (of_scope : is_of_scope t.scope r.atoms ≡ true) (new : ((q : Row) → Contains t.rows q → q.atoms ≡ r.atoms → ⊥)) where
+      row_is_right : (line : TextLine) (number : ℕ) → IsWrongAfter task before line number → line ≡ tabled (row r) → ⊥
+      row_is_right line number (not_of_scope q atoms rows ends other) same =
+          let here : q ≡ r = cc in
+          let (scope_is, _) = only_end atoms rows ends in
+          true≢false (sym of_scope ∙ (λ i. is_of_scope (sym scope_is i) (sym here i).atoms) ∙ other)
+      row_is_right line number (repeated_row q atoms rows ends of_table (p, there, p_is)) same =
+          let here : q ≡ r = cc in
+          let (_, rows_are) = only_end atoms rows ends in
+          new p (subst (λ rows. Contains rows p) rows_are there) (p_is ∙ ap (λ (q : Row). q.atoms) here)
+      row_is_right line number (not_fluent a none_is) same = absurd (cc same)
+      row_is_right line number (repeated_atom a is there) same = absurd (cc same)
+      row_is_right line number (repeated_state l there) same = absurd (cc same)
+      row_is_right line number (cut_not_allowed l first cut there) same = absurd (cc same)
+
+      lines_more : flat_map table_lines (front ++ record { scope = t.scope; rows = t.rows ++ r ∷ [] } ∷ []) ≡ tables_given before ++ row r ∷ []
+      lines_more =
+          let table : model.Table = record { scope = t.scope; rows = t.rows ++ r ∷ [] } in
+          flat_map-append table_lines front (table ∷ []) ∙ ap (λ more. lines ++ more) (append-nil (scope t.scope ∷ map row table.rows))
+          ∙ ap (λ rows. lines ++ scope t.scope ∷ rows) (map-append row t.rows (r ∷ []))
+          ∙ sym (append_assoc lines (scope t.scope ∷ map row t.rows) (row r ∷ [])) ∙ ap (λ lines. lines ++ row r ∷ []) (sym given_end)
+
+  pub reported_row : (r : Row) (tables : List model.Table) → IsAddedToLast heading.bounds.tables tables r New
+      → HaveGiven task (before ++ tabled (row r) ∷ []) (record { version = heading.version; claim = heading.claim; exchanges = heading.exchanges; atoms = heading.atoms; bounds = with_tables heading.bounds tables })
+  reported_row r tables it =
+      let differs : (q : Row) → Contains it.before.rows q → q.atoms ≡ r.atoms → ⊥ = λ q there same. All-contains (λ (q : Row). q.atoms ≡ r.atoms → ⊥) it.before.rows q it.added.differs there same in
+      reported_tables task before heading reported (row r) tables
+      (ap (flat_map table_lines) (it.new_are ∙ ap (λ t. it.front ++ t ∷ []) it.added.put) ∙ lines_more it.front it.before it.old_are r it.added.of_scope differs)
+      (λ number wrong. row_is_right it.front it.before it.old_are r it.added.of_scope differs (tabled (row r)) number wrong refl)
+
+  pub row_is_wrong : (r : Row) (number : ℕ) → BeginCertificate (before ++ tabled (row r) ∷ []) → number ≡ length before + 1 → (e : Refusal) → IsRowRefused heading.bounds.tables r number e
+      → IsWrongNow task before (tabled (row r)) e
+  row_is_wrong r number begun at (refusal.Line CertForm line) (line_is, tables, it) =
+      (line_is ∙ at, not_of_scope r it.before.scope it.before.rows (end_in_table it.front it.before it.old_are (row r) (follows_tables before (row r) begun)) it.added.not_of_scope)
+  row_is_wrong r number begun at (refusal.Line Repeated line) (line_is, tables, it) =
+      let (k, q, below, is, same) = it.added.same in (
+        line_is ∙ at,
+        repeated_row r it.before.scope it.before.rows (end_in_table it.front it.before it.old_are (row r) (follows_tables before (row r) begun)) it.added.of_scope (q, (k, below, is), same),
+      )
+  row_is_wrong r number begun at refusal.NoMemory wrong = tt
+  row_is_wrong r number begun at _ wrong = absurd wrong
+
+-- ---- lines that fit
+
+module _ (task : Task) (before : List TextLine) (header : Header) (reported : HasTaken task before header) where
+  values_length : length (heading_of header).bounds.values ≡ length header.bounds.values.items
+  values_length = length-map header.bounds.values.items potential_of
+
+  pub fit_head : (line : TextLine) → AreWeighed header.bounds → BeginCertificate (before ++ line ∷ []) → IsFitHead header.bounds line
+  fit_head (version v) weighed begun = tt
+  fit_head (claims claim) weighed begun = tt
+  fit_head (constant k) weighed begun = tt
+  fit_head (swapped names) weighed begun = tt
+  fit_head (atom a) weighed begun = tt
+  fit_head (listed l) weighed begun = tt
+  fit_head (last count) weighed begun = tt
+  fit_head (tabled (scope s)) weighed begun =
+      let at = follows_tables before (scope s) begun in
+      let n = length at.beginning.atoms in
+      let (_, is) = and_parts (has_tables at.beginning.version) (is_table_line (format_in at.beginning) (scope s)) at.line_is in
+      let (rises, _) = and_parts (rise n 0 s) (nat_le 1 (length s)) is in
+      record {
+        rising = rising_from n 0 s rises;
+        few = omega (arith, rising_few n 0 s rises (omega arith), at.keeps.few_atoms);
+        few_values = omega (arith, as_many_values task before (heading_of header) reported (scope s) at, few_constants at.beginning.version (length at.beginning.constants) (count_is task before (heading_of header) reported (scope s) at), values_length);
+      }
+  fit_head (tabled (row r)) weighed begun =
+      let at = follows_tables before (row r) begun in
+      let n = length at.beginning.atoms in
+      let tables = header.bounds.tables.items in
+      let many : ℕ = length at.beginning.constants in
+      let (_, is) = and_parts (has_tables at.beginning.version) (is_table_line (format_in at.beginning) (row r)) at.line_is in
+      let (weights, rises) = and_parts (are_weights many r.weights) (rise n 0 r.atoms) is in
+      let long : length r.weights ≡ many = eqb-true (length r.weights) many (and_parts (length r.weights == many) (list_all is_weight r.weights) weights).0 in
+      let lines_are = lines_of_tables task before (heading_of header) reported (row r) at in
+      let scopes = ap scope_count lines_are ∙ scopes_are (map table_of tables) ∙ length-map tables table_of in
+      let all_rows = ap row_count lines_are ∙ rows_are (map table_of tables) in
+      let values = as_many_values task before (heading_of header) reported (row r) at in
+      let same : length header.bounds.values.items + 1 ≡ length r.weights = omega (arith, values, values_length, long) in
+      record {
+        some = omega (arith, scopes, at.room.0);
+        rising = rising_from n 0 r.atoms rises;
+        weights = λ k d below. weighed k d below ∙ same;
+        room = λ k d below. omega (arith, rows_of_one tables k d below, all_rows, at.room.1);
+      }
+
+-- ---- weights of rows
+
+-- a line that comes before all tables
+abbrev pub is_early : TextLine → Bool
+is_early (version v) = false
+is_early (claims claim) = false
+is_early (constant k) = true
+is_early (swapped names) = false
+is_early (atom a) = true
+is_early (tabled t) = false
+is_early (listed l) = false
+is_early (last count) = false
+
+none_given : (before : List TextLine) (line : TextLine) → is_early line ≡ true → BeginCertificate (before ++ line ∷ []) → tables_given (before ++ line ∷ []) ≡ []
+none_given before line early begun =
+    let at = placed before line begun in
+    filter_map-append table_in before (line ∷ []) ∙ (λ i. by_line line early at.place at.occurs at.next at.leads i ++ alone line early i)
+  where
+    alone : (line : TextLine) → is_early line ≡ true → tables_given (line ∷ []) ≡ []
+    alone (version v) early = refl
+    alone (claims claim) early = refl
+    alone (constant k) early = refl
+    alone (swapped names) early = absurd (true≢false (sym early))
+    alone (atom a) early = refl
+    alone (tabled t) early = absurd (true≢false (sym early))
+    alone (listed l) early = refl
+    alone (last count) early = refl
+
+    none_before : (b : Body) → IsBody b before → (a : _) (next : CertificatePlace) → next_place (in_body b) (atom a) ≡ Some next → tables_given before ≡ []
+    none_before b body a next leads =
+        let g : Beginning = body.beginning in
+        let (holds, _) = only_where (atom_follows b && nat_lt b.format.atoms most_atoms && is_line b.format (atom a)) (in_body (atom_more b)) next leads in
+        let (counts, _) = and_parts (atom_follows b && nat_lt b.format.atoms most_atoms) (is_line b.format (atom a)) holds in
+        let (follows, _) = and_parts (atom_follows b) (nat_lt b.format.atoms most_atoms) counts in
+        let (first, _) = and_parts (b.tables == 0) (b.states == 0) follows in
+        let none : scope_count g.tables ≡ 0 = ap (λ (b : Body). b.tables) body.body_is ∙ eqb-true b.tables 0 first in
+        ap tables_given body.lines_are ∙ tables_of_body g.swaps g.atoms g.tables g.states ∙ no_tables g.tables body.keeps.scope_first none
+
+    by_line : (line : TextLine) → is_early line ≡ true → (place : CertificatePlace) → ComesBefore place before → (next : CertificatePlace) → next_place place line ≡ Some next → tables_given before ≡ []
+    by_line (version v) early place are next leads = absurd (true≢false (sym early))
+    by_line (claims claim) early place are next leads = absurd (true≢false (sym early))
+    by_line (swapped names) early place are next leads = absurd (true≢false (sym early))
+    by_line (tabled t) early place are next leads = absurd (true≢false (sym early))
+    by_line (listed l) early place are next leads = absurd (true≢false (sym early))
+    by_line (last count) early place are next leads = absurd (true≢false (sym early))
+    by_line line early at_version are next leads = ap tables_given are
+    by_line line early (at_claim v) are next leads = ap tables_given are
+    by_line line early (at_constant v) (claim, is, are) next leads = ap tables_given are
+    by_line (constant k) early (in_body b) body next leads = never next leads
+    by_line (atom a) early (in_body b) body next leads = none_before b body a next leads
+    by_line (constant k) early ended are next leads = never next leads
+    by_line (atom a) early ended are next leads = never next leads
+
+no_tables_there : (tables : List Table) → flat_map table_lines (map table_of tables) ≡ [] → tables ≡ []
+no_tables_there [] none = refl
+no_tables_there (t ∷ tables) none = absurd (cc none)
+
+-- before there are tables, rows may have any number of weights
+pub weighed_early : (task : Task) (before : List TextLine) (line : TextLine) (header : Header) → is_early line ≡ true → BeginCertificate (before ++ line ∷ []) → HasTaken task (before ++ line ∷ []) header
+    → AreWeighed header.bounds
+weighed_early task before line header early begun reported =
+    let count = length header.bounds.values.items + 1 in
+    subst (HaveWeights count) (sym (no_tables_there header.bounds.tables.items (reported.tables ∙ none_given before line early begun))) (All-nil (λ (t : Table). weight_count_of t ≡ count))

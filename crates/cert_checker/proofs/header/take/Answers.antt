@@ -1,0 +1,189 @@
+use Rattle.std.proofs.Common.{◌≡◌, ℕ, ◌+◌, List, [], ◌∷◌, ◌++◌, length, map, None, refl, sym, ap, ◌∙◌, subst}
+use Rattle.std.specs.Prelude.{ℤ}
+use Rattle.std.specs.Global.{Vec}
+use Rattle.faults.proofs.Results.{passed_on}
+use Rattle.task.specs.Task.{task_of}
+use Rattle.task.specs.TaskParts.{atom_of}
+use Rattle.certificate_reader.specs.Lines.{claim_of, name_of, named_atom_of, text_line_of, version_of}
+use Rattle.certificate_definitions.specs.CertificateText.{TextLine, BeginCertificate, atom, constant, swapped, tabled, scope, row}
+use Rattle.symmetries_definitions.specs.Exchanges.{Exchange}
+use Rattle.certificate_definitions.specs.CertificateNames.{exchange_said}
+use Rattle.model.specs.Task.{Task}
+use Rattle.lower_bounds.specs.TableFunctions.{Row, SeveralValues}
+use Rattle.table_rows.specs.Tables.{table_of}
+use Rattle.certificate.specs.declared.header.Bounds.{Bounds}
+use Rattle.certificate.specs.declared.header.Header.{Header}
+use Rattle.certificate.specs.CertificateParts.{bounds_of, exchange_in}
+use Rattle.cert_checker.specs.Given.{Heading, HaveGiven, begun_with}
+use Rattle.cert_checker.specs.Tabled.{AreWeighed, IsFitHead, IsFitRow, IsRowRefused, IsRowTaken}
+use Rattle.cert_checker.specs.Taking.{HasTaken, IsTaken, IsWrongNow, heading_of}
+use Rattle.cert_checker.proofs.GivenLemmas.{reported_version, reported_claim, reported_constant, reported_exchange}
+use Rattle.cert_checker.proofs.TabledLemmas.{reported_row, reported_scope, row_is_wrong, weighed_early}
+use Rattle.cert_checker.proofs.header.take.Goals as goal
+
+pub returns-in-Claim-clause-taken : goal.returns-in-Claim-clause-taken
+returns-in-Claim-clause-taken c =
+    let task = task_of c.args.task.now in
+    let header = c.args.header.now in
+    subst (λ line. (before : List TextLine) → BeginCertificate (before ++ text_line_of line ∷ []) → HasTaken task before header
+    → IsTaken task before (text_line_of line) (record { version = header.version; claim = c.in-Claim.claim; exchanges = header.exchanges; atoms = header.atoms; bounds = header.bounds }) None)
+    (sym c.in-Claim.is) (λ before begun reported. (reported_claim task before (heading_of header) reported (claim_of c.in-Claim.claim) begun, refl))
+
+-- together with the constants the lines have given these bounds
+constants_taken : (task : Task) (header : Header) (constants given : List ℤ) (after : Bounds) → given ≡ constants → bounds_of after ≡ begun_with (version_of header.version) given (bounds_of header.bounds)
+    → (before : List TextLine) → BeginCertificate (before ++ constant constants ∷ []) → HasTaken task before header
+    → HasTaken task (before ++ constant constants ∷ []) (record { version = header.version; claim = header.claim; exchanges = header.exchanges; atoms = header.atoms; bounds = after })
+constants_taken task header constants given after same bounds_are before begun reported =
+    let heading : SeveralValues → Heading = λ bounds. record { version = version_of header.version; claim = claim_of header.claim; exchanges = map exchange_in header.exchanges.items; atoms = map atom_of header.atoms.keys; bounds = bounds } in
+    subst (λ bounds. HaveGiven task (before ++ constant constants ∷ []) (heading bounds)) (sym (bounds_are ∙ ap (λ k. begun_with (version_of header.version) k (bounds_of header.bounds)) same))
+    (reported_constant task before (heading_of header) reported constants begun)
+
+pub returns-in_ok-take_constants-in-Constant-clause-taken : goal.returns-in_ok-take_constants-in-Constant-clause-taken
+returns-in_ok-take_constants-in-Constant-clause-taken c =
+    let task = task_of c.args.task.now in
+    let header = c.args.header.now in
+    let after = c.take_constants.new.bounds in
+    subst (λ line. (before : List TextLine) → BeginCertificate (before ++ text_line_of line ∷ []) → HasTaken task before header
+    → IsTaken task before (text_line_of line) (record { version = header.version; claim = header.claim; exchanges = header.exchanges; atoms = header.atoms; bounds = after }) None)
+    (sym c.in-Constant.is) (λ before begun reported. (
+      constants_taken task header c.in-Constant.constants.items c.deref.result.now after c.deref.ensures.value c.in_ok-take_constants-in-Constant.ensures before begun reported,
+      refl,
+    ))
+
+pub returns-in_ok-take_exchange-in-Swap-clause-taken : goal.returns-in_ok-take_exchange-in-Swap-clause-taken
+returns-in_ok-take_exchange-in-Swap-clause-taken c =
+    let task = task_of c.args.task.now in
+    let header = c.args.header.now in
+    let old : List Exchange = map exchange_in header.exchanges.items in
+    let names : List (List ℕ) = map name_of c.in-Swap.objects.items in
+    let heading : List Exchange → Heading =
+    λ exchanges. record { version = version_of header.version; claim = claim_of header.claim; exchanges = exchanges; atoms = map atom_of header.atoms.keys; bounds = bounds_of header.bounds } in
+    subst (λ line. (before : List TextLine) → BeginCertificate (before ++ text_line_of line ∷ []) → HasTaken task before header
+    → IsTaken task before (text_line_of line) (record { version = header.version; claim = header.claim; exchanges = c.take_exchange.new.exchanges; atoms = header.atoms; bounds = header.bounds }) None)
+    (sym c.in-Swap.is) (λ before begun reported. (
+      subst (λ exchanges. HaveGiven task (before ++ swapped names ∷ []) (heading exchanges))
+          (sym (c.in_ok-take_exchange-in-Swap.ensures ∙ ap (λ (objects : List (Vec ℕ)). old ++ exchange_said task (map name_of objects) ∷ []) c.deref-in-Swap.ensures.value))
+          (reported_exchange task before (heading_of header) reported names),
+      refl,
+    ))
+
+pub returns-in_ok-add_atom-in-Weight-clause-taken : goal.returns-in_ok-add_atom-in-Weight-clause-taken
+returns-in_ok-add_atom-in-Weight-clause-taken c =
+    let task = task_of c.args.task.now in
+    let named : List ℤ → TextLine = λ weights. atom (record { weights = weights; atom = named_atom_of (record { predicate = c.in-Weight.predicate; objects = c.in-Weight.objects }) }) in
+    subst (λ line. (before : List TextLine) → BeginCertificate (before ++ text_line_of line ∷ []) → HasTaken task before c.args.header.now → IsTaken task before (text_line_of line) c.add_atom.new.header None)
+    (sym c.in-Weight.is) (λ before begun reported. (
+      subst (λ weights. BeginCertificate (before ++ named weights ∷ []) → HasTaken task before c.args.header.now → HasTaken task (before ++ named weights ∷ []) c.add_atom.new.header)
+          c.deref-in-Weight.ensures.value (c.in_ok-add_atom-in-Weight.ensures.reported before) begun reported,
+      refl,
+    ))
+
+pub returns-in_err-add_atom-in-Weight-clause-wrong : goal.returns-in_err-add_atom-in-Weight-clause-wrong
+returns-in_err-add_atom-in-Weight-clause-wrong c =
+    let task = task_of c.args.task.now in
+    let header = c.args.header.now in
+    let named : List ℤ → TextLine = λ weights. atom (record { weights = weights; atom = named_atom_of (record { predicate = c.in-Weight.predicate; objects = c.in-Weight.objects }) }) in
+    passed_on (λ refusal. (before : List TextLine) → BeginCertificate (before ++ text_line_of c.args.line ∷ []) → c.args.number ≡ length before + 1 → HasTaken task before header
+    → IsWrongNow task before (text_line_of c.args.line) refusal)
+    c.from_residual-in_err-add_atom-in-Weight.result c.in_err-add_atom-in-Weight.field-0.0 c.from_residual-in_err-add_atom-in-Weight.ensures.1
+    (subst (λ line. (before : List TextLine) → BeginCertificate (before ++ text_line_of line ∷ []) → c.args.number ≡ length before + 1 → HasTaken task before header
+    → IsWrongNow task before (text_line_of line) c.in_err-add_atom-in-Weight.field-0.0)
+    (sym c.in-Weight.is) (λ before begun at reported.
+    subst (λ weights. IsWrongNow task before (named weights) c.in_err-add_atom-in-Weight.field-0.0) c.deref-in-Weight.ensures.value (c.in_err-add_atom-in-Weight.ensures.wrong before at reported)))
+
+pub returns-in-Head-clause-taken : goal.returns-in-Head-clause-taken
+returns-in-Head-clause-taken c =
+    let task = task_of c.args.task.now in
+    let header = c.args.header.now in
+    subst (λ line. (before : List TextLine) → BeginCertificate (before ++ text_line_of line ∷ []) → HasTaken task before header
+    → IsTaken task before (text_line_of line) (record { version = c.in-Head.version; claim = header.claim; exchanges = header.exchanges; atoms = header.atoms; bounds = header.bounds }) None)
+    (sym c.in-Head.is) (λ before begun reported. (reported_version task before (heading_of header) reported (version_of c.in-Head.version) begun, refl))
+
+-- ---- tables
+
+pub take_scope-requires : goal.take_scope-requires
+take_scope-requires c = record { fit = subst (λ line. IsFitHead c.args.header.now.bounds (text_line_of line)) c.in-Table.is c.requires.fit }
+
+pub returns-in_ok-take_scope-in-Table-clause-taken : goal.returns-in_ok-take_scope-in-Table-clause-taken
+returns-in_ok-take_scope-in-Table-clause-taken c =
+    let task = task_of c.args.task.now in
+    let header = c.args.header.now in
+    let atoms = c.in-Table.scope.items in
+    let heading : SeveralValues → Heading = λ bounds. record { version = version_of header.version; claim = claim_of header.claim; exchanges = map exchange_in header.exchanges.items; atoms = map atom_of header.atoms.keys; bounds = bounds } in
+    subst (λ line. (before : List TextLine) → BeginCertificate (before ++ text_line_of line ∷ []) → HasTaken task before header
+    → IsTaken task before (text_line_of line) (record { version = header.version; claim = header.claim; exchanges = header.exchanges; atoms = header.atoms; bounds = c.take_scope.new.bounds }) None)
+    (sym c.in-Table.is) (λ before begun reported. (
+      subst (λ bounds. HaveGiven task (before ++ tabled (scope atoms) ∷ []) (heading bounds)) (sym c.in_ok-take_scope-in-Table.ensures.taken) (reported_scope task before (heading_of header) reported atoms),
+      refl,
+    ))
+
+pub returns-in_ok-take_scope-in-Table-clause-weighed : goal.returns-in_ok-take_scope-in-Table-clause-weighed
+returns-in_ok-take_scope-in-Table-clause-weighed c = λ before begun reported weighed. c.in_ok-take_scope-in-Table.ensures.weighed weighed
+
+pub take_row-requires : goal.take_row-requires
+take_row-requires c =
+    let bounds = c.args.header.now.bounds in
+    record {
+      fit = subst (IsFitRow bounds.tables.items) (λ i. record { atoms = sym c.deref-in-Row.ensures.value i; weights = sym c.deref-in-Row-2.ensures.value i })
+          (subst (λ line. IsFitHead bounds (text_line_of line)) c.in-Row.is c.requires.fit);
+    }
+
+pub returns-in_ok-take_row-in-Row-clause-taken : goal.returns-in_ok-take_row-in-Row-clause-taken
+returns-in_ok-take_row-in-Row-clause-taken c =
+    let task = task_of c.args.task.now in
+    let header = c.args.header.now in
+    let after = c.take_row.new.bounds in
+    let r : Row = record { atoms = c.in-Row.atoms.items; weights = c.in-Row.weights.items } in
+    let heading : SeveralValues → Heading = λ bounds. record { version = version_of header.version; claim = claim_of header.claim; exchanges = map exchange_in header.exchanges.items; atoms = map atom_of header.atoms.keys; bounds = bounds } in
+    let it : IsRowTaken (bounds_of header.bounds) (bounds_of after) r =
+    subst (IsRowTaken (bounds_of header.bounds) (bounds_of after)) (λ i. record { atoms = c.deref-in-Row.ensures.value i; weights = c.deref-in-Row-2.ensures.value i }) c.in_ok-take_row-in-Row.ensures.taken in
+    subst (λ line. (before : List TextLine) → BeginCertificate (before ++ text_line_of line ∷ []) → HasTaken task before header
+    → IsTaken task before (text_line_of line) (record { version = header.version; claim = header.claim; exchanges = header.exchanges; atoms = header.atoms; bounds = after }) None)
+    (sym c.in-Row.is) (λ before begun reported. (
+      subst (λ bounds. HaveGiven task (before ++ tabled (row r) ∷ []) (heading bounds)) (sym it.bounds) (reported_row task before (heading_of header) reported r it.tables it.added),
+      refl,
+    ))
+
+pub returns-in_ok-take_row-in-Row-clause-weighed : goal.returns-in_ok-take_row-in-Row-clause-weighed
+returns-in_ok-take_row-in-Row-clause-weighed c = λ before begun reported weighed. c.in_ok-take_row-in-Row.ensures.weighed weighed
+
+pub returns-in_err-take_row-in-Row-clause-wrong : goal.returns-in_err-take_row-in-Row-clause-wrong
+returns-in_err-take_row-in-Row-clause-wrong c =
+    let task = task_of c.args.task.now in
+    let header = c.args.header.now in
+    let r : Row = record { atoms = c.in-Row.atoms.items; weights = c.in-Row.weights.items } in
+    let e = c.in_err-take_row-in-Row.field-0.0 in
+    passed_on (λ refusal. (before : List TextLine) → BeginCertificate (before ++ text_line_of c.args.line ∷ []) → c.args.number ≡ length before + 1 → HasTaken task before header
+    → IsWrongNow task before (text_line_of c.args.line) refusal)
+    c.from_residual-in_err-take_row-in-Row.result e c.from_residual-in_err-take_row-in-Row.ensures.1
+    (subst (λ line. (before : List TextLine) → BeginCertificate (before ++ text_line_of line ∷ []) → c.args.number ≡ length before + 1 → HasTaken task before header
+    → IsWrongNow task before (text_line_of line) e)
+    (sym c.in-Row.is) (λ before begun at reported.
+    row_is_wrong task before (heading_of header) reported r c.args.number begun at e
+    (subst (λ r. IsRowRefused (map table_of header.bounds.tables.items) r c.args.number e) (λ i. record { atoms = c.deref-in-Row.ensures.value i; weights = c.deref-in-Row-2.ensures.value i })
+    c.in_err-take_row-in-Row.ensures.wrong)))
+
+-- ---- weights of rows
+
+pub returns-in_ok-take_constants-in-Constant-clause-weighed : goal.returns-in_ok-take_constants-in-Constant-clause-weighed
+returns-in_ok-take_constants-in-Constant-clause-weighed c =
+    let task = task_of c.args.task.now in
+    let header = c.args.header.now in
+    let after = c.take_constants.new.bounds in
+    let constants = c.in-Constant.constants.items in
+    subst (λ line. (before : List TextLine) → BeginCertificate (before ++ text_line_of line ∷ []) → HasTaken task before header → AreWeighed header.bounds → AreWeighed after)
+    (sym c.in-Constant.is) (λ before begun reported weighed.
+    weighed_early task before (constant constants) (record { version = header.version; claim = header.claim; exchanges = header.exchanges; atoms = header.atoms; bounds = after }) refl begun
+    (constants_taken task header constants c.deref.result.now after c.deref.ensures.value c.in_ok-take_constants-in-Constant.ensures before begun reported))
+
+pub returns-in_ok-add_atom-in-Weight-clause-weighed : goal.returns-in_ok-add_atom-in-Weight-clause-weighed
+returns-in_ok-add_atom-in-Weight-clause-weighed c =
+    let task = task_of c.args.task.now in
+    let header = c.args.header.now in
+    let after = c.add_atom.new.header in
+    let named : List ℤ → TextLine = λ weights. atom (record { weights = weights; atom = named_atom_of (record { predicate = c.in-Weight.predicate; objects = c.in-Weight.objects }) }) in
+    subst (λ line. (before : List TextLine) → BeginCertificate (before ++ text_line_of line ∷ []) → HasTaken task before header → AreWeighed header.bounds → AreWeighed after.bounds)
+    (sym c.in-Weight.is) (λ before begun reported weighed.
+    weighed_early task before (named c.in-Weight.weights.items) after refl begun
+    (subst (λ weights. BeginCertificate (before ++ named weights ∷ []) → HasTaken task before header → HasTaken task (before ++ named weights ∷ []) after)
+    c.deref-in-Weight.ensures.value (c.in_ok-add_atom-in-Weight.ensures.reported before) begun reported))

@@ -1,0 +1,10 @@
+use Rattle.std.proofs.Common.{◌≡◌, ◌++◌, take, rules}
+use Rattle.pddl_tree_parts.specs.Tree.{file_of}
+use Rattle.explain_faults.proofs.WrongLemmas.{goes_wrong}
+use Rattle.explain_faults.proofs.wrong.wrong_in.Goals as goal
+
+pub returns : goal.returns
+returns c =
+    let whole : c.deref.result.now ≡ take c.args.kept c.args.text.now ++ c.args.ending.now = search rules in
+    goes_wrong (file_of c.args.file) c.args.text.now c.deref.result.now c.args.ending.now c.args.kept c.in_ok-found.found c.if_within.result
+    c.requires whole c.in_ok-found.ensures c.if_within.ensures

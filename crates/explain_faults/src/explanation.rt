@@ -1,0 +1,90 @@
+//! A fault with its explanation.
+ghost use Rattle.std.specs.Prelude.{IfOk, IsTrue};
+ghost use Rattle.explain_faults.specs.Explained.{AreWanted, AreWhole, IsExplained, IsOfWords};
+
+use crate::wanted::words_at;
+use crate::wrong::{WrongPlace, wrong_place};
+use explain_hints::{
+    File, FileRefusal, Help, Hint, LineColumn, NamedTexts, help_with, hint_of, place_of,
+    reported_bytes,
+};
+use faults::{Code, NoMemory};
+use pddl_tree::TaskFile;
+use std::alloc::Global;
+use tokens::Word;
+
+/// A fault, its place, and the help for it.
+#[derive(Drop)]
+pub struct FaultExplanation<'a> {
+    /// The fault, as given.
+    pub fault: FileRefusal,
+    /// Where its span begins, as an editor shows it.
+    pub place: LineColumn,
+    /// The words that may occur in place of a refused one, one for each kind: one name stands for all names, one variable for all
+    /// variables, one number for all numbers. For a keyword, only the similar ones if there are any.
+    pub wanted: Vec<Word<'a>>,
+    /// Other help.
+    pub help: Help<'a>,
+    /// Where the text goes wrong before the fault, if its parentheses are unbalanced.
+    pub wrong: Option<WrongPlace>,
+    /// The common mistake behind it, if there is one.
+    pub hint: Option<Hint>,
+}
+
+/// Explains a fault of these texts. The caller is responsible for it being the first fault; for a fault that these texts do not
+/// have, the help is whatever the words around its span allow.
+///
+/// # Errors
+/// An allocation failed.
+pub fn explain_fault<'a>(
+    alloc: Global,
+    texts: &NamedTexts<'a>,
+    fault: FileRefusal,
+) -> Result<FaultExplanation<'a>, NoMemory>
+    ensures { IfOk result (IsExplained texts.now fault) }
+{
+    let place = place_of(texts.text(fault.file), fault.span.start);
+    let wanted = wanted_words(alloc, texts, fault)?;
+    let help = help_with(alloc, texts, fault)?;
+    let wrong = wrong_place(alloc, texts, fault)?;
+    let hint = hint_of(alloc, texts, fault)?;
+    Ok(FaultExplanation {
+        fault,
+        place,
+        wanted,
+        help,
+        wrong,
+        hint,
+    })
+}
+
+/// The words that may occur in place of a refused one; none if other help is reported.
+fn wanted_words<'a>(
+    alloc: Global,
+    texts: &NamedTexts<'a>,
+    fault: FileRefusal,
+) -> Result<Vec<Word<'a>>, NoMemory>
+    ensures wanted { IfOk result (λ wanted. AreWanted texts.now fault wanted.items) }
+    ensures whole { IsOfWords fault.code → IfOk result (λ wanted. AreWhole texts.now fault wanted.items) }
+{
+    if !is_of_words(fault.code) {
+        return Ok(Vec::new(alloc));
+    }
+    let (domain, problem) = (texts.domain.text, texts.problem.text);
+    let (at, reported) = (fault.span.start, reported_bytes(texts, fault));
+    match fault.file {
+        File::Domain => words_at(alloc, TaskFile::Domain, domain, at, reported),
+        File::Problem => words_at(alloc, TaskFile::Problem, problem, at, reported),
+        File::Plan => Ok(Vec::new(alloc)),
+    }
+}
+
+/// Whether this code means that a word was unexpected.
+fn is_of_words(code: Code) -> bool
+    ensures { IsOfWords code → IsTrue result }
+{
+    match code {
+        Code::BadForm | Code::UnknownSection | Code::UnknownRequirement => true,
+        _ => false,
+    }
+}

@@ -1,0 +1,16 @@
+//! Explains a fault of a text: its place, the line with marks, and a sentence of help.
+#![tactic(auto)]
+
+mod expected;
+mod explanation;
+mod sentences;
+mod shown;
+mod wanted;
+mod wrong;
+
+pub use explain_hints::{
+    CostFault, Counts, File, FileOffset, FileRefusal, Help, Hint, Limit, LineColumn, Named,
+    NamedText, NamedTexts, Others, Types,
+};
+pub use explanation::{FaultExplanation, explain_fault};
+pub use wrong::{Nesting, WrongPlace};

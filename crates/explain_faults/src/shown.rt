@@ -1,0 +1,140 @@
+//! Names, places and words in reports.
+use explain_hints::{FileOffset, LineColumn, NamedTexts, place_of};
+use std::alloc::{AllocError, Global};
+use std::fmt;
+use tokens::{Kind, Word};
+
+/// The maximum number of bytes shown of a name or run.
+const LONGEST: usize = 80;
+
+/// The maximum number of names shown of a chain.
+const MOST_LINKS: usize = 12;
+
+/// A name in backquotes. Bytes that are not printable ASCII are shown as `\xNN`, and a long name is cut at the end.
+#[derive(Clone, Copy)]
+pub(crate) struct Name<'a>(pub(crate) &'a [u8]);
+
+impl fmt::Display for Name<'_> {
+    fn fmt<W: fmt::Write>(&self, f: &mut fmt::Formatter<W>) -> fmt::Result {
+        let shown = &self.0[..self.0.len().min(LONGEST)];
+        let ending = if self.0.len() <= LONGEST { "" } else { "..." };
+        write!(f, "`{}{ending}`", shown.escape_ascii())
+    }
+}
+
+/// Names separated by commas, with a word before the last.
+#[derive(Clone, Copy)]
+pub(crate) struct NameList<'n, 'a> {
+    /// The names.
+    pub(crate) names: &'n [&'a [u8]],
+    /// The separator before the last name, such as ` and `.
+    pub(crate) last: &'static str,
+}
+
+impl fmt::Display for NameList<'_, '_> {
+    fn fmt<W: fmt::Write>(&self, f: &mut fmt::Formatter<W>) -> fmt::Result {
+        for (index, name) in self.names.iter().enumerate() {
+            let separator = separator(index, self.names.len(), self.last);
+            write!(f, "{separator}{}", Name(name))?;
+        }
+        Ok(())
+    }
+}
+
+/// The separator before the item with this index.
+fn separator(index: usize, count: usize, last: &'static str) -> &'static str {
+    if index == 0 {
+        ""
+    } else if index < count.saturating_sub(1) {
+        ", "
+    } else {
+        last
+    }
+}
+
+/// The names of a chain with arrows between them: all of them, or the first ones and the last if the chain is too long.
+#[derive(Clone, Copy)]
+pub(crate) struct Chain<'n, 'a>(pub(crate) &'n [&'a [u8]]);
+
+impl fmt::Display for Chain<'_, '_> {
+    fn fmt<W: fmt::Write>(&self, f: &mut fmt::Formatter<W>) -> fmt::Result {
+        let count = self.0.len();
+        for (index, name) in self.0.iter().enumerate() {
+            if count <= MOST_LINKS || index < MOST_LINKS - 2 || index == count - 1 {
+                let arrow = if index == 0 { "" } else { " -> " };
+                write!(f, "{arrow}{}", Name(name))?;
+            } else if index == MOST_LINKS - 2 {
+                write!(f, " -> ({} more)", count - (MOST_LINKS - 1))?;
+            }
+        }
+        Ok(())
+    }
+}
+
+/// A place in a named file, shown like `domain.pddl:12:27`.
+#[derive(Clone, Copy)]
+pub(crate) struct FilePlace<'t> {
+    name: &'t str,
+    place: LineColumn,
+}
+
+impl<'t> FilePlace<'t> {
+    /// The place of the byte at an offset of a file.
+    pub(crate) fn of(texts: &NamedTexts<'t>, at: FileOffset) -> FilePlace<'t> {
+        FilePlace {
+            name: texts.name(at.file),
+            place: place_of(texts.text(at.file), at.offset),
+        }
+    }
+}
+
+impl fmt::Display for FilePlace<'_> {
+    fn fmt<W: fmt::Write>(&self, f: &mut fmt::Formatter<W>) -> fmt::Result {
+        let (line, column) = (self.place.line, self.place.column);
+        write!(f, "{}:{line}:{column}", self.name)
+    }
+}
+
+/// Appends the words that may occur at a place, except those that another one stands for.
+pub(crate) fn add_words(
+    alloc: Global,
+    words: &[Word<'_>],
+    out: &mut String,
+) -> Result<(), AllocError> {
+    let any_name = has(words, b"preference");
+    let free_name = has(words, b"name");
+    let mut reported = Vec::new(alloc);
+    for word in words {
+        if is_reported(word, any_name, free_name) {
+            reported.push(*word)?;
+        }
+    }
+    for (index, word) in reported.as_slice().iter().enumerate() {
+        out.push_str(separator(index, reported.len(), " or "))?;
+        add_word(word, out)?;
+    }
+    Ok(())
+}
+
+fn has(words: &[Word<'_>], text: &[u8]) -> bool {
+    words.iter().any(|word| word.text() == text)
+}
+
+/// Whether a word that may occur at a place is reported: a name is not if any name may occur, or any unreserved one.
+fn is_reported(word: &Word<'_>, any_name: bool, free_name: bool) -> bool {
+    match word.text() {
+        b"name" => true,
+        b"preference" => false,
+        b"define" | b"domain" | b"problem" | b"number" | b"minimize" => !free_name,
+        _ => word.kind() != Kind::Name || !any_name,
+    }
+}
+
+fn add_word(word: &Word<'_>, out: &mut String) -> Result<(), AllocError> {
+    match word.kind() {
+        Kind::Variable => out.push_str("a variable"),
+        Kind::Number => out.push_str("a number"),
+        Kind::Name if word.text() == b"name".as_slice() => out.push_str("a name"),
+        _ => write!(out, "{}", Name(word.text())),
+    }
+}

@@ -1,0 +1,275 @@
+//! Where a text with unbalanced parentheses goes wrong as a file: usually next to the missing or surplus parenthesis, long before
+//! the place of the fault.
+ghost use Rattle.std.specs.Prelude.{◌≡◌, ◌++◌, ◌<◌, ◌≤◌, IfOk, IfSome, Some, length, map};
+ghost use Rattle.faults.specs.declared.refused.Refused.TheVariants.{At};
+ghost use Rattle.tokens.specs.Reported.{refusal_of};
+ghost use Rattle.tokens.specs.Word.{word_of};
+ghost use Rattle.model.specs.Trees.{domain_file, problem_file};
+ghost use Rattle.model.specs.Refusals.{IsRefused};
+ghost use Rattle.pddl_tree_parts.specs.Tree.{file_of};
+ghost use Rattle.explain_faults.specs.Wrong.{GoesWrong, GoesWrongAt, IsRefusedIn};
+
+use explain_hints::{File, FileRefusal, NamedTexts, Piece, Shape, index_at, opening_of, pieces};
+use faults::{Code, Fault, NoMemory, Refused, Span, TextRefusal};
+use pddl_tree::{TaskFile, domain, problem};
+use std::alloc::Global;
+use tokens::{Word, scan};
+
+/// A line feed, which ends any comment, and as many `)` as lists may be open.
+const CLOSING: &[u8] = b"\n))))))))))))))))))))))))))))))))))))))))))))))))))))))))))))))))";
+
+/// Where an unexpected word is within the lists of its text.
+#[derive(Clone, Copy, Debug, PartialEq, Eq)]
+pub enum Nesting {
+    /// In the list whose `(` is at this offset: a `)` may be missing before the word.
+    Inside(usize),
+    /// Right after the list whose `(` is at the first offset and whose `)` is at the second: that `)` may be surplus.
+    After(usize, usize),
+    /// It is the `)` of the list whose `(` is at this offset. The list is incomplete: the `)` may be surplus.
+    Closes(usize),
+    /// None of these, or the word has another fault.
+    Elsewhere,
+}
+
+/// Where a text with unbalanced parentheses goes wrong as a file.
+#[derive(Clone, Copy, Debug, PartialEq, Eq)]
+pub struct WrongPlace {
+    /// The first unexpected word, and its fault.
+    pub refusal: TextRefusal,
+    /// That word with the `(` before it, or with the head of the list that it begins.
+    pub shown: Span,
+    /// Its place within the lists.
+    pub nesting: Nesting,
+}
+
+/// Where a faulty text goes wrong as a file before the fault; `None` if it does not, or if its parentheses match.
+///
+/// # Errors
+/// An allocation failed.
+pub(crate) fn wrong_place(
+    alloc: Global,
+    texts: &NamedTexts<'_>,
+    fault: FileRefusal,
+) -> Result<Option<WrongPlace>, NoMemory>
+    ensures { IfOk result (λ found. IfSome found (λ place. GoesWrongAt texts.now fault.file place.refusal)) }
+{
+    let is_of_lists = matches!(fault.code, Code::Unbalanced | Code::Trailing);
+    let (domain, problem) = (texts.domain.text, texts.problem.text);
+    match fault.file {
+        File::Domain if is_of_lists => in_text(alloc, TaskFile::Domain, domain, fault.span),
+        File::Problem if is_of_lists => in_text(alloc, TaskFile::Problem, problem, fault.span),
+        _ => Ok(None),
+    }
+}
+
+/// The same for a text and the place of its fault.
+fn in_text(
+    alloc: Global,
+    file: TaskFile,
+    text: &[u8],
+    fault: Span,
+) -> Result<Option<WrongPlace>, NoMemory>
+    ensures { IfOk result (λ found. IfSome found (λ place. GoesWrong (file_of file) text.now place.refusal)) }
+{
+    let pieces = pieces(alloc, text)?;
+    let found = first_wrong(alloc, file, text, fault, open_lists(&pieces))?;
+    match found {
+        Some(refusal) => Ok(Some(placed(&pieces, refusal, fault))),
+        None => Ok(None),
+    }
+}
+
+/// The number of lists open at the end of a text whose parentheses match otherwise.
+fn open_lists(pieces: &[Piece<'_>]) -> usize {
+    let mut count: usize = 0;
+    for piece in pieces {
+        match piece.shape {
+            Shape::Open => count = count.saturating_add(1),
+            Shape::Close => count = count.saturating_sub(1),
+            Shape::Run => {}
+        }
+    }
+    count
+}
+
+/// The first unexpected word of a text: of the part before the fault, or of the whole text with its open lists closed if that is
+/// the fault.
+fn first_wrong(
+    alloc: Global,
+    file: TaskFile,
+    text: &[u8],
+    fault: Span,
+    lists: usize,
+) -> Result<Option<TextRefusal>, NoMemory>
+    ensures { IfOk result (λ found. IfSome found (GoesWrong (file_of file) text.now)) }
+{
+    if fault.start < fault.end {
+        let kept = fault.start.min(text.len());
+        wrong_in(alloc, file, text, kept, b"")
+    } else {
+        let closing = CLOSING.get(..lists.saturating_add(1)).unwrap_or(CLOSING);
+        wrong_in(alloc, file, text, text.len(), closing)
+    }
+}
+
+/// The first unexpected word of a text that is cut at this length and continued by this ending.
+fn wrong_in(
+    alloc: Global,
+    file: TaskFile,
+    text: &[u8],
+    kept: usize,
+    ending: &[u8],
+) -> Result<Option<TextRefusal>, NoMemory>
+    requires { kept ≤ length text.now }
+    ensures { IfOk result (λ found. IfSome found (GoesWrong (file_of file) text.now)) }
+{
+    let whole = joined(alloc, &text[..kept], ending)?;
+    let found = refused_in(alloc, file, &whole)?;
+    Ok(if_within(found, kept))
+}
+
+/// The refusal, if its span is non-empty and ends by `kept`.
+fn if_within(found: Option<TextRefusal>, kept: usize) -> Option<TextRefusal>
+    ensures { IfSome result (λ r. (found ≡ Some r) × (r.span.start < r.span.end) × (r.span.end ≤ kept)) }
+{
+    match found {
+        Some(refusal) if refusal.span.start < refusal.span.end && refusal.span.end <= kept => {
+            Some(refusal)
+        }
+        _ => None,
+    }
+}
+
+/// The bytes, followed by the others.
+fn joined(alloc: Global, text: &[u8], ending: &[u8]) -> Result<Vec<u8>, NoMemory>
+    ensures { IfOk result (λ all. all.items ≡ text.now ++ ending.now) }
+{
+    let mut all = Vec::new(alloc);
+    all.extend_from_slice(text)?;
+    all.extend_from_slice(ending)?;
+    Ok(all)
+}
+
+/// What is wrong with the words of a text as a file of this kind; `None` if nothing is, or if the text does not read as words.
+fn refused_in(alloc: Global, file: TaskFile, text: &[u8]) -> Result<Option<TextRefusal>, NoMemory>
+    ensures { IfOk result (λ found. IfSome found (IsRefusedIn (file_of file) text.now)) }
+{
+    let words = match scan(alloc, text) {
+        Ok(words) => words,
+        Err(Refused::At(_)) => return Ok(None),
+        Err(Refused::NoMemory) => return Err(NoMemory),
+    };
+    match file {
+        TaskFile::Domain => refused_domain(alloc, &words),
+        TaskFile::Problem => refused_problem(alloc, &words),
+    }
+}
+
+/// What is wrong with words as a domain.
+fn refused_domain(alloc: Global, words: &[Word<'_>]) -> Result<Option<TextRefusal>, NoMemory>
+    ensures { IfOk result (λ found. IfSome found (λ r. IsRefused domain_file (map word_of words.now) (refusal_of r))) }
+{
+    let fault = match domain(alloc, words) {
+        Ok(_) => return Ok(None),
+        Err(fault) => fault,
+    };
+    refusal_in(fault)
+}
+
+/// What is wrong with words as a problem.
+fn refused_problem(alloc: Global, words: &[Word<'_>]) -> Result<Option<TextRefusal>, NoMemory>
+    ensures { IfOk result (λ found. IfSome found (λ r. IsRefused problem_file (map word_of words.now) (refusal_of r))) }
+{
+    let fault = match problem(alloc, words) {
+        Ok(_) => return Ok(None),
+        Err(fault) => fault,
+    };
+    refusal_in(fault)
+}
+
+/// The refusal in a fault.
+fn refusal_in(fault: Fault) -> Result<Option<TextRefusal>, NoMemory>
+    ensures { IfOk result (λ found. IfSome found (λ refusal. fault ≡ At refusal)) }
+{
+    match fault {
+        Refused::At(refusal) => Ok(Some(refusal)),
+        Refused::NoMemory => Err(NoMemory),
+    }
+}
+
+/// An unexpected word, with its place within the lists of the text. An empty span means that lists are open.
+fn placed(pieces: &[Piece<'_>], refusal: TextRefusal, fault: Span) -> WrongPlace
+    ensures { result.refusal ≡ refusal }
+{
+    let Some(at) = index_at(pieces, refusal.span.start) else {
+        return WrongPlace {
+            refusal,
+            shown: refusal.span,
+            nesting: Nesting::Elsewhere,
+        };
+    };
+    let first = first_shown(pieces, at);
+    let are_open = fault.start == fault.end;
+    let nesting = match refusal.code {
+        Code::BadForm if are_open => inside(pieces, first),
+        Code::BadForm => after(pieces, first),
+        Code::MissingSection if !are_open => closes(pieces, at),
+        _ => Nesting::Elsewhere,
+    };
+    WrongPlace {
+        refusal,
+        shown: shown_from(pieces, first),
+        nesting,
+    }
+}
+
+/// The index of the `(` right before the piece with this index, or its own index if there is none.
+fn first_shown(pieces: &[Piece<'_>], at: usize) -> usize {
+    let before = at.saturating_sub(1);
+    match pieces.get(before) {
+        Some(piece) if piece.shape == Shape::Open => before,
+        _ => at,
+    }
+}
+
+/// The span of the piece with this index, with the head of the list that it begins.
+fn shown_from(pieces: &[Piece<'_>], first: usize) -> Span {
+    let Some(piece) = pieces.get(first) else {
+        return Span { start: 0, end: 0 };
+    };
+    match pieces.get(first.saturating_add(1)) {
+        Some(head) if piece.shape == Shape::Open && head.shape == Shape::Run => Span {
+            start: piece.span.start,
+            end: head.span.end,
+        },
+        _ => piece.span,
+    }
+}
+
+/// The list that contains the piece with this index.
+fn inside(pieces: &[Piece<'_>], at: usize) -> Nesting {
+    match opening_of(pieces, at).and_then(|open| pieces.get(open)) {
+        Some(open) => Nesting::Inside(open.span.start),
+        None => Nesting::Elsewhere,
+    }
+}
+
+/// The list that ends right before the piece with this index.
+fn after(pieces: &[Piece<'_>], at: usize) -> Nesting {
+    let before = at.saturating_sub(1);
+    let open = opening_of(pieces, before).and_then(|open| pieces.get(open));
+    match (open, pieces.get(before)) {
+        (Some(open), Some(close)) if close.shape == Shape::Close => {
+            Nesting::After(open.span.start, close.span.start)
+        }
+        _ => Nesting::Elsewhere,
+    }
+}
+
+/// The list that the piece with this index closes.
+fn closes(pieces: &[Piece<'_>], at: usize) -> Nesting {
+    match opening_of(pieces, at).and_then(|open| pieces.get(open)) {
+        Some(open) => Nesting::Closes(open.span.start),
+        None => Nesting::Elsewhere,
+    }
+}

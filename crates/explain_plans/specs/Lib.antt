@@ -1,0 +1,11 @@
+pub mod VariableNames
+pub mod NamesView
+pub mod FalseParts
+pub mod Histories
+pub mod Parts
+pub mod Explanations
+pub mod FormulaText
+pub mod ScopeView
+pub mod StepPlaces
+pub mod PlanLines
+pub mod Said

@@ -1,0 +1,190 @@
+//! Explanations of a plan for people.
+ghost use Rattle.std.specs.Prelude.{◌≡◌, ◌-◌, IsTrue, IfOk, Some, map, take};
+ghost use Rattle.std.specs.List.{list_all};
+ghost use Rattle.task.specs.Task.{task_of};
+ghost use Rattle.task.specs.TaskParts.{object_of, formula_of};
+ghost use Rattle.formulas.specs.State.{instance_of, plan_of, state_of, FitsFormula};
+ghost use Rattle.explain_plans.specs.Explanations.{verdict_of, AreReasons, IsExplained};
+ghost use Rattle.explain_plans.specs.NamesView.{names_in, names_of};
+ghost use Rattle.model.specs.Runs.{IsVerdict, StopsAt, run, valid, goal_missed};
+ghost use Rattle.model.specs.Meaning.{is_instance, initial_state, system_of, cost_of};
+
+use crate::false_parts::{Found, Part, first_false_parts};
+use crate::histories::{History, histories};
+use crate::variable_names::VariableNames;
+use faults::NoMemory;
+use formulas::{Binding, Instance, Plan, State, amount, cost};
+use std::alloc::Global;
+use task::{Formula, Task};
+use validator::{Run, Verdict, run_plan};
+
+/// Why a formula does not hold after some steps of a plan: the first, from the left, of its minimal false parts, at most 20.
+#[derive(Drop)]
+pub struct Reasons<'t> {
+    /// The false parts.
+    pub parts: Vec<Part<'t>>,
+    /// Since when each of them has been false.
+    pub histories: Vec<History>,
+    /// Whether there are more.
+    pub more: bool,
+}
+
+/// An explanation of a plan.
+#[derive(Drop)]
+pub enum PlanExplanation<'t> {
+    /// The plan solves the task.
+    Solves {
+        /// The cost of each step.
+        costs: Vec<u32>,
+        /// The sum of the costs.
+        total: u64,
+    },
+    /// A step is not applicable when its turn comes.
+    NotApplicable {
+        /// The first such step, counted from 1.
+        step: usize,
+        /// Whether the action's cost increase has no value for the step's objects.
+        lacks_cost: bool,
+        /// Why its precondition does not hold; empty if it does.
+        reasons: Reasons<'t>,
+    },
+    /// All steps are applicable, but the goal does not hold at the end.
+    GoalMissed {
+        /// Why the goal does not hold.
+        reasons: Reasons<'t>,
+    },
+}
+
+/// The verdict on a plan, whose instances belong to the task, with its reasons. The variables of quantifiers have these names.
+///
+/// # Errors
+/// An allocation failed, which says nothing about the plan.
+pub fn explain_plan<'t>(
+    alloc: Global,
+    task: &'t Task,
+    names: &'t VariableNames<'t>,
+    plan: &Plan,
+) -> Result<PlanExplanation<'t>, NoMemory>
+    requires { IsTrue (list_all (is_instance (task_of task.now)) (plan_of plan.now)) }
+    ensures verdict { IfOk result (λ e. IsVerdict (system_of (task_of task.now)) (plan_of plan.now) (verdict_of e)) }
+    ensures explained { IfOk result (IsExplained (task_of task.now) (names_of names.now) (plan_of plan.now)) }
+{
+    let Run { verdict, state } = run_plan(alloc, task, plan)?;
+    match verdict {
+        Verdict::Valid { cost } => why_valid(alloc, task, names, plan, cost),
+        Verdict::NotApplicable { step } => why_not_applicable(
+            alloc, task, names, plan, step, &state,
+        ),
+        Verdict::GoalMissed => why_missed(alloc, task, names, plan, &state),
+    }
+}
+
+/// The costs of the steps of a plan that solves the task.
+fn why_valid<'t>(
+    alloc: Global,
+    task: &Task,
+    names: &VariableNames<'_>,
+    plan: &Plan,
+    total: u64,
+) -> Result<PlanExplanation<'t>, NoMemory>
+    requires { IsVerdict (system_of (task_of task.now)) (plan_of plan.now) (valid total) }
+    ensures verdict { IfOk result (λ e. IsVerdict (system_of (task_of task.now)) (plan_of plan.now) (verdict_of e)) }
+    ensures explained { IfOk result (IsExplained (task_of task.now) (names_of names.now) (plan_of plan.now)) }
+{
+    let steps = plan.steps();
+    let costs = costs_of(alloc, task, steps)?;
+    Ok(PlanExplanation::Solves { costs, total })
+}
+
+/// The cost of each step.
+fn costs_of(alloc: Global, task: &Task, steps: &[Instance]) -> Result<Vec<u32>, NoMemory>
+    ensures { IfOk result (λ costs. costs.items ≡ map (λ i. cost_of (task_of task.now) (instance_of i)) steps.now) }
+{
+    let mut costs = Vec::with_capacity(alloc, steps.len())?;
+    for step in steps {
+        costs.push(cost(task, step))?;
+    }
+    Ok(costs)
+}
+
+/// Why the step with this number is not applicable in the state that the steps before it lead to.
+fn why_not_applicable<'t>(
+    alloc: Global,
+    task: &'t Task,
+    names: &'t VariableNames<'t>,
+    plan: &Plan,
+    step: usize,
+    state: &State,
+) -> Result<PlanExplanation<'t>, NoMemory>
+    requires instances { IsTrue (list_all (is_instance (task_of task.now)) (plan_of plan.now)) }
+    requires stops { StopsAt (system_of (task_of task.now)) (plan_of plan.now) step }
+    requires state { run (system_of (task_of task.now)) (initial_state (task_of task.now)) (take (step - 1) (plan_of plan.now)) ≡ Some (state_of state.now) }
+    ensures verdict { IfOk result (λ e. IsVerdict (system_of (task_of task.now)) (plan_of plan.now) (verdict_of e)) }
+    ensures explained { IfOk result (IsExplained (task_of task.now) (names_of names.now) (plan_of plan.now)) }
+{
+    let steps = plan.steps();
+    let before = &steps[..step - 1];
+    let instance = &steps[step - 1];
+    let schema = task.schema(instance.schema).unwrap();
+    let lacks_cost = amount(task, instance).is_none();
+    let reasons = why_false(
+        alloc,
+        task,
+        before,
+        state,
+        &schema.precondition,
+        &instance.objects,
+        names.of_action(instance.schema),
+    )?;
+    Ok(PlanExplanation::NotApplicable {
+        step,
+        lacks_cost,
+        reasons,
+    })
+}
+
+/// Why the goal does not hold in the state that the plan leads to.
+fn why_missed<'t>(
+    alloc: Global,
+    task: &'t Task,
+    names: &'t VariableNames<'t>,
+    plan: &Plan,
+    state: &State,
+) -> Result<PlanExplanation<'t>, NoMemory>
+    requires instances { IsTrue (list_all (is_instance (task_of task.now)) (plan_of plan.now)) }
+    requires missed { IsVerdict (system_of (task_of task.now)) (plan_of plan.now) goal_missed }
+    requires state { run (system_of (task_of task.now)) (initial_state (task_of task.now)) (plan_of plan.now) ≡ Some (state_of state.now) }
+    ensures verdict { IfOk result (λ e. IsVerdict (system_of (task_of task.now)) (plan_of plan.now) (verdict_of e)) }
+    ensures explained { IfOk result (IsExplained (task_of task.now) (names_of names.now) (plan_of plan.now)) }
+{
+    let steps = plan.steps();
+    let goal = task.goal();
+    let nothing = Binding::new();
+    let reasons = why_false(alloc, task, steps, state, goal, &nothing, &names.goal)?;
+    Ok(PlanExplanation::GoalMissed { reasons })
+}
+
+/// Why the formula does not hold in the state that the steps lead to, under this binding of its variables and with these names
+/// for the variables of quantifiers.
+fn why_false<'t>(
+    alloc: Global,
+    task: &Task,
+    steps: &[Instance],
+    state: &State,
+    formula: &'t Formula,
+    objects: &Binding,
+    names: &'t [&'t [u8]],
+) -> Result<Reasons<'t>, NoMemory>
+    requires fits { FitsFormula (task_of task.now) (formula_of formula.now) (map object_of objects.now.items) }
+    requires instances { IsTrue (list_all (is_instance (task_of task.now)) (map instance_of steps.now)) }
+    requires leads { run (system_of (task_of task.now)) (initial_state (task_of task.now)) (map instance_of steps.now) ≡ Some (state_of state.now) }
+    ensures { IfOk result (AreReasons (task_of task.now) (map instance_of steps.now) (formula_of formula.now) (map object_of objects.now.items) (names_in names.now)) }
+{
+    let Found { parts, more } = first_false_parts(alloc, task, formula, objects, names, state)?;
+    let histories = histories(alloc, task, steps, parts.as_slice())?;
+    Ok(Reasons {
+        parts,
+        histories,
+        more,
+    })
+}

@@ -1,0 +1,346 @@
+//! Formulas as texts, with objects in place of bound variables.
+ghost use Rattle.std.specs.Prelude.{◌≡◌, ◌++◌, ◌∷◌, [], ℕ, List, codes, map, slice_get, IfOk, OnOk};
+ghost use Rattle.std.specs.Borrow.{Bor};
+ghost use Rattle.std.specs.Fmt.{decimal};
+ghost use Rattle.std.specs.List.{flat_map};
+ghost use Rattle.std.specs.Option.{option_map_or};
+ghost use Rattle.std.specs.String.{string_bytes};
+ghost use Rattle.task.specs.Task.{task_of};
+ghost use Rattle.task.specs.TaskParts.{formula_of, lifted_atom_of, object_of, term_of, type_of, union_of};
+ghost use Rattle.explain_plans.specs.FormulaText.{atom_text, formula_text, function_name, next_name, parts_text, predicate_name, scope_at, scope_behind, term_text, type_name, union_text, variable_declared, variable_text, with_next};
+ghost use Rattle.explain_plans.specs.NamesView.{names_in};
+ghost use Rattle.explain_plans.specs.ScopeView.{scope_of};
+ghost use Rattle.explain_plans.specs.VariableNames.{formulas};
+ghost use Rattle.model.specs.PlanWriting.{object_name};
+
+use crate::variable_names::{names_behind, without_first};
+use std::alloc::{AllocError, Global};
+use task::{Formula, LiftedAtom, ObjectId, PredicateId, Task, Term, TypeId, TypeUnion};
+
+/// Scope for printing: bound variables print as objects, others by name. The names still to be given to quantified variables come
+/// in textual order.
+#[derive(Clone, Copy)]
+pub(crate) struct Scope<'a> {
+    /// The objects of the bound variables, in order.
+    pub objects: &'a [ObjectId],
+    /// The names of the variables without an object, the outermost quantifier's first.
+    pub names: &'a [&'a [u8]],
+    /// The names of variables that are not in scope yet, in textual order.
+    pub coming: &'a [&'a [u8]],
+}
+
+impl<'a> Scope<'a> {
+    /// A scope in which all variables have objects. Quantified variables get these names.
+    pub(crate) fn of(objects: &'a [ObjectId], coming: &'a [&'a [u8]]) -> Scope<'a>
+        ensures { scope_of result ≡ scope_at (map object_of objects.now) (names_in coming.now) }
+    {
+        Scope {
+            objects,
+            names: &[],
+            coming,
+        }
+    }
+
+    /// The scope after the formula, whose quantified variables have used up their names.
+    fn behind(self, formula: &Formula) -> Scope<'a>
+        ensures { scope_of result ≡ scope_behind (scope_of self.entry) (formula_of formula.now) }
+    {
+        Scope {
+            objects: self.objects,
+            names: self.names,
+            coming: names_behind(formula, self.coming),
+        }
+    }
+}
+
+/// Adds the text of the formula. A quantified variable in it gets the first unused name; when none is left it is printed as `?1`,
+/// `?2` and so on, by its place in scope after the variables that have objects.
+#[cycle(formula)]
+pub(crate) fn add_formula(
+    alloc: Global,
+    task: &Task,
+    formula: &Formula,
+    scope: Scope<'_>,
+    text: &mut Vec<u8>,
+) -> Result<(), AllocError>
+    ensures { OnOk result (text.new.items ≡ text.old.items ++ formula_text (task_of task.now) (scope_of scope.entry) (formula_of formula.now)) }
+{
+    match formula {
+        Formula::Atom(atom) => {
+            let name = predicate_name(task, atom.predicate);
+            add_atom(task, name, atom, scope, text)
+        }
+        Formula::Equal(left, right) => add_equality(task, left, right, scope, text),
+        Formula::And(parts) => add_parts(alloc, task, b"(and", parts, scope, text),
+        Formula::Or(parts) => add_parts(alloc, task, b"(or", parts, scope, text),
+        Formula::Not(part) => add_negation(alloc, task, part, scope, text),
+        Formula::Imply(premise, conclusion) => {
+            text.extend_from_slice(b"(imply ")?;
+            add_formula(alloc, task, premise, scope, text)?;
+            text.extend_from_slice(b" ")?;
+            add_formula(alloc, task, conclusion, scope.behind(premise), text)?;
+            text.extend_from_slice(b")")
+        }
+        Formula::Exists(types, part) => {
+            add_quantified(alloc, task, b"(exists (", types, part, scope, text)
+        }
+        Formula::Forall(types, part) => {
+            add_quantified(alloc, task, b"(forall (", types, part, scope, text)
+        }
+    }
+}
+
+/// Adds an equality.
+fn add_equality(
+    task: &Task,
+    left: &Term,
+    right: &Term,
+    scope: Scope<'_>,
+    text: &mut Vec<u8>,
+) -> Result<(), AllocError>
+    ensures { OnOk result (text.new.items ≡ text.old.items ++ (codes "(=" ++ (term_text (task_of task.now) (scope_of scope.entry) (term_of left.now)
+        ++ (term_text (task_of task.now) (scope_of scope.entry) (term_of right.now) ++ codes ")")))) }
+{
+    text.extend_from_slice(b"(=")?;
+    add_term(task, left, scope, text)?;
+    add_term(task, right, scope, text)?;
+    text.extend_from_slice(b")")
+}
+
+/// Adds a negation.
+#[cycle(formula)]
+fn add_negation(
+    alloc: Global,
+    task: &Task,
+    part: &Formula,
+    scope: Scope<'_>,
+    text: &mut Vec<u8>,
+) -> Result<(), AllocError>
+    ensures { OnOk result (text.new.items ≡ text.old.items ++ (codes "(not " ++ (formula_text (task_of task.now) (scope_of scope.entry) (formula_of part.now) ++ codes ")"))) }
+{
+    text.extend_from_slice(b"(not ")?;
+    add_formula(alloc, task, part, scope, text)?;
+    text.extend_from_slice(b")")
+}
+
+/// Adds the keyword of a conjunction or a disjunction, and its parts.
+#[cycle(formula)]
+fn add_parts(
+    alloc: Global,
+    task: &Task,
+    opening: &[u8],
+    parts: &[Formula],
+    scope: Scope<'_>,
+    text: &mut Vec<u8>,
+) -> Result<(), AllocError>
+    ensures { OnOk result (text.new.items ≡ text.old.items ++ (opening.now ++ (parts_text (task_of task.now) (scope_of scope.entry) (formulas (map formula_of parts.now)) ++ codes ")"))) }
+{
+    text.extend_from_slice(opening)?;
+    let mut current = scope;
+    for part in parts {
+        text.extend_from_slice(b" ")?;
+        add_formula(alloc, task, part, current, text)?;
+        current = current.behind(part);
+    }
+    text.extend_from_slice(b")")
+}
+
+/// Adds a quantifier with this keyword: its variable, the variable's types, and its part.
+#[cycle(formula)]
+fn add_quantified(
+    alloc: Global,
+    task: &Task,
+    opening: &[u8],
+    types: &TypeUnion,
+    part: &Formula,
+    scope: Scope<'_>,
+    text: &mut Vec<u8>,
+) -> Result<(), AllocError>
+    ensures { OnOk result (text.new.items ≡ text.old.items ++ (opening.now ++ (variable_declared (task_of task.now) (scope_of scope.entry) (union_of types.now)
+        ++ (formula_text (task_of task.now) (with_next (scope_of scope.entry)) (formula_of part.now) ++ codes ")")))) }
+{
+    let name = next_name(alloc, scope)?;
+    let names = with_name(alloc, scope.names, name.as_slice())?;
+    text.extend_from_slice(opening)?;
+    add_declared(task, name.as_slice(), types, text)?;
+    let inner = Scope {
+        objects: scope.objects,
+        names: names.as_slice(),
+        coming: without_first(scope.coming),
+    };
+    add_formula(alloc, task, part, inner, text)?;
+    text.extend_from_slice(b")")
+}
+
+/// The name of the next variable, in lower case like all names of a task.
+fn next_name(alloc: Global, scope: Scope<'_>) -> Result<Vec<u8>, AllocError>
+    ensures { IfOk result (λ name. name.items ≡ next_name (scope_of scope.entry)) }
+{
+    match scope.coming.first() {
+        Some(name) => name.to_ascii_lowercase(alloc),
+        None => {
+            let name = numbered_name(alloc, scope.names.len() + 1)?;
+            Ok(name.into_bytes())
+        }
+    }
+}
+
+/// The name of the variable with this number, when no name is left.
+fn numbered_name(alloc: Global, number: usize) -> Result<String, AllocError>
+    ensures { IfOk result (λ name. string_bytes name ≡ codes "?" ++ decimal number) }
+{
+    format!(in alloc; "?{number}")
+}
+
+/// The names, with one appended.
+fn with_name<'a>(
+    alloc: Global,
+    names: &[&'a [u8]],
+    name: &'a [u8],
+) -> Result<Vec<&'a [u8]>, AllocError>
+    ensures { IfOk result (λ all. all.items ≡ names.now ++ name.entry ∷ []) }
+{
+    let mut all = Vec::new(alloc);
+    all.extend_from_slice(names)?;
+    all.push(name)?;
+    Ok(all)
+}
+
+/// Adds the name of a quantified variable and its types.
+fn add_declared(
+    task: &Task,
+    name: &[u8],
+    types: &TypeUnion,
+    text: &mut Vec<u8>,
+) -> Result<(), AllocError>
+    ensures { OnOk result (text.new.items ≡ text.old.items ++ (name.now ++ (codes " - " ++ (union_text (task_of task.now) (union_of types.now) ++ codes ") ")))) }
+{
+    text.extend_from_slice(name)?;
+    text.extend_from_slice(b" - ")?;
+    add_types(task, types, text)?;
+    text.extend_from_slice(b") ")
+}
+
+/// Adds the name of the type, or `(either ..)` if there are several.
+fn add_types(task: &Task, types: &TypeUnion, text: &mut Vec<u8>) -> Result<(), AllocError>
+    ensures { OnOk result (text.new.items ≡ text.old.items ++ union_text (task_of task.now) (union_of types.now)) }
+{
+    match types.0.as_slice() {
+        [only] => text.extend_from_slice(type_name(task, *only)),
+        several => add_either(task, several, text),
+    }
+}
+
+/// Adds `(either ..)` of these types.
+fn add_either(task: &Task, types: &[TypeId], text: &mut Vec<u8>) -> Result<(), AllocError>
+    ensures { OnOk result (text.new.items ≡ text.old.items
+        ++ (codes "(either" ++ (flat_map (λ number. codes " " ++ type_name (task_of task.now) number) (map type_of types.now) ++ codes ")"))) }
+{
+    text.extend_from_slice(b"(either")?;
+    for one in types {
+        text.extend_from_slice(b" ")?;
+        text.extend_from_slice(type_name(task, *one))?;
+    }
+    text.extend_from_slice(b")")
+}
+
+/// Adds an atom with this name, or a function of terms.
+pub(crate) fn add_atom(
+    task: &Task,
+    name: &[u8],
+    atom: &LiftedAtom,
+    scope: Scope<'_>,
+    text: &mut Vec<u8>,
+) -> Result<(), AllocError>
+    ensures { OnOk result (text.new.items ≡ text.old.items ++ atom_text (task_of task.now) (scope_of scope.entry) name.now (lifted_atom_of atom.now).terms) }
+{
+    text.extend_from_slice(b"(")?;
+    text.extend_from_slice(name)?;
+    for term in &atom.terms {
+        add_term(task, term, scope, text)?;
+    }
+    text.extend_from_slice(b")")
+}
+
+/// Adds a blank and the term.
+fn add_term(
+    task: &Task,
+    term: &Term,
+    scope: Scope<'_>,
+    text: &mut Vec<u8>,
+) -> Result<(), AllocError>
+    ensures { OnOk result (text.new.items ≡ text.old.items ++ term_text (task_of task.now) (scope_of scope.entry) (term_of term.now)) }
+{
+    text.extend_from_slice(b" ")?;
+    text.extend_from_slice(term_name(task, term, scope))
+}
+
+/// The name of an object, of a bound variable's object, or of a variable without one.
+fn term_name<'a>(task: &'a Task, term: &Term, scope: Scope<'a>) -> &'a [u8]
+    ensures { codes " " ++ result.now ≡ term_text (task_of task.now) (scope_of scope.entry) (term_of term.now) }
+{
+    match term {
+        Term::Object(object) => object_name(task, *object),
+        Term::Variable(variable) => variable_name(task, variable.0, scope),
+    }
+}
+
+/// The name of the object bound to the variable with this number, or of the variable itself if it is unbound.
+fn variable_name<'a>(task: &'a Task, number: usize, scope: Scope<'a>) -> &'a [u8]
+    ensures { codes " " ++ result.now ≡ variable_text (task_of task.now) (scope_of scope.entry) number }
+{
+    match scope.objects.get(number) {
+        Some(object) => object_name(task, *object),
+        None => inner_name(scope.names, number.saturating_sub(scope.objects.len())),
+    }
+}
+
+/// The name at this index; empty if there is none.
+fn inner_name<'a>(names: &[&'a [u8]], place: usize) -> &'a [u8]
+    ensures { result.now ≡ option_map_or (λ (name : Bor (List ℕ)). name.now) (slice_get names.now place) [] }
+{
+    match names.get(place) {
+        Some(name) => name,
+        None => b"",
+    }
+}
+
+/// The object's name; empty if there is no such object.
+fn object_name(task: &Task, object: ObjectId) -> &[u8]
+    ensures { result.now ≡ object_name (task_of task.now) object.0 }
+{
+    match task.object_name(object) {
+        Some(name) => name,
+        None => b"",
+    }
+}
+
+/// The type's name; empty if there is no such type.
+fn type_name(task: &Task, id: TypeId) -> &[u8]
+    ensures { result.now ≡ type_name (task_of task.now) id.0 }
+{
+    match task.type_name(id) {
+        Some(name) => name,
+        None => b"",
+    }
+}
+
+/// The predicate's name; empty if there is no such predicate.
+fn predicate_name(task: &Task, predicate: PredicateId) -> &[u8]
+    ensures { result.now ≡ predicate_name (task_of task.now) predicate.0 }
+{
+    match task.predicate_name(predicate) {
+        Some(name) => name,
+        None => b"",
+    }
+}
+
+/// The function's name; empty if there is no such function.
+pub(crate) fn function_name(task: &Task, function: PredicateId) -> &[u8]
+    ensures { result.now ≡ function_name (task_of task.now) function.0 }
+{
+    match task.function_name(function) {
+        Some(name) => name,
+        None => b"",
+    }
+}

@@ -1,0 +1,17 @@
+//! Explains a plan: why it fails, or what each step costs.
+#![tactic(auto)]
+
+mod explanations;
+mod false_parts;
+mod formula_text;
+mod histories;
+mod printing;
+mod step_places;
+mod variable_names;
+
+pub use explanations::{PlanExplanation, Reasons, explain_plan};
+pub use false_parts::{MOST_REPORTED, Part, false_parts_report};
+pub use histories::History;
+pub use printing::{report_details, report_verdict};
+pub use step_places::step_place;
+pub use variable_names::VariableNames;

@@ -1,0 +1,436 @@
+//! Explanations of a plan as lines of text.
+ghost use Rattle.std.specs.Prelude.{◌≡◌, ◌++◌, ◌-◌, ◌==◌, [], codes, if◌then◌else◌, map, slice_get, None, IfOk, OnOk};
+ghost use Rattle.std.specs.Borrow.{Bor};
+ghost use Rattle.std.specs.Fmt.{decimal};
+ghost use Rattle.std.specs.Option.{option_map};
+ghost use Rattle.std.specs.String.{string_bytes};
+ghost use Rattle.task.specs.Task.{task_of};
+ghost use Rattle.task.specs.TaskParts.{formula_of, increase_of, object_of};
+ghost use Rattle.formulas.specs.State.{instance_of, plan_of};
+ghost use Rattle.formulas.specs.declared.instance.Instance.{Instance};
+ghost use Rattle.explain_plans.specs.Explanations.{verdict_of};
+ghost use Rattle.explain_plans.specs.FormulaText.{formula_text, scope_at};
+ghost use Rattle.explain_plans.specs.Parts.{history_of, part_of};
+ghost use Rattle.explain_plans.specs.PlanLines.{added_text, cause_text, deleted_text, increase_text, instance_increase_text, lacking_text, made_text, negation_text, reason_line, reason_lines, reasons_text, step_name, step_reasons_text, verdict_line, why_text};
+ghost use Rattle.explain_plans.specs.Said.{AddsDetails, HasDetails};
+ghost use Rattle.model.specs.Runs.{not_applicable};
+
+use crate::explanations::{PlanExplanation, Reasons};
+use crate::false_parts::Part;
+use crate::formula_text::{Scope, add_atom, add_formula, function_name};
+use crate::histories::History;
+use faults::NoMemory;
+use formulas::{Instance, Plan};
+use plan_file::step_text;
+use std::alloc::Global;
+use task::{Formula, Increase, ObjectId, Task};
+
+/// The verdict on the plan as a line, with LF.
+///
+/// # Errors
+/// An allocation failed.
+///
+/// # Examples
+/// ```text
+/// valid, cost 10
+/// step 7, (hop a b), is not applicable
+/// every step is applicable, but the goal is not reached
+/// ```
+pub fn report_verdict(
+    alloc: Global,
+    task: &Task,
+    plan: &Plan,
+    explanation: &PlanExplanation<'_>,
+) -> Result<String, NoMemory>
+    ensures { IfOk result (λ line. string_bytes line ≡ verdict_line (task_of task.now) (plan_of plan.now) (verdict_of explanation.now)) }
+{
+    match explanation {
+        PlanExplanation::Solves { total, .. } => cost_line(alloc, *total),
+        PlanExplanation::NotApplicable { step, .. } => step_line(alloc, task, plan, *step),
+        PlanExplanation::GoalMissed { .. } => missed_line(alloc),
+    }
+}
+
+/// The line for a plan that solves the task at this cost.
+fn cost_line(alloc: Global, total: u64) -> Result<String, NoMemory>
+    ensures { IfOk result (λ line. string_bytes line ≡ codes "valid, cost " ++ (decimal total ++ codes "\n")) }
+{
+    Ok(format!(in alloc; "valid, cost {total}\n")?)
+}
+
+/// The line for a plan that misses the goal.
+fn missed_line(alloc: Global) -> Result<String, NoMemory>
+    ensures { IfOk result (λ line. string_bytes line ≡ codes "every step is applicable, but the goal is not reached\n") }
+{
+    Ok(String::from_str(
+        alloc,
+        "every step is applicable, but the goal is not reached\n",
+    )?)
+}
+
+/// The line for the inapplicable step with this number.
+fn step_line(alloc: Global, task: &Task, plan: &Plan, step: usize) -> Result<String, NoMemory>
+    ensures { IfOk result (λ line. string_bytes line ≡ verdict_line (task_of task.now) (plan_of plan.now) (not_applicable step)) }
+{
+    let words = step_name(alloc, task, plan, step)?;
+    numbered_line(alloc, step, words.as_str())
+}
+
+/// The same for a step given in these words.
+fn numbered_line(alloc: Global, step: usize, words: &str) -> Result<String, NoMemory>
+    ensures { IfOk result (λ line. string_bytes line ≡ codes "step " ++ (decimal step ++ (codes ", " ++ (words.now ++ codes ", is not applicable\n")))) }
+{
+    Ok(format!(in alloc; "step {step}, {words}, is not applicable\n")?)
+}
+
+/// The lines that give the reasons, each with LF.
+///
+/// For a plan that solves the task, a line for each step with its cost and the accumulated cost. For an inapplicable step or a
+/// missed goal, a line for each false part, with the step that made it false.
+///
+/// # Errors
+/// An allocation failed.
+///
+/// # Examples
+/// ```text
+/// (at a) is false: step 3, (hop a b), deleted it.
+/// (not (busy a)) is false: (busy a) was true from the start.
+/// (distance a b) has no value.
+/// ```
+pub fn report_details(
+    alloc: Global,
+    task: &Task,
+    plan: &Plan,
+    explanation: &PlanExplanation<'_>,
+) -> Result<String, NoMemory>
+    ensures { IfOk result (λ text. HasDetails (task_of task.now) (plan_of plan.now) explanation.now (string_bytes text)) }
+{
+    let mut text = Vec::new(alloc);
+    add_details(alloc, task, plan, explanation, &mut text)?;
+    Ok(String::from_utf8_lossy(alloc, text.as_slice())?)
+}
+
+/// Adds the lines that give the reasons.
+fn add_details(
+    alloc: Global,
+    task: &Task,
+    plan: &Plan,
+    explanation: &PlanExplanation<'_>,
+    text: &mut Vec<u8>,
+) -> Result<(), NoMemory>
+    ensures { OnOk result (AddsDetails (task_of task.now) (plan_of plan.now) explanation.now text.old.items text.new.items) }
+{
+    match explanation {
+        PlanExplanation::Solves { costs, .. } => add_steps(alloc, task, plan, costs, text),
+        PlanExplanation::NotApplicable {
+            step,
+            lacks_cost,
+            reasons,
+        } => add_step_reasons(alloc, task, plan, *step, *lacks_cost, reasons, text),
+        PlanExplanation::GoalMissed { reasons } => add_reasons(alloc, task, plan, reasons, text),
+    }
+}
+
+/// Adds a line for each step: its number, its text, its cost and the accumulated cost.
+fn add_steps(
+    alloc: Global,
+    task: &Task,
+    plan: &Plan,
+    costs: &[u32],
+    text: &mut Vec<u8>,
+) -> Result<(), NoMemory> {
+    let mut total = 0u64;
+    for (index, (step, cost)) in plan.steps().iter().zip(costs).enumerate() {
+        total = total.saturating_add(u64::from(*cost));
+        let step = step_text(alloc, task, step)?;
+        let number = index.saturating_add(1);
+        let line = format!(in alloc; "{number}  {step}  cost {cost}, {total} so far\n")?;
+        text.extend_from_slice(line.as_bytes())?;
+    }
+    Ok(())
+}
+
+/// Adds why the step with this number is not applicable.
+fn add_step_reasons(
+    alloc: Global,
+    task: &Task,
+    plan: &Plan,
+    step: usize,
+    lacks_cost: bool,
+    reasons: &Reasons<'_>,
+    text: &mut Vec<u8>,
+) -> Result<(), NoMemory>
+    ensures { OnOk result (text.new.items ≡ text.old.items ++ step_reasons_text (task_of task.now) (plan_of plan.now) step lacks_cost reasons.now) }
+{
+    add_reasons(alloc, task, plan, reasons, text)?;
+    if lacks_cost {
+        add_lacking_cost(task, plan, step, text)?;
+    }
+    Ok(())
+}
+
+/// Adds a line for each reason, and one if there are more.
+fn add_reasons(
+    alloc: Global,
+    task: &Task,
+    plan: &Plan,
+    reasons: &Reasons<'_>,
+    text: &mut Vec<u8>,
+) -> Result<(), NoMemory>
+    ensures { OnOk result (text.new.items ≡ text.old.items ++ reasons_text (task_of task.now) (plan_of plan.now) reasons.now) }
+{
+    add_each(alloc, task, plan, &reasons.parts, &reasons.histories, text)?;
+    if reasons.more {
+        text.extend_from_slice(b"More conditions are false.\n")?;
+    }
+    Ok(())
+}
+
+/// Adds a line for each part, with the history at its index.
+fn add_each(
+    alloc: Global,
+    task: &Task,
+    plan: &Plan,
+    parts: &[Part<'_>],
+    histories: &[History],
+    text: &mut Vec<u8>,
+) -> Result<(), NoMemory>
+    ensures { OnOk result (text.new.items ≡ text.old.items ++ reason_lines (task_of task.now) (plan_of plan.now) (map part_of parts.now) (map history_of histories.now)) }
+{
+    for (index, part) in parts.iter().enumerate() {
+        match history_at(histories, index) {
+            Some(history) => add_reason(alloc, task, plan, part, history, text)?,
+            None => return Ok(()),
+        }
+    }
+    Ok(())
+}
+
+/// The history at this index.
+fn history_at(histories: &[History], place: usize) -> Option<History>
+    ensures { option_map history_of result ≡ slice_get (map history_of histories.now) place }
+{
+    match histories.get(place) {
+        Some(history) => Some(*history),
+        None => None,
+    }
+}
+
+/// Adds the line of a false part, with its history.
+fn add_reason(
+    alloc: Global,
+    task: &Task,
+    plan: &Plan,
+    part: &Part<'_>,
+    history: History,
+    text: &mut Vec<u8>,
+) -> Result<(), NoMemory>
+    ensures { OnOk result (text.new.items ≡ text.old.items ++ reason_line (task_of task.now) (plan_of plan.now) (part_of part.now) (history_of history)) }
+{
+    let objects = part.objects.as_slice();
+    add_formula(
+        alloc,
+        task,
+        part.formula,
+        Scope::of(objects, part.names),
+        text,
+    )?;
+    text.extend_from_slice(b" is false")?;
+    add_why(alloc, task, plan, part.formula, objects, history, text)?;
+    text.extend_from_slice(b".\n")?;
+    Ok(())
+}
+
+/// Adds how the formula became false.
+fn add_why(
+    alloc: Global,
+    task: &Task,
+    plan: &Plan,
+    formula: &Formula,
+    objects: &[ObjectId],
+    history: History,
+    text: &mut Vec<u8>,
+) -> Result<(), NoMemory>
+    ensures { OnOk result (text.new.items ≡ text.old.items ++ why_text (task_of task.now) (plan_of plan.now) (map object_of objects.now) (formula_of formula.now) (history_of history)) }
+{
+    match formula {
+        Formula::Atom(_) => add_deleted(alloc, task, plan, history, text),
+        Formula::Not(part) => add_negation(alloc, task, plan, part, objects, history, text),
+        _ => add_made(alloc, task, plan, history, text),
+    }
+}
+
+/// Adds how the negation of this part became false.
+fn add_negation(
+    alloc: Global,
+    task: &Task,
+    plan: &Plan,
+    part: &Formula,
+    objects: &[ObjectId],
+    history: History,
+    text: &mut Vec<u8>,
+) -> Result<(), NoMemory>
+    ensures { OnOk result (text.new.items ≡ text.old.items ++ negation_text (task_of task.now) (plan_of plan.now) (map object_of objects.now) (formula_of part.now) (history_of history)) }
+{
+    match part {
+        Formula::Atom(_) => add_added(alloc, task, plan, part, objects, history, text),
+        _ => add_made(alloc, task, plan, history, text),
+    }
+}
+
+/// Adds how an atom that should be true became false.
+fn add_deleted(
+    alloc: Global,
+    task: &Task,
+    plan: &Plan,
+    history: History,
+    text: &mut Vec<u8>,
+) -> Result<(), NoMemory>
+    ensures { OnOk result (text.new.items ≡ text.old.items ++ deleted_text (task_of task.now) (plan_of plan.now) (history_of history)) }
+{
+    match history {
+        History::Always => Ok(text.extend_from_slice(b": it was never true")?),
+        History::ByStep(step) => add_cause(alloc, task, plan, step, b" deleted it", text),
+    }
+}
+
+/// Adds how an atom that should be false became true.
+fn add_added(
+    alloc: Global,
+    task: &Task,
+    plan: &Plan,
+    atom: &Formula,
+    objects: &[ObjectId],
+    history: History,
+    text: &mut Vec<u8>,
+) -> Result<(), NoMemory>
+    ensures { OnOk result (text.new.items ≡ text.old.items ++ added_text (task_of task.now) (plan_of plan.now) (formula_text (task_of task.now) (scope_at (map object_of objects.now) []) (formula_of atom.now)) (history_of history)) }
+{
+    match history {
+        History::Always => {
+            text.extend_from_slice(b": ")?;
+            add_formula(alloc, task, atom, Scope::of(objects, &[]), text)?;
+            text.extend_from_slice(b" was true from the start")?;
+            Ok(())
+        }
+        History::ByStep(step) => {
+            add_cause(alloc, task, plan, step, b" added ", text)?;
+            add_formula(alloc, task, atom, Scope::of(objects, &[]), text)?;
+            Ok(())
+        }
+    }
+}
+
+/// Adds which step made another kind of formula false.
+fn add_made(
+    alloc: Global,
+    task: &Task,
+    plan: &Plan,
+    history: History,
+    text: &mut Vec<u8>,
+) -> Result<(), NoMemory>
+    ensures { OnOk result (text.new.items ≡ text.old.items ++ made_text (task_of task.now) (plan_of plan.now) (history_of history)) }
+{
+    match history {
+        History::Always => Ok(()),
+        History::ByStep(step) => add_cause(alloc, task, plan, step, b" made it so", text),
+    }
+}
+
+/// Adds that the step with this number is the cause.
+fn add_cause(
+    alloc: Global,
+    task: &Task,
+    plan: &Plan,
+    step: usize,
+    deed: &[u8],
+    text: &mut Vec<u8>,
+) -> Result<(), NoMemory>
+    ensures { OnOk result (text.new.items ≡ text.old.items ++ cause_text (task_of task.now) (plan_of plan.now) step deed.now) }
+{
+    let words = step_words(alloc, task, plan, step)?;
+    text.extend_from_slice(b": ")?;
+    text.extend_from_slice(words.as_bytes())?;
+    text.extend_from_slice(deed)?;
+    Ok(())
+}
+
+/// The words `step 3, (hop a b),`; steps are counted from 1.
+fn step_words(alloc: Global, task: &Task, plan: &Plan, step: usize) -> Result<String, NoMemory>
+    ensures { IfOk result (λ words. string_bytes words ≡ codes "step " ++ (decimal step ++ (codes ", " ++ (step_name (task_of task.now) (plan_of plan.now) step ++ codes ",")))) }
+{
+    let words = step_name(alloc, task, plan, step)?;
+    numbered_words(alloc, step, words.as_str())
+}
+
+/// The same for a step given in these words.
+fn numbered_words(alloc: Global, step: usize, words: &str) -> Result<String, NoMemory>
+    ensures { IfOk result (λ text. string_bytes text ≡ codes "step " ++ (decimal step ++ (codes ", " ++ (words.now ++ codes ",")))) }
+{
+    Ok(format!(in alloc; "step {step}, {words},")?)
+}
+
+/// The step with this number in plan syntax; empty if there is none.
+fn step_name(alloc: Global, task: &Task, plan: &Plan, step: usize) -> Result<String, NoMemory>
+    ensures { IfOk result (λ name. string_bytes name ≡ step_name (task_of task.now) (plan_of plan.now) step) }
+{
+    match step_at(plan, step) {
+        Some(instance) => step_text(alloc, task, instance),
+        None => Ok(String::new(alloc)),
+    }
+}
+
+/// The step with this number, counted from 1.
+fn step_at(plan: &Plan, step: usize) -> Option<&Instance>
+    ensures { option_map (λ (i : Bor Instance). instance_of i.now) result ≡ (if step == 0 then None else slice_get (plan_of plan.now) (step - 1)) }
+{
+    if step == 0 {
+        return None;
+    }
+    plan.steps().get(step - 1)
+}
+
+/// Adds the line that says that the action's cost increase has no value for this step.
+fn add_lacking_cost(
+    task: &Task,
+    plan: &Plan,
+    step: usize,
+    text: &mut Vec<u8>,
+) -> Result<(), NoMemory>
+    ensures { OnOk result (text.new.items ≡ text.old.items ++ lacking_text (task_of task.now) (plan_of plan.now) step) }
+{
+    match step_at(plan, step) {
+        Some(instance) => add_lacking_value(task, instance, text),
+        None => Ok(()),
+    }
+}
+
+/// The same for this instance.
+fn add_lacking_value(task: &Task, instance: &Instance, text: &mut Vec<u8>) -> Result<(), NoMemory>
+    ensures { OnOk result (text.new.items ≡ text.old.items ++ instance_increase_text (task_of task.now) (instance_of instance.now)) }
+{
+    match task.schema(instance.schema) {
+        Some(schema) => add_increase(task, &schema.increase, instance.objects.as_slice(), text),
+        None => Ok(()),
+    }
+}
+
+/// Adds the line about a function without a value for these objects.
+fn add_increase(
+    task: &Task,
+    increase: &Increase,
+    objects: &[ObjectId],
+    text: &mut Vec<u8>,
+) -> Result<(), NoMemory>
+    ensures { OnOk result (text.new.items ≡ text.old.items ++ increase_text (task_of task.now) (map object_of objects.now) (increase_of increase.now)) }
+{
+    match increase {
+        Increase::Function(function) => {
+            let name = function_name(task, function.predicate);
+            add_atom(task, name, function, Scope::of(objects, &[]), text)?;
+            text.extend_from_slice(b" has no value.\n")?;
+            Ok(())
+        }
+        Increase::Number(_) => Ok(()),
+    }
+}

@@ -1,0 +1,27 @@
+-- The notes on a task.
+use Rattle.std.specs.Prelude.{◌≡◌, ℕ, map}
+use Rattle.task.specs.TaskParts.{atom_of}
+use Rattle.formulas.specs.State.{instance_of}
+use Rattle.model.specs.Task.{Task}
+use Rattle.explain_tasks.specs.declared.notes.TaskNotes.{TaskNotes}
+use Rattle.explain_tasks.specs.declared.ground_notes.GroundNotes.{GroundNotes}
+use Rattle.explain_tasks.specs.Costs.{AreLacking, all_looked_at, ignores_costs, passed_over}
+use Rattle.explain_tasks.specs.Goals.{first_missing}
+use Rattle.explain_tasks.specs.Unused.{idle_actions, unasked_predicates, unnamed_objects}
+
+-- the maximum number of missing values, and of goal atoms, that are searched for: one more than are reported
+abbrev pub most_found : ℕ
+most_found = 11
+
+-- the notes that the files lead to
+pub record AreNotesOf (t : Task) (notes : TaskNotes) : Type 0 where
+  pub ignores_costs : notes.ignores_costs ≡ ignores_costs t
+  pub unasked_predicates : notes.unasked_predicates.items ≡ unasked_predicates t
+  pub unnamed_objects : notes.unnamed_objects.items ≡ unnamed_objects t
+
+-- the notes that the kept instances lead to, with this limit of instances per action
+pub record AreGroundNotesOf (t : Task) (most : ℕ) (notes : GroundNotes) : Type 0 where
+  pub lacking : AreLacking t most_found (all_looked_at t most) (map instance_of notes.lacking.items)
+  pub passed_over : notes.passed_over.items ≡ passed_over t most
+  pub missing_goals : map atom_of notes.missing_goals.items ≡ first_missing t most_found
+  pub idle_actions : notes.idle_actions.items ≡ idle_actions t

@@ -1,0 +1,18 @@
+//! Explains a task: its counts and forms, and what is suspicious: ignored costs, unreachable goals, unused declarations.
+#![tactic(auto)]
+
+mod added;
+mod costs;
+mod forms;
+mod ground_notes;
+mod lacking;
+mod mentions;
+mod notes;
+mod printing;
+mod summary;
+mod tables;
+
+pub use forms::Forms;
+pub use ground_notes::{GroundNotes, MOST_FOUND, MOST_TOLD};
+pub use notes::TaskNotes;
+pub use summary::Summary;

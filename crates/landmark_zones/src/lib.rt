@@ -1,0 +1,16 @@
+//! Landmark values in memory: zones and weights over them, and their lines in a certificate's text.
+#![tactic(auto)]
+
+mod landmarks;
+mod limits;
+mod line_text;
+#[cfg(test)]
+mod tests;
+mod values;
+mod zones;
+
+pub use landmarks::Landmarks;
+pub use limits::{MAX_ENTRIES, MAX_VALUES, MAX_ZONES};
+pub use line_text::{add_cut_by, add_dead_by, add_value, add_zone};
+pub use values::Share;
+pub use zones::ZoneRef;

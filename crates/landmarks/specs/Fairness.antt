@@ -1,0 +1,94 @@
+-- What the test of a value says.
+use Rattle.std.specs.Prelude.{◌≡◌, ℕ, zero, suc, ◌<◌, ◌≤◌, Bool, true, false, List, get_or, slice_get, Option, None, Some, [], length, sum_by}
+use Rattle.std.specs.List.{filter_map}
+use Rattle.model.specs.Task.{Atom, Task, Instance}
+use Rattle.model.specs.StaticallyFalse.{kept_instances}
+use Rattle.model.specs.NumberedLiterals.{NumberedLiteral, literals_of_number}
+use Rattle.model.specs.ConditionalChanges.{conditional_of_number}
+use Rattle.model.specs.Grounding.{ground_system}
+use Rattle.lower_bounds.specs.TableFunctions.{Table, is_among}
+use Rattle.lower_bounds.specs.FairTables.{is_asked}
+use Rattle.landmark_functions.specs.LandmarkFunctions.{Zone, has_any, Landmark, LandmarkFunction}
+use Rattle.landmark_functions.specs.FairLandmarks.{charge, IsFair, IsDeadFair}
+use Rattle.landmark_functions.specs.LandmarkLines.{Share, NumberedLandmarks, landmark_of}
+use Rattle.landmarks.specs.declared.testing.Fairness.{Fairness}
+use Rattle.landmarks.specs.declared.testing.Fairness.TheVariants.{DeadFair, Fair, Unfair}
+
+-- the landmark function of these shares, beside these tables
+abbrev pub function_over : List Table → List Zone → List Share → LandmarkFunction
+function_over tables zones shares = record { landmarks = filter_map (landmark_of zones) shares; tables = tables }
+
+-- the landmark's zone has one of these literals
+abbrev pub has_one : List NumberedLiteral → Landmark → Bool
+has_one literals m = has_any m.zone literals
+
+-- the numbers are those of the kept instances that these tables do not shut out
+abbrev pub AreAsked : Task → List Atom → List Table → List ℕ → Type 0
+AreAsked task atoms tables asked = (number : ℕ) (i : Instance) → slice_get (kept_instances task) number ≡ Some i → is_among asked number ≡ is_asked task atoms tables i
+
+abbrev pub IsFairness : Task → List Atom → LandmarkFunction → Fairness → Type 0
+IsFairness task atoms h DeadFair = IsDeadFair task atoms h
+IsFairness task atoms h Fair = IsFair task atoms h × ¬ IsDeadFair task atoms h
+IsFairness task atoms h Unfair = ¬ IsFair task atoms h
+
+-- the value with this number, beside these tables, is fair
+abbrev pub IsFairValue : Task → List Atom → List Table → NumberedLandmarks → ℕ → Type 0
+IsFairValue task atoms beside l number = IsFair task atoms (function_over beside l.zones (get_or l.values number []))
+
+-- the first value that is not
+abbrev pub IsFirstUnfair : Task → List Atom → List Table → NumberedLandmarks → Option ℕ → Type 0
+IsFirstUnfair task atoms beside l None = (k : ℕ) → k < length l.values → IsFairValue task atoms beside l k
+IsFirstUnfair task atoms beside l (Some number) =
+    (number < length l.values) × (¬ IsFairValue task atoms beside l number) × ((k : ℕ) → k < number → IsFairValue task atoms beside l k)
+
+-- the value with this number is dead-fair
+abbrev pub IsDeadFairValue : Task → List Atom → List Table → NumberedLandmarks → ℕ → Type 0
+IsDeadFairValue task atoms beside l number = IsDeadFair task atoms (function_over beside l.zones (get_or l.values number []))
+
+-- the place of the first of these values that is not
+abbrev pub IsFirstNotDead : Task → List Atom → List Table → NumberedLandmarks → List ℕ → Option ℕ → Type 0
+IsFirstNotDead task atoms beside l numbers None = (k : ℕ) → k < length numbers → IsDeadFairValue task atoms beside l (get_or numbers k 0)
+IsFirstNotDead task atoms beside l numbers (Some place) =
+    (place < length numbers) × (¬ IsDeadFairValue task atoms beside l (get_or numbers place 0)) × ((k : ℕ) → k < place → IsDeadFairValue task atoms beside l (get_or numbers k 0))
+
+-- ---- the first so many of these instances
+
+-- what the instance with this number is charged, and what it costs
+abbrev pub charged_at : Task → List Atom → List Landmark → ℕ → ℕ
+charged_at task atoms found number = sum_by (charge (literals_of_number task atoms number) (conditional_of_number task atoms number)) found
+
+abbrev pub cost_at : Task → List Atom → ℕ → ℕ
+cost_at task atoms number = (ground_system task atoms).cost number
+
+-- each is charged no more than it is allowed
+abbrev pub AreWithin : (allowed charged : ℕ → ℕ) → List ℕ → ℕ → Type 0
+AreWithin allowed charged asked count = (k : ℕ) → k < count → charged (get_or asked k 0) ≤ allowed (get_or asked k 0)
+
+-- one is charged more
+abbrev pub IsOneBeyond : (allowed charged : ℕ → ℕ) → List ℕ → ℕ → Type 0
+IsOneBeyond allowed charged asked count = (k : ℕ) × (k < count) × (allowed (get_or asked k 0) < charged (get_or asked k 0))
+
+abbrev pub free : ℕ → ℕ
+free number = 0
+
+abbrev pub IsFairnessBelow : Task → List Atom → List Landmark → List ℕ → ℕ → Fairness → Type 0
+IsFairnessBelow task atoms found asked count DeadFair = AreWithin free (charged_at task atoms found) asked count
+IsFairnessBelow task atoms found asked count Fair = AreWithin (cost_at task atoms) (charged_at task atoms found) asked count × IsOneBeyond free (charged_at task atoms found) asked count
+IsFairnessBelow task atoms found asked count Unfair = IsOneBeyond (cost_at task atoms) (charged_at task atoms found) asked count
+
+-- one more instance is charged this much
+abbrev pub after : Fairness → ℕ → Fairness
+after DeadFair zero = DeadFair
+after DeadFair (suc charged) = Fair
+after Fair charged = Fair
+after Unfair charged = Unfair
+
+abbrev pub is_unfair : Fairness → Bool
+is_unfair DeadFair = false
+is_unfair Fair = false
+is_unfair Unfair = true
+
+abbrev pub is_dead_fair : Fairness → Bool
+is_dead_fair DeadFair = true
+is_dead_fair Fair = false
+is_dead_fair Unfair = false

@@ -1,0 +1,3 @@
+pub mod Breaking
+pub mod Values
+pub mod Fairness

@@ -1,7 +1,0 @@
-pub mod Token
-pub mod Refusal
-pub mod Reading
-pub mod Place
-pub mod Typed
-pub mod Costs
-pub mod Phrases

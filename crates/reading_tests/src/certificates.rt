@@ -1,0 +1,129 @@
+//! Tests of the limits of certificates that are made in memory.
+use certificate::{Bounds, Cert, Claim, Header, Mark, Potential, StateLine, Version};
+use faults::NoMemory;
+use indexmap::IndexSet;
+use std::alloc::{AllocError, Global};
+use std::test::Fail;
+use task::Atom;
+use test_support::{Application, atom};
+
+/// A constant, and the weights of the atoms.
+pub(crate) type Weights = (i64, &'static [i64]);
+
+/// The cost of a state, its role, and its atoms.
+type Line = (u64, Mark, &'static [u32]);
+
+/// A version, a claim, the weights of values and dead ends, and a state: the parts of a certificate with two atoms, and whether
+/// they are within its limits.
+type Row = (Version, Claim, Weights, Weights, Line, bool);
+
+/// The largest number that may occur in a certificate.
+const MOST: u64 = 1_152_921_504_606_846_975;
+
+/// Constants and weights of 0, and the largest ones.
+const ZERO: Weights = (0, &[0, 0]);
+
+const LARGEST: Weights = (2_147_483_647, &[-2_147_483_647, 3]);
+
+/// The state without an atom.
+const START: Line = (0, Mark::Open, &[]);
+
+/// Claims and states; weights of values; versions, and weights of dead ends.
+#[rattlefmt::skip]
+static ROWS: [Row; 28] = [
+    (Version::One, Claim::Bound(MOST), LARGEST, ZERO, (MOST, Mark::Cut { rest: MOST }, &[0, 1]), true),
+    (Version::One, Claim::Bound(0), LARGEST, ZERO, (0, Mark::Cut { rest: 0 }, &[1]), true),
+    (Version::One, Claim::Unsolvable, LARGEST, ZERO, START, true),
+    (Version::One, Claim::Bound(MOST + 1), LARGEST, ZERO, START, false),
+    (Version::One, Claim::Bound(0), LARGEST, ZERO, (MOST + 1, Mark::Open, &[]), false),
+    (Version::One, Claim::Bound(0), LARGEST, ZERO, (0, Mark::Cut { rest: MOST + 1 }, &[]), false),
+    // Numbers that descend, repeat, or name no atom.
+    (Version::One, Claim::Bound(0), LARGEST, ZERO, (0, Mark::Open, &[1, 0]), false),
+    (Version::One, Claim::Bound(0), LARGEST, ZERO, (0, Mark::Open, &[0, 0]), false),
+    (Version::One, Claim::Bound(0), LARGEST, ZERO, (0, Mark::Open, &[1, 1]), false),
+    (Version::One, Claim::Bound(0), LARGEST, ZERO, (0, Mark::Open, &[2]), false),
+    (Version::One, Claim::Bound(0), LARGEST, ZERO, (0, Mark::Open, &[0, 1, 2]), false),
+    (Version::One, Claim::Bound(0), ZERO, ZERO, START, true),
+    (Version::One, Claim::Bound(0), (-2_147_483_647, &[2_147_483_647, -2_147_483_647]), ZERO, START, true),
+    (Version::One, Claim::Bound(0), (-2_147_483_648, &[0, 0]), ZERO, START, false),
+    (Version::One, Claim::Bound(0), (0, &[2_147_483_648, 0]), ZERO, START, false),
+    (Version::One, Claim::Bound(0), (0, &[0, -2_147_483_648]), ZERO, START, false),
+    // One weight too few, and one too many.
+    (Version::One, Claim::Bound(0), (0, &[0]), ZERO, START, false),
+    (Version::One, Claim::Bound(0), (0, &[0, 0, 0]), ZERO, START, false),
+    (Version::One, Claim::Unsolvable, ZERO, ZERO, START, true),
+    (Version::One, Claim::Unsolvable, ZERO, ZERO, (0, Mark::Dead, &[]), false),
+    (Version::One, Claim::Unsolvable, ZERO, (1, &[0, 0]), START, false),
+    (Version::One, Claim::Unsolvable, ZERO, (0, &[0, -1]), START, false),
+    (Version::Two, Claim::Unsolvable, ZERO, ZERO, START, true),
+    (Version::Two, Claim::Unsolvable, ZERO, (1, &[-1, 2_147_483_647]), (0, Mark::Dead, &[]), true),
+    (Version::Two, Claim::Unsolvable, ZERO, (-2_147_483_647, &[0, 1]), (0, Mark::Cut { rest: MOST }, &[]), true),
+    (Version::Two, Claim::Unsolvable, ZERO, (2_147_483_648, &[0, 0]), (0, Mark::Dead, &[]), false),
+    (Version::Two, Claim::Unsolvable, ZERO, (0, &[0, -2_147_483_648]), (0, Mark::Dead, &[]), false),
+    (Version::Two, Claim::Unsolvable, ZERO, (0, &[0]), (0, Mark::Dead, &[]), false),
+];
+
+/// The potential function with this constant and these weights.
+fn potential(alloc: Global, weights: &Weights) -> Result<Potential, AllocError> {
+    let (constant, weights) = *weights;
+    let weights = Vec::from_slice(alloc, weights)?;
+    Ok(Potential { constant, weights })
+}
+
+/// The set of these atoms.
+pub(crate) fn atoms(alloc: Global, rows: &[Application]) -> Result<IndexSet<Atom>, NoMemory> {
+    let mut atoms = IndexSet::new(alloc);
+    for row in rows {
+        atoms.insert(atom(row.0, row.1))?;
+    }
+    Ok(atoms)
+}
+
+/// The bounds with these weights of one value and of dead ends, without tables.
+pub(crate) fn bounds(
+    alloc: Global,
+    value: &Weights,
+    dead_ends: &Weights,
+) -> Result<Bounds, NoMemory> {
+    let values = vec![in alloc; potential(alloc, value)?]?;
+    Ok(Bounds {
+        values,
+        dead_ends: potential(alloc, dead_ends)?,
+        tables: Vec::new(alloc),
+    })
+}
+
+/// The header of the certificate, with the atoms of two predicates.
+fn header(alloc: Global, row: &Row) -> Result<Header, NoMemory> {
+    let atoms = atoms(alloc, &[(0, &[]), (1, &[])])?;
+    Ok(Header {
+        version: row.0,
+        claim: row.1,
+        exchanges: Vec::new(alloc),
+        atoms,
+        bounds: bounds(alloc, &row.2, &row.3)?,
+    })
+}
+
+/// The line of the state.
+fn line(alloc: Global, line: &Line) -> Result<StateLine, AllocError> {
+    let (cost, mark, numbers) = *line;
+    let atoms = numbers.to_vec(alloc)?;
+    Ok(StateLine { cost, mark, atoms })
+}
+
+/// The number of lines of the certificate with these parts; `None` if there is no such certificate.
+fn lines_of(alloc: Global, row: &Row) -> Result<Option<usize>, NoMemory> {
+    let lines = vec![in alloc; line(alloc, &row.4)?]?;
+    let cert = Cert::new(alloc, header(alloc, row)?, &lines)?;
+    Ok(cert.as_ref().map(Cert::line_count))
+}
+
+#[test]
+fn certificates_keep_their_limits(rt: HostRuntime) -> Result<(), Fail> {
+    for (number, row) in ROWS.iter().enumerate() {
+        let wanted = row.5.then_some(1);
+        assert_eq!(rt; lines_of(rt.alloc(), row)?, wanted, "row {number}");
+    }
+    Ok(())
+}

@@ -1,0 +1,17 @@
+pub mod Lists
+pub mod ExchangeLemmas
+pub mod NamedLemmas
+pub mod SameFormulaLemmas
+pub mod Images
+pub mod ObjectImages
+pub mod FormulaImages
+pub mod EffectImages
+pub mod GoalImages
+pub mod StepImages
+pub mod TestLemmas
+pub mod OrbitLemmas
+pub mod RepresentativeLemmas
+pub mod TaskOrbits
+pub mod PackedOrbits
+pub mod ImagesCompute
+pub mod SymmetryExampleProofs

@@ -1,9 +1,0 @@
-pub mod Lists
-pub mod Rows
-pub mod Falls
-pub mod Steps
-pub mod Estimates
-pub mod LowerBound
-pub mod WithoutTables
-pub mod Certain
-pub mod TableExampleProofs

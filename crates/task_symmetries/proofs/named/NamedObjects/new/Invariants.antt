@@ -1,7 +1,0 @@
-use Rattle.task.specs.Task.{task_of}
-use Rattle.task_symmetries.proofs.NamedMarks.{Lacks}
-use Rattle.task_symmetries.proofs.named.NamedObjects.new.Given as goal
-
--- only the remaining actions name further objects
-abbrev pub invariant-loop-number : goal.invariant-loop-number
-invariant-loop-number l = Lacks (task_of l.task) l.number l.table.items

@@ -1,8 +1,0 @@
-pub mod Pairs
-pub mod Exchange
-pub mod Named
-pub mod Lent
-pub mod Places
-pub mod Kept
-pub mod Numbers
-pub mod SymmetryTest

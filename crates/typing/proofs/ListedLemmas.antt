@@ -1,0 +1,83 @@
+-- The listed faults are faults of the pair.
+use Rattle.std.proofs.Common.{◌≡◌, ◌∙◌, List, [], ◌∷◌, ◌++◌, drop, map, take, All, Contains, ◌⊎◌, inl, inr, refl, sym, ap, subst}
+use Rattle.std.proofs.lemmas.List.{take-append-drop}
+use Rattle.std.proofs.lemmas.List.Elements.{All-contains_itself, Contains-append_cases, Contains-append_left}
+use Rattle.std.proofs.lemmas.List.Sorted.{All-permutation}
+use Rattle.typing_names.specs.Refusals.{refusal_of}
+use Rattle.typing_names.specs.declared.fault.TaskRefusal.{TaskRefusal}
+use Rattle.typing.specs.Declarations.{type_faults_of}
+use Rattle.typing.specs.DeclaredObjects.{AreObjects, AreObjectsOf}
+use Rattle.typing.specs.Listed.{AreFaultsOf, AreListed, IsFaultOf, faults_listed, use_faults}
+use Rattle.typing.specs.declared.names.DeclaredObjects.{DeclaredObjects}
+use Rattle.model.specs.Task.{Name}
+use Rattle.model.specs.Trees.{Domain, Problem}
+use Rattle.model.specs.Typing.{TypingFault, cycle_faults, declaration_faults, declared_constants, declared_objects, domain_name_faults, first_filled, function_faults, object_faults, object_in, objects_faults, type_declaration_faults, type_names}
+use Rattle.model.specs.TypingFaults.{Phase, of_actions, of_cycles, of_functions, of_goal, of_init, of_names, of_objects, of_predicates}
+use Rattle.model.proofs.ListLemmas.{Contains-map, Contains-none}
+use Rattle.model.proofs.TypingFaultsPhases.{listed_reported, phase_faults}
+
+-- ---- the objects
+
+pub no_object : {ns : List Name} {d : Domain} {p : Problem} {o : DeclaredObjects} → AreObjects ns d p o → ns ≡ type_names d → object_faults d p ≡ []
+no_object {d = d} {p = p} are same = sym (ap (λ ns. objects_faults ns (declared_objects d p)) same) ∙ are.right
+
+pub objects_named : {ns : List Name} {d : Domain} {p : Problem} {o : DeclaredObjects} → AreObjects ns d p o → ns ≡ type_names d → AreObjectsOf d p o
+objects_named {d = d} {p = p} are same = record {
+  constants = are.constants ∙ ap (λ ns. map (object_in ns) (declared_constants d)) same;
+  all = are.all ∙ ap (λ ns. map (object_in ns) (declared_objects d p)) same;
+}
+
+-- ---- the phases
+
+module _ (d : Domain) (p : Problem) where
+  -- a listed fault of a phase
+  fault_of : (phase : Phase) (f : TypingFault) → Contains (phase_faults d p phase) f → IsFaultOf d p f
+  fault_of phase f at =
+      let there = listed_reported d p phase f at in
+      subst (IsFaultOf d p) there.is (record { phase = phase; word = there.word; is_fault = there.is_fault; file = refl; span = refl })
+
+  -- or of one of the three phases of uses
+  use_fault : (f : TypingFault) → Contains (use_faults d p) f → IsFaultOf d p f
+  use_fault f at =
+      elim (Contains-append_cases (phase_faults d p of_actions) (phase_faults d p of_init ++ phase_faults d p of_goal) f at) [
+        | inl here ↦ fault_of of_actions f here
+        | inr later ↦
+            elim (Contains-append_cases (phase_faults d p of_init) (phase_faults d p of_goal) f later) [
+              | inl here ↦ fault_of of_init f here
+              | inr here ↦ fault_of of_goal f here
+            ]
+      ]
+
+  -- a fault of the first list that has any
+  in_filled : (faults : List TypingFault) (later : List (List TypingFault)) (f : TypingFault) → Contains (first_filled (faults ∷ later)) f → Contains faults f ⊎ Contains (first_filled later) f
+  in_filled [] later f at = inr at
+  in_filled (g ∷ faults) later f at = inl at
+
+  either : (faults : List TypingFault) (later : List (List TypingFault)) → ((f : TypingFault) → Contains faults f → IsFaultOf d p f) → ((f : TypingFault) → Contains (first_filled later) f → IsFaultOf d p f)
+      → (f : TypingFault) → Contains (first_filled (faults ∷ later)) f → IsFaultOf d p f
+  either faults later here there f at = elim (in_filled faults later f at) [ inl first ↦ here f first | inr second ↦ there f second ]
+
+  nowhere : (f : TypingFault) → Contains (first_filled []) f → IsFaultOf d p f
+  nowhere f at = absurd (Contains-none f at)
+
+  type_fault : (f : TypingFault) → Contains (type_faults_of d p) f → IsFaultOf d p f
+  type_fault = either (domain_name_faults d p ++ type_declaration_faults d) (cycle_faults d ∷ []) (fault_of of_names) (either (cycle_faults d) [] (fault_of of_cycles) nowhere)
+
+  each_fault : (f : TypingFault) → Contains (faults_listed d p) f → IsFaultOf d p f
+  each_fault =
+      either (type_faults_of d p) _ type_fault
+      (either (object_faults d p) _ (fault_of of_objects)
+      (either (declaration_faults (type_names d) d.predicates) _ (fault_of of_predicates)
+      (either (function_faults d p) _ (fault_of of_functions)
+      (either (use_faults d p) [] use_fault nowhere))))
+
+  pub are_faults : (listed : List TaskRefusal) → AreListed (faults_listed d p) listed → AreFaultsOf d p listed
+  are_faults listed are =
+      All-permutation (λ r. IsFaultOf d p (refusal_of r)) are.found listed are.ordered
+      (λ k r below. each _ (All-contains_itself are.found k r below))
+    where
+      each : (r : TaskRefusal) → Contains are.found r → IsFaultOf d p (refusal_of r)
+      each r at =
+          let taken : Contains (take 1000 (faults_listed d p)) (refusal_of r) = subst (λ l. Contains l (refusal_of r)) are.are (Contains-map refusal_of are.found r at) in
+          each_fault (refusal_of r)
+          (subst (λ l. Contains l (refusal_of r)) (take-append-drop 1000 (faults_listed d p)) (Contains-append_left (take 1000 (faults_listed d p)) (drop 1000 (faults_listed d p)) (refusal_of r) taken))

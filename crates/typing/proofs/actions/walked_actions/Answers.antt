@@ -1,0 +1,51 @@
+use Rattle.std.proofs.Common.{◌≡◌, ◌∙◌, List, [], ◌++◌, map, ap, sym}
+use Rattle.std.specs.List.{flat_map}
+use Rattle.std.proofs.lemmas.List.Folds.{flat_map-map}
+use Rattle.std.proofs.lemmas.Result.{IfOk-weaker, on_ok_weaker}
+use Rattle.task.specs.TaskParts as parts
+use Rattle.typing_names.specs.Scope.{known_outside}
+use Rattle.typing_names.specs.Walk.{Finds, found, found_by}
+use Rattle.typing_names.proofs.Empty as empty
+use Rattle.typing_names.proofs.Found as finding
+use Rattle.pddl_tree_parts.specs.Tree as read
+use Rattle.pddl_tree_parts.specs.declared.tree.Action.{Action}
+use Rattle.model.specs.Trees as tree
+use Rattle.model.specs.Trees.{domain_file}
+use Rattle.model.specs.Typing as typing
+use Rattle.typing.proofs.actions.walked_actions.Goals as goal
+
+abbrev placed_as : Action → typing.Placed
+placed_as a = typing.placed domain_file (read.name_of a.name)
+
+abbrev twice : List Action → List typing.TypingFault
+twice zs = typing.refused 16 (typing.repeated (map placed_as zs))
+
+-- the faults of the list in memory are those of the trees
+same_faults : (known : typing.Known) (xs ys : List Action) → xs ≡ ys
+    → twice xs ++ flat_map (λ (a : Action). typing.schema_faults known (read.action_of a)) xs ≡ typing.action_faults known (map read.action_of ys)
+same_faults known xs ys is =
+    ap (λ zs. twice zs ++ flat_map (λ (a : Action). typing.schema_faults known (read.action_of a)) zs) is
+    ∙ (λ i. typing.refused 16 (typing.repeated (sym (finding.map-map (λ (a : tree.Action). typing.placed domain_file a.name) read.action_of ys) i))
+    ++ sym (flat_map-map (typing.schema_faults known) read.action_of ys) i)
+
+pub returns-clause-finds : goal.returns-clause-finds
+returns-clause-finds c =
+    let known = known_outside c.args.globals.now in
+    let xs = c.as_slice-actions.result.now in
+    let inner = flat_map (λ (a : Action). typing.schema_faults known (read.action_of a)) xs in
+    on_ok_weaker c.table.result
+    (λ finds. finding.found_after (found_by c.args.walk.now) (found_by c.declare_actions.new.walk) (found_by c.table.new.walk) (twice xs) inner c.in_ok-declare_actions.ensures finds
+    ∙ ap (found (found_by c.args.walk.now)) (same_faults known xs c.args.domain.now.actions.items c.as_slice-actions.ensures.value))
+    c.table.ensures.finds
+
+pub returns-clause-table : goal.returns-clause-table
+returns-clause-table c =
+    let known = known_outside c.args.globals.now in
+    let xs = c.as_slice-actions.result.now in
+    let ys = c.args.domain.now.actions.items in
+    let inner = flat_map (λ (a : Action). typing.schema_faults known (read.action_of a)) xs in
+    IfOk-weaker c.table.result _ _
+    (λ m table none.
+    table (empty.not_refused 16 (typing.repeated (map placed_as xs)) (empty.nil_left (twice xs) inner (same_faults known xs ys c.as_slice-actions.ensures.value ∙ none)))
+    ∙ ap (map (λ (a : Action). typing.schema_in known (read.action_of a))) c.as_slice-actions.ensures.value ∙ sym (finding.map-map (typing.schema_in known) read.action_of ys))
+    c.table.ensures.table

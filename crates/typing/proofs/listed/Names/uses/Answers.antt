@@ -1,0 +1,30 @@
+use Rattle.std.proofs.Common.{◌≡◌, ◌∙◌, [], ◌++◌, map, ap}
+use Rattle.pddl_tree_parts.specs.Tree.{domain_of, problem_of}
+use Rattle.typing_names.specs.Scope.{known_outside}
+use Rattle.typing_names.specs.Walk.{found, found_by, nothing}
+use Rattle.typing_names.proofs.Found.{found_after}
+use Rattle.typing_names.proofs.Reports as printing
+use Rattle.typing.specs.Listed.{known_in_names, use_faults}
+use Rattle.model.specs.Trees.{problem_file}
+use Rattle.model.specs.Typing.{action_faults, formula_faults, init_faults, known_in_domain, known_in_problem}
+use Rattle.typing.proofs.listed.Names.uses.Goals as goal
+
+pub returns : goal.returns
+returns c =
+    let d = domain_of c.args.domain.now in let p = problem_of c.args.problem.now in let r = c.requires in let names = c.args.self.now in
+    let domain : known_in_names names names.objects.now.constants.entries ≡ known_in_domain d =
+    λ i. record { type_names = r.types.names i; types = r.types.all i; predicates = r.predicates i; functions = r.functions i; variables = []; objects = r.objects.constants i } in
+    let problem : known_in_names names names.objects.now.all.entries ≡ known_in_problem d p =
+    λ i. record { type_names = r.types.names i; types = r.types.all i; predicates = r.predicates i; functions = r.functions i; variables = []; objects = r.objects.all i } in
+    let in_domain : known_outside c.in_domain.result ≡ known_in_domain d = c.in_domain.ensures ∙ domain in
+    let in_problem : known_outside c.in_problem.result ≡ known_in_problem d p = c.in_problem.ensures.known ∙ problem in
+    let total : found_by c.walk_statements.new.walk ≡ found nothing (use_faults d p) =
+    found_after nothing (found_by c.walked_actions.new.walk) (found_by c.walk_statements.new.walk) (action_faults (known_in_domain d) d.actions)
+    (init_faults problem_file (known_in_problem d p) p.init ++ formula_faults problem_file (known_in_problem d p) p.goal)
+    (c.in_ok-walked_actions.ensures.finds ∙ (λ i. found (c.in_ok-walk.ensures i) (action_faults (in_domain i) d.actions)))
+    (c.in_ok-walk_statements.ensures
+    ∙ (λ i. found (found_by c.walked_actions.new.walk) (init_faults (c.in_problem.ensures.file i) (in_problem i) p.init ++ formula_faults (c.in_problem.ensures.file i) (in_problem i) p.goal))) in
+    record {
+      none = printing.none_result tt (use_faults d p) _ total c.finish.result c.finish.ensures.none;
+      reported = printing.reports_result (use_faults d p) _ total c.finish.result c.finish.ensures.some;
+    }

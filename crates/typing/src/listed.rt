@@ -1,0 +1,162 @@
+//! All faults of a pair that are found before one of them hides what comes after it.
+ghost use Rattle.std.specs.Prelude.{◌≡◌, ◌++◌, List, [], IfErr, IfOk, OnOk};
+ghost use Rattle.pddl_tree_parts.specs.Tree.{domain_of, file_of, problem_of};
+ghost use Rattle.typing_names.specs.Scope.{known_outside, known_over};
+ghost use Rattle.typing_names.specs.Walk.{Finds};
+ghost use Rattle.typing.specs.Task.{ReportsAll};
+ghost use Rattle.typing.specs.Listed.{AreFaultsOf, AreListed, AreNamesOf, faults_listed, known_in_names, use_faults};
+ghost use Rattle.model.specs.Trees.{problem_file};
+ghost use Rattle.model.specs.Typing.{TypingFault, formula_faults, init_faults};
+
+use crate::actions::walked_actions;
+use crate::names::DeclaredObjects;
+use crate::statements::walked_init;
+use crate::{PairFault, TaskFile, TaskRefusal, chains, declarations, functions, objects};
+use faults::{NoMemory, Refused};
+use indexmap::IndexMap;
+use pddl_tree_parts::{Domain, Problem};
+use std::alloc::Global;
+use task::{Predicate, TypeUnion};
+use typing_names::formulas::formula;
+use typing_names::{Globals, TypeTable, Walk};
+
+/// The faults of a pair: those of the first phase of typing that has any, up to [`MAX_LISTED`](crate::MAX_LISTED), and none if the
+/// pair is well-typed. The actions, the initial state and the goal are a single phase here, since they do not depend on each
+/// other. The faults of the domain come before those of the problem, each in the order of the text. A fault that is found twice
+/// is listed twice.
+///
+/// # Errors
+/// An allocation failed.
+pub fn listed_faults(
+    alloc: Global,
+    domain: &Domain<'_>,
+    problem: &Problem<'_>,
+) -> Result<Vec<TaskRefusal>, NoMemory>
+    ensures all { IfOk result (λ listed. AreListed (faults_listed (domain_of domain.now) (problem_of problem.now)) listed.items) }
+    ensures each { IfOk result (λ listed. AreFaultsOf (domain_of domain.now) (problem_of problem.now) listed.items) }
+{
+    match every_fault(alloc, domain, problem) {
+        Ok(()) => Ok(Vec::new(alloc)),
+        Err(fault) => in_order(fault),
+    }
+}
+
+/// The listed faults in order: the domain's before the problem's, then by start, then by number.
+fn in_order(fault: PairFault) -> Result<Vec<TaskRefusal>, NoMemory>
+    ensures { (faults : List TypingFault) → ReportsAll faults fault → IfOk result (λ listed. AreListed faults listed.items) }
+{
+    let mut listed = match fault {
+        Refused::At(refusal) => refusal.listed,
+        Refused::NoMemory => return Err(NoMemory),
+    };
+    listed.sort_unstable_by_key(|fault| {
+        let is_later = fault.file == TaskFile::Problem;
+        (is_later, fault.span.start, fault.code.number())
+    });
+    Ok(listed)
+}
+
+/// Fails with the faults of the first phase that has any.
+fn every_fault(alloc: Global, domain: &Domain<'_>, problem: &Problem<'_>) -> Result<(), PairFault>
+    ensures none { OnOk result (faults_listed (domain_of domain.now) (problem_of problem.now) ≡ []) }
+    ensures reported { IfErr result (ReportsAll (faults_listed (domain_of domain.now) (problem_of problem.now))) }
+{
+    let types = chains::types(alloc, domain, problem)?;
+    let objects = objects::of_pair(alloc, &types, domain, problem)?;
+    let predicates = declarations::predicates(alloc, &types, domain)?;
+    let functions = functions::functions(alloc, &types, domain, problem)?;
+    let names = Names {
+        types: &types,
+        objects: &objects,
+        predicates: &predicates,
+        functions: &functions,
+    };
+    names.uses(alloc, domain, problem)
+}
+
+/// The names that a pair declares.
+#[derive(Drop)]
+struct Names<'a> {
+    types: &'a TypeTable,
+    objects: &'a DeclaredObjects,
+    predicates: &'a IndexMap<Vec<u8>, Predicate>,
+    functions: &'a IndexMap<Vec<u8>, Predicate>,
+}
+
+impl Names<'_> {
+    /// Fails with the faults of the actions, of the initial state and of the goal.
+    fn uses(
+        &self,
+        alloc: Global,
+        domain: &Domain<'_>,
+        problem: &Problem<'_>,
+    ) -> Result<(), PairFault>
+        requires { AreNamesOf (domain_of domain.now) (problem_of problem.now) self.now }
+        ensures none { OnOk result (use_faults (domain_of domain.now) (problem_of problem.now) ≡ []) }
+        ensures reported { IfErr result (ReportsAll (use_faults (domain_of domain.now) (problem_of problem.now))) }
+    {
+        let mut walk = Walk::new(alloc)?;
+        walked_actions(alloc, &mut walk, &self.in_domain(), domain)?;
+        walk_statements(alloc, &mut walk, &self.in_problem(), problem)?;
+        walk.finish(())
+    }
+
+    /// Those visible in the domain.
+    fn in_domain(&self) -> Globals<'_>
+        ensures { known_outside result ≡ known_in_names self.now self.now.objects.now.constants.entries }
+    {
+        Globals {
+            file: TaskFile::Domain,
+            types: self.types,
+            predicates: self.predicates,
+            functions: self.functions,
+            objects: &self.objects.constants,
+        }
+    }
+
+    /// Those visible in the problem.
+    fn in_problem(&self) -> Globals<'_>
+        ensures file { file_of result.file ≡ problem_file }
+        ensures known { known_outside result ≡ known_in_names self.now self.now.objects.now.all.entries }
+    {
+        Globals {
+            file: TaskFile::Problem,
+            types: self.types,
+            predicates: self.predicates,
+            functions: self.functions,
+            objects: &self.objects.all,
+        }
+    }
+}
+
+/// Finds the faults of the initial state and of the goal.
+fn walk_statements(
+    alloc: Global,
+    walk: &mut Walk,
+    globals: &Globals<'_>,
+    problem: &Problem<'_>,
+) -> Result<(), NoMemory>
+    ensures { OnOk result (Finds walk.old walk.new (init_faults (file_of globals.now.file) (known_outside globals.now) (problem_of problem.now).init
+        ++ formula_faults (file_of globals.now.file) (known_outside globals.now) (problem_of problem.now).goal)) }
+{
+    let none = IndexMap::new(alloc);
+    walk_init(alloc, walk, globals, &none, problem)?;
+    let mut variables = IndexMap::new(alloc);
+    formula(alloc, walk, globals, &mut variables, &problem.goal)?;
+    Ok(())
+}
+
+/// Finds the faults of the initial state.
+fn walk_init(
+    alloc: Global,
+    walk: &mut Walk,
+    globals: &Globals<'_>,
+    variables: &IndexMap<Vec<u8>, TypeUnion>,
+    problem: &Problem<'_>,
+) -> Result<(), NoMemory>
+    ensures { OnOk result (Finds walk.old walk.new (init_faults (file_of globals.now.file) (known_over globals.now variables.now.entries) (problem_of problem.now).init)) }
+{
+    let scope = globals.with(variables);
+    walked_init(alloc, walk, &scope, problem)?;
+    Ok(())
+}

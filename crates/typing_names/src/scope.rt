@@ -1,0 +1,395 @@
+//! Atoms: from names to numbers.
+ghost use Rattle.std.specs.Prelude.{◌≡◌, ◌≤◌, length, map};
+ghost use Rattle.std.specs.List.{list_any};
+ghost use Rattle.pddl_tree_parts.specs.Tree as read;
+ghost use Rattle.task.specs.TaskParts as parts;
+ghost use Rattle.model.specs.Typing.{names_of_predicates, total_cost, is_same, word_of};
+
+use crate::TaskFile;
+use crate::type_names::TypeTable;
+use crate::walk::Walk;
+use arrayvec::ArrayVec;
+use faults::{Code, NoMemory};
+use indexmap::IndexMap;
+use pddl_tree_parts as tree;
+use pddl_tree_parts::{GroundAtom, Name};
+use std::alloc::Global;
+use task::{
+    Atom, LiftedAtom, MAX_ARGUMENTS, ObjectId, Predicate, PredicateId, Term, TypeId, TypeUnion,
+    VariableId, all_below, is_below,
+};
+
+/// The names visible all over a file: those declared outside its actions.
+#[derive(Drop)]
+pub struct Globals<'g> {
+    /// The file.
+    pub file: TaskFile,
+    /// The types by name, each with its supertypes.
+    pub types: &'g TypeTable,
+    /// The predicates by name.
+    pub predicates: &'g IndexMap<Vec<u8>, Predicate>,
+    /// The functions by name.
+    pub functions: &'g IndexMap<Vec<u8>, Predicate>,
+    /// The objects by name, each with its type.
+    pub objects: &'g IndexMap<Vec<u8>, TypeId>,
+    ghost few: { length objects.now.entries ≤ 65535 },
+}
+
+/// Names visible to an atom.
+///
+/// An unknown name gets the number after the last: its fault is reported, and no task results.
+#[derive(Drop)]
+pub struct Scope<'s> {
+    /// The file.
+    pub file: TaskFile,
+    /// The types by name, each with its supertypes.
+    pub types: &'s TypeTable,
+    /// The predicates by name.
+    pub predicates: &'s IndexMap<Vec<u8>, Predicate>,
+    /// The functions by name.
+    pub functions: &'s IndexMap<Vec<u8>, Predicate>,
+    /// The variables in scope, each with its types.
+    pub variables: &'s IndexMap<Vec<u8>, TypeUnion>,
+    /// The objects by name, each with its type.
+    pub objects: &'s IndexMap<Vec<u8>, TypeId>,
+    ghost few: { length objects.now.entries ≤ 65535 },
+}
+
+/// Whether the total cost is declared among these functions.
+pub fn declares_cost(functions: &IndexMap<Vec<u8>, Predicate>) -> bool
+    ensures { result ≡ list_any (is_same total_cost) (names_of_predicates (map parts.predicate_of functions.now.entries)) }
+{
+    functions.contains_key(b"total-cost".as_slice())
+}
+
+impl Globals<'_> {
+    ghost use Rattle.typing_names.specs.Scope.{known_of, known_over};
+
+    /// The names visible where these variables are in scope.
+    pub fn with<'v>(&'v self, variables: &'v IndexMap<Vec<u8>, TypeUnion>) -> Scope<'v>
+        ensures file { result.file ≡ self.now.file }
+        ensures known { known_of result ≡ known_over self.now variables.now.entries }
+    {
+        Scope {
+            file: self.file,
+            types: self.types,
+            predicates: self.predicates,
+            functions: self.functions,
+            variables,
+            objects: self.objects,
+        }
+    }
+}
+
+impl Scope<'_> {
+    ghost use Rattle.std.specs.Prelude.{[], nat_lt, slice_get, is_some, if◌then◌else◌, take, None, Some, IfOk, OnOk};
+    ghost use Rattle.std.specs.List.{list_all};
+    ghost use Rattle.std.specs.Option.{option_map, option_map_or};
+    ghost use Rattle.pddl_tree_parts.specs.Tree.{file_of};
+    ghost use Rattle.typing_names.specs.Scope.{argument_faults, arguments_at, known_of, narrow_atom_in};
+    ghost use Rattle.typing_names.specs.Walk.{Finds};
+    ghost use Rattle.model.specs.Task.{variable, object};
+    ghost use Rattle.model.specs.Trees as tree;
+    ghost use Rattle.model.specs.Typing.{atom_faults, atom_in, fits_in, fits_wanted, ground_atom_faults, has_cost, in_function, is_named, lifted_atom_in, names_of_objects, names_of_predicates, names_of_variables, number_in, predicate_faults, refused_word, term_faults, term_in, terms_faults, unknown_faults};
+
+    /// Whether the total cost is declared.
+    pub fn has_cost(&self) -> bool
+        ensures { result ≡ has_cost (known_of self.now) }
+    {
+        declares_cost(self.functions)
+    }
+
+    /// The names visible in a function of terms or objects: the functions take the place of the predicates.
+    pub fn in_function(&self) -> Scope<'_>
+        ensures file { result.file ≡ self.now.file }
+        ensures known { known_of result ≡ in_function (known_of self.now) }
+    {
+        Scope {
+            file: self.file,
+            types: self.types,
+            predicates: self.functions,
+            functions: self.functions,
+            variables: self.variables,
+            objects: self.objects,
+        }
+    }
+
+    /// The predicate with this name, used with this number of terms.
+    fn predicate(
+        &self,
+        walk: &mut Walk,
+        name: &Name<'_>,
+        count: usize,
+    ) -> Result<PredicateId, NoMemory>
+        ensures value { IfOk result (λ p. p.0 ≡ number_in (names_of_predicates (known_of self.now).predicates) (read.name_of name.now)) }
+        ensures finds { OnOk result (Finds walk.old walk.new (predicate_faults (file_of self.now.file) (known_of self.now) (read.name_of name.now) count)) }
+    {
+        walk.fold(name)?;
+        match self.predicates.get_full(walk.folded.as_slice()) {
+            Some((number, _, predicate)) => {
+                if predicate.arguments.len() != count {
+                    walk.refuse(self.file, Code::WrongArity, name);
+                }
+                Ok(PredicateId(number))
+            }
+            None => {
+                walk.refuse(self.file, Code::UnknownName, name);
+                Ok(PredicateId(self.predicates.len()))
+            }
+        }
+    }
+
+    /// The number of a name: its place, if it has one. A name without one is refused and gets the number after the last.
+    fn number(&self, walk: &mut Walk, place: Option<usize>, count: usize, name: &Name<'_>) -> usize
+        ensures value { result ≡ option_map_or (λ n. n) place count }
+        ensures finds { Finds walk.old walk.new (if is_some place then [] else refused_word (file_of self.now.file) 17 (read.name_of name.now)) }
+    {
+        match place {
+            Some(number) => number,
+            None => {
+                walk.refuse(self.file, Code::UnknownName, name);
+                count
+            }
+        }
+    }
+
+    /// The variable with this name.
+    fn variable(&self, walk: &mut Walk, name: &Name<'_>) -> Result<VariableId, NoMemory>
+        ensures value { IfOk result (λ v. v.0 ≡ number_in (names_of_variables (known_of self.now).variables) (read.name_of name.now)) }
+        ensures finds { OnOk result (Finds walk.old walk.new (unknown_faults (file_of self.now.file) 17 (names_of_variables (known_of self.now).variables) (read.name_of name.now))) }
+    {
+        walk.fold(name)?;
+        let place = self.variables.get_index_of(walk.folded.as_slice());
+        let number = self.number(walk, place, self.variables.len(), name);
+        Ok(VariableId(number))
+    }
+
+    /// The object with this name.
+    fn object(&self, walk: &mut Walk, name: &Name<'_>) -> Result<ObjectId, NoMemory>
+        ensures value { IfOk result (λ o. o.0 ≡ number_in (names_of_objects (known_of self.now).objects) (read.name_of name.now)) }
+        ensures finds { OnOk result (Finds walk.old walk.new (unknown_faults (file_of self.now.file) 17 (names_of_objects (known_of self.now).objects) (read.name_of name.now))) }
+    {
+        walk.fold(name)?;
+        let place = self.objects.get_index_of(walk.folded.as_slice());
+        let number = self.number(walk, place, self.objects.len(), name);
+        Ok(ObjectId(number as u32))
+    }
+
+    /// The variable or the object in an atom or an equality.
+    pub(crate) fn term(&self, walk: &mut Walk, term: &tree::Term<'_>) -> Result<Term, NoMemory>
+        ensures value { IfOk result (λ t. parts.term_of t ≡ term_in (known_of self.now) (read.term_of term.now)) }
+        ensures finds { OnOk result (Finds walk.old walk.new (term_faults (file_of self.now.file) (known_of self.now) (read.term_of term.now))) }
+    {
+        match term {
+            tree::Term::Variable(name) => Ok(Term::Variable(self.variable(walk, name)?)),
+            tree::Term::Object(name) => Ok(Term::Object(self.object(walk, name)?)),
+        }
+    }
+
+    /// Whether every type of a variable fits an argument. An unknown variable fits.
+    fn variable_fits(&self, wanted: &TypeUnion, id: VariableId) -> bool
+        ensures { result ≡ fits_in (known_of self.now) (parts.union_of wanted.now) (variable id.0) }
+    {
+        match self.variables.get_index(id.0) {
+            Some((_, types)) => all_below(&self.types.by_name, wanted, &types.0),
+            None => true,
+        }
+    }
+
+    /// Whether the type of an object fits an argument. An unknown object fits.
+    fn object_fits(&self, wanted: &TypeUnion, id: ObjectId) -> bool
+        ensures { result ≡ fits_in (known_of self.now) (parts.union_of wanted.now) (object id.0) }
+    {
+        match self.objects.get_index(id.0 as usize) {
+            Some((_, of_type)) => is_below(&self.types.by_name, wanted, *of_type),
+            None => true,
+        }
+    }
+
+    /// Whether a term fits an argument.
+    fn fits(&self, wanted: &TypeUnion, term: Term) -> bool
+        ensures { result ≡ fits_in (known_of self.now) (parts.union_of wanted.now) (parts.term_of term) }
+    {
+        match term {
+            Term::Variable(id) => self.variable_fits(wanted, id),
+            Term::Object(id) => self.object_fits(wanted, id),
+        }
+    }
+
+    /// The types that an argument of a predicate must have; `None` if there is no such argument.
+    fn wanted(&self, predicate: PredicateId, index: usize) -> Option<&TypeUnion>
+        ensures { option_map (λ u. parts.union_of u.now) result ≡ slice_get (arguments_at (known_of self.now) predicate.0) index }
+    {
+        let (_, predicate) = self.predicates.get_index(predicate.0)?;
+        predicate.arguments.get(index)
+    }
+
+    /// Whether a term fits the argument at this place; true if there is none.
+    fn fits_argument(&self, predicate: PredicateId, index: usize, term: Term) -> bool
+        ensures { result ≡ fits_wanted (known_of self.now) (slice_get (arguments_at (known_of self.now) predicate.0) index) (parts.term_of term) }
+    {
+        match self.wanted(predicate, index) {
+            Some(wanted) => self.fits(wanted, term),
+            None => true,
+        }
+    }
+
+    /// Refuses a term that does not fit its argument.
+    fn check_fit(
+        &self,
+        walk: &mut Walk,
+        predicate: PredicateId,
+        index: usize,
+        term: Term,
+        word: &Name<'_>,
+    )
+        ensures { Finds walk.old walk.new (if fits_wanted (known_of self.now) (slice_get (arguments_at (known_of self.now) predicate.0) index) (parts.term_of term) then [] else refused_word (file_of self.now.file) 19 (read.name_of word.now)) }
+    {
+        let fits = self.fits_argument(predicate, index, term);
+        walk.refuse_unless(fits, self.file, Code::WrongType, word);
+    }
+
+    /// The term at this index of an atom.
+    fn argument(
+        &self,
+        walk: &mut Walk,
+        predicate: PredicateId,
+        index: usize,
+        term: &tree::Term<'_>,
+    ) -> Result<Term, NoMemory>
+        ensures value { IfOk result (λ t. parts.term_of t ≡ term_in (known_of self.now) (read.term_of term.now)) }
+        ensures finds { OnOk result (Finds walk.old walk.new (argument_faults (file_of self.now.file) (known_of self.now) (slice_get (arguments_at (known_of self.now) predicate.0) index) (read.term_of term.now))) }
+    {
+        let resolved = self.term(walk, term)?;
+        self.check_fit(walk, predicate, index, resolved, word(term));
+        Ok(resolved)
+    }
+
+    /// The terms of an atom.
+    fn terms(
+        &self,
+        alloc: Global,
+        walk: &mut Walk,
+        predicate: PredicateId,
+        given: &[tree::Term<'_>],
+    ) -> Result<Vec<Term>, NoMemory>
+        ensures value { IfOk result (λ v. map parts.term_of v.items ≡ map (λ t. term_in (known_of self.now) (read.term_of t)) given.now) }
+        ensures finds { OnOk result (Finds walk.old walk.new (terms_faults (file_of self.now.file) (known_of self.now) (arguments_at (known_of self.now) predicate.0) (map read.term_of given.now))) }
+    {
+        let mut terms = Vec::with_capacity(alloc, given.len())?;
+        for index in 0..given.len() {
+            terms.push(self.argument(walk, predicate, index, &given[index])?)?;
+        }
+        Ok(terms)
+    }
+
+    /// An atom of an action or a goal.
+    pub fn lifted_atom(
+        &self,
+        alloc: Global,
+        walk: &mut Walk,
+        atom: &tree::Atom<'_>,
+    ) -> Result<LiftedAtom, NoMemory>
+        ensures value { IfOk result (λ a. parts.lifted_atom_of a ≡ lifted_atom_in (known_of self.now) (read.atom_of atom.now)) }
+        ensures finds { OnOk result (Finds walk.old walk.new (atom_faults (file_of self.now.file) (known_of self.now) (read.atom_of atom.now))) }
+    {
+        let given = atom.terms.as_slice();
+        let predicate = self.predicate(walk, &atom.predicate, given.len())?;
+        let terms = self.terms(alloc, walk, predicate, given)?;
+        Ok(LiftedAtom { predicate, terms })
+    }
+
+    /// The object at this index of an atom.
+    fn ground_argument(
+        &self,
+        walk: &mut Walk,
+        predicate: PredicateId,
+        index: usize,
+        name: &Name<'_>,
+    ) -> Result<ObjectId, NoMemory>
+        ensures value { IfOk result (λ o. o.0 ≡ number_in (names_of_objects (known_of self.now).objects) (read.name_of name.now)) }
+        ensures finds { OnOk result (Finds walk.old walk.new (argument_faults (file_of self.now.file) (known_of self.now) (slice_get (arguments_at (known_of self.now) predicate.0) index) (tree.object (read.name_of name.now)))) }
+    {
+        let object = self.object(walk, name)?;
+        self.check_fit(walk, predicate, index, Term::Object(object), name);
+        Ok(object)
+    }
+
+    /// The objects of an atom, at most as many as a predicate may have.
+    fn ground_objects(
+        &self,
+        walk: &mut Walk,
+        predicate: PredicateId,
+        given: &[Name<'_>],
+    ) -> Result<ArrayVec<ObjectId, MAX_ARGUMENTS>, NoMemory>
+        ensures value { IfOk result (λ v. map parts.object_of v.items ≡ take 8 (map (λ n. number_in (names_of_objects (known_of self.now).objects) (read.name_of n)) given.now)) }
+        ensures finds { OnOk result (Finds walk.old walk.new (terms_faults (file_of self.now.file) (known_of self.now) (arguments_at (known_of self.now) predicate.0) (map (λ n. tree.object (read.name_of n)) given.now))) }
+    {
+        let mut objects = ArrayVec::new();
+        for index in 0..given.len() {
+            let object = self.ground_argument(walk, predicate, index, &given[index])?;
+            if objects.len() < MAX_ARGUMENTS {
+                objects.push(object);
+            }
+        }
+        Ok(objects)
+    }
+
+    /// An atom of the initial state. Of more objects than a predicate may have only the first are kept; their number is a fault
+    /// then.
+    pub fn atom(&self, walk: &mut Walk, atom: &GroundAtom<'_>) -> Result<Atom, NoMemory>
+        ensures value { IfOk result (λ a. parts.atom_of a ≡ narrow_atom_in (known_of self.now) (read.ground_atom_of atom.now)) }
+        ensures finds { OnOk result (Finds walk.old walk.new (ground_atom_faults (file_of self.now.file) (known_of self.now) (read.ground_atom_of atom.now))) }
+    {
+        let given = atom.objects.as_slice();
+        let predicate = self.predicate(walk, &atom.predicate, given.len())?;
+        let objects = self.ground_objects(walk, predicate, given)?;
+        Ok(Atom { predicate, objects })
+    }
+
+    /// Whether all objects are known.
+    fn all_known(&self, objects: &[ObjectId]) -> bool
+        ensures { result ≡ list_all (λ n. nat_lt n (length (known_of self.now).objects)) (map parts.object_of objects.now) }
+    {
+        let count = self.objects.len();
+        objects.iter().all(|object| (object.0 as usize) < count)
+    }
+
+    /// Whether all names in an atom of the initial state are known, and it does not have too many objects. `atom` is what
+    /// [`Scope::atom`] made of it.
+    fn is_named(&self, given: &GroundAtom<'_>, atom: &Atom) -> bool
+        requires { parts.atom_of atom.now ≡ narrow_atom_in (known_of self.now) (read.ground_atom_of given.now) }
+        ensures { result ≡ is_named (known_of self.now) (read.ground_atom_of given.now) }
+    {
+        atom.predicate.0 < self.predicates.len()
+            && given.objects.len() <= MAX_ARGUMENTS
+            && self.all_known(&atom.objects)
+    }
+
+    /// An atom of the initial state, if all its names are known and it does not have too many objects.
+    pub fn named_atom(
+        &self,
+        walk: &mut Walk,
+        given: &GroundAtom<'_>,
+    ) -> Result<Option<Atom>, NoMemory>
+        ensures value { IfOk result (λ o. option_map parts.atom_of o ≡ (if is_named (known_of self.now) (read.ground_atom_of given.now) then Some (atom_in (known_of self.now) (read.ground_atom_of given.now)) else None)) }
+        ensures finds { OnOk result (Finds walk.old walk.new (ground_atom_faults (file_of self.now.file) (known_of self.now) (read.ground_atom_of given.now))) }
+    {
+        let atom = self.atom(walk, given)?;
+        if self.is_named(given, &atom) {
+            Ok(Some(atom))
+        } else {
+            Ok(None)
+        }
+    }
+}
+
+/// The word of a term.
+fn word<'t>(term: &'t tree::Term<'t>) -> &'t Name<'t>
+    ensures { read.name_of result.now ≡ word_of (read.term_of term.now) }
+{
+    match term {
+        tree::Term::Variable(name) => name,
+        tree::Term::Object(name) => name,
+    }
+}
