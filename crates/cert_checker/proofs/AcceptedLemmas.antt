@@ -260,7 +260,7 @@ module _ (task : Task) (c : Certificate) (closed : IsClosedFor task c) (text : L
         ∙ claim_there is.said none (subst (λ lines. Contains lines (claims none)) (sym splits) (Contains-append_left before (listed l ∷ after) (claims none) there)) in
         let among : Contains c.lines l = subst (λ lines. Contains lines l) (sym (lines_after l splits)) (Contains-append_right (states_given before) (l ∷ states_given after) l (Contains-here l (states_given after))) in
         let allowed = closed.listing_is_closed.cuts_allowed (line_at task c l) rest (Contains-map (line_at task c) c.lines l among) cut_is in
-        subst (λ claim. Allows claim (l.cost + rest)) is_none allowed.1
+        subst (λ claim. Allows claim (l.cost + rest)) is_none allowed
 
     not_wrong : (line : TextLine) (number : ℕ) → text_lines is.said ≡ before ++ line ∷ after → IsWrongAfter task before line number → ⊥
     not_wrong line number splits (not_of_scope r atoms rows ends other) = false≢true (sym other ∙ of_scope r atoms rows (table_after r atoms rows splits ends))

@@ -1,7 +1,8 @@
 -- What the checker's answers say, of a certificate that was gone through and of a closed one.
-use Rattle.std.proofs.Common.{◌≡◌, ℕ, ◌≤◌, arith, List, length, Option, sym, ap, ◌∙◌, refl}
+use Rattle.std.proofs.Common.{◌≡◌, ℕ, ◌≤◌, arith, List, length, get_or, Option, sym, ap, ◌∙◌, refl}
 use Rattle.std.specs.Prelude.{Contains, IfErr, MatchOption, OnOk, Result, Ok, Err, None, Some}
 use Rattle.std.proofs.lemmas.Option.{slice_get_within}
+use Rattle.std.proofs.lemmas.List.Elements.{All-contains_itself}
 use Rattle.formulas.specs.State.{instance_of}
 use Rattle.cert_checker.specs.declared.refusal.Refusal.{Refusal}
 use Rattle.cert_checker.specs.declared.refusal.Refusal.TheVariants as refusal
@@ -15,10 +16,11 @@ use Rattle.validator.proofs.VerdictLaws.{exactly_one_verdict}
 use Rattle.model.specs.Task.{Task, Instance}
 use Rattle.model.specs.Runs.{System, cost_of_all, Solves, CostsAtLeast, IsOptimal, valid, IsVerdict}
 use Rattle.model.specs.Meaning.{State}
-use Rattle.model.specs.Claims.{Line}
-use Rattle.certificate_definitions.specs.Certificates.{Certificate, is_dead_end_weight, lines_of, IsClosedFor}
+use Rattle.model.specs.Claims.{opened, cut, dead, Line}
+use Rattle.certificate_definitions.specs.Certificates.{Certificate, is_dead_end_weight, lines_of, IsSupported, IsClosedFor}
 use Rattle.certificate_definitions.specs.CertificateRefusals.{Reason, not_fluent, repeated, no_initial, unfair, unfair_goal, goal_open, successor_missing, successor_dearer, cut_weak, cut_not_allowed, plan_invalid, plan_dearer, limit, dead_unfair, dead_unfair_goal, not_dead, not_symmetry, IsPlanWithin, IsWrongAt}
-use Rattle.model.proofs.ListLemmas.{Contains-place}
+use Rattle.model.proofs.ListLemmas.{Contains-map, Contains-place}
+use Rattle.cert_checker.proofs.CertCheckerLemmas.{entry}
 use Rattle.cert_checker.proofs.LimitsLemmas.{AreLimits, limits_of}
 use Rattle.cert_checker.proofs.VersionLemmas.{one_weight_each, weights_of_each}
 use Rattle.certificate_definitions.proofs.CertificateRefusalsLemmas.{right, right_line}
@@ -44,13 +46,24 @@ closed_for task c most right = record {
     initial_listed = right.initial;
     successors_listed = λ line i next listed is leads. ((closed line listed).is_open is).successors_listed i next leads;
     open_goals_allowed = λ line listed is. ((closed line listed).is_open is).goal_allowed;
-    cuts_allowed = λ line rest listed is. (closed line listed).is_cut rest is;
-    dead_are_dead = λ line listed is. (closed line listed).is_dead is;
+    cuts_allowed = λ line rest listed is. ((closed line listed).is_cut rest is).1;
   };
+  lines_are_supported = λ place d within.
+      let l = get_or c.lines place d in
+      let line = entry task c l in
+      supported line (closed line (Contains-map (entry task c) c.lines l (All-contains_itself c.lines place d within)));
 }
   where
     limits : AreLimits c
     limits = limits_of c right.keeps
+
+    supported : (line : Line State) → IsLineClosed task c line → IsSupported task c line.state line.mark
+    supported line right =
+        elim line.mark as (λ m. line.mark ≡ m → IsSupported task c line.state m) [
+          | opened ↦ λ is_open. tt
+          | cut rest ↦ λ is_cut. (right.is_cut rest is_cut).0
+          | dead ↦ λ is_dead. right.is_dead is_dead
+        ] refl
 
     closed : (line : Line State) → Contains (lines_of task c) line → IsLineClosed task c line
     closed line listed =

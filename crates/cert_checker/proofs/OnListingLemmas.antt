@@ -1,14 +1,14 @@
 -- A list of actions that solves stays on open states of a closed listing, up to a relation of states with the same steps, to its end or
 -- until it comes to a cut.
 use Rattle.std.proofs.Common.{◌≡◌, ℕ, zero, suc, ◌+◌, ◌<◌, ◌≤◌, List, [], ◌∷◌, length, take, drop, Option, None, Some, refl, sym, ap, ◌∙◌, subst, arith}
-use Rattle.std.specs.Prelude.{Bool, Contains, IsTrue}
+use Rattle.std.specs.Prelude.{Contains, IsTrue}
 use Rattle.std.specs.Option.{option_and_then}
 use Rattle.std.proofs.lemmas.Bool.{false≢true}
 use Rattle.std.proofs.lemmas.Option.{same_Some}
 use Rattle.std.proofs.lemmas.List.Sums.{sum_by-cons}
 use Rattle.model.specs.Runs.{System, run, cost_of_all, Solves}
 use Rattle.model.specs.Bisimulation.{IsBisimulationEquivalence}
-use Rattle.model.specs.Claims.{Claim, opened, cut, dead, Line, IsClosed, AreBoundsOf, AreDeadEndsOf}
+use Rattle.model.specs.Claims.{Claim, opened, cut, dead, Line, AreTrue, IsClosed}
 use Rattle.model.proofs.ClaimsLemmas.{related_reach_alike}
 use Rattle.cert_checker.specs.OnListing.{IsOpenWithin, IsOnCut, StaysListed, to_its_end, to_a_cut}
 
@@ -75,8 +75,7 @@ module _ {S A : Type 0} (t : System S A) (same : S → S → Type 0) (lines : Li
 
 -- A closed listing, where states that are alike are related, and related states have the same steps.
 module _ {S A : Type 0} (t : System S A) (alike same : S → S → Type 0) (equivalence : IsBisimulationEquivalence t same) (within : (s r : S) → alike s r → same s r)
-    (value : S → ℕ) (is_dead : S → Bool) (claim : Claim) (lines : List (Line S)) (lower : AreBoundsOf t value lines) (dead_ends : AreDeadEndsOf t is_dead lines)
-    (closed : IsClosed t alike value is_dead claim lines) where
+    (claim : Claim) (lines : List (Line S)) (are_true : AreTrue t lines) (closed : IsClosed t alike claim lines) where
   at_cut : (plan : List A) (s : S) (line : Line S) (rest : ℕ) → Contains lines line → same line.state s → line.mark ≡ cut rest → StaysFrom t same lines s line.cost plan
   at_cut plan s line rest listed related is_cut = open_to 0 (omega arith) (λ k below. absurd (omega arith)) (s, refl, (line, listed, related, omega arith, rest, is_cut))
 
@@ -91,7 +90,7 @@ module _ {S A : Type 0} (t : System S A) (alike same : S → S → Type 0) (equi
   at_dead : (plan : List A) (s : S) (line : Line S) (end : S) → Contains lines line → same line.state s → line.mark ≡ dead → run t s plan ≡ Some end → IsTrue (t.meets_goal end) → ⊥
   at_dead plan s line end listed related marked runs goal =
       let other = (related_reach_alike t same equivalence line.state s related).back plan end runs goal in
-      false≢true (sym (dead_ends line other.1 other.0 listed (closed.dead_are_dead line listed marked) other.2) ∙ other.3)
+      false≢true (sym (are_true.dead_ends line other.1 other.0 listed marked other.2) ∙ other.3)
 
   -- from a state on to which a listed one is related
   from_line : (plan : List A) (s : S) (line : Line S) (end : S) → Contains lines line → same line.state s → run t s plan ≡ Some end → IsTrue (t.meets_goal end)
@@ -124,8 +123,7 @@ module _ {S A : Type 0} (t : System S A) (alike same : S → S → Type 0) (equi
   left_to_pay plan solves n s line rest runs listed related is_cut =
       let others = rest_runs t same lines plan t.initial s solves.0 n runs solves.1 in
       let other = (related_reach_alike t same equivalence line.state s related).back (drop n plan) solves.0 others solves.2 in
-      let least = lower line other.1 other.0 listed other.2 other.3 in
-      omega (arith, (closed.cuts_allowed line rest listed is_cut).0, least, other.5)
+      omega (arith, are_true.cuts line rest other.1 other.0 listed is_cut other.2 other.3, other.5)
 
   pub stays_listed : (plan : List A) → Solves t plan → StaysListed t same lines plan
   stays_listed plan solves =

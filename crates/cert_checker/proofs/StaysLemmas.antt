@@ -1,33 +1,28 @@
 -- What a certificate that is closed for a task shows.
-use Rattle.std.proofs.Common.{◌≡◌, ℕ, zero, suc, ◌+◌, ◌<◌, ◌≤◌, true, List, [], ◌∷◌, ◌++◌, length, take, drop, get_or, Option, None, Some, refl, sym, ap, ◌∙◌, subst, arith}
+use Rattle.std.proofs.Common.{◌≡◌, ℕ, ◌+◌, ◌≤◌, true, false, List, [], ◌∷◌, ◌++◌, length, get_or, Some, refl, sym, ap, ◌∙◌, arith}
 use Rattle.std.specs.Prelude.{All, Bool, ◌&&◌, Contains, IsTrue, nat_le, nat_lt}
 use Rattle.std.specs.List.{list_all}
-use Rattle.std.specs.Option.{option_and_then}
-use Rattle.std.proofs.lemmas.Bool.{and_parts, false≢true, lt-ltb, ltb-true}
-use Rattle.std.proofs.lemmas.Option.{same_Some}
+use Rattle.std.proofs.lemmas.Bool.{and_parts, lt-ltb, ltb-true}
 use Rattle.std.proofs.lemmas.List.{length-append}
 use Rattle.std.proofs.lemmas.List.Elements.{All-contains_itself}
-use Rattle.std.proofs.lemmas.List.Sums.{sum_by-cons}
-use Rattle.model.specs.Runs.{System, run, cost_of_all, IsReachable, Solves}
+use Rattle.model.specs.Runs.{run, cost_of_all, Solves}
 use Rattle.model.specs.Task.{Atom, Task, Instance}
 use Rattle.model.specs.WellTyped.{is_atom, is_task}
-use Rattle.model.specs.Meaning.{State, system_of}
+use Rattle.model.specs.Meaning.{State, meets_goal, system_of}
 use Rattle.model.specs.Grounding.{bits_of_state}
-use Rattle.model.specs.Fluents.{is_fluent}
+use Rattle.model.specs.Fluents.{is_fluent, HasInitialStatics}
 use Rattle.model.specs.NumberedAtoms.{numbered_atoms}
-use Rattle.model.specs.Claims.{Claim, opened, cut, dead, Line, IsClosed, ClaimHolds, IsLowerBound, AreDeadEnds, AreBoundsOf, AreDeadEndsOf}
+use Rattle.model.specs.Claims.{Line, AreTrue, ClaimHolds, IsLowerBound, AreDeadEnds}
 use Rattle.certificate_definitions.specs.Certificates.{Version, one, two, three, Certificate, potentials_of, several_of, rise, has_tables, is_row, is_table, are_tables, is_dead_end_in, is_dead_end_of, lines_of, AreAlikeFor, value_in, value_of, AreFairIn, IsClosedFor}
 use Rattle.symmetries_definitions.specs.Symmetries.{is_symmetry}
 use Rattle.symmetries_definitions.specs.Orbits.{AreOfOneOrbit}
-use Rattle.symmetries_definitions.specs.Laws.{AreDeadEndsOfAll, HaveInitialStatics, IsLowerBoundOfAll}
 use Rattle.symmetries_definitions.proofs.OrbitLemmas.{orbits_are_classes}
 use Rattle.symmetries_definitions.proofs.TaskOrbits.{alike_states_are_of_one_orbit, listings_by_exchanges_claim}
 use Rattle.certificate_definitions.proofs.WithoutExchanges.{alike_alone}
+use Rattle.certificate_definitions.proofs.CertificateRefusalsLemmas.{supported_cut, supported_dead_end}
 use Rattle.cert_checker.proofs.CertCheckerLemmas.{entry}
 use Rattle.cert_checker.proofs.LineStates.{state_statics}
 use Rattle.cert_checker.proofs.SymmetriesLemmas.{all_symmetries}
-use Rattle.model.specs.Bisimulation.{IsBisimulationEquivalence}
-use Rattle.model.proofs.ClaimsLemmas.{related_reach_alike}
 use Rattle.model.proofs.ListLemmas.{map-Contains}
 use Rattle.std.specs.FinSet.{contains}
 use Rattle.model.proofs.GroundTaskLemmas.{are_numbered, numbered-distinct, numbered-fluent}
@@ -65,6 +60,19 @@ scopes_within v atom_count weight_count count few (t ∷ those) are =
     let scope = (and_parts (rise atom_count 0 t.scope && nat_le 1 (length t.scope)) (list_all (is_row atom_count weight_count t.scope) t.rows) table).0 in
     let rises = (and_parts (rise atom_count 0 t.scope) (nat_le 1 (length t.scope)) scope).0 in
     λ i. rise_within atom_count count 0 t.scope few rises i && scopes_within v atom_count weight_count count few those more i
+
+-- ---- what values show
+
+-- for each state with the initial static atoms, reachable or not, the value is a lower bound of the remaining cost
+abbrev IsLowerBoundOfAll : Task → (State → ℕ) → Type 0
+IsLowerBoundOfAll task value =
+    (s end : State) (plan : List Instance) → HasInitialStatics task s → run (system_of task) s plan ≡ Some end → IsTrue (meets_goal task end)
+    → value s ≤ cost_of_all (system_of task) plan
+
+-- and no list leads to the goal from such a state that satisfies this
+abbrev AreDeadEndsOfAll : Task → (State → Bool) → Type 0
+AreDeadEndsOfAll task is_dead =
+    (s end : State) (plan : List Instance) → HasInitialStatics task s → IsTrue (is_dead s) → run (system_of task) s plan ≡ Some end → meets_goal task end ≡ false
 
 -- ---- a certificate that is closed for a task
 
@@ -143,16 +151,19 @@ module _ (task : Task) (c : Certificate) (closed : IsClosedFor task c) where
   -- ---- what is claimed
 
   -- a state of a line has the initial static atoms, as its other atoms are fluent
-  line_statics : HaveInitialStatics task (lines_of task c)
+  line_statics : (line : Line State) → Contains (lines_of task c) line → HasInitialStatics task line.state
   line_statics line listed q static =
       let from = map-Contains (entry task c) c.lines line listed in
       ap (λ (l : Line State). contains l.state q) (sym from.2) ∙ state_statics task c more_fluent from.0 q static
 
-  bounds_there : AreBoundsOf (system_of task) (value_of task c) (lines_of task c)
-  bounds_there line end plan listed runs goal = below_in c.version closed.are_fair line.state end plan (line_statics line listed) runs goal
-
-  dead_ends_there : AreDeadEndsOf (system_of task) (is_dead_end_of task c) (lines_of task c)
-  dead_ends_there line end plan listed reported runs = detects_in c.version closed.are_fair line.state end plan (line_statics line listed) reported runs
+  lines_are_true : AreTrue (system_of task) (lines_of task c)
+  lines_are_true = record {
+    cuts = λ line rest end plan listed is_cut runs goal.
+        let below = below_in c.version closed.are_fair line.state end plan (line_statics line listed) runs goal in
+        omega (arith, supported_cut task c closed line rest listed is_cut, below);
+    dead_ends = λ line end plan listed is_dead runs.
+        detects_in c.version closed.are_fair line.state end plan (line_statics line listed) (supported_dead_end task c closed line listed is_dead) runs;
+  }
 
   module _ (well : IsTrue (is_task task)) where
     symmetries : IsTrue (list_all (is_symmetry task) c.exchanges)
@@ -160,19 +171,17 @@ module _ (task : Task) (c : Certificate) (closed : IsClosedFor task c) where
 
     claim_told : ClaimHolds (system_of task) c.claim
     claim_told =
-        listings_by_exchanges_claim task (numbered_atoms task c.atoms) c.exchanges well symmetries (value_of task c) (is_dead_end_of task c) c.claim (lines_of task c) line_statics
-        (below_in c.version closed.are_fair) (detects_in c.version closed.are_fair) closed.listing_is_closed
+        listings_by_exchanges_claim task (numbered_atoms task c.atoms) c.exchanges well symmetries c.claim (lines_of task c) lines_are_true closed.listing_is_closed
 
     stays_told : (plan : List Instance) → Solves (system_of task) plan → StaysListed (system_of task) (AreOfOneOrbit (system_of task)) (lines_of task c) plan
     stays_told plan =
         stays_listed (system_of task) (AreAlikeFor task c) (AreOfOneOrbit (system_of task)) (orbits_are_classes (system_of task))
-        (alike_states_are_of_one_orbit task (numbered_atoms task c.atoms) c.exchanges well symmetries) (value_of task c) (is_dead_end_of task c) c.claim (lines_of task c)
-        bounds_there dead_ends_there closed.listing_is_closed plan
+        (alike_states_are_of_one_orbit task (numbered_atoms task c.atoms) c.exchanges well symmetries) c.claim (lines_of task c) lines_are_true closed.listing_is_closed plan
 
   stays_alone : c.exchanges ≡ [] → (plan : List Instance) → Solves (system_of task) plan → StaysListed (system_of task) (λ s r. s ≡ r) (lines_of task c) plan
   stays_alone none plan =
       stays_listed (system_of task) (AreAlikeFor task c) (λ s r. s ≡ r) (equality_keeps_steps (system_of task)) (alike_alone task c none)
-      (value_of task c) (is_dead_end_of task c) c.claim (lines_of task c) bounds_there dead_ends_there closed.listing_is_closed plan
+      c.claim (lines_of task c) lines_are_true closed.listing_is_closed plan
 
 pub closed_holds : (task : Task) (c : Certificate) → IsTrue (is_task task) → IsClosedFor task c → ClaimHolds (system_of task) c.claim
 closed_holds task c well closed = claim_told task c closed well

@@ -19,10 +19,10 @@ use Rattle.model.specs.WellTyped.{is_atom}
 use Rattle.model.specs.Claims.{Claim, bound, Allows, opened, cut, dead, Line, IsListedWithin, IsClosed}
 use Rattle.model.specs.Claims as model
 use Rattle.model.specs.Fluents.{is_fluent}
-use Rattle.certificate_definitions.specs.Certificates.{two, StateLine, Certificate, state_of_line, lines_of, is_symmetry_for, AreAlikeFor, value_of, is_dead_end_of, IsClosedFor}
+use Rattle.certificate_definitions.specs.Certificates.{two, StateLine, Certificate, state_of_line, lines_of, is_symmetry_for, AreAlikeFor, IsSupported, IsClosedFor}
 use Rattle.certificate_definitions.specs.CertificateRefusals.{IsWrongAt, unfair, unfair_goal, dead_unfair, dead_unfair_goal, not_dead}
 use Rattle.certificate_definitions.proofs.WithoutExchanges.{alike_itself, closed_wider}
-use Rattle.certificate_definitions.specs.CertificateExamples.{AreJudged, open_at, cut_at, linked, tied, claims, weighs, zeros, token_reported, start_open}
+use Rattle.certificate_definitions.specs.CertificateExamples.{AreJudged, open_at, cut_at, dead_at, linked, tied, claims, weighs, zeros, token_reported, start_open}
 use Rattle.lower_bounds.specs.TableFunctions.{Row, Table}
 use Rattle.lower_bounds.specs.PotentialFunctions.{PotentialFunction, or_zero, value_of_state, is_dead_by, is_dead_state}
 use Rattle.lower_bounds.specs.FairPotentials.{IsFairAt, IsFairAtGoals, AreFair, nothing, AreDeadFair}
@@ -168,10 +168,12 @@ no_exchanges : (task : Task) (c : Certificate) → All (λ (e : Exchange). IsTru
 no_exchanges task c = All-nil (λ (e : Exchange). IsTrue (is_symmetry_for task c e))
 
 -- what is closed for the states themselves is closed up to exchanges
-closed_in_task : (task : Task) (c : Certificate) → IsClosed (system_of task) (λ s r. s ≡ r) (value_of task c) (is_dead_end_of task c) c.claim (lines_of task c)
-    → IsClosed (system_of task) (AreAlikeFor task c) (value_of task c) (is_dead_end_of task c) c.claim (lines_of task c)
-closed_in_task task c closed =
-    closed_wider (system_of task) (λ s r. s ≡ r) (AreAlikeFor task c) (alike_itself task c) (value_of task c) (is_dead_end_of task c) c.claim (lines_of task c) closed
+closed_in_task : (task : Task) (c : Certificate) → IsClosed (system_of task) (λ s r. s ≡ r) c.claim (lines_of task c) → IsClosed (system_of task) (AreAlikeFor task c) c.claim (lines_of task c)
+closed_in_task task c closed = closed_wider (system_of task) (λ s r. s ≡ r) (AreAlikeFor task c) (alike_itself task c) c.claim (lines_of task c) closed
+
+-- what a line says rests on the values
+abbrev IsSupportedLine : Task → Certificate → StateLine → Type 0
+IsSupportedLine task c l = IsSupported task c (state_of_line task c l) l.mark
 
 no_rows : All (λ (t : Table). AllPairs (λ (q r : Row). q.atoms ≢ r.atoms) t.rows) []
 no_rows = All-nil (λ (t : Table). AllPairs (λ (q r : Row). q.atoms ≢ r.atoms) t.rows)
@@ -194,11 +196,11 @@ cut_closed = record {
         the_one_line (λ (l : Line State). l.mark ≡ opened → IsListedWithin (λ s r. s ≡ r) (start_cut 1 ∷ []) next (l.cost + 1)) (start_cut 1) line at (λ not_cut. absurd (cc)) is_open;
     open_goals_allowed = λ line at is_open goal. the_one_line (λ (l : Line State). l.mark ≡ opened → 1 ≤ l.cost) (start_cut 1) line at (λ not_cut. absurd (cc)) is_open;
     cuts_allowed = λ line rest at is_cut.
-        the_one_line (λ (l : Line State). l.mark ≡ cut rest → (rest ≤ value_of_state (tied ∷ []) (potentials (pos 1) (negsuc 0)) l.state) × (1 ≤ l.cost + rest)) (start_cut 1) line at
-        (λ is. let same : 1 ≡ rest = cc in (omega (arith, same, start_value), omega (arith, same))) is_cut;
-    dead_are_dead = λ line at is_dead.
-        the_one_line (λ (l : Line State). l.mark ≡ dead → IsTrue (is_dead_state (tied ∷ []) (potentials (pos 0) (pos 0)) l.state)) (start_cut 1) line at (λ is_cut. absurd (cc)) is_dead;
+        the_one_line (λ (l : Line State). l.mark ≡ cut rest → 1 ≤ l.cost + rest) (start_cut 1) line at (λ is. let same : 1 ≡ rest = cc in omega (arith, same)) is_cut;
   });
+  lines_are_supported =
+      let P = IsSupportedLine tie_task (weighs (bound 1) (pos 1) (negsuc 0) (cut_at 0 1 [] ∷ [])) in
+      All-cons P (cut_at 0 1 []) [] (omega (arith, start_value)) (All-nil P);
 }
 
 -- with weight two, the instance loses more than its cost of one
@@ -262,11 +264,11 @@ dead_closed claim = record {
     successors_listed = λ line a next at is_open leads.
         the_one_line (λ (l : Line State). l.mark ≡ opened → IsListedWithin (λ s r. s ≡ r) (dead_line ∷ []) next (l.cost + cost_of token_task a)) dead_line line at (λ is. absurd (cc)) is_open;
     open_goals_allowed = λ line at is_open goal. the_one_line (λ (l : Line State). l.mark ≡ opened → Allows claim l.cost) dead_line line at (λ is. absurd (cc)) is_open;
-    cuts_allowed = λ line rest at is_cut.
-        the_one_line (λ (l : Line State). l.mark ≡ cut rest → (rest ≤ value_of_state token_atoms (zeros token_atoms) l.state) × Allows claim (l.cost + rest)) dead_line line at
-        (λ is. absurd (cc)) is_cut;
-    dead_are_dead = λ line at is_dead. the_one_line (λ (l : Line State). IsTrue (is_dead_state token_atoms one_missing l.state)) dead_line line at (reported_at_x one_missing);
+    cuts_allowed = λ line rest at is_cut. the_one_line (λ (l : Line State). l.mark ≡ cut rest → Allows claim (l.cost + rest)) dead_line line at (λ is. absurd (cc)) is_cut;
   });
+  lines_are_supported =
+      let P = IsSupportedLine token_task (token_reported two claim (pos 2) (minus 1)) in
+      All-cons P (dead_at 0 (0 ∷ [])) [] (reported_at_x one_missing) (All-nil P);
 }
 
 -- with the constant 1 its value is 0
@@ -325,12 +327,11 @@ are_judged = record {
           of_two (λ (l : Line State). l.mark ≡ opened → IsTrue (meets_goal tie_task l.state) → 1 ≤ l.cost) first second line at
           (λ _ met. absurd (true≢false (sym met ∙ not_tied))) (λ not_cut _. absurd (cc)) is_open goal;
       cuts_allowed = λ line rest at is_cut.
-          of_two (λ (l : Line State). l.mark ≡ cut rest → (rest ≤ value_of_state (tied ∷ []) (potentials (pos 0) (pos 0)) l.state) × (1 ≤ l.cost + rest)) first second line at
-          (λ none. absurd (cc)) (λ is. let same : 0 ≡ rest = cc in (omega (arith, same), omega (arith, same))) is_cut;
-      dead_are_dead = λ line at is_dead.
-          of_two (λ (l : Line State). l.mark ≡ dead → IsTrue (is_dead_state (tied ∷ []) (potentials (pos 0) (pos 0)) l.state)) first second line at
-          (λ is_open. absurd (cc)) (λ is_cut. absurd (cc)) is_dead;
+          of_two (λ (l : Line State). l.mark ≡ cut rest → 1 ≤ l.cost + rest) first second line at (λ none. absurd (cc)) (λ is. let same : 0 ≡ rest = cc in omega (arith, same)) is_cut;
     });
+    lines_are_supported =
+        let P = IsSupportedLine tie_task (claims (bound 1) (tied ∷ []) start_open) in
+        All-cons P (open_at 0 []) (cut_at 1 0 (0 ∷ []) ∷ []) tt (All-cons P (cut_at 1 0 (0 ∷ [])) [] (omega arith) (All-nil P));
   };
   cut_claims_too_little = (line_of (cut_at 1 0 (0 ∷ [])), 0, (1, refl, refl), refl, inr (λ h. absurd (omega (arith, h))));
   open_goal = (line_of (open_at 1 (0 ∷ [])), (1, refl, refl), refl, contains-from_list atoms_total (tied ∷ linked ∷ []) tied, λ h. absurd (omega (arith, h)));

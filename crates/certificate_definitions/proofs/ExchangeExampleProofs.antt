@@ -3,7 +3,7 @@ use Rattle.std.proofs.Common.{◌≡◌, ◌⊎◌, ◌+◌, ◌≤◌, inl, inr
 use Rattle.std.specs.Prelude.{◌≢◌, ℕ, List, length, get_or, AllPairs, Contains, IsTrue}
 use Rattle.std.specs.FinSet.{contains, from_list, contains-from_list}
 use Rattle.std.proofs.lemmas.Option.{same_Some}
-use Rattle.std.proofs.lemmas.List.Elements.{All-cons, All-nil}
+use Rattle.std.proofs.lemmas.List.Elements.{All-cons, All-contains_itself, All-nil}
 use Rattle.std.proofs.lemmas.List.Kept.{AllPairs-cons}
 use Rattle.model.specs.Task.{Atom, Instance, Task}
 use Rattle.model.specs.Examples.{instance}
@@ -11,7 +11,7 @@ use Rattle.model.specs.Meaning.{State, atom_cmp, fits, step, changes_of, meets_g
 use Rattle.model.specs.WellTyped.{is_atom}
 use Rattle.model.specs.Fluents.{is_fluent}
 use Rattle.model.specs.NumberedAtoms.{numbered_atoms}
-use Rattle.model.specs.Claims.{Claim, bound, Allows, opened, cut, dead, Line, IsListedWithin, IsClosed}
+use Rattle.model.specs.Claims.{Claim, bound, Allows, opened, cut, Line, IsListedWithin, IsClosed}
 use Rattle.model.proofs.Atoms.{atoms_total, same_state}
 use Rattle.model.proofs.GroundingComputes.{numbered-is}
 use Rattle.model.proofs.InstancesLemmas.{is_instance-of_step, Contains-all_instances}
@@ -29,7 +29,7 @@ use Rattle.lower_bounds.specs.TableFunctions.{Row, Table}
 use Rattle.lower_bounds.specs.FairTables.{AreFairAt, IsFair, AreFair, is_asked}
 use Rattle.lower_bounds.specs.TableLaws.{without_tables}
 use Rattle.lower_bounds.proofs.WithoutTables.{potentials_are_table_functions}
-use Rattle.certificate_definitions.specs.Certificates.{Certificate, StateLine, lines_of, is_symmetry_for, AreAlikeFor, value_of, is_dead_end_of, IsClosedFor}
+use Rattle.certificate_definitions.specs.Certificates.{Certificate, StateLine, lines_of, is_symmetry_for, AreAlikeFor, state_of_line, IsSupported, IsClosedFor}
 use Rattle.certificate_definitions.specs.CertificateExamples.{open_at, cut_at, zeros}
 use Rattle.certificate_definitions.specs.ExchangeExamples.{lit, light, lamps, dark, second_lit, lamp_atoms, by_exchange, one_of_two, dearer_first, AreExchangesJudged}
 
@@ -96,11 +96,11 @@ module _ (init : List Atom) (numbered : numbered_atoms (lamps init) lamp_atoms �
 
 -- ---- closed listings
 
-abbrev IsEach : (Line State → Type 0) → List (Line State) → Type 0
+abbrev IsEach : {X : Type 0} → (X → Type 0) → List X → Type 0
 IsEach P [] = Unit {0}
 IsEach P (l ∷ rest) = P l × IsEach P rest
 
-of_each : (P : Line State → Type 0) (lines : List (Line State)) → IsEach P lines → (line : Line State) → Contains lines line → P line
+of_each : {X : Type 0} (P : X → Type 0) (lines : List X) → IsEach P lines → (line : X) → Contains lines line → P line
 of_each P [] _ line at = absurd (Contains-none line at)
 of_each P (l ∷ rest) (here, later) line at =
     elim (Contains-cases l rest line at) [
@@ -108,14 +108,17 @@ of_each P (l ∷ rest) (here, later) line at =
       | inr among ↦ of_each P rest later line among
     ]
 
+-- what a line says rests on the values
+abbrev IsSupportedLine : Task → Certificate → StateLine → Type 0
+IsSupportedLine task c l = IsSupported task c (state_of_line task c l) l.mark
+
 record IsRight (task : Task) (c : Certificate) (l : Line State) : Type 0 where
   successors : (a : Instance) (next : State) → l.mark ≡ opened → step task l.state a ≡ Some next → IsListedWithin (AreAlikeFor task c) (lines_of task c) next (l.cost + cost_of task a)
   goal : l.mark ≡ opened → IsTrue (meets_goal task l.state) → Allows c.claim l.cost
-  cuts : (rest : ℕ) → l.mark ≡ cut rest → (rest ≤ value_of task c l.state) × Allows c.claim (l.cost + rest)
-  deads : l.mark ≡ dead → IsTrue (is_dead_end_of task c l.state)
+  cuts : (rest : ℕ) → l.mark ≡ cut rest → Allows c.claim (l.cost + rest)
 
 closed_by : (task : Task) (c : Certificate) → IsListedWithin (AreAlikeFor task c) (lines_of task c) (system_of task).initial 0 → IsEach (IsRight task c) (lines_of task c)
-    → IsClosed (system_of task) (AreAlikeFor task c) (value_of task c) (is_dead_end_of task c) c.claim (lines_of task c)
+    → IsClosed (system_of task) (AreAlikeFor task c) c.claim (lines_of task c)
 closed_by task c initial right =
     let at = of_each (IsRight task c) (lines_of task c) right in
     record {
@@ -123,7 +126,6 @@ closed_by task c initial right =
       successors_listed = λ line a next listed is_open leads. (at line listed).successors a next is_open leads;
       open_goals_allowed = λ line listed. (at line listed).goal;
       cuts_allowed = λ line rest listed. (at line listed).cuts rest;
-      dead_are_dead = λ line listed. (at line listed).deads;
     }
 
 -- a cut with bound 0
@@ -133,8 +135,7 @@ cut_right task c s least cost claims enough = record {
   goal = λ is_open. absurd (cc);
   cuts = λ rest is.
       let same : 0 ≡ rest = cc in
-      (omega (arith, same), subst (λ claim. Allows claim (cost + rest)) (sym claims) (omega (arith, same, enough)));
-  deads = λ is. absurd (cc);
+      subst (λ claim. Allows claim (cost + rest)) (sym claims) (omega (arith, same, enough));
 }
 
 -- the dark state is open, at cost 0
@@ -144,7 +145,6 @@ dark_right c first second = record {
   successors = λ a next is_open leads. each_lit (λ s. IsListedWithin (AreAlikeFor dark c) (lines_of dark c) s 1) first second a next leads;
   goal = λ is_open met. absurd (true≢false (sym met ∙ dark_misses));
   cuts = λ rest is. absurd (cc);
-  deads = λ is. absurd (cc);
 }
 
 -- ---- closed certificates
@@ -171,9 +171,10 @@ zero_everywhere init c numbered =
 
 closed_for : (init : List Atom) (claim : Claim) (lines : List StateLine) → numbered_atoms (lamps init) lamp_atoms ≡ lamp_atoms → is_symmetry (lamps init) (swapping 0 1) ≡ true
     → AllPairs (λ (k l : Line State). k.state ≢ l.state) (lines_of (lamps init) (by_exchange claim lines))
-    → IsClosed (system_of (lamps init)) (AreAlikeFor (lamps init) (by_exchange claim lines)) (value_of (lamps init) (by_exchange claim lines)) (is_dead_end_of (lamps init) (by_exchange claim lines)) claim (lines_of (lamps init) (by_exchange claim lines))
+    → IsEach (IsSupportedLine (lamps init) (by_exchange claim lines)) lines
+    → IsClosed (system_of (lamps init)) (AreAlikeFor (lamps init) (by_exchange claim lines)) claim (lines_of (lamps init) (by_exchange claim lines))
     → IsClosedFor (lamps init) (by_exchange claim lines)
-closed_for init claim lines numbered symmetric distinct closed =
+closed_for init claim lines numbered symmetric distinct supported closed =
     let task = lamps init in
     let c = by_exchange claim lines in
     let Fluent = λ (a : Atom). IsTrue (is_atom task a && is_fluent task a.predicate) in
@@ -195,6 +196,7 @@ closed_for init claim lines numbered symmetric distinct closed =
       rows_are_distinct = All-nil (λ (t : Table). AllPairs (λ (q r : Row). q.atoms ≢ r.atoms) t.rows);
       states_are_distinct = distinct;
       listing_is_closed = closed;
+      lines_are_supported = λ place d within. of_each (IsSupportedLine task c) lines supported (get_or lines place d) (All-contains_itself lines place d within);
     }
 
 -- ---- the examples
@@ -227,7 +229,7 @@ two_lines k l differ = AllPairs-cons Differ k (l ∷ []) (All-cons (Differ k) l 
 of_one : IsClosedFor dark (by_exchange (bound 1) one_of_two)
 of_one =
     let c = by_exchange (bound 1) one_of_two in
-    closed_for [] (bound 1) one_of_two dark_numbered refl (two_lines opened_dark (cut_lit 1 1) (dark_and_lit 1 refl))
+    closed_for [] (bound 1) one_of_two dark_numbered refl (two_lines opened_dark (cut_lit 1 1) (dark_and_lit 1 refl)) (tt, (omega arith, tt))
     (closed_by dark c (opened_dark, (0, omega arith, refl), are_alike [] dark_numbered (bound 1) one_of_two [] [] refl, omega arith) (
       dark_right c (cut_lit 1 1, (1, omega arith, refl), are_alike [] dark_numbered (bound 1) one_of_two (lit 1 ∷ []) (lit 0 ∷ []) refl, omega arith)
           (cut_lit 1 1, (1, omega arith, refl), are_alike [] dark_numbered (bound 1) one_of_two (lit 1 ∷ []) (lit 1 ∷ []) refl, omega arith),
@@ -239,7 +241,7 @@ of_cheaper =
     let c = by_exchange (bound 1) dearer_first in
     closed_for [] (bound 1) dearer_first dark_numbered refl
     (AllPairs-cons Differ opened_dark (cut_lit 0 2 ∷ cut_lit 1 1 ∷ []) (All-cons (Differ opened_dark) (cut_lit 0 2) (cut_lit 1 1 ∷ []) (dark_and_lit 0 refl) (All-cons (Differ opened_dark) (cut_lit 1 1) [] (dark_and_lit 1 refl) (All-nil (Differ opened_dark))))
-    (two_lines (cut_lit 0 2) (cut_lit 1 1) first_and_second))
+    (two_lines (cut_lit 0 2) (cut_lit 1 1) first_and_second)) (tt, (omega arith, (omega arith, tt)))
     (closed_by dark c (opened_dark, (0, omega arith, refl), are_alike [] dark_numbered (bound 1) dearer_first [] [] refl, omega arith) (
       dark_right c (cut_lit 1 1, (2, omega arith, refl), are_alike [] dark_numbered (bound 1) dearer_first (lit 1 ∷ []) (lit 0 ∷ []) refl, omega arith)
           (cut_lit 1 1, (2, omega arith, refl), are_alike [] dark_numbered (bound 1) dearer_first (lit 1 ∷ []) (lit 1 ∷ []) refl, omega arith),
@@ -252,6 +254,7 @@ of_start : (lamp : ℕ) (lines : List StateLine) → lines ≡ cut_at 0 0 (lamp 
 of_start lamp lines is listed same =
     let c = by_exchange (bound 0) lines in
     closed_for (lit 1 ∷ []) (bound 0) lines second_lit_numbered refl (subst (AllPairs Differ) (sym listed) (alone (cut_lit lamp 0)))
+    (subst (IsEach (IsSupportedLine second_lit c)) (sym is) (omega arith, tt))
     (closed_by second_lit c
     (subst (λ l. IsListedWithin (AreAlikeFor second_lit c) l (state (lit 1 ∷ [])) 0) (sym listed) (cut_lit lamp 0, (0, omega arith, refl), are_alike (lit 1 ∷ []) second_lit_numbered (bound 0) lines (lit lamp ∷ []) (lit 1 ∷ []) same, omega arith))
     (subst (IsEach (IsRight second_lit c)) (sym listed) (cut_right second_lit c (state (lit lamp ∷ [])) 0 0 refl (omega arith), tt)))

@@ -1,6 +1,5 @@
 -- Without exchanges only equal states are in the same class.
 use Rattle.std.proofs.Common.{◌≡◌, ℕ, ◌+◌, List, [], ap, subst}
-use Rattle.std.specs.Prelude.{Bool}
 use Rattle.model.specs.Task.{Task}
 use Rattle.model.specs.Runs.{System}
 use Rattle.model.specs.Claims.{Claim, Line, IsListedWithin, IsClosed}
@@ -18,13 +17,12 @@ alike_alone task c none s r is = subst (λ exchanges. AreAlike (numbered_atoms t
 
 -- a listing closed up to one relation is closed up to a wider one
 pub closed_wider : {S A : Type 0} (t : System S A) (alike wider : S → S → Type 0) → ((s r : S) → alike s r → wider s r)
-    → (value : S → ℕ) (is_dead : S → Bool) (claim : Claim) (lines : List (Line S)) → IsClosed t alike value is_dead claim lines → IsClosed t wider value is_dead claim lines
-closed_wider {S} t alike wider widens value is_dead claim lines closed = record {
+    → (claim : Claim) (lines : List (Line S)) → IsClosed t alike claim lines → IsClosed t wider claim lines
+closed_wider {S} t alike wider widens claim lines closed = record {
   initial_listed = listed t.initial 0 closed.initial_listed;
   successors_listed = λ line a next among is_open leads. listed next (line.cost + t.cost a) (closed.successors_listed line a next among is_open leads);
   open_goals_allowed = closed.open_goals_allowed;
   cuts_allowed = closed.cuts_allowed;
-  dead_are_dead = closed.dead_are_dead;
 }
   where
     listed : (s : S) (cost : ℕ) → IsListedWithin alike lines s cost → IsListedWithin wider lines s cost

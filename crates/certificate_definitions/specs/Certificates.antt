@@ -1,5 +1,5 @@
 -- Certificates, and when they are closed for a task.
-use Rattle.std.specs.Prelude.{◌≡◌, ◌≢◌, ℕ, zero, ◌+◌, ◌==◌, Bool, true, false, ◌&&◌, nat_lt, nat_le, ℤ, pos, negsuc, IsTrue, List, [], ◌∷◌, ◌++◌, map, length, get_or, All, AllPairs, slice_get}
+use Rattle.std.specs.Prelude.{◌≡◌, ◌≢◌, ℕ, zero, ◌+◌, ◌==◌, ◌≤◌, Bool, true, false, ◌&&◌, nat_lt, nat_le, ℤ, pos, negsuc, IsTrue, List, [], ◌∷◌, ◌++◌, map, length, get_or, All, AllPairs, slice_get}
 use Rattle.std.specs.List.{list_all, filter_map, flat_map}
 use Rattle.std.specs.FinSet.{from_list}
 use Rattle.model.specs.Task.{Atom, Task}
@@ -186,6 +186,13 @@ is_dead_end_in three task c state = tables.is_dead_state task (numbered_atoms ta
 abbrev pub is_dead_end_of : Task → Certificate → State → Bool
 is_dead_end_of task c = is_dead_end_in c.version task c
 
+-- what a mark says of a state rests on the certificate's values: what is still to pay from a cut is at most the value of the state, and
+-- a dead end is shown to be one
+abbrev pub IsSupported : Task → Certificate → State → Mark → Type 0
+IsSupported task c state opened = Unit {0}
+IsSupported task c state (cut rest) = rest ≤ value_of task c state
+IsSupported task c state dead = IsTrue (is_dead_end_of task c state)
+
 -- ---- closed certificates
 
 -- the potential functions of versions 1 and 2 are fair and dead-fair for the ground task in which the certificate's atoms have
@@ -204,7 +211,7 @@ abbrev pub AreFairFor : Task → Certificate → Type 0
 AreFairFor task c = AreFairIn c.version task c
 
 -- Its exchanges are symmetries of the task, its values, which have a weight for each of its atoms, are fair, the one for dead
--- ends is dead-fair, and its listing is closed up to the exchanges, with the values of the listed states.
+-- ends is dead-fair, its listing is closed up to the exchanges, and what its lines say rests on the values.
 pub record IsClosedFor (task : Task) (certificate : Certificate) : Type 0 where
   pub as_many_values : IsTrue (is_value_count certificate.version (length certificate.values))
   pub one_weight_an_atom : All (λ (p : PotentialFunction). length p.weights ≡ length certificate.atoms) certificate.values
@@ -216,4 +223,5 @@ pub record IsClosedFor (task : Task) (certificate : Certificate) : Type 0 where
   pub atoms_are_distinct : AllPairs (λ (a b : Atom). a ≢ b) certificate.atoms
   pub rows_are_distinct : All (λ (t : Table). AllPairs (λ (q r : Row). q.atoms ≢ r.atoms) t.rows) certificate.tables
   pub states_are_distinct : AllPairs (λ (k l : Line State). k.state ≢ l.state) (lines_of task certificate)
-  pub listing_is_closed : IsClosed (system_of task) (AreAlikeFor task certificate) (value_of task certificate) (is_dead_end_of task certificate) certificate.claim (lines_of task certificate)
+  pub listing_is_closed : IsClosed (system_of task) (AreAlikeFor task certificate) certificate.claim (lines_of task certificate)
+  pub lines_are_supported : All (λ (l : StateLine). IsSupported task certificate (state_of_line task certificate l) l.mark) certificate.lines

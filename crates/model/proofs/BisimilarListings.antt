@@ -36,11 +36,8 @@ module _ {S A T B : Type 0} (t : System S A) (u : System T B) (view : S → T) (
     listed : (lines : List (Line S)) (s : S) (s' : T) (cost : ℕ) → view s ≡ s' → IsListedWithin alike lines s cost → IsListedWithin alike' (map line_of lines) s' cost
     listed lines s s' cost now (line, among, is, within) = (line_of line, Contains-map line_of lines line among, subst (alike' (view line.state)) now (seen line.state s is), within)
 
-    -- if the values of the other are no lower, and every state reported as a dead end is also reported there
-    pub closed_forth : (value : S → ℕ) (value' : T → ℕ) → ((s : S) → value s ≤ value' (view s))
-        → (is_dead : S → Bool) (is_dead' : T → Bool) → ((s : S) → IsTrue (is_dead s) → IsTrue (is_dead' (view s)))
-        → (claim : Claim) (lines : List (Line S)) → IsClosed t alike value is_dead claim lines → IsClosed u alike' value' is_dead' claim (map line_of lines)
-    closed_forth value value' values is_dead is_dead' deaths claim lines closed = record {
+    pub closed_forth : (claim : Claim) (lines : List (Line S)) → IsClosed t alike claim lines → IsClosed u alike' claim (map line_of lines)
+    closed_forth claim lines closed = record {
       initial_listed = listed lines t.initial u.initial 0 both.initial closed.initial_listed;
       successors_listed = λ line' b next' among is_open leads.
           let from = map-Contains line_of lines line' among in
@@ -60,13 +57,7 @@ module _ {S A T B : Type 0} (t : System S A) (u : System T B) (view : S → T) (
           let from = map-Contains line_of lines line' among in
           let line = from.0 in
           let allowed = closed.cuts_allowed line rest from.1 (ap (λ (l : Line T). l.mark) from.2 ∙ is_cut) in
-          let same : value' (view line.state) ≡ value' line'.state = ap (λ (l : Line T). value' l.state) from.2 in
-          (omega (arith, allowed.0, values line.state, same), subst (λ cost. Allows claim (cost + rest)) (ap (λ (l : Line T). l.cost) from.2) allowed.1);
-      dead_are_dead = λ line' among marked.
-          let from = map-Contains line_of lines line' among in
-          let line = from.0 in
-          let there = closed.dead_are_dead line from.1 (ap (λ (l : Line T). l.mark) from.2 ∙ marked) in
-          subst (λ (s' : T). IsTrue (is_dead' s')) (ap (λ (l : Line T). l.state) from.2) (deaths line.state there);
+          subst (λ cost. Allows claim (cost + rest)) (ap (λ (l : Line T). l.cost) from.2) allowed;
     }
 
   -- lower bounds of the remaining cost in the other system are lower bounds in the first

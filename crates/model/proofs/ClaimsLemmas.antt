@@ -1,6 +1,6 @@
 -- A closed listing's claim is true.
 use Rattle.std.proofs.Common.{◌≡◌, ◌∙◌, ℕ, zero, suc, ◌+◌, ◌≤◌, List, [], ◌∷◌, ◌++◌, None, Some, refl, sym, ap, subst, arith}
-use Rattle.std.specs.Prelude.{Bool, IsTrue, length, Contains}
+use Rattle.std.specs.Prelude.{IsTrue, length, Contains}
 use Rattle.std.specs.List.{AllZip}
 use Rattle.std.specs.Option.{option_and_then}
 use Rattle.std.proofs.lemmas.Bool.{false≢true}
@@ -8,7 +8,7 @@ use Rattle.std.proofs.lemmas.List.Sums.{sum_by-cons}
 use Rattle.std.proofs.lemmas.Option.{same_Some}
 use Rattle.model.specs.Runs.{System, run, cost_of_all, IsReachable}
 use Rattle.model.specs.Bisimulation.{IsBisimulation, IsBisimulationEquivalence, ReachesGoalsOf, ReachGoalsAlike}
-use Rattle.model.specs.Claims.{Claim, bound, none, Allows, ClaimHolds, opened, cut, dead, Line, AreBoundsOf, AreDeadEndsOf, IsClosed, ClosedListingsClaim}
+use Rattle.model.specs.Claims.{Claim, bound, none, Allows, ClaimHolds, opened, cut, dead, Line, AreTrue, IsClosed, ClosedListingsClaim}
 use Rattle.model.proofs.BisimulationLemmas.{run_forth, same_cost}
 
 Allows-≤ : (claim : Claim) (m n : ℕ) → Allows claim m → m ≤ n → Allows claim n
@@ -77,18 +77,17 @@ equal_reach_alike {S} t s r is = record { forth = from s r is; back = from r s (
 -- ---- from a line on
 
 module _ {S A : Type 0} (t : System S A) (alike : S → S → Type 0) (within : (s r : S) → alike s r → ReachGoalsAlike t s r)
-    (value : S → ℕ) (is_dead : S → Bool) (claim : Claim) (lines : List (Line S))
-    (lower : AreBoundsOf t value lines) (dead_ends : AreDeadEndsOf t is_dead lines) (closed : IsClosed t alike value is_dead claim lines) where
+    (claim : Claim) (lines : List (Line S)) (are_true : AreTrue t lines) (closed : IsClosed t alike claim lines) where
   at_cut : (plan : List A) (line : Line S) (end : S) (rest : ℕ) → Contains lines line → line.mark ≡ cut rest → run t line.state plan ≡ Some end
       → IsTrue (t.meets_goal end) → Allows claim (line.cost + cost_of_all t plan)
   at_cut plan line end rest listed is_cut runs goal =
-      let allowed = closed.cuts_allowed line rest listed is_cut in
-      Allows-≤ claim (line.cost + rest) (line.cost + cost_of_all t plan) allowed.1 (omega (arith, allowed.0, lower line end plan listed runs goal))
+      Allows-≤ claim (line.cost + rest) (line.cost + cost_of_all t plan) (closed.cuts_allowed line rest listed is_cut)
+      (omega (arith, are_true.cuts line rest end plan listed is_cut runs goal))
 
   at_dead : (plan : List A) (line : Line S) (end : S) → Contains lines line → line.mark ≡ dead → run t line.state plan ≡ Some end
       → IsTrue (t.meets_goal end) → Allows claim (line.cost + cost_of_all t plan)
   at_dead plan line end listed marked runs goal =
-      absurd (false≢true (sym (dead_ends line end plan listed (closed.dead_are_dead line listed marked) runs) ∙ goal))
+      absurd (false≢true (sym (are_true.dead_ends line end plan listed marked runs) ∙ goal))
 
   at_open_goal : (line : Line S) (end : S) → Contains lines line → line.mark ≡ opened → run t line.state [] ≡ Some end → IsTrue (t.meets_goal end)
       → Allows claim (line.cost + cost_of_all t [])
@@ -131,5 +130,4 @@ module _ {S A : Type 0} (t : System S A) (alike : S → S → Type 0) (within : 
       (omega (arith, there.3, other.5))
 
 pub closed_listings_claim : {S A : Type 0} (t : System S A) (alike : S → S → Type 0) → ClosedListingsClaim t alike
-closed_listings_claim t alike within value is_dead claim lines lower dead_ends closed =
-    claim-of_closed t alike within value is_dead claim lines lower dead_ends closed
+closed_listings_claim t alike within claim lines are_true closed = claim-of_closed t alike within claim lines are_true closed

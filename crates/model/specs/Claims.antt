@@ -49,31 +49,26 @@ abbrev pub AreDeadEnds : {S A : Type 0} → System S A → (S → Bool) → Type
 AreDeadEnds {S} {A} t is_dead =
     (s end : S) (plan : List A) → IsReachable t s → IsTrue (is_dead s) → run t s plan ≡ Some end → t.meets_goal end ≡ false
 
--- the value of a listed state, which need not be reachable, is a lower bound of the remaining cost
-abbrev pub AreBoundsOf : {S A : Type 0} → System S A → (S → ℕ) → List (Line S) → Type 0
-AreBoundsOf {S} {A} t value lines =
-    (line : Line S) (end : S) (plan : List A) → Contains lines line → run t line.state plan ≡ Some end → IsTrue (t.meets_goal end) → value line.state ≤ cost_of_all t plan
-
--- a listed state that satisfies this is a dead end
-abbrev pub AreDeadEndsOf : {S A : Type 0} → System S A → (S → Bool) → List (Line S) → Type 0
-AreDeadEndsOf {S} {A} t is_dead lines =
-    (line : Line S) (end : S) (plan : List A) → Contains lines line → IsTrue (is_dead line.state) → run t line.state plan ≡ Some end → t.meets_goal end ≡ false
+-- What the marks of a listing say is true: from a cut at least the rest is still to pay, and from a dead end no list of actions leads to
+-- the goal. A listed state need not be reachable.
+pub record AreTrue {S A : Type 0} (t : System S A) (lines : List (Line S)) : Type 0 where
+  pub cuts : (line : Line S) (rest : ℕ) (end : S) (plan : List A) → Contains lines line → line.mark ≡ cut rest → run t line.state plan ≡ Some end
+      → IsTrue (t.meets_goal end) → rest ≤ cost_of_all t plan
+  pub dead_ends : (line : Line S) (end : S) (plan : List A) → Contains lines line → line.mark ≡ dead → run t line.state plan ≡ Some end → t.meets_goal end ≡ false
 
 -- No list of actions leaves the listing at less than the claim allows: for the initial state and for each successor of an open
--- state, a state of the same class is listed at no more than the cost of reaching it. Goals, values and dead ends are those of
--- the listed state itself. If classes are singletons, this is about the states themselves. (The closed list of a search in an
--- orbit space: Domshlak, Katz & Shleyfman 2015.)
-pub record IsClosed {S A : Type 0} (t : System S A) (alike : S → S → Type 0) (value : S → ℕ) (is_dead : S → Bool) (claim : Claim) (lines : List (Line S)) : Type 0 where
+-- state, a state of the same class is listed at no more than the cost of reaching it, and goals and cuts are allowed by the claim. Goals
+-- are those of the listed state itself. If classes are singletons, this is about the states themselves. (The closed list of a search in
+-- an orbit space: Domshlak, Katz & Shleyfman 2015.)
+pub record IsClosed {S A : Type 0} (t : System S A) (alike : S → S → Type 0) (claim : Claim) (lines : List (Line S)) : Type 0 where
   pub initial_listed : IsListedWithin alike lines t.initial 0
   pub successors_listed : (line : Line S) (a : A) (next : S) → Contains lines line → line.mark ≡ opened → t.step line.state a ≡ Some next
       → IsListedWithin alike lines next (line.cost + t.cost a)
   pub open_goals_allowed : (line : Line S) → Contains lines line → line.mark ≡ opened → IsTrue (t.meets_goal line.state) → Allows claim line.cost
-  pub cuts_allowed : (line : Line S) (rest : ℕ) → Contains lines line → line.mark ≡ cut rest → (rest ≤ value line.state) × Allows claim (line.cost + rest)
-  pub dead_are_dead : (line : Line S) → Contains lines line → line.mark ≡ dead → IsTrue (is_dead line.state)
+  pub cuts_allowed : (line : Line S) (rest : ℕ) → Contains lines line → line.mark ≡ cut rest → Allows claim (line.cost + rest)
 
--- What a closed listing shows, if the goal is reached at the same costs from states of the same class: its claim is true.
+-- What a closed listing shows, if its marks are true and the goal is reached at the same costs from states of the same class: its claim is
+-- true.
 abbrev pub ClosedListingsClaim : {S A : Type 0} → System S A → (S → S → Type 0) → Type 0
 ClosedListingsClaim {S} {A} t alike =
-    ((s r : S) → alike s r → ReachGoalsAlike t s r)
-    → (value : S → ℕ) (is_dead : S → Bool) (claim : Claim) (lines : List (Line S))
-    → AreBoundsOf t value lines → AreDeadEndsOf t is_dead lines → IsClosed t alike value is_dead claim lines → ClaimHolds t claim
+    ((s r : S) → alike s r → ReachGoalsAlike t s r) → (claim : Claim) (lines : List (Line S)) → AreTrue t lines → IsClosed t alike claim lines → ClaimHolds t claim

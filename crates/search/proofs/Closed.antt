@@ -5,7 +5,7 @@ use Rattle.std.proofs.lemmas.Bool.{false≢true}
 use Rattle.std.proofs.lemmas.Option.{same_Some, slice_get_within}
 use Rattle.std.proofs.lemmas.List.Sums.{sum_by-append}
 use Rattle.model.specs.Runs.{System, run, cost_of_all, CostsAtLeast, Solves, IsOptimal, IsUnsolvable}
-use Rattle.model.specs.Claims.{Claim, bound, none, Allows, ClaimHolds, Mark, opened, cut, dead, Line, IsListedWithin, IsClosed}
+use Rattle.model.specs.Claims.{Claim, bound, none, Allows, ClaimHolds, Mark, opened, cut, dead, Line, IsListedWithin, AreTrue, IsClosed}
 use Rattle.model.proofs.ClaimsLemmas.{claim-of_closed}
 use Rattle.model.proofs.ListLemmas.{Contains-here, Contains-there, Contains-cases, Contains-none}
 use Rattle.search.specs.declared.nodes.Node.{Node}
@@ -13,8 +13,6 @@ use Rattle.search.specs.Estimates.{IsAdmissible, IsConsistent}
 use Rattle.search.specs.DeadEnds.{DetectsDeadEnds, ReportsDeadEnds}
 use Rattle.search.specs.Outcome.{AreOfOneClass, AreOwnClasses, AreClassesOf, is_expanded, is_marked_dead, line_of, lines_of, IsReachableAt, ReachingCostsAtLeast, AreFound, AreExpandedWithin}
 use Rattle.search.specs.Nodes.{Waiting, Found, found_of, IsWaiting, total_of, AreNodes, IsFoundWithin, AreOpen, parent_of, begins, follows, IsPath, IsReachedIn, IsWay, dearest}
-use Rattle.search.proofs.Consistent.{are_bounds}
-use Rattle.search.proofs.DeadEnds.{are_dead_ends}
 use Rattle.search.proofs.NodesLemmas.{run-push}
 use Rattle.search.proofs.ShortWays.{short_way}
 use Rattle.search.proofs.Linked.{found_of-get, get-found_of, length-found_of}
@@ -64,6 +62,29 @@ dead_if true reported estimate is = absurd (cc)
 dead_if false true estimate is = refl
 dead_if false false estimate is = absurd (cc)
 
+-- a cut is told with the estimate of its state
+pub cut_told : {S : Type 0} (value : S → ℕ) (is_dead : S → Bool) (states : List S) (all : List Node) (line : Line S) (rest : ℕ) → Contains (lines_of value is_dead states all) line → line.mark ≡ cut rest
+    → rest ≡ value line.state
+cut_told {S} value is_dead states all line rest at mark =
+    let (k, s, r, is_s, is_r, is) = line-at value is_dead states all line at in
+    let (waits, alive, is_value) = cut_if (is_expanded r) (is_dead s) (value s) rest (ap (λ (l : Line S). l.mark) is ∙ mark) in
+    is_value ∙ ap (λ (l : Line S). value l.state) is
+
+-- what is told to be a dead end is reported dead
+pub dead_told : {S : Type 0} (value : S → ℕ) (is_dead : S → Bool) (states : List S) (all : List Node) (line : Line S) → Contains (lines_of value is_dead states all) line → line.mark ≡ dead
+    → is_dead line.state ≡ true
+dead_told {S} value is_dead states all line at mark =
+    let (k, s, r, is_s, is_r, is) = line-at value is_dead states all line at in
+    ap (λ (l : Line S). is_dead l.state) (sym is) ∙ dead_if (is_expanded r) (is_dead s) (value s) (ap (λ (l : Line S). l.mark) is ∙ mark)
+
+-- so what the lines tell is true, if the estimate is never more than what is still to pay, and only dead ends are reported
+pub lines_are_true : {S A : Type 0} (t : System S A) (value : S → ℕ) (is_dead : S → Bool) (states : List S) (all : List Node) → IsAdmissible t value → ReportsDeadEnds t is_dead
+    → AreTrue t (lines_of value is_dead states all)
+lines_are_true t value is_dead states all admissible reports = record {
+  cuts = λ line rest end plan at mark runs goal. omega (arith, cut_told value is_dead states all line rest at mark, admissible line.state end plan runs goal);
+  dead_ends = λ line end plan at mark runs. reports line.state end plan (dead_told value is_dead states all line at mark) runs;
+}
+
 -- what a listing needs of the found states
 pub record AreListed {S : Type 0} (t : System S ℕ) (class_of : S → S) (value : S → ℕ) (is_dead : S → Bool) (nodes : List (Found S)) : Type 0 where
   pub root : (n : Found S) × (slice_get nodes 0 ≡ Some n) × (n.state ≡ t.initial) × (n.node.cost ≡ 0)
@@ -102,7 +123,7 @@ module _ {S : Type 0} (t : System S ℕ) (class_of : S → S) (value : S → ℕ
   module _ (listed : AreListed t class_of value is_dead (found_of states all)) where
     pub closed : (claim : Claim) → AreOpen t class_of (found_of states all)
         → ((k : ℕ) (n : Found S) → slice_get (found_of states all) k ≡ Some n → IsWaiting is_dead n → Allows claim (total_of value n))
-        → IsClosed t (AreOfOneClass class_of) value is_dead claim (lines_of value is_dead states all)
+        → IsClosed t (AreOfOneClass class_of) claim (lines_of value is_dead states all)
     closed claim are_open allowed = record {
       initial_listed = let (n, at, is, free) = listed.root in listed_within t.initial 0 (0, n, at, ap class_of is, omega (arith, free));
       successors_listed = λ line a next at mark step.
@@ -124,19 +145,11 @@ module _ {S : Type 0} (t : System S ℕ) (class_of : S → S) (value : S → ℕ
           let (k, s, r, is_s, is_r, is) = line-at value is_dead states all line at in
           let there = node_at k s r is_s is_r in
           let (waits, alive, is_value) = cut_if (is_expanded r) (is_dead s) (value s) rest (ap (λ (l : Line S). l.mark) is ∙ mark) in
-          let same : s ≡ line.state = ap (λ (l : Line S). l.state) is in
           let same_cost : r.cost ≡ line.cost = ap (λ (l : Line S). l.cost) is in
-          let same_value : value s ≡ value line.state = ap value same in (
-            omega (arith, is_value, same_value),
-            subst (λ c. Allows claim (c + rest)) same_cost (subst (λ c. Allows claim (r.cost + c)) (sym is_value) (allowed k (record { state = s; node = r }) there (waits, alive))),
-          );
-      dead_are_dead = λ line at mark.
-          let (k, s, r, is_s, is_r, is) = line-at value is_dead states all line at in
-          let reported : is_dead s ≡ true = dead_if (is_expanded r) (is_dead s) (value s) (ap (λ (l : Line S). l.mark) is ∙ mark) in
-          ap is_dead (sym (ap (λ (l : Line S). l.state) is)) ∙ reported;
+          subst (λ c. Allows claim (c + rest)) same_cost (subst (λ c. Allows claim (r.cost + c)) (sym is_value) (allowed k (record { state = s; node = r }) there (waits, alive)));
     }
 
-    pub found_states : (claim : Claim) (max_states : ℕ) → length states ≤ max_states → IsClosed t (AreOfOneClass class_of) value is_dead claim (lines_of value is_dead states all)
+    pub found_states : (claim : Claim) (max_states : ℕ) → length states ≤ max_states → IsClosed t (AreOfOneClass class_of) claim (lines_of value is_dead states all)
         → AreFound t class_of value is_dead claim max_states states all
     found_states claim max_states within is_closed = record {
       one_for_each = one_each;
@@ -159,10 +172,9 @@ module _ {S : Type 0} (t : System S ℕ) (class_of : S → S) (value : S → ℕ
     }
 
     -- what a closed listing claims is true
-    pub claimed : AreClassesOf t class_of → IsAdmissible t value → ReportsDeadEnds t is_dead → (claim : Claim) → IsClosed t (AreOfOneClass class_of) value is_dead claim (lines_of value is_dead states all) → ClaimHolds t claim
+    pub claimed : AreClassesOf t class_of → IsAdmissible t value → ReportsDeadEnds t is_dead → (claim : Claim) → IsClosed t (AreOfOneClass class_of) claim (lines_of value is_dead states all) → ClaimHolds t claim
     claimed classes admissible reports claim is_closed =
-        let lines = lines_of value is_dead states all in
-        claim-of_closed t (AreOfOneClass class_of) classes value is_dead claim lines (are_bounds t value lines admissible) (are_dead_ends t is_dead lines reports) is_closed
+        claim-of_closed t (AreOfOneClass class_of) classes claim (lines_of value is_dead states all) (lines_are_true t value is_dead states all admissible reports) is_closed
 
   module _ (open_list : List Waiting) (nodes : AreNodes t class_of value is_dead (found_of states all) open_list) where
     listing : AreListed t class_of value is_dead (found_of states all)

@@ -4,7 +4,6 @@ use Rattle.std.specs.Option.{option_and_then}
 use Rattle.std.proofs.lemmas.Option.{same_Some}
 use Rattle.std.proofs.lemmas.List.Sums.{sum_by-cons}
 use Rattle.model.specs.Runs.{System, run, cost_of_all}
-use Rattle.model.specs.Claims.{Line, AreBoundsOf}
 use Rattle.search.specs.Estimates.{IsAdmissible, IsConsistent}
 
 module _ {S A : Type 0} (t : System S A) (value : S → ℕ) (consistent : IsConsistent t value) where
@@ -23,7 +22,3 @@ module _ {S A : Type 0} (t : System S A) (value : S → ℕ) (consistent : IsCon
   -- so that it is at most what is still to pay
   pub admissible : IsAdmissible t value
   admissible s end plan runs goal = omega (arith, falls_along plan s end runs, consistent.zero_at_goals end goal)
-
--- an admissible estimate is a lower bound from listed states on
-pub are_bounds : {S A : Type 0} (t : System S A) (value : S → ℕ) (lines : List (Line S)) → IsAdmissible t value → AreBoundsOf t value lines
-are_bounds t value lines admissible line end plan listed runs goal = admissible line.state end plan runs goal

@@ -4,7 +4,6 @@ use Rattle.std.specs.Prelude.{IsTrue}
 use Rattle.std.specs.Option.{option_and_then}
 use Rattle.std.proofs.lemmas.Option.{same_Some}
 use Rattle.model.specs.Runs.{System, run}
-use Rattle.model.specs.Claims.{Line, AreDeadEndsOf}
 use Rattle.search.specs.DeadEnds.{DetectsDeadEnds, ReportsDeadEnds}
 
 module _ {S A : Type 0} (t : System S A) (is_dead : S → Bool) (detects : DetectsDeadEnds t is_dead) where
@@ -20,7 +19,3 @@ module _ {S A : Type 0} (t : System S A) (is_dead : S → Bool) (detects : Detec
   -- so that it is a dead end
   pub reports_dead_ends : ReportsDeadEnds t is_dead
   reports_dead_ends s end plan dead runs = detects.no_goal end (dead_along plan s end runs dead)
-
--- so are the listed ones
-pub are_dead_ends : {S A : Type 0} (t : System S A) (is_dead : S → Bool) (lines : List (Line S)) → ReportsDeadEnds t is_dead → AreDeadEndsOf t is_dead lines
-are_dead_ends t is_dead lines reports line end plan listed dead runs = reports line.state end plan dead runs

@@ -86,7 +86,7 @@ pub record AreFound {S A : Type 0} (t : System S A) (class_of : S → S) (value 
   pub marked : AreMarked is_dead states nodes
   -- no state that is reported dead was expanded
   pub expanded_alive : (k : ℕ) (s : S) (node : Node) → slice_get states k ≡ Some s → slice_get nodes k ≡ Some node → is_expanded node ≡ true → is_dead s ≡ false
-  pub closed : IsClosed t (AreOfOneClass class_of) value is_dead claim (lines_of value is_dead states nodes)
+  pub closed : IsClosed t (AreOfOneClass class_of) claim (lines_of value is_dead states nodes)
 
 -- no expanded state has a greater sum of cost and estimate than this
 abbrev pub AreExpandedWithin : {S : Type 0} → (S → ℕ) → ℕ → List S → List Node → Type 0

@@ -26,6 +26,7 @@ use Rattle.solver.specs.Guidance.{Guidance, estimate_by, reports_dead, CanBeWrit
 use Rattle.solver.specs.Guided.{found_in, AreMarksOf, CanBeMarked, IsSearched}
 use Rattle.solver.specs.declared.limits.Limits.{Limits}
 use Rattle.solver.proofs.GuidanceLemmas.{most_value, estimate-most}
+use Rattle.search.proofs.Closed.{cut_told, lines_are_true}
 use Rattle.solver.proofs.FoundLines.{found_line, node_at}
 use Rattle.solver.proofs.ByCost.{more_by_cost}
 use Rattle.solver.proofs.LimitLemmas.{limit_claim}
@@ -137,16 +138,15 @@ module _ {S A : Type 0} (t : System S A) (class_of : S → S) (value : S → ℕ
         subst (λ n. n ≤ most_value) (ap (λ (l : Line S). value l.state) (sym is)) (low k s there),
       )
 
-  none_solves : most + most_value < cost → IsClosed t (AreOfOneClass class_of) value is_dead none (lines_of value is_dead states nodes)
+  none_solves : most + most_value < cost → IsClosed t (AreOfOneClass class_of) none (lines_of value is_dead states nodes)
   none_solves more = record {
     initial_listed = found.closed.initial_listed;
     successors_listed = found.closed.successors_listed;
     open_goals_allowed = λ line at is_open goal.
         never cost (most + most_value) line.cost more (found.closed.open_goals_allowed line at is_open goal) (omega (arith, (within line at).0));
     cuts_allowed = λ line rest at cut.
-        let allowed = found.closed.cuts_allowed line rest at cut in
-        (allowed.0, never cost (most + most_value) (line.cost + rest) more allowed.1 (omega (arith, allowed.0, (within line at).0, (within line at).1)));
-    dead_are_dead = found.closed.dead_are_dead;
+        let told = cut_told value is_dead states nodes line rest at cut in
+        never cost (most + most_value) (line.cost + rest) more (found.closed.cuts_allowed line rest at cut) (omega (arith, told, (within line at).0, (within line at).1));
   }
 
   bound_within : AreClassesOf t class_of → IsAdmissible t value → ReportsDeadEnds t is_dead → (plan : List A) → Solves t plan → cost ≤ most + most_value
@@ -154,8 +154,7 @@ module _ {S A : Type 0} (t : System S A) (class_of : S → S) (value : S → ℕ
       elim (nat_le cost (most + most_value)) as (λ v. nat_le cost (most + most_value) ≡ v → cost ≤ most + most_value) [
         | true ↦ λ is. leb-true cost (most + most_value) is
         | false ↦ λ is_not.
-            absurd (claim-of_closed t (AreOfOneClass class_of) classes value is_dead none (lines_of value is_dead states nodes) (λ line end plan _ runs goal. admissible line.state end plan runs goal)
-            (λ line end plan _ dead runs. reports line.state end plan dead runs) (none_solves (beyond cost (most + most_value) is_not)) plan solves)
+            absurd (claim-of_closed t (AreOfOneClass class_of) classes none (lines_of value is_dead states nodes) (lines_are_true t value is_dead states nodes admissible reports) (none_solves (beyond cost (most + most_value) is_not)) plan solves)
       ] refl
 
 -- so what is found among so few states is cheap

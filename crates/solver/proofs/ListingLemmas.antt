@@ -6,13 +6,14 @@ use Rattle.std.specs.Option.{option_map}
 use Rattle.std.specs.FinSet.{from_list}
 use Rattle.std.proofs.lemmas.Bool.{and_parts, and_from, not-true, true≢false, lt-ltb, le-leb}
 use Rattle.std.proofs.lemmas.List.{length-map}
-use Rattle.std.proofs.lemmas.List.Elements.{All-cons, All-nil}
+use Rattle.std.proofs.lemmas.List.Elements.{All-cons, All-contains_itself, All-nil}
 use Rattle.std.proofs.lemmas.Simd.{map-map}
 use Rattle.std.proofs.lemmas.Option.{slice_get-get_or, slice_get_within, slice_get-map}
 use Rattle.packed_state.specs.Sets.{has}
 use Rattle.packed_state.specs.Store.{AreDistinct}
 use Rattle.search.specs.declared.nodes.Node.{Node}
 use Rattle.search.specs.Outcome as search
+use Rattle.search.proofs.Closed.{cut_told, dead_told}
 use Rattle.search.specs.Outcome.{AreFound, AreExpandedWithin, AreOfOneClass, IsReachableAt}
 use Rattle.lower_bounds.specs.Settled.{initial_value}
 use Rattle.solver.specs.Improved.{AreSettledOrHigh, AreDeadSettledOrHigh, HasSettledOrHigh}
@@ -25,12 +26,12 @@ use Rattle.solver.proofs.FoundLines.{expanded_of_open, dead_of_reported, found_l
 use Rattle.model.specs.Task.{Task, Atom}
 use Rattle.model.specs.WellTyped.{is_task, is_atom}
 use Rattle.model.specs.Runs.{System}
-use Rattle.model.specs.Claims.{Claim, opened, dead, Line, IsClosed}
+use Rattle.model.specs.Claims.{Claim, opened, cut, dead, Line, IsClosed}
 use Rattle.model.specs.Meaning.{State, initial_state, system_of}
 use Rattle.model.specs.Fluents.{is_fluent, static_atoms}
 use Rattle.model.specs.NumberedAtoms.{occurs_in, are_distinct, numbered_atoms}
 use Rattle.model.specs.Grounding.{chosen, state_of_bits, ground_system, NamesKept}
-use Rattle.certificate_definitions.specs.Certificates.{two, three, Certificate, StateLine, is_number, is_claim, is_mark, is_dead_end_weight, is_state_line, keeps_limits, rise, state_of_line, lines_of, AreAlikeFor, are_exchanges, value_of, is_dead_end_of}
+use Rattle.certificate_definitions.specs.Certificates.{two, three, Certificate, StateLine, is_number, is_claim, is_mark, is_dead_end_weight, is_state_line, keeps_limits, rise, state_of_line, lines_of, AreAlikeFor, are_exchanges, value_of, is_dead_end_of, IsSupported}
 use Rattle.symmetries_definitions.specs.Exchanges.{Exchange}
 use Rattle.symmetries_definitions.specs.Symmetries.{is_symmetry}
 use Rattle.symmetries_definitions.specs.Orbits.{AreAlike, keeps_atoms}
@@ -119,18 +120,6 @@ states_apart {S} lines distinct i j d before within is =
   where
     state_at : (k : ℕ) → k < length lines → slice_get (map (λ (l : Line S). l.state) lines) k ≡ Some (get_or lines k d).state
     state_at k below = slice_get-map (λ (l : Line S). l.state) lines k ∙ ap (option_map (λ (l : Line S). l.state)) (slice_get-get_or lines k d below)
-
--- a listing closed by some values and dead ends is closed by others that say no less of its states
-closed_higher : {S A : Type 0} (t : System S A) (alike : S → S → Type 0) (value value' : S → ℕ) (is_dead is_dead' : S → Bool) (claim : Claim) (lines : List (Line S))
-    → ((line : Line S) → Contains lines line → (value line.state ≤ value' line.state) × (is_dead line.state ≡ true → is_dead' line.state ≡ true))
-    → IsClosed t alike value is_dead claim lines → IsClosed t alike value' is_dead' claim lines
-closed_higher t alike value value' is_dead is_dead' claim lines higher closed = record {
-  initial_listed = closed.initial_listed;
-  successors_listed = closed.successors_listed;
-  open_goals_allowed = closed.open_goals_allowed;
-  cuts_allowed = λ line rest among is_cut. let allowed = closed.cuts_allowed line rest among is_cut in (omega (arith, allowed.0, (higher line among).0), allowed.1);
-  dead_are_dead = λ line among marked. (higher line among).1 (closed.dead_are_dead line among marked);
-}
 
 pairs_apart : (atoms : List Atom) → are_distinct atoms ≡ true → AllPairs (λ (a b : Atom). a ≢ b) atoms
 pairs_apart [] distinct i j d before within = absurd (omega (arith, within))
@@ -227,12 +216,19 @@ module _ (task : Task) (claim : Claim) (most : ℕ) (exchanges : List Exchange) 
     same_dead : (k : ℕ) (bits : List Bool) → slice_get states k ≡ Some bits → is_dead_end_of task made (state_of_bits task atoms bits) ≡ reports_dead guidance bits
     same_dead k bits at = dead-found task claim exchanges states nodes bits (found_width k bits at) guidance
 
-    same_listing : (line : Line (List Bool)) → Contains lines line
-        → (estimate_by guidance line.state ≤ value_of task made (state_of_bits task atoms line.state)) × (reports_dead guidance line.state ≡ true → is_dead_end_of task made (state_of_bits task atoms line.state) ≡ true)
-    same_listing line among =
+    -- so what its lines say rests on its values
+    supported : (line : Line (List Bool)) → Contains lines line → IsSupported task made (state_of_line task made (state_line line)) line.mark
+    supported line among =
         let (k, s, n, there, here, is) = found_line (estimate_by guidance) (reports_dead guidance) states nodes line among in
         let at : slice_get states k ≡ Some line.state = there ∙ ap (λ (l : Line (List Bool)). Some l.state) (sym is) in
-        (omega (arith, same_value k line.state at), λ reported. same_dead k line.state at ∙ reported)
+        let same : state_of_line task made (state_line line) ≡ state_of_bits task atoms line.state = λ i. from_list (named_chosen atoms line.state i ++ static_atoms task) in
+        subst (λ (s : State). IsSupported task made s line.mark) (sym same) (
+        elim line.mark as (λ m. line.mark ≡ m → IsSupported task made (state_of_bits task atoms line.state) m) [
+          | opened ↦ λ is_open. tt
+          | cut rest ↦ λ is_cut. omega (arith, cut_told (estimate_by guidance) (reports_dead guidance) states nodes line rest among is_cut, same_value k line.state at)
+          | dead ↦ λ is_dead. same_dead k line.state at ∙ dead_told (estimate_by guidance) (reports_dead guidance) states nodes line among is_dead
+        ] refl
+        )
 
     reported_dead : (line : Line State) → Contains (lines_of task made) line → is_dead_end_of task made line.state ≡ true → line.mark ≡ dead
     reported_dead line among reported =
@@ -263,13 +259,13 @@ module _ (task : Task) (claim : Claim) (most : ℕ) (exchanges : List Exchange) 
         states_are_distinct = subst (AllPairs (λ (k l : Line State). k.state ≢ l.state)) (sym listing)
             (states_apart (map view lines) (subst (λ (ss : List State). AreDistinct ss) (sym (listed_states states nodes found.one_for_each)) (distinct_states task states found_width found.distinct)));
         exchanges_are_symmetries = subst (λ (l : List Atom). All (λ (e : Exchange). IsTrue (is_symmetry task e && keeps_atoms l e)) exchanges) (sym (numbered_again task)) (each_passes task atoms exchanges classes.symmetries classes.kept);
-        listing_is_closed = subst (λ (alike : State → State → Type 0). IsClosed (system_of task) alike (value_of task made) (is_dead_end_of task made) claim (lines_of task made)) (sym (alike_by task made refl))
-            (subst (IsClosed (system_of task) (AreAlike atoms exchanges) (value_of task made) (is_dead_end_of task made) claim) (sym listing)
-            (closed_forth t (system_of task) (state_of_bits task atoms) (NamesKept task) (ground_does task atoms refl) (AreOfOneClass class_of) (AreAlike atoms exchanges) classes.seen
-            (λ bits. value_of task made (state_of_bits task atoms bits)) (value_of task made) (λ s. omega arith)
-            (λ bits. is_dead_end_of task made (state_of_bits task atoms bits)) (is_dead_end_of task made) (λ s reported. reported) claim lines
-            (closed_higher t (AreOfOneClass class_of) (estimate_by guidance) (λ bits. value_of task made (state_of_bits task atoms bits)) (reports_dead guidance) (λ bits. is_dead_end_of task made (state_of_bits task atoms bits)) claim lines
-            same_listing found.closed)));
+        listing_is_closed = subst (λ (alike : State → State → Type 0). IsClosed (system_of task) alike claim (lines_of task made)) (sym (alike_by task made refl))
+            (subst (IsClosed (system_of task) (AreAlike atoms exchanges) claim) (sym listing)
+            (closed_forth t (system_of task) (state_of_bits task atoms) (NamesKept task) (ground_does task atoms refl) (AreOfOneClass class_of) (AreAlike atoms exchanges) classes.seen claim lines found.closed));
+        lines_are_supported = λ place d within.
+            let l = get_or made.lines place d in
+            let (line, among, is) = map-Contains state_line lines l (All-contains_itself made.lines place d within) in
+            subst (λ (l : StateLine). IsSupported task made (state_of_line task made l) l.mark) is (supported line among);
       };
       within_limit = omega (arith, length-made found.one_for_each);
       reached = reached_listed;

@@ -14,7 +14,7 @@ use Rattle.search.specs.Estimates.{IsAdmissible}
 use Rattle.search.specs.DeadEnds.{ReportsDeadEnds}
 use Rattle.search.specs.Outcome.{lines_of, AreClassesOf, AreOfOneClass}
 use Rattle.search.specs.Progress.{IsSearch, nodes_in}
-use Rattle.search.proofs.Closed.{are_listed, closed, node_at}
+use Rattle.search.proofs.Closed.{are_listed, closed, lines_are_true, node_at}
 use Rattle.search.proofs.Lists.{get_exists}
 use Rattle.std.proofs.lemmas.Option.{slice_get_within}
 use Rattle.std.proofs.lemmas.List.Elements.{All-contains}
@@ -31,8 +31,7 @@ module _ {S Store : Type 0} (t : System S ℕ) (class_of : S → S) (value : S �
   bound_holds classes admissible reports successors_found least is =
       let listed = are_listed t class_of value is_dead (found_of states all) (waiting_in p.open_list) search.nodes in
       let each = is.1 search.heap in
-      claim-of_closed t (AreOfOneClass class_of) classes value is_dead (bound least) (lines_of value is_dead states all) (λ line end plan _ runs goal. admissible line.state end plan runs goal)
-      (λ line end plan _ dead runs. reports line.state end plan dead runs)
+      claim-of_closed t (AreOfOneClass class_of) classes (bound least) (lines_of value is_dead states all) (lines_are_true t value is_dead states all admissible reports)
       (closed t class_of value is_dead states all search.one_each listed (bound least) successors_found
       (λ k n at waits. All-contains (λ (w : Waiting). least ≤ sum_of w) (waiting_in p.open_list) (entry n.node.cost (value n.state) k) each (search.nodes.queued k n at waits)))
 

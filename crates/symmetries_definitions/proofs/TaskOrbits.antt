@@ -65,9 +65,6 @@ pub states_alone : StatesAloneStandForThemselves
 states_alone atoms s = refl
 
 pub listings_by_exchanges_claim : ListingsByExchangesClaim
-listings_by_exchanges_claim task atoms exchanges well all value is_dead claim lines statics lower dead_ends closed =
+listings_by_exchanges_claim task atoms exchanges well all =
     closed_listings_claim (system_of task) (AreAlike atoms exchanges)
     (λ s r alike. related_reach_alike (system_of task) (AreOfOneOrbit (system_of task)) (orbits_are_classes (system_of task)) s r (alike_states_are_of_one_orbit task atoms exchanges well all s r alike))
-    value is_dead claim lines
-    (λ line end plan listed runs goal. lower line.state end plan (statics line listed) runs goal)
-    (λ line end plan listed reported runs. dead_ends line.state end plan (statics line listed) reported runs) closed

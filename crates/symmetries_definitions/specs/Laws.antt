@@ -1,13 +1,13 @@
 -- What symmetries of a task preserve, and what a listing closed up to them shows.
-use Rattle.std.specs.Prelude.{◌≡◌, ℕ, ◌≤◌, ◌↔◌, Bool, false, IsTrue, List, [], length, All, Contains, Some}
+use Rattle.std.specs.Prelude.{◌≡◌, ℕ, ◌↔◌, Bool, IsTrue, List, [], length, All}
 use Rattle.std.specs.Bool.{Decides}
 use Rattle.std.specs.List.{list_all}
-use Rattle.model.specs.Task.{Union, Atom, Formula, Effect, Task, Instance}
-use Rattle.model.specs.Runs.{System, run, cost_of_all}
-use Rattle.model.specs.Claims.{Claim, ClaimHolds, Line, IsClosed}
-use Rattle.model.specs.Meaning.{State, holds, changes_of, after_changes, meets_goal, system_of}
+use Rattle.model.specs.Task.{Union, Atom, Formula, Effect, Task}
+use Rattle.model.specs.Runs.{System}
+use Rattle.model.specs.Claims.{Claim, ClaimHolds, Line, AreTrue, IsClosed}
+use Rattle.model.specs.Meaning.{State, holds, changes_of, after_changes, system_of}
 use Rattle.model.specs.WellTyped.{is_formula, is_effect, is_task}
-use Rattle.model.specs.Fluents.{is_fluent, HasInitialStatics}
+use Rattle.model.specs.Fluents.{is_fluent}
 use Rattle.model.specs.NumberedAtoms.{numbered_atoms}
 use Rattle.model.specs.Grounding.{state_of_bits, ground_system}
 use Rattle.model.specs.Bisimulation.{IsBisimulationEquivalence, ReachGoalsAlike}
@@ -59,29 +59,13 @@ StatesAloneStandForThemselves = (atoms : List Atom) (s : State) → representati
 
 -- ---- what listings show
 
--- for each state with the initial static atoms, reachable or not, the value is a lower bound of the remaining cost
-abbrev pub IsLowerBoundOfAll : Task → (State → ℕ) → Type 0
-IsLowerBoundOfAll task value =
-    (s end : State) (plan : List Instance) → HasInitialStatics task s → run (system_of task) s plan ≡ Some end → IsTrue (meets_goal task end)
-    → value s ≤ cost_of_all (system_of task) plan
-
--- and no list leads to the goal from such a state that satisfies this
-abbrev pub AreDeadEndsOfAll : Task → (State → Bool) → Type 0
-AreDeadEndsOfAll task is_dead =
-    (s end : State) (plan : List Instance) → HasInitialStatics task s → IsTrue (is_dead s) → run (system_of task) s plan ≡ Some end → meets_goal task end ≡ false
-
--- the listed states have the initial static atoms
-abbrev pub HaveInitialStatics : Task → List (Line State) → Type 0
-HaveInitialStatics task lines = (line : Line State) → Contains lines line → HasInitialStatics task line.state
-
--- The claim of a listing closed up to symmetries of the task is true of every list of the task, of whatever length: when a list
--- reaches a state in the class of a listed one, the rest of it is carried over to the listed state.
+-- The claim of a listing closed up to symmetries of the task is true of every list of the task, of whatever length, if the marks of the
+-- listing are true: when a list reaches a state in the class of a listed one, the rest of it is carried over to the listed state.
 abbrev pub ListingsByExchangesClaim : Type 0
 ListingsByExchangesClaim =
     (task : Task) (atoms : List Atom) (exchanges : List Exchange) → IsTrue (is_task task) → IsTrue (list_all (is_symmetry task) exchanges)
-    → (value : State → ℕ) (is_dead : State → Bool) (claim : Claim) (lines : List (Line State)) → HaveInitialStatics task lines
-    → IsLowerBoundOfAll task value → AreDeadEndsOfAll task is_dead
-    → IsClosed (system_of task) (AreAlike atoms exchanges) value is_dead claim lines → ClaimHolds (system_of task) claim
+    → (claim : Claim) (lines : List (Line State)) → AreTrue (system_of task) lines → IsClosed (system_of task) (AreAlike atoms exchanges) claim lines
+    → ClaimHolds (system_of task) claim
 
 -- ---- the ground task
 
