@@ -1,6 +1,6 @@
 //! The changes that an instance makes, and their conditions.
 ghost use Rattle.std.specs.Prelude.{◌≡◌, ◌++◌, ◌∷◌, [], map, IsTrue, IfOk, OnOk};
-ghost use Rattle.task.specs.TaskParts.{object_of, formula_of, effect_literal_of, effect_of};
+ghost use Rattle.task.specs.TaskParts.{object_of, effect_literal_of, effect_of};
 ghost use Rattle.task.specs.Task.{task_of};
 ghost use Rattle.formulas.specs.State.{instance_of, FitsEffect, FitsLiteral, FitsLiterals};
 ghost use Rattle.formulas.specs.Effects.{ground_literal_of, condition_of, change_of};
@@ -31,6 +31,13 @@ pub struct Change<'t> {
     pub binding: Binding,
     /// The change.
     pub literal: GroundLiteral,
+}
+
+/// Where a literal of an effect is: under which condition, if any, and which variables are bound.
+#[derive(Drop)]
+struct Context<'a, 't> {
+    condition: Option<&'t Formula>,
+    binding: &'a Binding,
 }
 
 /// The changes of an instance of the task, in the order of its effect. A `forall` gives changes for each object of its variable's
@@ -65,7 +72,13 @@ fn add_changes<'t>(
     ensures { OnOk result (map change_of found.new.items ≡ map change_of found.old.items ++ changes_of (task_of task.now) (effect_of effect.now) (map object_of binding.now.items)) }
 {
     match effect {
-        Effect::Literal(literal) => add_change(task, None, literal, binding, found)?,
+        Effect::Literal(literal) => {
+            let context = Context {
+                condition: None,
+                binding,
+            };
+            add_change(task, &context, literal, found)?
+        }
         Effect::And(parts) => {
             for part in parts {
                 add_changes(task, part, binding, found)?;
@@ -77,44 +90,46 @@ fn add_changes<'t>(
             }
         }
         Effect::When(condition, literals) => {
-            add_changes_under(task, condition, literals, binding, found)?
+            let context = Context {
+                condition: Some(condition),
+                binding,
+            };
+            add_changes_in(task, &context, literals, found)?
         }
     }
     Ok(())
 }
 
-/// Adds the changes of the literals, each under the condition.
-fn add_changes_under<'t>(
+/// Adds the changes of the literals, each in this context.
+fn add_changes_in<'t>(
     task: &Task,
-    condition: &'t Formula,
+    context: &Context<'_, 't>,
     literals: &[EffectLiteral],
-    binding: &Binding,
     found: &mut Vec<Change<'t>>,
 ) -> Result<(), NoMemory>
-    requires { FitsLiterals (task_of task.now) (map effect_literal_of literals.now) (map object_of binding.now.items) }
-    ensures { OnOk result (map change_of found.new.items ≡ map change_of found.old.items ++ map (λ l. change_under (formula_of condition.now) (map object_of binding.now.items) (effect_literal_of l)) literals.now) }
+    requires { FitsLiterals (task_of task.now) (map effect_literal_of literals.now) (map object_of context.now.binding.now.items) }
+    ensures { OnOk result (map change_of found.new.items ≡ map change_of found.old.items ++ map (λ l. change_under (condition_of context.now.condition) (map object_of context.now.binding.now.items) (effect_literal_of l)) literals.now) }
 {
     for literal in literals {
-        add_change(task, Some(condition), literal, binding, found)?;
+        add_change(task, context, literal, found)?;
     }
     Ok(())
 }
 
-/// Adds the change of the literal, under the condition if there is one.
+/// Adds the change of the literal in this context.
 fn add_change<'t>(
     task: &Task,
-    condition: Option<&'t Formula>,
+    context: &Context<'_, 't>,
     literal: &EffectLiteral,
-    binding: &Binding,
     found: &mut Vec<Change<'t>>,
 ) -> Result<(), NoMemory>
-    requires { FitsLiteral (task_of task.now) (effect_literal_of literal.now) (map object_of binding.now.items) }
-    ensures { OnOk result (map change_of found.new.items ≡ map change_of found.old.items ++ change_under (condition_of condition.entry) (map object_of binding.now.items) (effect_literal_of literal.now) ∷ []) }
+    requires { FitsLiteral (task_of task.now) (effect_literal_of literal.now) (map object_of context.now.binding.now.items) }
+    ensures { OnOk result (map change_of found.new.items ≡ map change_of found.old.items ++ change_under (condition_of context.now.condition) (map object_of context.now.binding.now.items) (effect_literal_of literal.now) ∷ []) }
 {
-    let literal = grounded(task, literal, binding);
+    let literal = grounded(task, literal, context.binding);
     found.push(Change {
-        condition,
-        binding: copied(binding),
+        condition: context.condition,
+        binding: copied(context.binding),
         literal,
     })?;
     Ok(())

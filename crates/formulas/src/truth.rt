@@ -16,97 +16,102 @@ use task::{Atom, Formula, LiftedAtom, MAX_ARGUMENTS, ObjectId, Task, Term, TypeU
 
 /// Whether the formula holds in the state under this binding. The formula is well-typed for variables of some types that the
 /// objects are of. Nothing is allocated, and evaluation short-circuits.
-#[cycle(holds)]
 pub fn holds<V: Valuation>(task: &Task, formula: &Formula, binding: &Binding, state: &V) -> bool
     requires { FitsFormula (task_of task.now) (formula_of formula.now) (map object_of binding.now.items) }
     ensures { result ≡ meaning.holds (task_of task.now) (formula_of formula.now) (map object_of binding.now.items) (V.facts state.now) }
 {
-    match formula {
-        Formula::Atom(atom) => state.contains(&ground_atom(atom, binding)),
-        Formula::Equal(first, second) => named_by(first, binding) == named_by(second, binding),
-        Formula::And(parts) => all_hold(task, parts, binding, state),
-        Formula::Or(parts) => some_holds(task, parts, binding, state),
-        Formula::Not(part) => !holds(task, part, binding, state),
-        Formula::Imply(premise, conclusion) => {
-            !holds(task, premise, binding, state) || holds(task, conclusion, binding, state)
-        }
-        Formula::Exists(types, part) => holds_for_some(task, types, part, binding, state),
-        Formula::Forall(types, part) => holds_for_all(task, types, part, binding, state),
-    }
+    Evaluation { task, state }.holds(formula, binding)
 }
 
-/// Whether each of the formulas holds.
-#[cycle(holds)]
-fn all_hold<V: Valuation>(task: &Task, parts: &[Formula], binding: &Binding, state: &V) -> bool
-    requires { FitsFormulas (task_of task.now) (map formula_of parts.now) (map object_of binding.now.items) }
-    ensures { result ≡ list_all (λ part. meaning.holds (task_of task.now) part (map object_of binding.now.items) (V.facts state.now)) (map formula_of parts.now) }
-{
-    for part in parts {
-        if !holds(task, part, binding, state) {
-            return false;
-        }
-    }
-    true
+/// Evaluates the formulas of a task in one state.
+#[derive(Drop)]
+struct Evaluation<'a, V> {
+    task: &'a Task,
+    state: &'a V,
 }
 
-/// Whether some of the formulas holds.
-#[cycle(holds)]
-fn some_holds<V: Valuation>(task: &Task, parts: &[Formula], binding: &Binding, state: &V) -> bool
-    requires { FitsFormulas (task_of task.now) (map formula_of parts.now) (map object_of binding.now.items) }
-    ensures { result ≡ list_any (λ part. meaning.holds (task_of task.now) part (map object_of binding.now.items) (V.facts state.now)) (map formula_of parts.now) }
-{
-    for part in parts {
-        if holds(task, part, binding, state) {
-            return true;
+impl<V: Valuation> Evaluation<'_, V> {
+    /// Whether the formula holds under this binding, as [`holds`] says.
+    #[cycle(truth)]
+    fn holds(&self, formula: &Formula, binding: &Binding) -> bool
+        requires { FitsFormula (task_of self.now.task.now) (formula_of formula.now) (map object_of binding.now.items) }
+        ensures { result ≡ meaning.holds (task_of self.now.task.now) (formula_of formula.now) (map object_of binding.now.items) (V.facts self.now.state.now) }
+    {
+        match formula {
+            Formula::Atom(atom) => self.state.contains(&ground_atom(atom, binding)),
+            Formula::Equal(first, second) => named_by(first, binding) == named_by(second, binding),
+            Formula::And(parts) => self.all_hold(parts, binding),
+            Formula::Or(parts) => self.some_holds(parts, binding),
+            Formula::Not(part) => !self.holds(part, binding),
+            Formula::Imply(premise, conclusion) => {
+                !self.holds(premise, binding) || self.holds(conclusion, binding)
+            }
+            Formula::Exists(types, part) => self.holds_for_some(types, part, binding),
+            Formula::Forall(types, part) => self.holds_for_all(types, part, binding),
         }
     }
-    false
-}
 
-/// Whether the formula holds for each object of these types as the next variable.
-#[cycle(holds)]
-fn holds_for_all<V: Valuation>(
-    task: &Task,
-    types: &TypeUnion,
-    part: &Formula,
-    binding: &Binding,
-    state: &V,
-) -> bool
-    requires { FitsFormula (task_of task.now) (forall (union_of types.now) (formula_of part.now)) (map object_of binding.now.items) }
-    ensures { result ≡ meaning.holds (task_of task.now) (forall (union_of types.now) (formula_of part.now)) (map object_of binding.now.items) (V.facts state.now) }
-{
-    let mut extended = copied(binding);
-    for object in objects_of(task, types) {
-        extended.push(object);
-        if !holds(task, part, &extended, state) {
-            return false;
+    /// Whether each of the formulas holds.
+    #[cycle(truth)]
+    fn all_hold(&self, parts: &[Formula], binding: &Binding) -> bool
+        requires { FitsFormulas (task_of self.now.task.now) (map formula_of parts.now) (map object_of binding.now.items) }
+        ensures { result ≡ list_all (λ part. meaning.holds (task_of self.now.task.now) part (map object_of binding.now.items) (V.facts self.now.state.now)) (map formula_of parts.now) }
+    {
+        for part in parts {
+            if !self.holds(part, binding) {
+                return false;
+            }
         }
-        extended.pop();
+        true
     }
-    true
-}
 
-/// Whether the formula holds for some object of these types as the next variable.
-#[cycle(holds)]
-fn holds_for_some<V: Valuation>(
-    task: &Task,
-    types: &TypeUnion,
-    part: &Formula,
-    binding: &Binding,
-    state: &V,
-) -> bool
-    requires { FitsFormula (task_of task.now) (exists (union_of types.now) (formula_of part.now)) (map object_of binding.now.items) }
-    ensures { result ≡ meaning.holds (task_of task.now) (exists (union_of types.now) (formula_of part.now)) (map object_of binding.now.items) (V.facts state.now) }
-{
-    let mut tried = copied(binding);
-    for candidate in objects_of(task, types) {
-        tried.push(candidate);
-        if holds(task, part, &tried, state) {
-            return true;
+    /// Whether some of the formulas holds.
+    #[cycle(truth)]
+    fn some_holds(&self, parts: &[Formula], binding: &Binding) -> bool
+        requires { FitsFormulas (task_of self.now.task.now) (map formula_of parts.now) (map object_of binding.now.items) }
+        ensures { result ≡ list_any (λ part. meaning.holds (task_of self.now.task.now) part (map object_of binding.now.items) (V.facts self.now.state.now)) (map formula_of parts.now) }
+    {
+        for part in parts {
+            if self.holds(part, binding) {
+                return true;
+            }
         }
-        tried.pop();
+        false
     }
-    false
+
+    /// Whether the formula holds for each object of these types as the next variable.
+    #[cycle(truth)]
+    fn holds_for_all(&self, types: &TypeUnion, part: &Formula, binding: &Binding) -> bool
+        requires { FitsFormula (task_of self.now.task.now) (forall (union_of types.now) (formula_of part.now)) (map object_of binding.now.items) }
+        ensures { result ≡ meaning.holds (task_of self.now.task.now) (forall (union_of types.now) (formula_of part.now)) (map object_of binding.now.items) (V.facts self.now.state.now) }
+    {
+        let mut extended = copied(binding);
+        for object in objects_of(self.task, types) {
+            extended.push(object);
+            if !self.holds(part, &extended) {
+                return false;
+            }
+            extended.pop();
+        }
+        true
+    }
+
+    /// Whether the formula holds for some object of these types as the next variable.
+    #[cycle(truth)]
+    fn holds_for_some(&self, types: &TypeUnion, part: &Formula, binding: &Binding) -> bool
+        requires { FitsFormula (task_of self.now.task.now) (exists (union_of types.now) (formula_of part.now)) (map object_of binding.now.items) }
+        ensures { result ≡ meaning.holds (task_of self.now.task.now) (exists (union_of types.now) (formula_of part.now)) (map object_of binding.now.items) (V.facts self.now.state.now) }
+    {
+        let mut tried = copied(binding);
+        for candidate in objects_of(self.task, types) {
+            tried.push(candidate);
+            if self.holds(part, &tried) {
+                return true;
+            }
+            tried.pop();
+        }
+        false
+    }
 }
 
 /// Whether the goal holds in the state.

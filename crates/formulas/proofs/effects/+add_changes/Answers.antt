@@ -41,9 +41,9 @@ returns-after-loop-part t c =
     (ap (flat_map (λ part. changes_of task (effect_of part) binding)) (take_all c.loop-part.part-index items c.loop-part-test.false)
     ∙ sym (changes_by_parts task binding c.args.effect.now c.in-And.parts items c.in-And.is c.deref-part-items.ensures.value))
 
-pub returns-in_ok-add_changes_under-in-When : goal.returns-in_ok-add_changes_under-in-When
-returns-in_ok-add_changes_under-in-When t c =
-    c.in_ok-add_changes_under-in-When.ensures
+pub returns-in_ok-add_changes_in-in-When : goal.returns-in_ok-add_changes_in-in-When
+returns-in_ok-add_changes_in-in-When t c =
+    c.in_ok-add_changes_in-in-When.ensures
     ∙ ap (λ l. map change_of c.args.found.now.items ++ l)
     (changes_when (task_of c.args.task.now) (map object_of c.args.binding.now.items) c.args.effect.now c.in-When.condition c.in-When.literals c.deref-in-When.result.now c.in-When.is c.deref-in-When.ensures.value)
 

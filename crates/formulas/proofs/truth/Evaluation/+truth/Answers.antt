@@ -14,13 +14,13 @@ use Rattle.formulas.proofs.Trees.{list_any_map, holds_by_all, typed_by_all, hold
 use Rattle.formulas.specs.Objects.{objects_left}
 use Rattle.formulas.proofs.ObjectWalk.{rest_among, next_of, all_next, fails_here, any_next, passes_here}
 use Rattle.formulas.proofs.Quantifiers.{one_more, one_less, extended_fits}
-use Rattle.formulas.proofs.truth.+holds.Goals as goal
+use Rattle.formulas.proofs.truth.Evaluation.+truth.Goals as goal
 
 -- ---- formulas
 
 pub holds-ground_atom-requires : goal.holds-ground_atom-requires
 holds-ground_atom-requires g t c =
-    atom_few (task_of c.args.task.now) c.args.formula.now c.in-Atom.atom c.args.binding.now.items c.in-Atom.is c.requires c.args.task.now.well_typed
+    atom_few (task_of c.args.self.now.task.now) c.args.formula.now c.in-Atom.atom c.args.binding.now.items c.in-Atom.is c.requires c.args.self.now.task.now.well_typed
 
 pub holds-all_hold-requires : goal.holds-all_hold-requires
 holds-all_hold-requires g t c κs within = (
@@ -29,7 +29,7 @@ holds-all_hold-requires g t c κs within = (
     within,
     record {
       scope = c.requires.scope;
-      typed = typed_by_all c.args.formula.now c.in-And.parts c.deref.result.now c.in-And.is c.deref.ensures.value (task_of c.args.task.now) c.requires.scope c.requires.typed;
+      typed = typed_by_all c.args.formula.now c.in-And.parts c.deref.result.now c.in-And.is c.deref.ensures.value (task_of c.args.self.now.task.now) c.requires.scope c.requires.typed;
       fits = c.requires.fits;
     },
   ),
@@ -42,7 +42,7 @@ holds-some_holds-requires g t c κs within = (
     within,
     record {
       scope = c.requires.scope;
-      typed = typed_by_some c.args.formula.now c.in-Or.parts c.deref-in-Or.result.now c.in-Or.is c.deref-in-Or.ensures.value (task_of c.args.task.now) c.requires.scope c.requires.typed;
+      typed = typed_by_some c.args.formula.now c.in-Or.parts c.deref-in-Or.result.now c.in-Or.is c.deref-in-Or.ensures.value (task_of c.args.self.now.task.now) c.requires.scope c.requires.typed;
       fits = c.requires.fits;
     },
   ),
@@ -52,21 +52,21 @@ pub holds-returns-in-And : goal.holds-returns-in-And
 holds-returns-in-And g t c =
     search (
       rules,
-      holds_by_all c.args.formula.now c.in-And.parts c.deref.result.now c.in-And.is c.deref.ensures.value (task_of c.args.task.now) (map object_of c.args.binding.now.items) (g.V.Valuation.facts c.args.state.now),
+      holds_by_all c.args.formula.now c.in-And.parts c.deref.result.now c.in-And.is c.deref.ensures.value (task_of c.args.self.now.task.now) (map object_of c.args.binding.now.items) (g.V.Valuation.facts c.args.self.now.state.now),
     )
 
 pub holds-returns-in-Or : goal.holds-returns-in-Or
 holds-returns-in-Or g t c =
     search (
       rules,
-      holds_by_some c.args.formula.now c.in-Or.parts c.deref-in-Or.result.now c.in-Or.is c.deref-in-Or.ensures.value (task_of c.args.task.now) (map object_of c.args.binding.now.items) (g.V.Valuation.facts c.args.state.now),
+      holds_by_some c.args.formula.now c.in-Or.parts c.deref-in-Or.result.now c.in-Or.is c.deref-in-Or.ensures.value (task_of c.args.self.now.task.now) (map object_of c.args.binding.now.items) (g.V.Valuation.facts c.args.self.now.state.now),
     )
 
 -- ---- their lists
 
 pub all_hold-holds-requires : goal.all_hold-holds-requires
 all_hold-holds-requires g t c κs within =
-    let typed = is_formula (task_of c.args.task.now) c.requires.scope in (
+    let typed = is_formula (task_of c.args.self.now.task.now) c.requires.scope in (
       search (rules, the_lemmas),
       (
         within,
@@ -81,20 +81,20 @@ all_hold-holds-requires g t c κs within =
 
 pub all_hold-returns-then-not-holds : goal.all_hold-returns-then-not-holds
 all_hold-returns-then-not-holds g t c =
-    let test : Formula → Bool = λ part. meaning.holds (task_of c.args.task.now) part (map object_of c.args.binding.now.items) (g.V.Valuation.facts c.args.state.now) in
+    let test : Formula → Bool = λ part. meaning.holds (task_of c.args.self.now.task.now) part (map object_of c.args.binding.now.items) (g.V.Valuation.facts c.args.self.now.state.now) in
     passes_not (λ part. test (formula_of part)) c.args.parts.now c.loop-part.part-index c.part-item.result c.loop-part-test.true c.part-item.is
     (sym c.holds.ensures ∙ c.if-not-holds.true)
     ∙ sym (passes_map test formula_of c.args.parts.now)
 
 pub all_hold-returns : goal.all_hold-returns
 all_hold-returns g t c =
-    let test : Formula → Bool = λ part. meaning.holds (task_of c.args.task.now) part (map object_of c.args.binding.now.items) (g.V.Valuation.facts c.args.state.now) in
+    let test : Formula → Bool = λ part. meaning.holds (task_of c.args.self.now.task.now) part (map object_of c.args.binding.now.items) (g.V.Valuation.facts c.args.self.now.state.now) in
     passes_whole (λ part. test (formula_of part)) c.args.parts.now c.loop-part.part-index c.loop-part-test.false c.loop-part.invariant
     ∙ sym (passes_map test formula_of c.args.parts.now)
 
 pub some_holds-holds-requires : goal.some_holds-holds-requires
 some_holds-holds-requires g t c κs within =
-    let typed = is_formula (task_of c.args.task.now) c.requires.scope in (
+    let typed = is_formula (task_of c.args.self.now.task.now) c.requires.scope in (
       search (rules, the_lemmas),
       (
         within,
@@ -109,14 +109,14 @@ some_holds-holds-requires g t c κs within =
 
 pub some_holds-returns-then-holds : goal.some_holds-returns-then-holds
 some_holds-returns-then-holds g t c =
-    let test : Formula → Bool = λ part. meaning.holds (task_of c.args.task.now) part (map object_of c.args.binding.now.items) (g.V.Valuation.facts c.args.state.now) in
+    let test : Formula → Bool = λ part. meaning.holds (task_of c.args.self.now.task.now) part (map object_of c.args.binding.now.items) (g.V.Valuation.facts c.args.self.now.state.now) in
     any_here (λ part. test (formula_of part)) c.args.parts.now c.loop-part.part-index c.part-item.result c.loop-part-test.true c.part-item.is
     (sym c.holds.ensures ∙ c.if-holds.true)
     ∙ sym (list_any_map test formula_of c.args.parts.now)
 
 pub some_holds-returns : goal.some_holds-returns
 some_holds-returns g t c =
-    let test : Formula → Bool = λ part. meaning.holds (task_of c.args.task.now) part (map object_of c.args.binding.now.items) (g.V.Valuation.facts c.args.state.now) in
+    let test : Formula → Bool = λ part. meaning.holds (task_of c.args.self.now.task.now) part (map object_of c.args.binding.now.items) (g.V.Valuation.facts c.args.self.now.state.now) in
     any_nowhere (λ part. test (formula_of part)) c.args.parts.now c.loop-part.part-index c.loop-part-test.false c.loop-part.invariant
     ∙ sym (list_any_map test formula_of c.args.parts.now)
 
@@ -127,7 +127,7 @@ holds_for_all-loop-object-init g t c = (c.copied-extended.ensures, λ _ so. so, 
 
 pub holds_for_all-holds-requires : goal.holds_for_all-holds-requires
 holds_for_all-holds-requires g t c κs within =
-    let task = task_of c.args.task.now in
+    let task = task_of c.args.self.now.task.now in
     let types = union_of c.args.types.now in
     let part = formula_of c.args.part.now in
     let at = c.loop-object in
@@ -144,9 +144,9 @@ holds_for_all-holds-requires g t c κs within =
 
 pub holds_for_all-returns-then-not-holds : goal.holds_for_all-returns-then-not-holds
 holds_for_all-returns-then-not-holds g t c =
-    let task = task_of c.args.task.now in
+    let task = task_of c.args.self.now.task.now in
     let part = formula_of c.args.part.now in
-    let state = g.V.Valuation.facts c.args.state.now in
+    let state = g.V.Valuation.facts c.args.self.now.state.now in
     let binding = c.args.binding.now.items in
     let at = c.loop-object in
     let one = c.in-Some.object in
@@ -158,9 +158,9 @@ holds_for_all-returns-then-not-holds g t c =
 
 pub holds_for_all-loop-object-preserved : goal.holds_for_all-loop-object-preserved
 holds_for_all-loop-object-preserved g t c =
-    let task = task_of c.args.task.now in
+    let task = task_of c.args.self.now.task.now in
     let part = formula_of c.args.part.now in
-    let state = g.V.Valuation.facts c.args.state.now in
+    let state = g.V.Valuation.facts c.args.self.now.state.now in
     let binding = c.args.binding.now.items in
     let at = c.loop-object in
     let one = c.in-Some.object in
@@ -173,9 +173,9 @@ holds_for_all-loop-object-preserved g t c =
 
 pub holds_for_all-returns : goal.holds_for_all-returns
 holds_for_all-returns g t c =
-    let task = task_of c.args.task.now in
+    let task = task_of c.args.self.now.task.now in
     let part = formula_of c.args.part.now in
-    let state = g.V.Valuation.facts c.args.state.now in
+    let state = g.V.Valuation.facts c.args.self.now.state.now in
     let binding = map object_of c.args.binding.now.items in
     let test : ℕ → Bool = λ n. meaning.holds task part (binding ++ n ∷ []) state in
     let all = ap objects_left c.into_iter-object-iterator.ensures.into_iter_gives ∙ c.objects_of-object-items.ensures in
@@ -186,7 +186,7 @@ holds_for_some-loop-candidate-init g t c = (c.copied-tried.ensures, λ _ so. so,
 
 pub holds_for_some-holds-requires : goal.holds_for_some-holds-requires
 holds_for_some-holds-requires g t c κs within =
-    let task = task_of c.args.task.now in
+    let task = task_of c.args.self.now.task.now in
     let types = union_of c.args.types.now in
     let part = formula_of c.args.part.now in
     let at = c.loop-candidate in
@@ -203,9 +203,9 @@ holds_for_some-holds-requires g t c κs within =
 
 pub holds_for_some-returns-then-holds : goal.holds_for_some-returns-then-holds
 holds_for_some-returns-then-holds g t c =
-    let task = task_of c.args.task.now in
+    let task = task_of c.args.self.now.task.now in
     let part = formula_of c.args.part.now in
-    let state = g.V.Valuation.facts c.args.state.now in
+    let state = g.V.Valuation.facts c.args.self.now.state.now in
     let binding = c.args.binding.now.items in
     let at = c.loop-candidate in
     let one = c.in-Some.candidate in
@@ -217,9 +217,9 @@ holds_for_some-returns-then-holds g t c =
 
 pub holds_for_some-loop-candidate-preserved : goal.holds_for_some-loop-candidate-preserved
 holds_for_some-loop-candidate-preserved g t c =
-    let task = task_of c.args.task.now in
+    let task = task_of c.args.self.now.task.now in
     let part = formula_of c.args.part.now in
-    let state = g.V.Valuation.facts c.args.state.now in
+    let state = g.V.Valuation.facts c.args.self.now.state.now in
     let binding = c.args.binding.now.items in
     let at = c.loop-candidate in
     let one = c.in-Some.candidate in
@@ -232,9 +232,9 @@ holds_for_some-loop-candidate-preserved g t c =
 
 pub holds_for_some-returns : goal.holds_for_some-returns
 holds_for_some-returns g t c =
-    let task = task_of c.args.task.now in
+    let task = task_of c.args.self.now.task.now in
     let part = formula_of c.args.part.now in
-    let state = g.V.Valuation.facts c.args.state.now in
+    let state = g.V.Valuation.facts c.args.self.now.state.now in
     let binding = map object_of c.args.binding.now.items in
     let test : ℕ → Bool = λ n. meaning.holds task part (binding ++ n ∷ []) state in
     let all = ap objects_left c.into_iter-candidate-iterator.ensures.into_iter_gives ∙ c.objects_of-candidate-items.ensures in
