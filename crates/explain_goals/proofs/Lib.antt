@@ -1,0 +1,3 @@
+pub mod Invariants
+pub mod GrownLemmas
+pub mod SettledLemmas

@@ -1,0 +1,3 @@
+pub mod Relaxation
+pub mod Laws
+pub mod Settled
