@@ -4,7 +4,7 @@ use Rattle.std.proofs.lemmas.List.{drop_more, drop_all}
 use Rattle.model.specs.Task as task
 use Rattle.model.specs.Trees as tree
 use Rattle.model.specs.Trees.{TaskFile}
-use Rattle.model.specs.Typing.{Known, TypingFault, terms_faults, term_faults, misfit_faults}
+use Rattle.model.specs.Typing.{Known, terms_faults, term_faults, misfit_faults}
 use Rattle.typing_names.specs.Scope.{argument_faults}
 use Rattle.typing_names.specs.Walk.{Findings, found}
 use Rattle.typing_names.proofs.Found.{found-append}
@@ -30,17 +30,17 @@ rest_left (x ∷ xs) (suc i) =
 
 -- one more term
 pub argument_step : {X : Type 0} (file : TaskFile) (known : Known) (arguments : List task.Union) (seen : X → tree.Term) (xs : List X) (i : ℕ) (d : X) → i < length xs
-    → (least new whole : Findings) → new ≡ found least (argument_faults file known (slice_get arguments i) (seen (get_or xs i d)))
+    → (wanted : Option task.Union) → wanted ≡ slice_get arguments i → (least new whole : Findings) → new ≡ found least (argument_faults file known wanted (seen (get_or xs i d)))
     → found least (terms_faults file known (drop i arguments) (map seen (drop i xs))) ≡ whole
     → found new (terms_faults file known (drop (i + 1) arguments) (map seen (drop (i + 1) xs))) ≡ whole
-argument_step file known arguments seen xs i d l least new whole finds h =
+argument_step file known arguments seen xs i d l wanted is least new whole finds h =
     let x = seen (get_or xs i d) in
     let rest = terms_faults file known (drop (i + 1) arguments) (map seen (drop (i + 1) xs)) in
     let own = term_faults file known x in let misfit = misfit_faults file known (slice_get arguments i) x in
     let parts : terms_faults file known (drop i arguments) (map seen (drop i xs)) ≡ (own ++ misfit) ++ rest =
     ap (λ ys. terms_faults file known (drop i arguments) (map seen ys)) (drop_more xs i d l)
     ∙ (λ j. (own ++ misfit_faults file known (first_left arguments i j) x) ++ terms_faults file known (rest_left arguments i j) (map seen (drop (i + 1) xs))) in
-    ap (λ o. found o rest) finds ∙ sym (found-append least (own ++ misfit) rest) ∙ sym (ap (found least) parts) ∙ h
+    ap (λ o. found o rest) (finds ∙ ap (λ w. found least (argument_faults file known w x)) is) ∙ sym (found-append least (own ++ misfit) rest) ∙ sym (ap (found least) parts) ∙ h
 
 -- and the end
 pub argument_end : {X : Type 0} (file : TaskFile) (known : Known) (arguments : List task.Union) (seen : X → tree.Term) (xs : List X) (i : ℕ) → length xs ≤ i

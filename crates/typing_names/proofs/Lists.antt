@@ -1,9 +1,7 @@
 -- Indices and elements of lists derived from other lists.
-use Rattle.std.proofs.Common.{◌≡◌, ℕ, ◌+◌, ◌≤◌, ◌<◌, Bool, true, false, not, cond, ◌||◌, ◌&&◌, List, [], ◌∷◌, map, length, refl, ap, sym, ◌∙◌, arith, nat_eq, nat_lt, None, Some, zero, suc, take, drop, get_or, ◌++◌}
-use Rattle.std.proofs.lemmas.List.{length-map, map_push, map_more, map-id, append-nil}
-use Rattle.std.specs.Prelude.{filter}
-use Rattle.std.specs.List.{list_all, list_any, position, position_or_len, range_with_len}
-use Rattle.std.proofs.lemmas.List.FromFn.{filter_of_map_range_with_len_more}
+use Rattle.std.proofs.Common.{◌≡◌, ℕ, ◌+◌, ◌≤◌, ◌<◌, Bool, true, false, not, cond, ◌||◌, List, [], ◌∷◌, map, length, refl, ap, sym, ◌∙◌, arith, nat_lt, None, Some, zero, suc, take, drop, get_or, ◌++◌}
+use Rattle.std.proofs.lemmas.List.{length-map, map_push, map_more}
+use Rattle.std.specs.List.{list_any, position, position_or_len}
 use Rattle.std.proofs.lemmas.Bool.Decides.{nat_tests}
 pub use Rattle.task.proofs.Lists.{position_or_len-map, list_any-map, any_same, filter_range_more, kept_so, kept_not, position-map, list_all-map}
 

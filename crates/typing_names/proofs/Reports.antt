@@ -1,9 +1,9 @@
 -- From what a walk found to what is reported.
-use Rattle.std.proofs.Common.{◌≡◌, List, [], ◌∷◌, None, Some, sym, ap, subst, arith, Result, Ok, Err, ◌∙◌, OnOk, IfOk, IfErr}
+use Rattle.std.proofs.Common.{◌≡◌, List, [], ◌∷◌, None, sym, ap, subst, arith, Result, Ok, Err, ◌∙◌, OnOk, IfOk, IfErr}
 use Rattle.faults.specs.declared.refused.Refused.TheVariants.{At, NoMemory}
 use Rattle.typing_names.specs.Refusals.{PairFault, ReportsAll, refusal_of}
 use Rattle.typing_names.specs.Walk.{Findings, found, nothing, ReportsFound}
-use Rattle.model.specs.Typing.{TypingFault, IsLeastOf, first_filled}
+use Rattle.model.specs.Typing.{TypingFault, first_filled}
 use Rattle.typing_names.proofs.Least.{found-Some, found-None, found-listed}
 
 -- the faults are reported if what was found is

@@ -1,7 +1,7 @@
 -- Look-ups in tables of names, in terms of the names.
-use Rattle.std.proofs.Common.{◌==◌, ◌≤◌, arith, slice_get, ◌≡◌, ℕ, Bool, true, false, cond, List, [], ◌∷◌, ◌++◌, map, length, refl, ap, sym, ◌∙◌, Option, None, Some, if◌then◌else◌, nat_eq, is_some, ◌||◌, true≢false}
+use Rattle.std.proofs.Common.{◌==◌, ◌≤◌, arith, slice_get, ◌≡◌, ℕ, Bool, true, false, cond, List, [], ◌∷◌, ◌++◌, map, length, refl, ap, sym, ◌∙◌, Option, None, Some, if◌then◌else◌, nat_eq, is_some, unwrap_or, ◌||◌, true≢false}
 use Rattle.std.proofs.lemmas.Bool.Decides.{nat_tests}
-use Rattle.std.specs.Option.{option_map, option_map_or}
+use Rattle.std.specs.Option.{option_map}
 use Rattle.std.specs.Global.{Vec}
 use Rattle.std.specs.Cmp.Lexicographic.{pointwise}
 use Rattle.std.specs.List.{list_any, position, position_or_len}
@@ -13,14 +13,14 @@ use Rattle.model.specs.Task as task
 use Rattle.model.specs.Trees as tree
 use Rattle.model.specs.Trees.{TaskFile}
 use Rattle.model.specs.Typing.{folded, is_same, is_known, number_in, with_name, names_of_predicates, refused_word, faults_against}
-use Rattle.typing_names.specs.Scope.{keys_in, names_in}
+use Rattle.typing_names.specs.Scope.{names_in}
 pub use Rattle.task.proofs.Tables.{key_is, keys_in-named, named_at}
-use Rattle.typing_names.proofs.Lists.{position_or_len-map, position_or_len-le, list_any-map, position-found, position-map, position-missing}
+use Rattle.typing_names.proofs.Lists.{position_or_len-map, position_or_len-le, list_any-map, position-found, position-missing}
 
 -- the number that a look-up gives a name, and whether it is known
 pub reported_of_place : (name : tree.Name) (q : List ℕ) → q ≡ folded name → (keys : List (Vec ℕ)) (count : ℕ) → count ≡ length keys
     → (place : Option ℕ) → place ≡ position (key_is q) keys
-    → (option_map_or (λ n. n) place count ≡ number_in (names_in keys) name) × (is_some place ≡ is_known (names_in keys) name)
+    → (unwrap_or place count ≡ number_in (names_in keys) name) × (is_some place ≡ is_known (names_in keys) name)
 reported_of_place name q is keys count all (Some i) e =
     let h = position-found (key_is q) keys i e in (
       h.0 ∙ sym (position_or_len-map (is_same q) (λ key. key.items) keys) ∙ ap (λ r. position_or_len (is_same r) (names_in keys)) is,
@@ -39,7 +39,7 @@ number_in-le keys name = omega (arith, position_or_len-le (is_same (folded name)
 pub reported_of_entry : {V S : Type 0} (shown : Vec ℕ × V → S) (label : S → task.Name) (named : (e : Vec ℕ × V) → label (shown e) ≡ e.0.items)
     → (name : tree.Name) (q : List ℕ) → q ≡ folded name → (entries : List (Vec ℕ × V)) (count : ℕ) → count ≡ length entries
     → (place : Option ℕ) → place ≡ position (key_is q) (keys_of entries)
-    → (option_map_or (λ n. n) place count ≡ number_in (map label (map shown entries)) name) × (is_some place ≡ is_known (map label (map shown entries)) name)
+    → (unwrap_or place count ≡ number_in (map label (map shown entries)) name) × (is_some place ≡ is_known (map label (map shown entries)) name)
 reported_of_entry shown label named name q is entries count all place e =
     let h = reported_of_place name q is (keys_of entries) count (all ∙ sym (length-map entries (λ e. e.0))) place e in (
       h.0 ∙ ap (λ ks. number_in ks name) (keys_in-named shown label named entries),

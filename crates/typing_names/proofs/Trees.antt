@@ -1,5 +1,5 @@
 -- The parts of a conjunction as a list: what they resolve to, and the faults found in them.
-use Rattle.std.proofs.Common.{◌≡◌, List, [], ◌∷◌, ◌++◌, map, Option, refl, sym, ap, ◌∙◌}
+use Rattle.std.proofs.Common.{◌≡◌, List, [], ◌∷◌, ◌++◌, map, refl, sym, ap, ◌∙◌}
 use Rattle.std.specs.Global.{Vec}
 use Rattle.std.specs.List.{flat_map}
 use mathlib.Core.Former.{Count}
@@ -11,7 +11,7 @@ use Rattle.pddl_tree_parts.proofs.Rows as rows
 use Rattle.task.specs.TaskParts.{formula_of, formulas_of}
 use Rattle.model.specs.Task as task
 use Rattle.model.specs.Trees.{TaskFile, formulas}
-use Rattle.model.specs.Typing.{Known, TypingFault, formula_in, formulas_in, formula_faults, formulas_faults, exists_each, forall_each, exists_over, forall_over}
+use Rattle.model.specs.Typing.{Known, formula_in, formulas_in, formula_faults, formulas_faults, exists_each, forall_each, exists_over, forall_over}
 use Rattle.typing_names.specs.Walk.{Findings, found}
 
 -- ---- formulas

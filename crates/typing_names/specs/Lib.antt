@@ -2,3 +2,4 @@ pub mod Refusals
 pub mod Walk
 pub mod TypedLists
 pub mod Scope
+pub mod Resolver

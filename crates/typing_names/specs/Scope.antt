@@ -1,7 +1,6 @@
 -- The meaning of names in formulas, effects and atoms, in the model's terms.
 use Rattle.std.specs.Prelude.{◌≡◌, ℕ, List, [], ◌∷◌, map, take, ◌++◌, slice_get, Option}
 use Rattle.std.specs.Global.{Vec}
-use Rattle.std.specs.Map.{keys_of}
 use Rattle.std.specs.Option.{option_map_or}
 use Rattle.task.specs.declared.schemas.TypeUnion.{TypeUnion}
 use Rattle.typing_names.specs.declared.scope.Globals.{Globals}
@@ -19,16 +18,6 @@ IsAdded before after name value = (key : Vec ℕ) × (key.items ≡ folded name)
 
 abbrev pub variable_entry_of : Vec ℕ × TypeUnion → Variable
 variable_entry_of entry = record { name = entry.0.items; types = union_of entry.1 }
-
-abbrev pub known_of : Scope → Known
-known_of s = record {
-  type_names = keys_in s.types.now.by_name.entries;
-  types = map type_entry_of s.types.now.by_name.entries;
-  predicates = map predicate_of s.predicates.now.entries;
-  functions = map predicate_of s.functions.now.entries;
-  variables = map variable_entry_of s.variables.now.entries;
-  objects = map object_entry_of s.objects.now.entries;
-}
 
 -- the variables that were in scope come first among those in scope now
 abbrev pub BeginsWith : List (Vec ℕ × TypeUnion) → List (Vec ℕ × TypeUnion) → Type 0
@@ -48,6 +37,10 @@ known_over g variables = record {
 -- the names visible with no variable in scope
 abbrev pub known_outside : Globals → Known
 known_outside g = known_over g []
+
+-- the names visible in an atom, whose first word is looked up in a table of its own
+abbrev pub known_of : Scope → Known
+known_of s = record (known_over s.globals.now s.variables.now.entries) { predicates = map predicate_of s.symbols.now.entries }
 
 -- the types of each argument of the predicate with this number, if there is one
 abbrev pub arguments_at : Known → ℕ → List task.Union

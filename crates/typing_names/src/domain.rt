@@ -1,8 +1,7 @@
 //! The names of the domain and its types.
 ghost use Rattle.std.specs.Prelude.{◌≡◌, ◌≤◌, [], ◌∷◌, ◌++◌, codes, false, fold, if◌then◌else◌, length, map, IfErr, IfOk, OnOk};
-ghost use Rattle.typing_names.specs.TypedLists.{declared_of};
+ghost use Rattle.typing_names.specs.TypedLists.{declared_of, placed_in};
 ghost use Rattle.typing_names.specs.Scope.{keys_in, IsAdded};
-ghost use Rattle.pddl_tree_parts.specs.Tree.{file_of};
 ghost use Rattle.typing_names.specs.Refusals.{ReportsAll};
 ghost use Rattle.typing_names.specs.Walk.{Finds};
 ghost use Rattle.pddl_tree_parts.specs.Tree as read;
@@ -10,7 +9,7 @@ ghost use Rattle.model.specs.Trees.{problem_file};
 ghost use Rattle.model.specs.Typing as typing;
 
 use crate::type_names::TypeTable;
-use crate::typed_lists::{Declared, limit};
+use crate::typed_lists::{Declared, Placed, limit};
 use crate::types::check_all;
 use crate::walk::Walk;
 use crate::{PairFault, TaskFile};
@@ -27,16 +26,8 @@ const MAX_TYPES: usize = 4095;
 fn compare(walk: &mut Walk, domain: &Name<'_>, wanted: &Name<'_>)
     ensures { Finds walk.old walk.new (if typing.is_same (typing.folded (read.name_of wanted.now)) (typing.folded (read.name_of domain.now)) then [] else typing.refused_word problem_file 21 (read.name_of wanted.now)) }
 {
-    let same = wanted.text.eq_ignore_ascii_case(domain.text);
-    walk.refuse_unless(same, TaskFile::Problem, Code::DomainMismatch, wanted);
-}
-
-/// Refuses a name that is declared again.
-fn refuse_again(walk: &mut Walk, file: TaskFile, name: &Name<'_>, again: bool)
-    ensures { Finds walk.old walk.new (typing.refused 16 (if again then typing.placed (file_of file) (read.name_of name.now) ∷ [] else [])) }
-{
-    if again {
-        walk.refuse(file, Code::Duplicate, name);
+    if !wanted.text.eq_ignore_ascii_case(domain.text) {
+        walk.refuse(TaskFile::Problem, Code::DomainMismatch, wanted);
     }
 }
 
@@ -58,19 +49,18 @@ pub fn put<V: Drop>(
 
 /// Declares a name with its meaning. Refuses a name declared before.
 pub fn declare<V: Drop>(
-    alloc: Global,
     walk: &mut Walk,
-    file: TaskFile,
     table: &mut IndexMap<Vec<u8>, V>,
-    name: &Name<'_>,
+    placed: Placed<'_>,
     value: V,
 ) -> Result<(), NoMemory>
-    ensures names { OnOk result (keys_in table.new.entries ≡ typing.with_name (keys_in table.old.entries) (read.name_of name.now)) }
-    ensures added { OnOk result (typing.is_known (keys_in table.old.entries) (read.name_of name.now) ≡ false → IsAdded table.old.entries table.new.entries (read.name_of name.now) value) }
-    ensures finds { OnOk result (Finds walk.old walk.new (typing.refused 16 (if typing.is_known (keys_in table.old.entries) (read.name_of name.now) then typing.placed (file_of file) (read.name_of name.now) ∷ [] else []))) }
+    ensures names { OnOk result (keys_in table.new.entries ≡ typing.with_name (keys_in table.old.entries) (read.name_of placed.entry.name)) }
+    ensures added { OnOk result (typing.is_known (keys_in table.old.entries) (read.name_of placed.entry.name) ≡ false → IsAdded table.old.entries table.new.entries (read.name_of placed.entry.name) value) }
+    ensures finds { OnOk result (Finds walk.old walk.new (typing.refused 16 (if typing.is_known (keys_in table.old.entries) (read.name_of placed.entry.name) then placed_in placed.entry ∷ [] else []))) }
 {
-    let again = put(alloc, table, name, value)?;
-    refuse_again(walk, file, name, again);
+    if put(walk.alloc, table, &placed.name, value)? {
+        walk.refuse(placed.file, Code::Duplicate, &placed.name);
+    }
     Ok(())
 }
 
@@ -85,17 +75,16 @@ fn root(alloc: Global) -> Result<IndexMap<Vec<u8>, Vec<TypeId>>, NoMemory>
 
 /// The names of the types, without repetition, `object` first.
 fn type_names(
-    alloc: Global,
     walk: &mut Walk,
     declared: &[Declared<'_>],
 ) -> Result<IndexMap<Vec<u8>, Vec<TypeId>>, NoMemory>
     ensures names { IfOk result (λ m. keys_in m.entries ≡ fold typing.with_name (codes "object" ∷ []) (typing.names_of (map declared_of declared.now))) }
     ensures finds { OnOk result (Finds walk.old walk.new (typing.refused 16 (typing.repeated_after (codes "object" ∷ []) (typing.words_of (map declared_of declared.now))))) }
 {
-    let mut names = root(alloc)?;
+    let mut names = root(walk.alloc)?;
     for one in declared {
-        let none = Vec::new(alloc);
-        declare(alloc, walk, one.file, &mut names, &one.name, none)?;
+        let none = Vec::new(walk.alloc);
+        declare(walk, &mut names, one.placed, none)?;
     }
     Ok(names)
 }
@@ -115,7 +104,7 @@ fn checked_names(
 {
     let mut walk = Walk::new(alloc)?;
     compare(&mut walk, &domain.name, &problem.domain);
-    let names = type_names(alloc, &mut walk, declared)?;
+    let names = type_names(&mut walk, declared)?;
     check_all(&mut walk, &names, declared)?;
     limit(&mut walk, declared, MAX_TYPES);
     walk.finish(names)

@@ -4,6 +4,7 @@
 pub mod domain;
 mod fault;
 pub mod formulas;
+mod resolver;
 mod scope;
 mod type_names;
 pub mod typed_lists;
@@ -13,6 +14,7 @@ mod walk;
 
 pub use fault::{PairFault, PairRefusal, TaskFault, TaskRefusal};
 pub use pddl_tree_parts::TaskFile;
+pub use resolver::Resolver;
 pub use scope::{Globals, Scope, declares_cost};
 pub use type_names::TypeTable;
 pub use walk::{MAX_LISTED, Walk};

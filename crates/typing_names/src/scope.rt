@@ -13,7 +13,6 @@ use faults::{Code, NoMemory};
 use indexmap::IndexMap;
 use pddl_tree_parts as tree;
 use pddl_tree_parts::{GroundAtom, Name};
-use std::alloc::Global;
 use task::{
     Atom, LiftedAtom, MAX_ARGUMENTS, ObjectId, Predicate, PredicateId, Term, TypeId, TypeUnion,
     VariableId, all_below, is_below,
@@ -40,19 +39,12 @@ pub struct Globals<'g> {
 /// An unknown name gets the number after the last: its fault is reported, and no task results.
 #[derive(Drop)]
 pub struct Scope<'s> {
-    /// The file.
-    pub file: TaskFile,
-    /// The types by name, each with its supertypes.
-    pub types: &'s TypeTable,
-    /// The predicates by name.
-    pub predicates: &'s IndexMap<Vec<u8>, Predicate>,
-    /// The functions by name.
-    pub functions: &'s IndexMap<Vec<u8>, Predicate>,
+    /// The names visible all over the file.
+    pub globals: &'s Globals<'s>,
+    /// The table of the atom's first word: the predicates, or the functions in a function of terms or objects.
+    symbols: &'s IndexMap<Vec<u8>, Predicate>,
     /// The variables in scope, each with its types.
-    pub variables: &'s IndexMap<Vec<u8>, TypeUnion>,
-    /// The objects by name, each with its type.
-    pub objects: &'s IndexMap<Vec<u8>, TypeId>,
-    ghost few: { length objects.now.entries ≤ 65535 },
+    variables: &'s IndexMap<Vec<u8>, TypeUnion>,
 }
 
 /// Whether the total cost is declared among these functions.
@@ -63,20 +55,25 @@ pub fn declares_cost(functions: &IndexMap<Vec<u8>, Predicate>) -> bool
 }
 
 impl Globals<'_> {
-    ghost use Rattle.typing_names.specs.Scope.{known_of, known_over};
+    ghost use Rattle.typing_names.specs.Scope.{known_of, known_outside, known_over};
+    ghost use Rattle.model.specs.Typing.{has_cost};
+
+    /// Whether the total cost is declared.
+    pub fn has_cost(&self) -> bool
+        ensures { result ≡ has_cost (known_outside self.now) }
+    {
+        declares_cost(self.functions)
+    }
 
     /// The names visible where these variables are in scope.
     pub fn with<'v>(&'v self, variables: &'v IndexMap<Vec<u8>, TypeUnion>) -> Scope<'v>
-        ensures file { result.file ≡ self.now.file }
+        ensures file { result.globals.now.file ≡ self.now.file }
         ensures known { known_of result ≡ known_over self.now variables.now.entries }
     {
         Scope {
-            file: self.file,
-            types: self.types,
-            predicates: self.predicates,
-            functions: self.functions,
+            globals: self,
+            symbols: self.predicates,
             variables,
-            objects: self.objects,
         }
     }
 }
@@ -92,25 +89,15 @@ impl Scope<'_> {
     ghost use Rattle.model.specs.Trees as tree;
     ghost use Rattle.model.specs.Typing.{atom_faults, atom_in, fits_in, fits_wanted, ground_atom_faults, has_cost, in_function, is_named, lifted_atom_in, names_of_objects, names_of_predicates, names_of_variables, number_in, predicate_faults, refused_word, term_faults, term_in, terms_faults, unknown_faults};
 
-    /// Whether the total cost is declared.
-    pub fn has_cost(&self) -> bool
-        ensures { result ≡ has_cost (known_of self.now) }
-    {
-        declares_cost(self.functions)
-    }
-
     /// The names visible in a function of terms or objects: the functions take the place of the predicates.
     pub fn in_function(&self) -> Scope<'_>
-        ensures file { result.file ≡ self.now.file }
+        ensures file { result.globals.now.file ≡ self.now.globals.now.file }
         ensures known { known_of result ≡ in_function (known_of self.now) }
     {
         Scope {
-            file: self.file,
-            types: self.types,
-            predicates: self.functions,
-            functions: self.functions,
+            globals: self.globals,
+            symbols: self.globals.functions,
             variables: self.variables,
-            objects: self.objects,
         }
     }
 
@@ -122,63 +109,59 @@ impl Scope<'_> {
         count: usize,
     ) -> Result<PredicateId, NoMemory>
         ensures value { IfOk result (λ p. p.0 ≡ number_in (names_of_predicates (known_of self.now).predicates) (read.name_of name.now)) }
-        ensures finds { OnOk result (Finds walk.old walk.new (predicate_faults (file_of self.now.file) (known_of self.now) (read.name_of name.now) count)) }
+        ensures finds { OnOk result (Finds walk.old walk.new (predicate_faults (file_of self.now.globals.now.file) (known_of self.now) (read.name_of name.now) count)) }
     {
         walk.fold(name)?;
-        match self.predicates.get_full(walk.folded.as_slice()) {
+        match self.symbols.get_full(walk.folded.as_slice()) {
             Some((number, _, predicate)) => {
                 if predicate.arguments.len() != count {
-                    walk.refuse(self.file, Code::WrongArity, name);
+                    walk.refuse(self.globals.file, Code::WrongArity, name);
                 }
                 Ok(PredicateId(number))
             }
             None => {
-                walk.refuse(self.file, Code::UnknownName, name);
-                Ok(PredicateId(self.predicates.len()))
+                walk.refuse(self.globals.file, Code::UnknownName, name);
+                Ok(PredicateId(self.symbols.len()))
             }
         }
     }
 
-    /// The number of a name: its place, if it has one. A name without one is refused and gets the number after the last.
-    fn number(&self, walk: &mut Walk, place: Option<usize>, count: usize, name: &Name<'_>) -> usize
-        ensures value { result ≡ option_map_or (λ n. n) place count }
-        ensures finds { Finds walk.old walk.new (if is_some place then [] else refused_word (file_of self.now.file) 17 (read.name_of name.now)) }
+    /// Refuses a name that has no place in its table.
+    fn check_known(&self, walk: &mut Walk, place: Option<usize>, name: &Name<'_>)
+        ensures { Finds walk.old walk.new (if is_some place then [] else refused_word (file_of self.now.globals.now.file) 17 (read.name_of name.now)) }
     {
-        match place {
-            Some(number) => number,
-            None => {
-                walk.refuse(self.file, Code::UnknownName, name);
-                count
-            }
+        if place.is_none() {
+            walk.refuse(self.globals.file, Code::UnknownName, name);
         }
     }
 
     /// The variable with this name.
     fn variable(&self, walk: &mut Walk, name: &Name<'_>) -> Result<VariableId, NoMemory>
         ensures value { IfOk result (λ v. v.0 ≡ number_in (names_of_variables (known_of self.now).variables) (read.name_of name.now)) }
-        ensures finds { OnOk result (Finds walk.old walk.new (unknown_faults (file_of self.now.file) 17 (names_of_variables (known_of self.now).variables) (read.name_of name.now))) }
+        ensures finds { OnOk result (Finds walk.old walk.new (unknown_faults (file_of self.now.globals.now.file) 17 (names_of_variables (known_of self.now).variables) (read.name_of name.now))) }
     {
         walk.fold(name)?;
         let place = self.variables.get_index_of(walk.folded.as_slice());
-        let number = self.number(walk, place, self.variables.len(), name);
-        Ok(VariableId(number))
+        self.check_known(walk, place, name);
+        Ok(VariableId(place.unwrap_or(self.variables.len())))
     }
 
     /// The object with this name.
     fn object(&self, walk: &mut Walk, name: &Name<'_>) -> Result<ObjectId, NoMemory>
         ensures value { IfOk result (λ o. o.0 ≡ number_in (names_of_objects (known_of self.now).objects) (read.name_of name.now)) }
-        ensures finds { OnOk result (Finds walk.old walk.new (unknown_faults (file_of self.now.file) 17 (names_of_objects (known_of self.now).objects) (read.name_of name.now))) }
+        ensures finds { OnOk result (Finds walk.old walk.new (unknown_faults (file_of self.now.globals.now.file) 17 (names_of_objects (known_of self.now).objects) (read.name_of name.now))) }
     {
         walk.fold(name)?;
-        let place = self.objects.get_index_of(walk.folded.as_slice());
-        let number = self.number(walk, place, self.objects.len(), name);
+        let place = self.globals.objects.get_index_of(walk.folded.as_slice());
+        self.check_known(walk, place, name);
+        let number = place.unwrap_or(self.globals.objects.len());
         Ok(ObjectId(number as u32))
     }
 
     /// The variable or the object in an atom or an equality.
     pub(crate) fn term(&self, walk: &mut Walk, term: &tree::Term<'_>) -> Result<Term, NoMemory>
         ensures value { IfOk result (λ t. parts.term_of t ≡ term_in (known_of self.now) (read.term_of term.now)) }
-        ensures finds { OnOk result (Finds walk.old walk.new (term_faults (file_of self.now.file) (known_of self.now) (read.term_of term.now))) }
+        ensures finds { OnOk result (Finds walk.old walk.new (term_faults (file_of self.now.globals.now.file) (known_of self.now) (read.term_of term.now))) }
     {
         match term {
             tree::Term::Variable(name) => Ok(Term::Variable(self.variable(walk, name)?)),
@@ -191,7 +174,7 @@ impl Scope<'_> {
         ensures { result ≡ fits_in (known_of self.now) (parts.union_of wanted.now) (variable id.0) }
     {
         match self.variables.get_index(id.0) {
-            Some((_, types)) => all_below(&self.types.by_name, wanted, &types.0),
+            Some((_, types)) => all_below(&self.globals.types.by_name, wanted, &types.0),
             None => true,
         }
     }
@@ -200,8 +183,8 @@ impl Scope<'_> {
     fn object_fits(&self, wanted: &TypeUnion, id: ObjectId) -> bool
         ensures { result ≡ fits_in (known_of self.now) (parts.union_of wanted.now) (object id.0) }
     {
-        match self.objects.get_index(id.0 as usize) {
-            Some((_, of_type)) => is_below(&self.types.by_name, wanted, *of_type),
+        match self.globals.objects.get_index(id.0 as usize) {
+            Some((_, of_type)) => is_below(&self.globals.types.by_name, wanted, *of_type),
             None => true,
         }
     }
@@ -220,65 +203,51 @@ impl Scope<'_> {
     fn wanted(&self, predicate: PredicateId, index: usize) -> Option<&TypeUnion>
         ensures { option_map (λ u. parts.union_of u.now) result ≡ slice_get (arguments_at (known_of self.now) predicate.0) index }
     {
-        let (_, predicate) = self.predicates.get_index(predicate.0)?;
+        let (_, predicate) = self.symbols.get_index(predicate.0)?;
         predicate.arguments.get(index)
     }
 
-    /// Whether a term fits the argument at this place; true if there is none.
-    fn fits_argument(&self, predicate: PredicateId, index: usize, term: Term) -> bool
-        ensures { result ≡ fits_wanted (known_of self.now) (slice_get (arguments_at (known_of self.now) predicate.0) index) (parts.term_of term) }
+    /// Whether a term fits an argument; true if there is no such argument.
+    fn fits_argument(&self, wanted: Option<&TypeUnion>, term: Term) -> bool
+        ensures { result ≡ fits_wanted (known_of self.now) (option_map (λ u. parts.union_of u.now) wanted.entry) (parts.term_of term) }
     {
-        match self.wanted(predicate, index) {
+        match wanted {
             Some(wanted) => self.fits(wanted, term),
             None => true,
         }
     }
 
-    /// Refuses a term that does not fit its argument.
-    fn check_fit(
-        &self,
-        walk: &mut Walk,
-        predicate: PredicateId,
-        index: usize,
-        term: Term,
-        word: &Name<'_>,
-    )
-        ensures { Finds walk.old walk.new (if fits_wanted (known_of self.now) (slice_get (arguments_at (known_of self.now) predicate.0) index) (parts.term_of term) then [] else refused_word (file_of self.now.file) 19 (read.name_of word.now)) }
-    {
-        let fits = self.fits_argument(predicate, index, term);
-        walk.refuse_unless(fits, self.file, Code::WrongType, word);
-    }
-
-    /// The term at this index of an atom.
+    /// The term in the place of an argument.
     fn argument(
         &self,
         walk: &mut Walk,
-        predicate: PredicateId,
-        index: usize,
+        wanted: Option<&TypeUnion>,
         term: &tree::Term<'_>,
     ) -> Result<Term, NoMemory>
         ensures value { IfOk result (λ t. parts.term_of t ≡ term_in (known_of self.now) (read.term_of term.now)) }
-        ensures finds { OnOk result (Finds walk.old walk.new (argument_faults (file_of self.now.file) (known_of self.now) (slice_get (arguments_at (known_of self.now) predicate.0) index) (read.term_of term.now))) }
+        ensures finds { OnOk result (Finds walk.old walk.new (argument_faults (file_of self.now.globals.now.file) (known_of self.now) (option_map (λ u. parts.union_of u.now) wanted.entry) (read.term_of term.now))) }
     {
         let resolved = self.term(walk, term)?;
-        self.check_fit(walk, predicate, index, resolved, word(term));
+        if !self.fits_argument(wanted, resolved) {
+            walk.refuse(self.globals.file, Code::WrongType, word(term));
+        }
         Ok(resolved)
     }
 
     /// The terms of an atom.
     fn terms(
         &self,
-        alloc: Global,
         walk: &mut Walk,
         predicate: PredicateId,
         given: &[tree::Term<'_>],
     ) -> Result<Vec<Term>, NoMemory>
         ensures value { IfOk result (λ v. map parts.term_of v.items ≡ map (λ t. term_in (known_of self.now) (read.term_of t)) given.now) }
-        ensures finds { OnOk result (Finds walk.old walk.new (terms_faults (file_of self.now.file) (known_of self.now) (arguments_at (known_of self.now) predicate.0) (map read.term_of given.now))) }
+        ensures finds { OnOk result (Finds walk.old walk.new (terms_faults (file_of self.now.globals.now.file) (known_of self.now) (arguments_at (known_of self.now) predicate.0) (map read.term_of given.now))) }
     {
-        let mut terms = Vec::with_capacity(alloc, given.len())?;
+        let mut terms = Vec::with_capacity(walk.alloc, given.len())?;
         for index in 0..given.len() {
-            terms.push(self.argument(walk, predicate, index, &given[index])?)?;
+            let wanted = self.wanted(predicate, index);
+            terms.push(self.argument(walk, wanted, &given[index])?)?;
         }
         Ok(terms)
     }
@@ -286,32 +255,32 @@ impl Scope<'_> {
     /// An atom of an action or a goal.
     pub fn lifted_atom(
         &self,
-        alloc: Global,
         walk: &mut Walk,
         atom: &tree::Atom<'_>,
     ) -> Result<LiftedAtom, NoMemory>
         ensures value { IfOk result (λ a. parts.lifted_atom_of a ≡ lifted_atom_in (known_of self.now) (read.atom_of atom.now)) }
-        ensures finds { OnOk result (Finds walk.old walk.new (atom_faults (file_of self.now.file) (known_of self.now) (read.atom_of atom.now))) }
+        ensures finds { OnOk result (Finds walk.old walk.new (atom_faults (file_of self.now.globals.now.file) (known_of self.now) (read.atom_of atom.now))) }
     {
         let given = atom.terms.as_slice();
         let predicate = self.predicate(walk, &atom.predicate, given.len())?;
-        let terms = self.terms(alloc, walk, predicate, given)?;
+        let terms = self.terms(walk, predicate, given)?;
         Ok(LiftedAtom { predicate, terms })
     }
 
-    /// The object at this index of an atom.
+    /// The object in the place of an argument.
     fn ground_argument(
         &self,
         walk: &mut Walk,
-        predicate: PredicateId,
-        index: usize,
+        wanted: Option<&TypeUnion>,
         name: &Name<'_>,
     ) -> Result<ObjectId, NoMemory>
         ensures value { IfOk result (λ o. o.0 ≡ number_in (names_of_objects (known_of self.now).objects) (read.name_of name.now)) }
-        ensures finds { OnOk result (Finds walk.old walk.new (argument_faults (file_of self.now.file) (known_of self.now) (slice_get (arguments_at (known_of self.now) predicate.0) index) (tree.object (read.name_of name.now)))) }
+        ensures finds { OnOk result (Finds walk.old walk.new (argument_faults (file_of self.now.globals.now.file) (known_of self.now) (option_map (λ u. parts.union_of u.now) wanted.entry) (tree.object (read.name_of name.now)))) }
     {
         let object = self.object(walk, name)?;
-        self.check_fit(walk, predicate, index, Term::Object(object), name);
+        if !self.fits_argument(wanted, Term::Object(object)) {
+            walk.refuse(self.globals.file, Code::WrongType, name);
+        }
         Ok(object)
     }
 
@@ -323,11 +292,12 @@ impl Scope<'_> {
         given: &[Name<'_>],
     ) -> Result<ArrayVec<ObjectId, MAX_ARGUMENTS>, NoMemory>
         ensures value { IfOk result (λ v. map parts.object_of v.items ≡ take 8 (map (λ n. number_in (names_of_objects (known_of self.now).objects) (read.name_of n)) given.now)) }
-        ensures finds { OnOk result (Finds walk.old walk.new (terms_faults (file_of self.now.file) (known_of self.now) (arguments_at (known_of self.now) predicate.0) (map (λ n. tree.object (read.name_of n)) given.now))) }
+        ensures finds { OnOk result (Finds walk.old walk.new (terms_faults (file_of self.now.globals.now.file) (known_of self.now) (arguments_at (known_of self.now) predicate.0) (map (λ n. tree.object (read.name_of n)) given.now))) }
     {
         let mut objects = ArrayVec::new();
         for index in 0..given.len() {
-            let object = self.ground_argument(walk, predicate, index, &given[index])?;
+            let wanted = self.wanted(predicate, index);
+            let object = self.ground_argument(walk, wanted, &given[index])?;
             if objects.len() < MAX_ARGUMENTS {
                 objects.push(object);
             }
@@ -339,7 +309,7 @@ impl Scope<'_> {
     /// then.
     pub fn atom(&self, walk: &mut Walk, atom: &GroundAtom<'_>) -> Result<Atom, NoMemory>
         ensures value { IfOk result (λ a. parts.atom_of a ≡ narrow_atom_in (known_of self.now) (read.ground_atom_of atom.now)) }
-        ensures finds { OnOk result (Finds walk.old walk.new (ground_atom_faults (file_of self.now.file) (known_of self.now) (read.ground_atom_of atom.now))) }
+        ensures finds { OnOk result (Finds walk.old walk.new (ground_atom_faults (file_of self.now.globals.now.file) (known_of self.now) (read.ground_atom_of atom.now))) }
     {
         let given = atom.objects.as_slice();
         let predicate = self.predicate(walk, &atom.predicate, given.len())?;
@@ -351,7 +321,7 @@ impl Scope<'_> {
     fn all_known(&self, objects: &[ObjectId]) -> bool
         ensures { result ≡ list_all (λ n. nat_lt n (length (known_of self.now).objects)) (map parts.object_of objects.now) }
     {
-        let count = self.objects.len();
+        let count = self.globals.objects.len();
         objects.iter().all(|object| (object.0 as usize) < count)
     }
 
@@ -361,7 +331,7 @@ impl Scope<'_> {
         requires { parts.atom_of atom.now ≡ narrow_atom_in (known_of self.now) (read.ground_atom_of given.now) }
         ensures { result ≡ is_named (known_of self.now) (read.ground_atom_of given.now) }
     {
-        atom.predicate.0 < self.predicates.len()
+        atom.predicate.0 < self.symbols.len()
             && given.objects.len() <= MAX_ARGUMENTS
             && self.all_known(&atom.objects)
     }
@@ -373,7 +343,7 @@ impl Scope<'_> {
         given: &GroundAtom<'_>,
     ) -> Result<Option<Atom>, NoMemory>
         ensures value { IfOk result (λ o. option_map parts.atom_of o ≡ (if is_named (known_of self.now) (read.ground_atom_of given.now) then Some (atom_in (known_of self.now) (read.ground_atom_of given.now)) else None)) }
-        ensures finds { OnOk result (Finds walk.old walk.new (ground_atom_faults (file_of self.now.file) (known_of self.now) (read.ground_atom_of given.now))) }
+        ensures finds { OnOk result (Finds walk.old walk.new (ground_atom_faults (file_of self.now.globals.now.file) (known_of self.now) (read.ground_atom_of given.now))) }
     {
         let atom = self.atom(walk, given)?;
         if self.is_named(given, &atom) {

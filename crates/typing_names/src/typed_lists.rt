@@ -12,13 +12,20 @@ use faults::{Code, NoMemory};
 use pddl_tree_parts::{Group, Name};
 use std::alloc::Global;
 
-/// A name declared in a typed list, with the types after its `-`.
-#[derive(Drop)]
-pub struct Declared<'t> {
+/// A name in a file.
+#[derive(Clone, Copy)]
+pub struct Placed<'t> {
     /// The file.
     pub file: TaskFile,
     /// The name.
     pub name: Name<'t>,
+}
+
+/// A name declared in a typed list, with the types after its `-`.
+#[derive(Drop)]
+pub struct Declared<'t> {
+    /// The name.
+    pub placed: Placed<'t>,
     /// The types after its `-`; empty if there is no `-`.
     pub types: &'t [Name<'t>],
 }
@@ -28,8 +35,7 @@ fn one<'t>(file: TaskFile, name: &Name<'t>, types: &'t [Name<'t>]) -> Declared<'
     ensures { declared_of result ≡ declared_by (file_of file) (map read.name_of types.now) name.now }
 {
     Declared {
-        file,
-        name: *name,
+        placed: Placed { file, name: *name },
         types,
     }
 }
@@ -81,6 +87,6 @@ pub fn limit(walk: &mut Walk, declared: &[Declared<'_>], most: usize)
     ensures { Finds walk.old walk.new (typing.refused 25 (typing.one_after most (typing.words_of (map declared_of declared.now)))) }
 {
     if let Some(declared) = declared.get(most) {
-        walk.refuse(declared.file, Code::TooMany, &declared.name);
+        walk.refuse(declared.placed.file, Code::TooMany, &declared.placed.name);
     }
 }

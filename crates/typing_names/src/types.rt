@@ -26,8 +26,9 @@ fn check_type(
     ensures { OnOk result (Finds walk.old walk.new (typing.unknown_faults (file_of file) 14 (keys_in names.now.entries) (read.name_of name.now))) }
 {
     walk.fold(name)?;
-    let known = names.contains_key(walk.folded.as_slice());
-    walk.refuse_unless(known, file, Code::UnknownType, name);
+    if !names.contains_key(walk.folded.as_slice()) {
+        walk.refuse(file, Code::UnknownType, name);
+    }
     Ok(())
 }
 
@@ -55,7 +56,7 @@ pub fn check_all(
     ensures { OnOk result (Finds walk.old walk.new (typing.type_faults (keys_in names.now.entries) (map declared_of declared.now))) }
 {
     for one in declared {
-        check_types(walk, names, one.file, one.types)?;
+        check_types(walk, names, one.placed.file, one.types)?;
     }
     Ok(())
 }

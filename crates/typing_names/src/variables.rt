@@ -2,26 +2,25 @@
 ghost use Rattle.std.specs.Prelude.{◌≡◌, [], if◌then◌else◌, map, OnOk};
 ghost use Rattle.typing_names.specs.TypedLists.{declared_of};
 ghost use Rattle.typing_names.specs.Scope.{keys_in, variable_entry_of, BeginsWith};
-ghost use Rattle.typing_names.specs.Walk.{Finds};
+ghost use Rattle.typing_names.specs.Walk.{found_by, Finds};
 ghost use Rattle.model.specs.Typing as typing;
 
 use crate::domain::{declare, put};
 use crate::type_names::TypeTable;
 use crate::typed_lists::{Declared, limit};
 use crate::types::check_all;
-use crate::walk::{Walk, fold};
+use crate::walk::Walk;
 use faults::{Code, NoMemory};
 use indexmap::IndexMap;
-use std::alloc::Global;
 use task::{MAX_VARIABLES, TypeUnion};
 
 /// Refuses variables that occur earlier in their list.
-fn check_repeated(alloc: Global, walk: &mut Walk, declared: &[Declared<'_>]) -> Result<(), NoMemory>
+fn check_repeated(walk: &mut Walk, declared: &[Declared<'_>]) -> Result<(), NoMemory>
     ensures { OnOk result (Finds walk.old walk.new (typing.refused 16 (typing.repeated (typing.words_of (map declared_of declared.now))))) }
 {
-    let mut names = IndexMap::new(alloc);
+    let mut names = IndexMap::new(walk.alloc);
     for one in declared {
-        declare(alloc, walk, one.file, &mut names, &one.name, ())?;
+        declare(walk, &mut names, one.placed, ())?;
     }
     Ok(())
 }
@@ -35,9 +34,10 @@ fn check_shadow(
     ensures { OnOk result (Finds walk.old walk.new
         (if typing.is_known (typing.names_of_variables (map variable_entry_of variables.now.entries)) (declared_of one.now).name then typing.refused_word (declared_of one.now).file 20 (declared_of one.now).name else [])) }
 {
-    walk.fold(&one.name)?;
-    let known = variables.contains_key(walk.folded.as_slice());
-    walk.refuse_unless(!known, one.file, Code::Shadowed, &one.name);
+    walk.fold(&one.placed.name)?;
+    if variables.contains_key(walk.folded.as_slice()) {
+        walk.refuse(one.placed.file, Code::Shadowed, &one.placed.name);
+    }
     Ok(())
 }
 
@@ -67,7 +67,6 @@ fn limit_scope(walk: &mut Walk, count: usize, declared: &[Declared<'_>])
 
 /// Reports the faults of a list of variables, given those already in scope.
 fn check_variables(
-    alloc: Global,
     walk: &mut Walk,
     types: &TypeTable,
     variables: &IndexMap<Vec<u8>, TypeUnion>,
@@ -77,7 +76,7 @@ fn check_variables(
         (typing.variable_faults (keys_in types.now.by_name.entries) (map variable_entry_of variables.now.entries) (map declared_of declared.now))) }
 {
     check_all(walk, &types.by_name, declared)?;
-    check_repeated(alloc, walk, declared)?;
+    check_repeated(walk, declared)?;
     check_shadows(walk, variables, declared)?;
     limit_scope(walk, variables.len(), declared);
     Ok(())
@@ -85,8 +84,7 @@ fn check_variables(
 
 /// Brings a variable into scope, unless its name is there already.
 fn add_variable(
-    alloc: Global,
-    room: &mut Vec<u8>,
+    walk: &mut Walk,
     types: &TypeTable,
     variables: &mut IndexMap<Vec<u8>, TypeUnion>,
     declared: &Declared<'_>,
@@ -94,20 +92,20 @@ fn add_variable(
     ensures variables { OnOk result (map variable_entry_of variables.new.entries
         ≡ typing.with_variable (map variable_entry_of variables.old.entries) (typing.variable_in (keys_in types.now.by_name.entries) (declared_of declared.now))) }
     ensures kept { OnOk result (BeginsWith variables.old.entries variables.new.entries) }
+    ensures found { OnOk result (found_by walk.new ≡ found_by walk.old) }
 {
-    fold(room, &declared.name)?;
-    if variables.contains_key(room.as_slice()) {
+    walk.fold(&declared.placed.name)?;
+    if variables.contains_key(walk.folded.as_slice()) {
         return Ok(());
     }
-    let union = types.union(alloc, room, declared.types)?;
-    put(alloc, variables, &declared.name, union)?;
+    let union = types.union(walk.alloc, &mut walk.folded, declared.types)?;
+    put(walk.alloc, variables, &declared.placed.name, union)?;
     Ok(())
 }
 
 /// Brings the variables of a list into scope, without repetition.
 fn add_variables(
-    alloc: Global,
-    room: &mut Vec<u8>,
+    walk: &mut Walk,
     types: &TypeTable,
     variables: &mut IndexMap<Vec<u8>, TypeUnion>,
     declared: &[Declared<'_>],
@@ -115,16 +113,16 @@ fn add_variables(
     ensures variables { OnOk result (map variable_entry_of variables.new.entries
         ≡ typing.variables_after (keys_in types.now.by_name.entries) (map variable_entry_of variables.old.entries) (map declared_of declared.now)) }
     ensures kept { OnOk result (BeginsWith variables.old.entries variables.new.entries) }
+    ensures found { OnOk result (found_by walk.new ≡ found_by walk.old) }
 {
     for one in declared {
-        add_variable(alloc, room, types, variables, one)?;
+        add_variable(walk, types, variables, one)?;
     }
     Ok(())
 }
 
 /// Brings the variables of a list into scope, without repetition, and reports their faults.
 pub fn declare_variables(
-    alloc: Global,
     walk: &mut Walk,
     types: &TypeTable,
     variables: &mut IndexMap<Vec<u8>, TypeUnion>,
@@ -136,6 +134,6 @@ pub fn declare_variables(
     ensures finds { OnOk result (Finds walk.old walk.new
         (typing.variable_faults (keys_in types.now.by_name.entries) (map variable_entry_of variables.old.entries) (map declared_of declared.now))) }
 {
-    check_variables(alloc, walk, types, variables, declared)?;
-    add_variables(alloc, &mut walk.folded, types, variables, declared)
+    check_variables(walk, types, variables, declared)?;
+    add_variables(walk, types, variables, declared)
 }

@@ -88,9 +88,11 @@ impl FoundFaults {
     }
 }
 
-/// The faults found so far, and a buffer for a name in lower case.
+/// What a walk over the trees carries along: the faults found so far, and a buffer for a name in lower case.
 #[derive(Drop)]
 pub struct Walk {
+    /// The allocator.
+    pub alloc: Global,
     /// The faults found so far.
     found: FoundFaults,
     /// A buffer for a name in lower case.
@@ -118,6 +120,7 @@ impl Walk {
         ensures { IfOk result (λ walk. found_by walk ≡ nothing) }
     {
         Ok(Walk {
+            alloc,
             found: FoundFaults::none(alloc)?,
             folded: Vec::new(alloc),
         })
@@ -132,15 +135,6 @@ impl Walk {
             code,
             span: word.span,
         });
-    }
-
-    /// Records that the word is refused with this code, unless `right`.
-    pub fn refuse_unless(&mut self, right: bool, file: TaskFile, code: Code, word: &Name<'_>)
-        ensures { found_by self.new ≡ found (found_by self.old) (if right then [] else refused_word (file_of file) (number_of code) (name_of word.now)) }
-    {
-        if !right {
-            self.refuse(file, code, word);
-        }
     }
 
     /// Writes the name in lower case into `folded`.

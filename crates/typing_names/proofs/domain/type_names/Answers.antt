@@ -12,7 +12,7 @@ use Rattle.typing_names.proofs.domain.type_names.Goals as goal
 pub loop-one-preserved : goal.loop-one-preserved
 loop-one-preserved c =
     let xs = c.args.declared.now in let i = c.loop-one.one-index in
-    let named = λ (y : Declared). read.name_of y.name in
+    let named = λ (y : Declared). read.name_of y.placed.name in
     record {
       names = ap (λ ks. fold typing.with_name ks (map named (drop (i + 1) xs))) c.in_ok-declare.ensures.names
           ∙ ap (λ ys. fold typing.with_name (keys_in c.loop-one.names.entries) (map named ys)) (sym (drop_more xs i _ c.loop-one-test.true))
@@ -23,7 +23,7 @@ loop-one-preserved c =
 
 pub returns-clause-names : goal.returns-clause-names
 returns-clause-names c =
-    let xs = c.args.declared.now in let named = λ (y : Declared). read.name_of y.name in
+    let xs = c.args.declared.now in let named = λ (y : Declared). read.name_of y.placed.name in
     sym (ap (λ ys. fold typing.with_name (keys_in c.loop-one.names.entries) (map named ys)) (drop_all c.loop-one.one-index xs c.loop-one-test.false))
     ∙ c.loop-one.invariant.names ∙ ap (fold typing.with_name (codes "object" ∷ [])) (sym (finding.map-map (λ (y : typing.Declared). y.name) declared_of xs))
 

@@ -1,25 +1,24 @@
-use Rattle.pddl_tree_parts.specs.Tree.{file_of}
-use Rattle.typing_names.specs.Scope.{known_over}
+use Rattle.typing_names.specs.Resolver.{file_in, known_to}
 use Rattle.typing_names.specs.Walk.{found_by}
 use Rattle.typing_names.proofs.Trees.{and_by_parts, and_faults_by_parts, or_by_parts, or_faults_by_parts}
 use Rattle.typing_names.proofs.formulas.+formulas.Goals as goal
 
 pub formula-returns-in_ok-parts-in-And-clause-value : goal.formula-returns-in_ok-parts-in-And-clause-value
 formula-returns-in_ok-parts-in-And-clause-value t c =
-    and_by_parts (file_of c.args.globals.now.file) (known_over c.args.globals.now c.args.variables.now.entries) c.args.given.now c.in-And.parts c.deref.result.now c.deref.ensures.value
+    and_by_parts (file_in c.args.resolver.now) (known_to c.args.resolver.now) c.args.given.now c.in-And.parts c.deref.result.now c.deref.ensures.value
     c.in-And.is c.in_ok-parts-in-And.parts c.in_ok-parts-in-And.ensures.value
 
 pub formula-returns-in_ok-parts-in-And-clause-finds : goal.formula-returns-in_ok-parts-in-And-clause-finds
 formula-returns-in_ok-parts-in-And-clause-finds t c =
-    and_faults_by_parts (file_of c.args.globals.now.file) (known_over c.args.globals.now c.args.variables.now.entries) c.args.given.now c.in-And.parts c.deref.result.now c.deref.ensures.value
-    c.in-And.is (found_by c.several.new.walk) (found_by c.args.walk.now) c.in_ok-parts-in-And.ensures.finds
+    and_faults_by_parts (file_in c.args.resolver.now) (known_to c.args.resolver.now) c.args.given.now c.in-And.parts c.deref.result.now c.deref.ensures.value
+    c.in-And.is (found_by c.several.new.resolver.walk) (found_by c.args.resolver.now.walk) c.in_ok-parts-in-And.ensures.finds
 
 pub formula-returns-in_ok-parts-in-Or-clause-value : goal.formula-returns-in_ok-parts-in-Or-clause-value
 formula-returns-in_ok-parts-in-Or-clause-value t c =
-    or_by_parts (file_of c.args.globals.now.file) (known_over c.args.globals.now c.args.variables.now.entries) c.args.given.now c.in-Or.parts c.deref-in-Or.result.now c.deref-in-Or.ensures.value
+    or_by_parts (file_in c.args.resolver.now) (known_to c.args.resolver.now) c.args.given.now c.in-Or.parts c.deref-in-Or.result.now c.deref-in-Or.ensures.value
     c.in-Or.is c.in_ok-parts-in-Or.parts c.in_ok-parts-in-Or.ensures.value
 
 pub formula-returns-in_ok-parts-in-Or-clause-finds : goal.formula-returns-in_ok-parts-in-Or-clause-finds
 formula-returns-in_ok-parts-in-Or-clause-finds t c =
-    or_faults_by_parts (file_of c.args.globals.now.file) (known_over c.args.globals.now c.args.variables.now.entries) c.args.given.now c.in-Or.parts c.deref-in-Or.result.now c.deref-in-Or.ensures.value
-    c.in-Or.is (found_by c.several-in-Or.new.walk) (found_by c.args.walk.now) c.in_ok-parts-in-Or.ensures.finds
+    or_faults_by_parts (file_in c.args.resolver.now) (known_to c.args.resolver.now) c.args.given.now c.in-Or.parts c.deref-in-Or.result.now c.deref-in-Or.ensures.value
+    c.in-Or.is (found_by c.several-in-Or.new.resolver.walk) (found_by c.args.resolver.now.walk) c.in_ok-parts-in-Or.ensures.finds

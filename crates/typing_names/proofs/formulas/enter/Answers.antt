@@ -1,7 +1,6 @@
 use Rattle.std.proofs.Common.{◌≡◌, ◌∙◌, map, ap}
-use Rattle.pddl_tree_parts.specs.Tree.{file_of}
 use Rattle.typing_names.specs.TypedLists.{declared_of}
-use Rattle.typing_names.specs.Scope.{known_over}
+use Rattle.typing_names.specs.Resolver.{file_in, known_to}
 use Rattle.typing_names.specs.Walk.{found, found_by}
 use Rattle.pddl_tree_parts.specs.Tree as read
 use Rattle.model.specs.Typing as typing
@@ -9,23 +8,23 @@ use Rattle.typing_names.proofs.formulas.enter.Goals.{After-as_slice-declared}
 use Rattle.typing_names.proofs.formulas.enter.Goals as goal
 
 -- the declarations
-same : (c : After-as_slice-declared) → map declared_of c.as_slice-declared.result.now ≡ typing.declared (file_of c.args.globals.now.file) (read.groups_of c.args.groups.now)
+same : (c : After-as_slice-declared) → map declared_of c.as_slice-declared.result.now ≡ typing.declared (file_in c.args.resolver.now) (read.groups_of c.args.groups.now)
 same c =
     ap (map declared_of) c.as_slice-declared.ensures.value ∙ c.in_ok-list.ensures
-    ∙ ap (λ gs. typing.declared (file_of c.args.globals.now.file) (map read.group_of gs)) c.as_slice-groups.ensures.value
+    ∙ ap (λ gs. typing.declared (file_in c.args.resolver.now) (map read.group_of gs)) c.as_slice-groups.ensures.value
 
 pub returns-clause-unions : goal.returns-clause-unions
 returns-clause-unions c =
-    let known = known_over c.args.globals.now c.args.variables.now.entries in
+    let known = known_to c.args.resolver.now in
     c.in_ok-unions.ensures ∙ ap (typing.unions_in known.type_names) (same (goal.at.returns-clause-unions c).After-as_slice-declared)
 
 pub returns-clause-known : goal.returns-clause-known
 returns-clause-known c =
-    let known = known_over c.args.globals.now c.args.variables.now.entries in
+    let known = known_to c.args.resolver.now in
     let variables = c.in_ok-declare_variables.ensures.variables ∙ ap (typing.variables_after known.type_names known.variables) (same (goal.at.returns-clause-known c).After-as_slice-declared) in
     λ i. record known { variables = variables i }
 
 pub returns-clause-finds : goal.returns-clause-finds
 returns-clause-finds c =
-    let known = known_over c.args.globals.now c.args.variables.now.entries in
-    c.in_ok-declare_variables.ensures.finds ∙ ap (λ xs. found (found_by c.args.walk.now) (typing.variable_faults known.type_names known.variables xs)) (same (goal.at.returns-clause-finds c).After-as_slice-declared)
+    let known = known_to c.args.resolver.now in
+    c.in_ok-declare_variables.ensures.finds ∙ ap (λ xs. found (found_by c.args.resolver.now.walk) (typing.variable_faults known.type_names known.variables xs)) (same (goal.at.returns-clause-finds c).After-as_slice-declared)

@@ -2,6 +2,7 @@ use Rattle.std.proofs.Common.{◌≡◌, ◌∙◌, Bool, List, [], ◌∷◌, �
 use Rattle.std.proofs.lemmas.List.{append-nil, map-append}
 use Rattle.typing_names.specs.TypedLists.{declared_of}
 use Rattle.typing_names.specs.Scope.{keys_in, variable_entry_of}
+use Rattle.typing_names.specs.Walk.{found_in}
 use Rattle.model.specs.Typing as typing
 use Rattle.typing_names.proofs.Tables as tables
 use Rattle.typing_names.proofs.variables.add_variable.Goals.{After-contains_key}
@@ -12,7 +13,7 @@ known : (c : After-contains_key) → c.contains_key.result ≡ typing.is_known (
 known c =
     let entries = c.args.variables.now.entries in let q = c.as_slice.result.now in
     c.contains_key.ensures ∙ tables.lookup-any (tables.key_is q) entries
-    ∙ sym (tables.is_known-shown variable_entry_of (λ v. v.name) (λ e. refl) (declared_of c.args.declared.now).name q (c.as_slice.ensures.value ∙ c.in_ok-fold.ensures) entries)
+    ∙ sym (tables.is_known-shown variable_entry_of (λ v. v.name) (λ e. refl) (declared_of c.args.declared.now).name q (c.as_slice.ensures.value ∙ c.in_ok-fold.ensures.folded) entries)
 
 pick : Bool → List typing.Variable → typing.Variable → List typing.Variable
 pick b vs v = if b then vs else vs ++ v ∷ []
@@ -26,6 +27,7 @@ returns-then-contains_key c =
     record {
       variables = sym (ap (λ b. pick b vs v) (sym is ∙ c.if-contains_key.true));
       kept = ([], sym (append-nil _));
+      found = ap found_in c.fold.ensures.found;
     }
 
 pub returns : goal.returns
@@ -40,4 +42,5 @@ returns c =
     record {
       variables = ap (map variable_entry_of) one.2 ∙ map-append variable_entry_of entries ((one.0, union) ∷ []) ∙ ap (λ w. vs ++ w ∷ []) made ∙ sym (ap (λ b. pick b vs v) new);
       kept = ((one.0, union) ∷ [], one.2);
+      found = ap found_in c.fold.ensures.found;
     }

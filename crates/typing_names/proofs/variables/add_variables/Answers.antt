@@ -9,7 +9,7 @@ use Rattle.typing_names.proofs.Declared.{begins_further}
 use Rattle.typing_names.proofs.variables.add_variables.Goals as goal
 
 pub loop-one-init : goal.loop-one-init
-loop-one-init c = record { variables = refl; kept = ([], sym (append-nil _)) }
+loop-one-init c = record { variables = refl; kept = ([], sym (append-nil _)); found = refl }
 
 pub loop-one-preserved : goal.loop-one-preserved
 loop-one-preserved c =
@@ -20,6 +20,7 @@ loop-one-preserved c =
           ∙ ap (λ ys. fold typing.with_variable (map variable_entry_of c.loop-one.variables.entries) (map made ys)) (sym (drop_more xs i _ c.loop-one-test.true))
           ∙ c.loop-one.invariant.variables;
       kept = begins_further _ _ _ c.loop-one.invariant.kept c.in_ok-add_variable.ensures.kept;
+      found = c.in_ok-add_variable.ensures.found ∙ c.loop-one.invariant.found;
     }
 
 pub returns : goal.returns
@@ -31,4 +32,5 @@ returns c =
       variables = sym (ap (λ ys. fold typing.with_variable (map variable_entry_of c.loop-one.variables.entries) (map made ys)) (drop_all c.loop-one.one-index xs c.loop-one-test.false))
           ∙ c.loop-one.invariant.variables ∙ ap (fold typing.with_variable (map variable_entry_of c.args.variables.now.entries)) (sym (map-map make declared_of xs));
       kept = c.loop-one.invariant.kept;
+      found = c.loop-one.invariant.found;
     }

@@ -17,7 +17,7 @@ returns-clause-value c =
 
 pub returns-clause-finds : goal.returns-clause-finds
 returns-clause-finds c =
-    let file = file_of c.args.self.now.file in let known = known_of c.args.self.now in let a = read.ground_atom_of c.args.atom.now in
+    let file = file_of c.args.self.now.globals.now.file in let known = known_of c.args.self.now in let a = read.ground_atom_of c.args.atom.now in
     let before = found_by c.args.walk.now in
     let seen : tree.Name → tree.Term = λ n. tree.object n in
     let count : length c.as_slice-given.result.now ≡ length a.objects = ap length c.as_slice-given.ensures.value ∙ sym (length-map c.args.atom.now.objects.items read.name_of) in

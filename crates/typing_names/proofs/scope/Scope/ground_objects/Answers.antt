@@ -24,8 +24,8 @@ loop-index-preserved c =
         | else-len-lt-MAX_ARGUMENTS w ↦ ap (λ v. map parts.object_of v.items) w.objects-is
             ∙ lists.kept_full number parts.object_of 8 xs i c.loop-index-test.true c.loop-index.objects.items c.loop-index.invariant.objects (omega (arith, w.if-len-lt-MAX_ARGUMENTS.false, c.len.ensures.value))
       ];
-      finds = argument_step (file_of c.args.self.now.file) known (arguments_at known c.args.predicate.0) (λ (n : Name). tree.object (read.name_of n)) xs i _ c.loop-index-test.true
-          (found_by c.loop-index.walk) _ _ c.in_ok-object.ensures.finds c.loop-index.invariant.finds;
+      finds = argument_step (file_of c.args.self.now.globals.now.file) known (arguments_at known c.args.predicate.0) (λ (n : Name). tree.object (read.name_of n)) xs i _ c.loop-index-test.true
+          _ c.wanted-wanted.ensures (found_by c.loop-index.walk) _ _ c.in_ok-object.ensures.finds c.loop-index.invariant.finds;
     }
 
 pub returns-clause-value : goal.returns-clause-value
@@ -36,4 +36,4 @@ returns-clause-value c =
 pub returns-clause-finds : goal.returns-clause-finds
 returns-clause-finds c =
     let known = known_of c.args.self.now in
-    argument_end (file_of c.args.self.now.file) known (arguments_at known c.args.predicate.0) (λ (n : Name). tree.object (read.name_of n)) c.args.given.now c.loop-index.index c.loop-index-test.false (found_by c.loop-index.walk) _ c.loop-index.invariant.finds
+    argument_end (file_of c.args.self.now.globals.now.file) known (arguments_at known c.args.predicate.0) (λ (n : Name). tree.object (read.name_of n)) c.args.given.now c.loop-index.index c.loop-index-test.false (found_by c.loop-index.walk) _ c.loop-index.invariant.finds

@@ -14,7 +14,7 @@ pub returns-then-len-le-MAX_ARGUMENTS : goal.returns-then-len-le-MAX_ARGUMENTS
 returns-then-len-le-MAX_ARGUMENTS c =
     let known = known_of c.args.self.now in
     let given = ground_atom_of c.args.given.now in
-    let count : length known.predicates ≡ c.len.result = length-map c.args.self.now.predicates.now.entries predicate_of ∙ sym c.len.ensures.len in
+    let count : length known.predicates ≡ c.len.result = length-map c.args.self.now.symbols.now.entries predicate_of ∙ sym c.len.ensures.len in
     let names : length given.objects ≡ length c.args.given.now.objects.items = length-map c.args.given.now.objects.items name_of in
     let objects = map object_of c.args.atom.now.objects.items in
     elim c.if-atom-len.branch [
@@ -30,7 +30,7 @@ pub returns-else-len-le-MAX_ARGUMENTS : goal.returns-else-len-le-MAX_ARGUMENTS
 returns-else-len-le-MAX_ARGUMENTS c =
     let known = known_of c.args.self.now in
     let given = ground_atom_of c.args.given.now in
-    let count : length known.predicates ≡ c.len.result = length-map c.args.self.now.predicates.now.entries predicate_of ∙ sym c.len.ensures.len in
+    let count : length known.predicates ≡ c.len.result = length-map c.args.self.now.symbols.now.entries predicate_of ∙ sym c.len.ensures.len in
     let names : length given.objects ≡ length c.args.given.now.objects.items = length-map c.args.given.now.objects.items name_of in
     c.if-len-le-MAX_ARGUMENTS.false ∙ not_named known given c.args.atom.now.predicate.0 (ap (λ (a : task.Atom). a.predicate) c.requires)
     (λ below few. elim c.if-atom-len.branch [

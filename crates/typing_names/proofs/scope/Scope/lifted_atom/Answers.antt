@@ -16,7 +16,7 @@ returns-clause-value c =
 
 pub returns-clause-finds : goal.returns-clause-finds
 returns-clause-finds c =
-    let file = file_of c.args.self.now.file in let known = known_of c.args.self.now in let a = read.atom_of c.args.atom.now in
+    let file = file_of c.args.self.now.globals.now.file in let known = known_of c.args.self.now in let a = read.atom_of c.args.atom.now in
     let before = found_by c.args.walk.now in
     let count : length c.as_slice-given.result.now ≡ length a.terms = ap length c.as_slice-given.ensures.value ∙ sym (length-map c.args.atom.now.terms.items read.term_of) in
     let number = c.in_ok-predicate.ensures.value in

@@ -16,11 +16,11 @@ loop-index-preserved c =
     record {
       terms = ap (map parts.term_of) c.in_ok-push.ensures.items ∙ map_push parts.term_of c.loop-index.terms.items _
           ∙ (λ j. c.loop-index.invariant.terms j ++ c.in_ok-argument.ensures.value j ∷ []) ∙ sym (map_more (λ (t : Term). typing.term_in known (read.term_of t)) xs i _ c.loop-index-test.true);
-      finds = argument_step (file_of c.args.self.now.file) known (arguments_at known c.args.predicate.0) read.term_of xs i _ c.loop-index-test.true
-          (found_by c.loop-index.walk) _ _ c.in_ok-argument.ensures.finds c.loop-index.invariant.finds;
+      finds = argument_step (file_of c.args.self.now.globals.now.file) known (arguments_at known c.args.predicate.0) read.term_of xs i _ c.loop-index-test.true
+          _ c.wanted-wanted.ensures (found_by c.loop-index.walk) _ _ c.in_ok-argument.ensures.finds c.loop-index.invariant.finds;
     }
 
 pub returns-clause-finds : goal.returns-clause-finds
 returns-clause-finds c =
     let known = known_of c.args.self.now in
-    argument_end (file_of c.args.self.now.file) known (arguments_at known c.args.predicate.0) read.term_of c.args.given.now c.loop-index.index c.loop-index-test.false (found_by c.loop-index.walk) _ c.loop-index.invariant.finds
+    argument_end (file_of c.args.self.now.globals.now.file) known (arguments_at known c.args.predicate.0) read.term_of c.args.given.now c.loop-index.index c.loop-index-test.false (found_by c.loop-index.walk) _ c.loop-index.invariant.finds
