@@ -18,7 +18,7 @@ module _ (key_of : List Bool → List Bool) (keys : List (List Bool)) (old new :
         | inr is ↦ ap (slice_get keys) is.1 ∙ at ∙ ap (λ x. Some (key_of x)) (sym is.0)
       ]
 
--- a key that is added stands behind those that are noted
+-- a key that is added comes after those that are noted
 noted_still : (key_of : List Bool → List Bool) (keys : List (List Bool)) (recent : RecentStates) (key : List Bool) → AreNotedByKeys key_of keys recent → AreNotedByKeys key_of (keys ++ key ∷ []) recent
 noted_still key_of keys recent key known = λ s class noted.
     let at = known s class noted in

@@ -17,6 +17,6 @@ abbrev pub AreMoreReachable : {S A : Type 0} → System S A → ℕ → Type 0
 AreMoreReachable {S} t max_states =
     (states : List S) × AreDistinct states × ((s : S) → Contains states s → IsReachable t s × PrecedesPlans t s) × (max_states < length states)
 
--- so many different states are reachable
+-- there are `count` different reachable states
 abbrev pub AreReachable : {S A : Type 0} → System S A → ℕ → Type 0
 AreReachable {S} t count = (states : List S) × AreDistinct states × ((s : S) → Contains states s → IsReachable t s) × (length states ≡ count)

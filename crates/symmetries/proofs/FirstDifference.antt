@@ -45,7 +45,7 @@ decide_alike true false p q same = refl
 decide_alike false true p q same = refl
 decide_alike false false p q same = same refl
 
--- by the bits of so many numbers from one on
+-- by the bits of `n` numbers, from `k` on
 abbrev pub before_from : (ℕ → Bool) → (ℕ → Bool) → ℕ → ℕ → Bool
 before_from f g k zero = false
 before_from f g k (suc n) = decide (f k) (g k) (before_from f g (k + 1) n)

@@ -100,7 +100,7 @@ module _ (r : Representatives) where
   abbrev start_of : List Bool → State
   start_of bits = state_of_bits (task_of r) (atoms_of r) bits
 
-  -- the bits are those of a state of which so many images are left to the representative of the one at the start
+  -- the bits are those of a state from which at most `left` more images lead to the representative of the state at the start
   abbrev pub HaveCome : List Bool → ℕ → List Bool → Type 0
   HaveCome start left bits = Stands (atoms_of r) (exchanges_of r) (start_of start) left bits
 
@@ -211,7 +211,7 @@ module _ (r : Representatives) (bits : List Bool) (number : ℕ) (finds : FindsF
 
 -- ---- how many images are left
 
--- before an image is taken in the round after so many, one at least is left
+-- before an image is taken in the round after `rounds` others, at least one is left
 pub one_left : (count rounds images left : ℕ) → rounds < count → images < count → left + (rounds * count + images) ≡ count * count → (rest : ℕ) × (left ≡ suc rest)
 one_left count rounds images zero more_rounds more_images counted =
     let within : (rounds + 1) * count ≤ count * count = mul-le (rounds + 1) count count count (omega (arith, more_rounds)) (omega arith) in
@@ -234,8 +234,8 @@ none_left count rounds left counted most end =
     let all : rounds * count ≡ count * count = ap (λ n. n * count) same in
     omega (arith, counted, all)
 
--- Where so many rounds and so many images of the next have been taken: the state at the start is as many images from its representative
--- as this one is from there by those that are left, and `next` is the first exchange whose image comes before it.
+-- After `rounds` rounds and `images` images of the next one: the images that are left lead from this state to the representative of the
+-- state at the start, and `next` is the first exchange whose image comes before it.
 pub record IsOnTheWay (r : Representatives) (start : List Bool) (count rounds images : ℕ) (bits : List Bool) (next : Option ℕ) : Type 0 where
   pub counted : count ≡ length r.swaps.items + 1
   pub wide : length bits ≡ length (atoms_of r)

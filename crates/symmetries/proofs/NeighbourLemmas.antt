@@ -101,7 +101,7 @@ module _ (noted : List Lowest) (pairs : List (ℕ × ℕ)) (number : ℕ) where
 
 -- ---- one exchange after another
 
--- what is told of an exchange's atoms
+-- what is noted at an exchange's atoms
 all_below : (swaps : List (List (ℕ × ℕ))) (noted : List Lowest) (number : ℕ) (listed : List ℕ) (bound : ℕ) → AreNoted swaps number noted → bound ≤ number
     → AreListed noted (pairs_at swaps number) listed bound → AreAllBelow swaps number listed bound
 all_below swaps noted number listed bound are low told =

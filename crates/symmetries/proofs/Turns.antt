@@ -53,7 +53,7 @@ pub record AreKept (atoms : List Atom) (exchanges : List Exchange) : Type 0 wher
   pub different : list_all (λ (e : Exchange). are_different (objects_in e)) exchanges ≡ true
   pub kept : list_all (keeps_atoms atoms) exchanges ≡ true
 
--- The bits are those of a state of which so many images at most are the representative of the state at the start.
+-- The bits are those of a state from which at most `left` images lead to the representative of the state at the start.
 pub record Stands (atoms : List Atom) (exchanges : List Exchange) (start : State) (left : ℕ) (bits : List Bool) : Type 0 where
   pub state : State
   pub is : bits_of_state atoms state ≡ bits

@@ -11,17 +11,17 @@ tells lowest number = not (nat_lt number lowest.from) || is_among lowest.numbers
 abbrev pub tells_at : List Lowest → ℕ → ℕ → Bool
 tells_at all place number = option_map_or (λ lowest. tells lowest number) (slice_get all place) true
 
--- at each number of an atom those of the exchanges that have it are told, of the exchanges below this one
+-- at the number of each atom the exchanges that move it are noted, of the first `count` exchanges
 abbrev pub AreNoted : List (List (ℕ × ℕ)) → ℕ → List Lowest → Type 0
 AreNoted swaps count noted =
     (swap atom : ℕ) → swap < count → is_in (pairs_at swaps swap) atom ≡ true → tells_at noted atom swap ≡ true
 
--- all numbers below the bound that are told of an atom of the pairs are listed
+-- all numbers below the bound that are noted at an atom of the pairs are listed
 abbrev pub AreListed : List Lowest → List (ℕ × ℕ) → List ℕ → ℕ → Type 0
 AreListed noted pairs listed bound =
     (atom number : ℕ) → is_in pairs atom ≡ true → tells_at noted atom number ≡ true → number < bound → is_among listed number ≡ true
 
--- Before each that is listed stand all that are below it, and all are listed that are below the bound; it is at most this number.
+-- The listed numbers are the lowest: before each stand all lower ones, and all below the bound are listed. The bound is at most this number.
 pub record AreLowest (noted : List Lowest) (pairs : List (ℕ × ℕ)) (number : ℕ) (listed : List ℕ) (bound : ℕ) : Type 0 where
   pub low : (place : ℕ) → slice_index listed place ≤ number
   pub rising : (place : ℕ) → AreListed noted pairs (take place listed) (slice_index listed place)

@@ -16,7 +16,7 @@ pair_at run place = (run.lower + place, run.upper + place)
 abbrev pub has_at : Run → ℕ → Bool
 has_at run place = bit_at run.mask place == 1
 
--- the run's pairs at so many places, from this one on
+-- the run's pairs at `count` places, from this one on
 unfoldable pub pairs_from : Run → ℕ → ℕ → List (ℕ × ℕ)
 pairs_from run place count = map (pair_at run) (filter (has_at run) (range_with_len place count))
 

@@ -1,4 +1,5 @@
-//! Representatives of the packed states of a ground task.
+//! Representatives of the packed states of a ground task: greedy canonical states, as in Pochter, Zohar & Rosenschein 2011,
+//! "Exploiting Problem Symmetries in State-Based Planners".
 ghost use Rattle.std.specs.Prelude.{◌≡◌, true, length, map, is_some, IfOk, IfSome};
 ghost use Rattle.std.specs.List.{list_all};
 ghost use Rattle.std.proofs.Props.{props};

@@ -51,7 +51,7 @@ impl Run {
         })
     }
 
-    /// Whether a pair at this place is in the same words, and behind all others.
+    /// Whether a pair at this place is in the same words, and after all others.
     fn has_room(self, place: u32) -> bool
         ensures lower { IsTrue result → self.lower % 64 + place < 64 }
         ensures upper { IsTrue result → self.upper % 64 + place < 64 }

@@ -23,6 +23,7 @@ type Classes = IndexMap<u64, Vec<ObjectId>>;
 /// The state of the search for exchanges.
 #[derive(Drop)]
 struct Finder<'f, 'x, 't> {
+    alloc: Global,
     task: &'x Task,
     test: &'x SymmetryTest<'t>,
     partners: Partners<'f>,
@@ -50,28 +51,29 @@ pub(crate) fn found_exchanges<'x>(
     let colours = colours_of(alloc, task, &facts)?;
     let keys = keys_of(alloc, &facts, &colours)?;
     let mut finder = Finder {
+        alloc,
         task,
         test,
         partners: Partners::new(alloc, &facts, &colours),
         alike: IndexSet::new(alloc),
         found: Vec::new(alloc),
     };
-    finder.file_all(alloc, &keys, Trial::Alone)?;
-    finder.file_all(alloc, &colours, Trial::WithPartners)?;
+    finder.file_all(&keys, Trial::Alone)?;
+    finder.file_all(&colours, Trial::WithPartners)?;
     let Finder { found, .. } = finder;
     Ok(found)
 }
 
 impl Finder<'_, '_, '_> {
     /// Puts every object into a class, among those with its key.
-    fn file_all(&mut self, alloc: Global, keys: &[u64], trial: Trial) -> Result<(), NoMemory> {
-        let mut classes: Classes = IndexMap::new(alloc);
+    fn file_all(&mut self, keys: &[u64], trial: Trial) -> Result<(), NoMemory> {
+        let mut classes: Classes = IndexMap::new(self.alloc);
         for (number, key) in keys.iter().enumerate() {
             if !classes.contains_key(key) {
-                classes.insert(*key, Vec::new(alloc))?;
+                classes.insert(*key, Vec::new(self.alloc))?;
             }
             if let Some(lasts) = classes.get_mut(key) {
-                self.file(alloc, object_at(number), lasts, trial)?;
+                self.file(object_at(number), lasts, trial)?;
             }
         }
         Ok(())
@@ -80,7 +82,6 @@ impl Finder<'_, '_, '_> {
     /// Puts the object into one of the classes with these last objects, or begins a new class.
     fn file(
         &mut self,
-        alloc: Global,
         object: ObjectId,
         lasts: &mut Vec<ObjectId>,
         trial: Trial,
@@ -92,7 +93,7 @@ impl Finder<'_, '_, '_> {
             }
         }
         for last in lasts.iter_mut().rev().take(MAX_CLASSES) {
-            if self.are_alike(alloc, *last, object, trial)? {
+            if self.are_alike(*last, object, trial)? {
                 *last = object;
                 return Ok(());
             }
@@ -104,26 +105,25 @@ impl Finder<'_, '_, '_> {
     /// Whether an exchange that swaps the objects is found to be a symmetry.
     fn are_alike(
         &mut self,
-        alloc: Global,
         one: ObjectId,
         other: ObjectId,
         trial: Trial,
     ) -> Result<bool, NoMemory> {
         let objects = match trial {
-            Trial::Alone => vec![in alloc; one, other]?,
+            Trial::Alone => vec![in self.alloc; one, other]?,
             Trial::WithPartners => {
-                if !self.partners.find(alloc, one, other)? {
+                if !self.partners.find(self.alloc, one, other)? {
                     return Ok(false);
                 }
-                objects_in(alloc, self.partners.pairs())?
+                objects_in(self.alloc, self.partners.pairs())?
             }
         };
-        self.try_exchange(alloc, &objects)
+        self.try_exchange(&objects)
     }
 
     /// Keeps the exchange of these objects if it is a symmetry. Returns whether it is.
-    fn try_exchange(&mut self, alloc: Global, objects: &[ObjectId]) -> Result<bool, NoMemory> {
-        let Some(exchange) = Exchange::new(alloc, self.task, objects)? else {
+    fn try_exchange(&mut self, objects: &[ObjectId]) -> Result<bool, NoMemory> {
+        let Some(exchange) = Exchange::new(self.alloc, self.task, objects)? else {
             return Ok(false);
         };
         if !self.test.is_symmetry(&exchange) {
