@@ -1,111 +1,95 @@
--- What is known of the first instances, and of all.
-use Rattle.std.proofs.Common.{◌≡◌, ◌∙◌, ℕ, zero, suc, ◌+◌, ◌<◌, ◌≤◌, inl, inr, true, false, true≢false, List, [], ◌∷◌, length, get_or, sum_by, Some, refl, sym, ap, subst, arith}
-use Rattle.std.specs.Prelude.{All, ◌==◌, ◌||◌, slice_get}
+-- What is known of fairness by what instances are charged.
+use Rattle.std.proofs.Common.{◌≡◌, ◌∙◌, ℕ, ◌+◌, ◌<◌, ◌≤◌, inl, inr, true, false, true≢false, List, [], map, length, get_or, sum_by, Some, sym, ap, subst, arith, refl}
+use Rattle.std.specs.Prelude.{All, slice_get}
 use Rattle.std.specs.List.{list_all}
 use Rattle.std.specs.Option.{option_map_or}
-use Rattle.std.proofs.lemmas.Bool.{cases_eq, eq-eqb, eqb-true, or_cases}
+use Rattle.std.proofs.lemmas.Bool.{cases_eq}
 use Rattle.std.proofs.lemmas.List.Sums.{get_or-le-sum_by}
 use Rattle.std.proofs.lemmas.Option.{slice_get-get_or, slice_get_within, get_or_from_slice_get}
 use Rattle.model.specs.Task.{Atom, Task, Instance}
 use Rattle.model.specs.Meaning.{cost_of}
 use Rattle.model.specs.StaticallyFalse.{kept_instances}
-use Rattle.model.specs.NumberedLiterals.{literals_of_instance, literals_of_goal}
-use Rattle.model.specs.ConditionalChanges.{conditional_of_instance}
+use Rattle.model.specs.NumberedLiterals.{literals_of_instance, literals_of_number, literals_of_goal}
+use Rattle.model.specs.ConditionalChanges.{conditional_of_instance, conditional_of_number}
 use Rattle.lower_bounds.specs.FairPotentials.{nothing}
-use Rattle.lower_bounds.specs.TableFunctions.{Table, is_among}
-use Rattle.landmark_functions.specs.LandmarkFunctions.{Landmark, LandmarkFunction}
+use Rattle.lower_bounds.specs.TableFunctions.{Table}
+use Rattle.landmark_functions.specs.LandmarkFunctions.{Zone, LandmarkFunction}
 use Rattle.landmark_functions.specs.FairLandmarks.{charge, charges, AreFairAt, IsFair, IsDeadFair}
 use Rattle.landmark_functions.specs.LandmarkLines.{Share, NumberedLandmarks, share_count}
+use Rattle.landmark_zones.specs.declared.values.Share as in_memory
+use Rattle.landmark_zones.specs.Landmarks.{share_of}
+use Rattle.landmarks.specs.declared.cut_index.Allowance.TheVariants.{Cost, Nothing}
 use Rattle.landmarks.specs.declared.testing.Fairness.{Fairness}
 use Rattle.landmarks.specs.declared.testing.Fairness.TheVariants.{DeadFair, Fair, Unfair}
-use Rattle.landmarks.specs.Fairness.{AreAsked, IsFairness, charged_at, cost_at, AreWithin, IsOneBeyond, free, IsFairnessBelow, after, has_one, is_unfair, function_over, IsFairValue, IsFirstUnfair, is_dead_fair, IsDeadFairValue, IsFirstNotDead}
-
--- ---- one more instance
-
-within-more : (allowed charged : ℕ → ℕ) (asked : List ℕ) (count : ℕ) → AreWithin allowed charged asked count → charged (get_or asked count 0) ≤ allowed (get_or asked count 0)
-    → AreWithin allowed charged asked (count + 1)
-within-more allowed charged asked count all one k below = elim (cases_eq k count) [
-  | inl is ↦ subst (λ n. charged (get_or asked n 0) ≤ allowed (get_or asked n 0)) (sym is) one
-  | inr other ↦ all k (omega (arith, other))
-]
-
-beyond-more : (allowed charged : ℕ → ℕ) (asked : List ℕ) (count : ℕ) → IsOneBeyond allowed charged asked count → IsOneBeyond allowed charged asked (count + 1)
-beyond-more allowed charged asked count one = let below = one.1 in (one.0, omega arith, one.2)
-
-module _ (task : Task) (atoms : List Atom) (found : List Landmark) (asked : List ℕ) where
-  abbrev charged : ℕ → ℕ
-  charged = charged_at task atoms found
-
-  abbrev costs : ℕ → ℕ
-  costs = cost_at task atoms
-
-  pub below-none : IsFairnessBelow task atoms found asked 0 DeadFair
-  below-none k below = absurd (omega arith)
-
-  pub below-more : (f : Fairness) (count n : ℕ) → IsFairnessBelow task atoms found asked count f → n ≡ charged (get_or asked count 0) → n ≤ costs (get_or asked count 0)
-      → IsFairnessBelow task atoms found asked (count + 1) (after f n)
-  below-more DeadFair count zero so is within = within-more free charged asked count so (omega arith)
-  below-more DeadFair count (suc n) so is within =
-      (within-more costs charged asked count (λ k below. let none = so k below in omega arith) (omega arith), (count, omega arith, omega arith))
-  below-more Fair count n so is within = (within-more costs charged asked count so.0 (omega arith), beyond-more free charged asked count so.1)
-  below-more Unfair count n so is within = beyond-more costs charged asked count so
+use Rattle.landmarks.specs.CutIndex.{allowed_at, total_at, AreAllWithin, IsSomeBeyond}
+use Rattle.landmarks.specs.Fairness.{AreAsked, IsFairness, charged_at, has_one, is_unfair, function_over, IsFairValue, IsFirstUnfair, is_dead_fair, IsDeadFairValue, IsFirstNotDead}
+use Rattle.landmarks.proofs.AmongLemmas.{among-all}
+use Rattle.landmarks.proofs.ValueLemmas.{all-count}
 
 -- ---- all instances
 
-among-index : (numbers : List ℕ) (number : ℕ) → is_among numbers number ≡ true → (k : ℕ) × (k < length numbers) × (get_or numbers k 0 ≡ number)
-among-index [] number is = absurd (true≢false (sym is))
-among-index (n ∷ numbers) number is = elim (or_cases (n == number) (is_among numbers number) is) [
-  | inl here ↦ (0, omega arith, eqb-true n number here)
-  | inr later ↦ let rest = among-index numbers number later in let below = rest.1 in (suc rest.0, omega arith, rest.2)
-]
-
-index-among : (numbers : List ℕ) (k : ℕ) → k < length numbers → is_among numbers (get_or numbers k 0) ≡ true
-index-among [] k within = absurd (omega arith)
-index-among (n ∷ numbers) zero within = ap (λ b. b || is_among numbers n) (eq-eqb n n refl)
-index-among (n ∷ numbers) (suc k) within =
-    elim (n == get_or numbers k 0) as (λ b. (b || is_among numbers (get_or numbers k 0)) ≡ true) [
-      | true ↦ refl
-      | false ↦ index-among numbers k (omega arith)
-    ]
-
 module _ (task : Task) (atoms : List Atom) (h : LandmarkFunction) (asked : List ℕ) (are : AreAsked task atoms h.tables asked) (within : All (λ number. number < length (kept_instances task)) asked)
+    (charged : ℕ → ℕ) (told : (number : ℕ) → charged number ≡ charged_at task atoms h.landmarks number)
     (allowed : ℕ → ℕ) (allowance : Instance → ℕ) (agree : (number : ℕ) (i : Instance) → slice_get (kept_instances task) number ≡ Some i → allowed number ≡ allowance i) where
-  same-charge : (number : ℕ) (i : Instance) → slice_get (kept_instances task) number ≡ Some i → charged_at task atoms h.landmarks number ≡ charges task atoms h.landmarks i
+  same-charge : (number : ℕ) (i : Instance) → slice_get (kept_instances task) number ≡ Some i → charged number ≡ charges task atoms h.landmarks i
   same-charge number i at =
-      (λ k. sum_by (charge (option_map_or (literals_of_instance task atoms) (at k) []) (option_map_or (conditional_of_instance task atoms) (at k) [])) h.landmarks)
+      told number ∙ (λ k. sum_by (charge (option_map_or (literals_of_instance task atoms) (at k) []) (option_map_or (conditional_of_instance task atoms) (at k) [])) h.landmarks)
 
-  pub all-fair : list_all (has_one (literals_of_goal task atoms)) h.landmarks ≡ true → AreWithin allowed (charged_at task atoms h.landmarks) asked (length asked) → AreFairAt allowance task atoms h
+  pub all-fair : list_all (has_one (literals_of_goal task atoms)) h.landmarks ≡ true → AreAllWithin allowed charged asked → AreFairAt allowance task atoms h
   all-fair goals all = record {
     instances = λ k d below is.
         let i = get_or (kept_instances task) k d in
         let at = slice_get-get_or (kept_instances task) k d below in
-        let index = among-index asked k (are k i at ∙ is) in
-        let most = subst (λ n. charged_at task atoms h.landmarks n ≤ allowed n) index.2 (all index.0 index.1) in
+        let most = all k (are k i at ∙ is) in
         record { within = omega (arith, same-charge k i at, agree k i at) };
     goals = goals;
   }
 
-  pub none-fair : IsOneBeyond allowed (charged_at task atoms h.landmarks) asked (length asked) → AreFairAt allowance task atoms h → ⊥
+  pub none-fair : IsSomeBeyond allowed charged asked → AreFairAt allowance task atoms h → ⊥
   none-fair one fair =
-      let number = get_or asked one.0 0 in
+      let number = one.0 in
       let d : Instance = record { schema = 0; objects = [] } in
-      let below = within one.0 0 one.1 in
+      let below = among-all (λ n. n < length (kept_instances task)) asked number within one.1 in
       let i = get_or (kept_instances task) number d in
       let at = slice_get-get_or (kept_instances task) number d below in
-      let most = (fair.instances number d below (sym (are number i at) ∙ index-among asked one.0 one.1)).within in
+      let most = (fair.instances number d below (sym (are number i at) ∙ one.1)).within in
       let more = one.2 in
       absurd (omega (arith, same-charge number i at, agree number i at))
 
--- so of fairness
-pub fairness-of : (task : Task) (atoms : List Atom) (h : LandmarkFunction) (asked : List ℕ) → AreAsked task atoms h.tables asked → All (λ number. number < length (kept_instances task)) asked
-    → list_all (has_one (literals_of_goal task atoms)) h.landmarks ≡ true → (f : Fairness) → IsFairnessBelow task atoms h.landmarks asked (length asked) f → IsFairness task atoms h f
-fairness-of task atoms h asked are within goals DeadFair so = all-fair task atoms h asked are within free nothing (λ number i at. refl) goals so
-fairness-of task atoms h asked are within goals Fair so = (
-  all-fair task atoms h asked are within (cost_at task atoms) (cost_of task) (λ number i at. ap (λ o. option_map_or (cost_of task) o 0) at) goals so.0,
-  none-fair task atoms h asked are within free nothing (λ number i at. refl) so.1,
-)
-fairness-of task atoms h asked are within goals Unfair so =
-    none-fair task atoms h asked are within (cost_at task atoms) (cost_of task) (λ number i at. ap (λ o. option_map_or (cost_of task) o 0) at) so
+-- so of fairness, told by two tests
+module _ (task : Task) (atoms : List Atom) (beside : List Table) (zones : List Zone) (shares : List in_memory.Share) (asked : List ℕ) (are : AreAsked task atoms beside asked)
+    (within : All (λ number. number < length (kept_instances task)) asked) where
+  abbrev h : LandmarkFunction
+  h = function_over beside zones (map share_of shares)
+
+  abbrev total : ℕ → ℕ
+  total = total_at task atoms zones shares
+
+  told : (number : ℕ) → total number ≡ charged_at task atoms h.landmarks number
+  told number = all-count zones (charge (literals_of_number task atoms number) (conditional_of_number task atoms number)) shares
+
+  no-cost : (number : ℕ) (i : Instance) → slice_get (kept_instances task) number ≡ Some i → allowed_at task atoms Nothing number ≡ nothing i
+  no-cost number i at = refl
+
+  same-cost : (number : ℕ) (i : Instance) → slice_get (kept_instances task) number ≡ Some i → allowed_at task atoms Cost number ≡ cost_of task i
+  same-cost number i at = ap (λ o. option_map_or (cost_of task) o 0) at
+
+  pub dead-fair-as : list_all (has_one (literals_of_goal task atoms)) h.landmarks ≡ true → AreAllWithin (allowed_at task atoms Nothing) total asked → IsFairness task atoms h DeadFair
+  dead-fair-as goals all = all-fair task atoms h asked are within total told (allowed_at task atoms Nothing) nothing no-cost goals all
+
+  pub fair-as : list_all (has_one (literals_of_goal task atoms)) h.landmarks ≡ true → IsSomeBeyond (allowed_at task atoms Nothing) total asked → AreAllWithin (allowed_at task atoms Cost) total asked
+      → IsFairness task atoms h Fair
+  fair-as goals one all = (
+    all-fair task atoms h asked are within total told (allowed_at task atoms Cost) (cost_of task) same-cost goals all,
+    none-fair task atoms h asked are within total told (allowed_at task atoms Nothing) nothing no-cost one,
+  )
+
+  pub unfair-as : IsSomeBeyond (allowed_at task atoms Cost) total asked → IsFairness task atoms h Unfair
+  unfair-as one = none-fair task atoms h asked are within total told (allowed_at task atoms Cost) (cost_of task) same-cost one
+
+-- a value with a zone without a literal of the goal is not fair
+pub not-of-goal : (task : Task) (atoms : List Atom) (h : LandmarkFunction) → list_all (has_one (literals_of_goal task atoms)) h.landmarks ≡ false → IsFairness task atoms h Unfair
+not-of-goal task atoms h none fair = absurd (true≢false (sym fair.goals ∙ none))
 
 -- ---- fair where it is not unfair
 

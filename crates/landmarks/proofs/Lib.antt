@@ -1,2 +1,6 @@
 pub mod ValueLemmas
 pub mod FairnessLemmas
+pub mod AmongLemmas
+pub mod MakerLemmas
+pub mod ChargeLemmas
+pub mod CutLemmas

@@ -1,11 +1,10 @@
 -- What the test of a value says.
-use Rattle.std.specs.Prelude.{◌≡◌, ℕ, zero, suc, ◌<◌, ◌≤◌, Bool, true, false, List, get_or, slice_get, Option, None, Some, [], length, sum_by}
+use Rattle.std.specs.Prelude.{◌≡◌, ℕ, ◌<◌, Bool, true, false, List, get_or, slice_get, Option, None, Some, [], length, sum_by}
 use Rattle.std.specs.List.{filter_map}
 use Rattle.model.specs.Task.{Atom, Task, Instance}
 use Rattle.model.specs.StaticallyFalse.{kept_instances}
 use Rattle.model.specs.NumberedLiterals.{NumberedLiteral, literals_of_number}
 use Rattle.model.specs.ConditionalChanges.{conditional_of_number}
-use Rattle.model.specs.Grounding.{ground_system}
 use Rattle.lower_bounds.specs.TableFunctions.{Table, is_among}
 use Rattle.lower_bounds.specs.FairTables.{is_asked}
 use Rattle.landmark_functions.specs.LandmarkFunctions.{Zone, has_any, Landmark, LandmarkFunction}
@@ -51,37 +50,11 @@ IsFirstNotDead task atoms beside l numbers None = (k : ℕ) → k < length numbe
 IsFirstNotDead task atoms beside l numbers (Some place) =
     (place < length numbers) × (¬ IsDeadFairValue task atoms beside l (get_or numbers place 0)) × ((k : ℕ) → k < place → IsDeadFairValue task atoms beside l (get_or numbers k 0))
 
--- ---- the first so many of these instances
+-- ---- parts
 
--- what the instance with this number is charged, and what it costs
+-- what the instance with this number is charged
 abbrev pub charged_at : Task → List Atom → List Landmark → ℕ → ℕ
 charged_at task atoms found number = sum_by (charge (literals_of_number task atoms number) (conditional_of_number task atoms number)) found
-
-abbrev pub cost_at : Task → List Atom → ℕ → ℕ
-cost_at task atoms number = (ground_system task atoms).cost number
-
--- each is charged no more than it is allowed
-abbrev pub AreWithin : (allowed charged : ℕ → ℕ) → List ℕ → ℕ → Type 0
-AreWithin allowed charged asked count = (k : ℕ) → k < count → charged (get_or asked k 0) ≤ allowed (get_or asked k 0)
-
--- one is charged more
-abbrev pub IsOneBeyond : (allowed charged : ℕ → ℕ) → List ℕ → ℕ → Type 0
-IsOneBeyond allowed charged asked count = (k : ℕ) × (k < count) × (allowed (get_or asked k 0) < charged (get_or asked k 0))
-
-abbrev pub free : ℕ → ℕ
-free number = 0
-
-abbrev pub IsFairnessBelow : Task → List Atom → List Landmark → List ℕ → ℕ → Fairness → Type 0
-IsFairnessBelow task atoms found asked count DeadFair = AreWithin free (charged_at task atoms found) asked count
-IsFairnessBelow task atoms found asked count Fair = AreWithin (cost_at task atoms) (charged_at task atoms found) asked count × IsOneBeyond free (charged_at task atoms found) asked count
-IsFairnessBelow task atoms found asked count Unfair = IsOneBeyond (cost_at task atoms) (charged_at task atoms found) asked count
-
--- one more instance is charged this much
-abbrev pub after : Fairness → ℕ → Fairness
-after DeadFair zero = DeadFair
-after DeadFair (suc charged) = Fair
-after Fair charged = Fair
-after Unfair charged = Unfair
 
 abbrev pub is_unfair : Fairness → Bool
 is_unfair DeadFair = false

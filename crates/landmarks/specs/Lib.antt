@@ -1,3 +1,7 @@
 pub mod Breaking
 pub mod Values
+pub mod Rows
+pub mod Makers
+pub mod Counters
+pub mod CutIndex
 pub mod Fairness

@@ -3,10 +3,16 @@
 
 mod breaking;
 mod charging;
+mod counters;
+mod cut_index;
+mod makers;
+mod rows;
 mod testing;
 mod values;
 
 pub use breaking::may_break;
 pub use charging::charges;
-pub use testing::{Fairness, fairness_for, first_not_dead, first_unfair};
-pub use values::{is_whole, value_in};
+pub use counters::Counters;
+pub use cut_index::CutIndex;
+pub use testing::Fairness;
+pub use values::{is_whole, is_worth, value_in};

@@ -1,18 +1,18 @@
 //! Whether a value is fair for a ground task.
 ghost use Rattle.std.specs.Prelude.{◌≡◌, ◌<◌, ◌≤◌, ◌∷◌, [], All, List, length, map};
 ghost use Rattle.std.specs.List.{filter_map, list_all};
-ghost use Rattle.grounding.specs.Ground.{atoms_in, task_in};
 ghost use Rattle.grounding.specs.Views.{numbered_of};
-ghost use Rattle.model.specs.StaticallyFalse.{kept_instances};
 ghost use Rattle.lower_bounds.specs.TableFunctions as tables;
 ghost use Rattle.landmark_functions.specs.LandmarkLines.{landmark_of, share_count};
 ghost use Rattle.landmark_zones.specs.Landmarks.{landmarks_of, share_of};
 ghost use Rattle.landmarks.specs.Breaking.{AreSorted};
-ghost use Rattle.landmarks.specs.Fairness.{AreAsked, IsFairness, IsFairnessBelow, after, IsFirstNotDead, IsFirstUnfair, function_over, has_one, is_dead_fair, is_unfair};
+ghost use Rattle.landmarks.specs.Counters.{AreCounters};
+ghost use Rattle.landmarks.specs.Fairness.{AreAsked, IsFairness, IsFirstNotDead, IsFirstUnfair, function_over, has_one, is_dead_fair, is_unfair};
 
 use crate::breaking::has_any;
-use crate::charging::charges;
-use grounding::{Ground, NumberedLiteral};
+use crate::counters::Counters;
+use crate::cut_index::{Allowance, CutIndex};
+use grounding::NumberedLiteral;
 use landmark_zones::{Landmarks, Share};
 
 /// Whether a value is fair.
@@ -46,107 +46,82 @@ impl Fairness {
             Fairness::Fair | Fairness::Unfair => false,
         }
     }
+}
 
-    /// The same where one more instance is charged this much, which is no more than it costs.
-    fn after(self, charged: u64) -> Fairness
-        ensures { result ≡ after self charged }
+impl CutIndex<'_, '_> {
+    ghost use Rattle.landmarks.specs.CutIndex.{asked_in, atoms_of, count_in, task_of};
+
+    /// The number of the first value that is not fair for the ground task, if there is one.
+    pub fn first_unfair(&self, counters: &mut Counters, landmarks: &Landmarks) -> Option<usize>
+        requires sorted { AreSorted (landmarks_of landmarks.now).zones }
+        requires few { share_count (landmarks_of landmarks.now).values ≤ 67108864 }
+        requires counted { AreCounters (count_in self.now) counters.old }
+        ensures counted { AreCounters (count_in self.now) counters.new }
+        ensures first { (beside : List tables.Table) → AreAsked (task_of self.now) (atoms_of self.now) beside (asked_in self.now)
+            → IsFirstUnfair (task_of self.now) (atoms_of self.now) beside (landmarks_of landmarks.now) result }
     {
-        match self {
-            Fairness::DeadFair => {
-                if charged == 0 {
-                    Fairness::DeadFair
-                } else {
-                    Fairness::Fair
-                }
+        for number in 0..landmarks.value_count() {
+            let shares = landmarks.value(number);
+            if self.fairness_for(counters, landmarks, shares).is_unfair() {
+                return Some(number);
             }
-            Fairness::Fair => Fairness::Fair,
-            Fairness::Unfair => Fairness::Unfair,
         }
+        None
     }
-}
 
-/// The number of the first value that is not fair for the ground task, if there is one. The numbers asked are those of the kept
-/// instances that the tables beside the values do not shut out.
-pub fn first_unfair(ground: &Ground<'_>, landmarks: &Landmarks, asked: &[u32]) -> Option<usize>
-    requires sorted { AreSorted (landmarks_of landmarks.now).zones }
-    requires few { share_count (landmarks_of landmarks.now).values ≤ 67108864 }
-    requires asked { All (λ number. number < length (kept_instances (task_in ground.now))) asked.now }
-    ensures { (beside : List tables.Table) → AreAsked (task_in ground.now) (atoms_in ground.now) beside asked.now
-        → IsFirstUnfair (task_in ground.now) (atoms_in ground.now) beside (landmarks_of landmarks.now) result }
-{
-    for number in 0..landmarks.value_count() {
-        if fairness_for(ground, landmarks, landmarks.value(number), asked).is_unfair() {
-            return Some(number);
+    /// The place of the first of the values with these numbers that is not dead-fair for the ground task, if there is one.
+    pub fn first_not_dead(
+        &self,
+        counters: &mut Counters,
+        landmarks: &Landmarks,
+        numbers: &[u32],
+    ) -> Option<usize>
+        requires sorted { AreSorted (landmarks_of landmarks.now).zones }
+        requires few { share_count (landmarks_of landmarks.now).values ≤ 67108864 }
+        requires numbered { All (λ number. number < length (landmarks_of landmarks.now).values) numbers.now }
+        requires counted { AreCounters (count_in self.now) counters.old }
+        ensures counted { AreCounters (count_in self.now) counters.new }
+        ensures first { (beside : List tables.Table) → AreAsked (task_of self.now) (atoms_of self.now) beside (asked_in self.now)
+            → IsFirstNotDead (task_of self.now) (atoms_of self.now) beside (landmarks_of landmarks.now) numbers.now result }
+    {
+        for place in 0..numbers.len() {
+            let shares = landmarks.value(numbers[place] as usize);
+            if !self
+                .fairness_for(counters, landmarks, shares)
+                .is_dead_fair()
+            {
+                return Some(place);
+            }
         }
+        None
     }
-    None
-}
 
-/// The place of the first of the values with these numbers that is not dead-fair for the ground task, if there is one. The numbers
-/// asked are those of the kept instances that the tables beside the values do not shut out.
-pub fn first_not_dead(
-    ground: &Ground<'_>,
-    landmarks: &Landmarks,
-    numbers: &[u32],
-    asked: &[u32],
-) -> Option<usize>
-    requires sorted { AreSorted (landmarks_of landmarks.now).zones }
-    requires few { share_count (landmarks_of landmarks.now).values ≤ 67108864 }
-    requires numbered { All (λ number. number < length (landmarks_of landmarks.now).values) numbers.now }
-    requires asked { All (λ number. number < length (kept_instances (task_in ground.now))) asked.now }
-    ensures { (beside : List tables.Table) → AreAsked (task_in ground.now) (atoms_in ground.now) beside asked.now
-        → IsFirstNotDead (task_in ground.now) (atoms_in ground.now) beside (landmarks_of landmarks.now) numbers.now result }
-{
-    for place in 0..numbers.len() {
-        let shares = landmarks.value(numbers[place] as usize);
-        if !fairness_for(ground, landmarks, shares, asked).is_dead_fair() {
-            return Some(place);
-        }
-    }
-    None
-}
-
-/// Whether the value with these shares is fair for the ground task. The numbers are those of the kept instances that the tables
-/// beside the value do not shut out.
-pub fn fairness_for(
-    ground: &Ground<'_>,
-    landmarks: &Landmarks,
-    shares: &[Share],
-    asked: &[u32],
-) -> Fairness
-    requires sorted { AreSorted (landmarks_of landmarks.now).zones }
-    requires few { length shares.now ≤ 67108864 }
-    requires asked { All (λ number. number < length (kept_instances (task_in ground.now))) asked.now }
-    ensures { (beside : List tables.Table) → AreAsked (task_in ground.now) (atoms_in ground.now) beside asked.now
-        → IsFairness (task_in ground.now) (atoms_in ground.now) (function_over beside (landmarks_of landmarks.now).zones (map share_of shares.now)) result }
-{
-    if !are_of_goal(landmarks, shares, ground.goal_literals()) {
-        return Fairness::Unfair;
-    }
-    fairness_across(ground, landmarks, shares, asked)
-}
-
-/// Whether the value with these shares is fair for the instances with these numbers.
-fn fairness_across(
-    ground: &Ground<'_>,
-    landmarks: &Landmarks,
-    shares: &[Share],
-    asked: &[u32],
-) -> Fairness
-    requires sorted { AreSorted (landmarks_of landmarks.now).zones }
-    requires few { length shares.now ≤ 67108864 }
-    requires asked { All (λ number. number < length (kept_instances (task_in ground.now))) asked.now }
-    ensures { IsFairnessBelow (task_in ground.now) (atoms_in ground.now) (filter_map (landmark_of (landmarks_of landmarks.now).zones) (map share_of shares.now)) asked.now (length asked.now) result }
-{
-    let mut fairness = Fairness::DeadFair;
-    for &number in asked {
-        let charged = charges(ground, number, landmarks, shares);
-        if charged > u64::from(ground.cost(number)) {
+    /// Whether the value with these shares is fair for the ground task. It costs what the zones touch: the instances that make one
+    /// of their literals true.
+    pub fn fairness_for(
+        &self,
+        counters: &mut Counters,
+        landmarks: &Landmarks,
+        shares: &[Share],
+    ) -> Fairness
+        requires sorted { AreSorted (landmarks_of landmarks.now).zones }
+        requires few { length shares.now ≤ 67108864 }
+        requires counted { AreCounters (count_in self.now) counters.old }
+        ensures counted { AreCounters (count_in self.now) counters.new }
+        ensures fairness { (beside : List tables.Table) → AreAsked (task_of self.now) (atoms_of self.now) beside (asked_in self.now)
+            → IsFairness (task_of self.now) (atoms_of self.now) (function_over beside (landmarks_of landmarks.now).zones (map share_of shares.now)) result }
+    {
+        if !are_of_goal(landmarks, shares, self.ground.goal_literals()) {
             return Fairness::Unfair;
         }
-        fairness = fairness.after(charged);
+        if self.stays_within(counters, landmarks, shares, Allowance::Nothing) {
+            return Fairness::DeadFair;
+        }
+        if self.stays_within(counters, landmarks, shares, Allowance::Cost) {
+            return Fairness::Fair;
+        }
+        Fairness::Unfair
     }
-    fairness
 }
 
 /// Whether each zone of the shares has one of the goal's literals, which are these.

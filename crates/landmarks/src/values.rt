@@ -1,5 +1,5 @@
 //! Values of packed states.
-ghost use Rattle.std.specs.Prelude.{◌≡◌, ◌<◌, ◌≤◌, IsTrue, get_or, length, map, nat_lt, not, false, sum_by};
+ghost use Rattle.std.specs.Prelude.{◌≡◌, ◌<◌, ◌≤◌, IsTrue, get_or, length, map, nat_le, nat_lt, not, false, sum_by};
 ghost use Rattle.std.specs.List.{filter_map, list_all};
 ghost use Rattle.packed_state.specs.Packed.{bits_of};
 ghost use Rattle.landmark_functions.specs.LandmarkFunctions as landmarks;
@@ -25,6 +25,22 @@ pub fn value_in(state: &Packed, landmarks: &Landmarks, shares: &[Share]) -> u64
         total += weight_in(state, landmarks, *share);
     }
     total
+}
+
+/// Whether the sum of these weights is at least this, for which no more zones are looked at than it takes.
+pub fn is_worth(state: &Packed, landmarks: &Landmarks, shares: &[Share], least: u64) -> bool
+    requires over { IsTrue (list_all (is_zone_over (length (bits_of state.now))) (landmarks_of landmarks.now).zones) }
+    requires few { length shares.now ≤ 67108864 }
+    ensures { result ≡ nat_le least (sum_by (gives (bits_of state.now)) (filter_map (landmark_of (landmarks_of landmarks.now).zones) (map share_of shares.now))) }
+{
+    let mut reached = 0;
+    for share in shares {
+        if reached >= least {
+            return true;
+        }
+        reached += weight_in(state, landmarks, *share);
+    }
+    reached >= least
 }
 
 /// The weight of the share, if there is a zone with its number and the zone is whole in the state.
