@@ -1,5 +1,5 @@
 -- The faults found by the walks over functions, the metric and the initial costs.
-use Rattle.std.proofs.Common.{◌≡◌, ◌∙◌, Bool, true, false, ◌||◌, List, [], ◌∷◌, ◌++◌, map, fold, drop, is_some, Option, None, Some, refl, sym, ap, Bor, if◌then◌else◌}
+use Rattle.std.proofs.Common.{ℕ, zero, suc, ◌≡◌, ◌∙◌, Bool, true, false, ◌||◌, List, [], ◌∷◌, ◌++◌, map, fold, drop, is_some, Option, None, Some, refl, sym, ap, Bor, if◌then◌else◌}
 use Rattle.std.specs.Cmp.Lexicographic.{same_text}
 use Rattle.std.specs.List.{list_any}
 use Rattle.std.specs.Option.{option_map, option_map_or, option_copied}
@@ -51,17 +51,10 @@ metric_reported has_cost lent metric is = by lent ∙ ap (λ o. metric_faults ha
     by None = refl
     by (Some n) = refl
 
--- one more `=`, which is refused unless it is the first
-pub equals_more : (none_yet : Bool) (file : TaskFile) (word : tree.Name) (rest : List Placed) (old new : Findings)
-    → new ≡ found old (if none_yet then [] else refused_word file 23 word)
-    → found new (refused 23 rest) ≡ found old (refused 23 (drop (if none_yet then 1 else 0) (placed file word ∷ rest)))
-equals_more true file word rest old new is = ap (λ o. found o (refused 23 rest)) is
-equals_more false file word rest old new is = ap (λ o. found o (refused 23 rest)) is
-
--- and the end
-pub equals_end : (none_yet : Bool) (least : Findings) → found least (refused 23 (drop (if none_yet then 1 else 0) [])) ≡ least
-equals_end true least = refl
-equals_end false least = refl
+-- at the end of the `=`s, however many are allowed
+pub equals_end : (allowed : ℕ) (least : Findings) → found least (refused 23 (drop allowed [])) ≡ least
+equals_end zero least = refl
+equals_end (suc allowed) least = refl
 
 pub is_some-map : {X Y : Type 0} (f : X → Y) (o : Option X) → is_some (option_map f o) ≡ is_some o
 is_some-map f None = refl

@@ -20,20 +20,15 @@ module _ (values : List task.FunctionValue) (v : task.FunctionValue) where
   pub kept_before : (first : ℕ) → value_in values v.function ≡ Some first → values ≡ with_value values v
   kept_before first is = ap (λ o. if is_some {T = ℕ} o then values else values ++ v ∷ []) (sym is)
 
-  pub reported_by_first : (first : ℕ) → value_in values v.function ≡ Some first → (other : List TypingFault)
-      → (if first == v.value then [] else other) ≡ (if differing values v then other else [])
-  reported_by_first first is other = turned (first == v.value) ∙ ap (λ o. if option_map_or (λ value. not (value == v.value)) o false then other else []) (sym is)
-    where
-      turned : (b : Bool) → (if b then [] else other) ≡ (if not b then other else [])
-      turned true = refl
-      turned false = refl
+  pub differs_by_first : (first : ℕ) → value_in values v.function ≡ Some first → not (first == v.value) ≡ differing values v
+  differs_by_first first is = ap (λ o. option_map_or (λ value. not (value == v.value)) o false) (sym is)
 
   -- it has none
   pub put_last : value_in values v.function ≡ None → values ++ v ∷ [] ≡ with_value values v
   put_last is = ap (λ o. if is_some {T = ℕ} o then values else values ++ v ∷ []) (sym is)
 
-  pub not_reported : value_in values v.function ≡ None → (other : List TypingFault) → [] ≡ (if differing values v then other else [])
-  not_reported is other = ap (λ o. if option_map_or (λ value. not (value == v.value)) o false then other else []) (sym is)
+  pub none_differs : value_in values v.function ≡ None → false ≡ differing values v
+  none_differs is = ap (λ o. option_map_or (λ value. not (value == v.value)) o false) (sym is)
 
 -- the fault of a value whose names are known
 pub reported_of_named : (known : Known) (values : List task.FunctionValue) (v : tree.InitialValue) (function : task.Atom)

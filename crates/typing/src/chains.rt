@@ -55,7 +55,6 @@ fn comes_back(alloc: Global, parents: &[TypeId], id: TypeId) -> Result<bool, NoM
 
 /// Refuses a type that is its own ancestor.
 fn check_cycle(
-    alloc: Global,
     walk: &mut Walk,
     parents: &[TypeId],
     id: TypeId,
@@ -63,14 +62,14 @@ fn check_cycle(
 ) -> Result<(), NoMemory>
     ensures { OnOk result (Finds walk.old walk.new (if typing.comes_back (map parts.type_of parents.now) id.0 then typing.refused_word (declared_of declared.now).file 15 (declared_of declared.now).name else [])) }
 {
-    let back = comes_back(alloc, parents, id)?;
-    walk.refuse_unless(!back, declared.file, Code::TypeCycle, &declared.name);
+    if comes_back(walk.alloc, parents, id)? {
+        walk.refuse(declared.placed.file, Code::TypeCycle, &declared.placed.name);
+    }
     Ok(())
 }
 
 /// Refuses the types that are their own ancestors.
 fn check_cycles(
-    alloc: Global,
     walk: &mut Walk,
     parents: &[TypeId],
     declared: &[Declared<'_>],
@@ -80,7 +79,7 @@ fn check_cycles(
 {
     for index in 0..declared.len() {
         let id = TypeId((index + 1) as u16);
-        check_cycle(alloc, walk, parents, id, &declared[index])?;
+        check_cycle(walk, parents, id, &declared[index])?;
     }
     Ok(())
 }
@@ -116,7 +115,7 @@ fn filled(
     let mut walk = Walk::new(alloc)?;
     let list = names.parents(alloc, &mut walk.folded, declared)?;
     let parents = list.as_slice();
-    check_cycles(alloc, &mut walk, parents, declared)?;
+    check_cycles(&mut walk, parents, declared)?;
     let mut by_name = names.by_name;
     fill(alloc, parents, &mut by_name)?;
     walk.finish(TypeTable { by_name })

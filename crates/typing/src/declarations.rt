@@ -16,7 +16,7 @@ use pddl_tree_parts::{Domain, Predicate as Declaration};
 use std::alloc::Global;
 use task::{MAX_ARGUMENTS, Predicate, TypeUnion};
 use typing_names::domain::declare;
-use typing_names::typed_lists::{collect, limit};
+use typing_names::typed_lists::{Placed, collect, limit};
 use typing_names::types::check_all;
 use typing_names::{TypeTable, Walk};
 
@@ -37,7 +37,6 @@ fn arguments(
 
 /// The predicates, or functions, declared in a list.
 fn table(
-    alloc: Global,
     walk: &mut Walk,
     types: &TypeTable,
     declarations: &[Declaration<'_>],
@@ -47,19 +46,20 @@ fn table(
         → map parts.predicate_of m.entries ≡ map (λ q. typing.predicate_in (keys_in types.now.by_name.entries) (read.predicate_of q)) declarations.now) }
     ensures finds { OnOk result (Finds walk.old walk.new (typing.refused 16 (typing.repeated (map (λ q. typing.placed domain_file (read.name_of q.name)) declarations.now)))) }
 {
-    let mut predicates = IndexMap::new(alloc);
+    let mut predicates = IndexMap::new(walk.alloc);
     for declaration in declarations {
-        let name = &declaration.name;
-        let arguments = arguments(alloc, &mut walk.folded, types, declaration)?;
-        let made = Predicate { arguments };
-        declare(alloc, walk, TaskFile::Domain, &mut predicates, name, made)?;
+        let placed = Placed {
+            file: TaskFile::Domain,
+            name: declaration.name,
+        };
+        let arguments = arguments(walk.alloc, &mut walk.folded, types, declaration)?;
+        declare(walk, &mut predicates, placed, Predicate { arguments })?;
     }
     Ok(predicates)
 }
 
 /// Refuses the unknown types of a declaration's arguments, and the first argument beyond the limit.
 fn check_arguments(
-    alloc: Global,
     walk: &mut Walk,
     types: &TypeTable,
     declaration: &Declaration<'_>,
@@ -67,7 +67,7 @@ fn check_arguments(
     ensures { OnOk result (Finds walk.old walk.new (typing.argument_faults (keys_in types.now.by_name.entries) (read.predicate_of declaration.now))) }
 {
     let groups = declaration.parameters.as_slice();
-    let list = collect(alloc, TaskFile::Domain, groups)?;
+    let list = collect(walk.alloc, TaskFile::Domain, groups)?;
     let declared = list.as_slice();
     check_all(walk, &types.by_name, declared)?;
     limit(walk, declared, MAX_ARGUMENTS);
@@ -76,7 +76,6 @@ fn check_arguments(
 
 /// The same for all declarations.
 fn check_declarations(
-    alloc: Global,
     walk: &mut Walk,
     types: &TypeTable,
     declarations: &[Declaration<'_>],
@@ -84,14 +83,13 @@ fn check_declarations(
     ensures { OnOk result (Finds walk.old walk.new (flat_map (λ q. typing.argument_faults (keys_in types.now.by_name.entries) (read.predicate_of q)) declarations.now)) }
 {
     for declaration in declarations {
-        check_arguments(alloc, walk, types, declaration)?;
+        check_arguments(walk, types, declaration)?;
     }
     Ok(())
 }
 
 /// The predicates, or functions, declared in a list. Their faults are recorded in the walk.
 pub(crate) fn declared(
-    alloc: Global,
     walk: &mut Walk,
     types: &TypeTable,
     declarations: &[Declaration<'_>],
@@ -101,8 +99,8 @@ pub(crate) fn declared(
         → map parts.predicate_of m.entries ≡ map (typing.predicate_in (keys_in types.now.by_name.entries)) (map read.predicate_of declarations.now)) }
     ensures finds { OnOk result (Finds walk.old walk.new (typing.declaration_faults (keys_in types.now.by_name.entries) (map read.predicate_of declarations.now))) }
 {
-    let table = table(alloc, walk, types, declarations)?;
-    check_declarations(alloc, walk, types, declarations)?;
+    let table = table(walk, types, declarations)?;
+    check_declarations(walk, types, declarations)?;
     Ok(table)
 }
 
@@ -118,6 +116,6 @@ pub fn predicates(
     ensures err { IfErr result (ReportsAll (typing.declaration_faults (keys_in types.now.by_name.entries) (read.domain_of domain.now).predicates)) }
 {
     let mut walk = Walk::new(alloc)?;
-    let predicates = declared(alloc, &mut walk, types, &domain.predicates)?;
+    let predicates = declared(&mut walk, types, &domain.predicates)?;
     walk.finish(predicates)
 }

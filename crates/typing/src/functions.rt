@@ -1,9 +1,9 @@
 //! The domain's functions, the problem's metric, and the cost increases of actions.
 ghost use Rattle.std.specs.Prelude.{◌≡◌, [], ◌++◌, drop, if◌then◌else◌, map, slice_get, IfErr, IfOk, OnOk};
-ghost use Rattle.std.specs.List.{flat_map};
+ghost use Rattle.std.specs.List.{flat_map, list_any};
 ghost use Rattle.std.specs.Option.{option_map_or};
 ghost use Rattle.task.specs.TaskParts as parts;
-ghost use Rattle.typing_names.specs.Scope.{keys_in, known_over};
+ghost use Rattle.typing_names.specs.Scope.{keys_in, known_of, known_outside};
 ghost use Rattle.typing.specs.Task.{file_of, ReportsAll};
 ghost use Rattle.typing_names.specs.Walk.{Finds};
 ghost use Rattle.pddl_tree_parts.specs.Tree as read;
@@ -18,16 +18,22 @@ use indexmap::IndexMap;
 use pddl_tree_parts as tree;
 use pddl_tree_parts::{Action, Amount, Domain, Name, Problem};
 use std::alloc::Global;
-use task::{Increase, Predicate, TypeUnion};
-use typing_names::{Globals, TypeTable, Walk, declares_cost};
+use task::{Increase, Predicate};
+use typing_names::{Globals, Scope, TypeTable, Walk, declares_cost};
 
-/// Refuses the metric if the total cost is not declared.
-fn check_metric(walk: &mut Walk, has_cost: bool, metric: Option<&Name<'_>>)
+/// Refuses the metric if the total cost is not declared among these functions.
+fn check_metric(
+    walk: &mut Walk,
+    functions: &IndexMap<Vec<u8>, Predicate>,
+    metric: Option<&Name<'_>>,
+)
     ensures { Finds walk.old walk.new
-        (option_map_or (λ n. if has_cost then [] else typing.refused_word problem_file 22 (read.name_of n.now)) metric.entry []) }
+        (option_map_or (λ n. if list_any (typing.is_same typing.total_cost) (typing.names_of_predicates (map parts.predicate_of functions.now.entries)) then [] else typing.refused_word problem_file 22 (read.name_of n.now)) metric.entry []) }
 {
     if let Some(word) = metric {
-        walk.refuse_unless(has_cost, TaskFile::Problem, Code::BadMetric, word);
+        if !declares_cost(functions) {
+            walk.refuse(TaskFile::Problem, Code::BadMetric, word);
+        }
     }
 }
 
@@ -45,9 +51,8 @@ pub fn functions(
     ensures err { IfErr result (ReportsAll (typing.function_faults (read.domain_of domain.now) (read.problem_of problem.now))) }
 {
     let mut walk = Walk::new(alloc)?;
-    let functions = declared(alloc, &mut walk, types, &domain.functions)?;
-    let has_cost = declares_cost(&functions);
-    check_metric(&mut walk, has_cost, problem.metric.as_ref());
+    let functions = declared(&mut walk, types, &domain.functions)?;
+    check_metric(&mut walk, &functions, problem.metric.as_ref());
     walk.finish(functions)
 }
 
@@ -61,70 +66,59 @@ fn refuse_increases(walk: &mut Walk, file: TaskFile, increases: &[tree::Increase
 }
 
 /// Refuses all increases of an action after the first; also the first if the total cost is not declared.
-fn check_increases(walk: &mut Walk, file: TaskFile, has_cost: bool, action: &Action<'_>)
-    ensures { Finds walk.old walk.new (typing.refused 23 (drop (if has_cost then 1 else 0) (typing.increase_words (file_of file) (read.action_of action.now)))) }
+fn check_increases(walk: &mut Walk, globals: &Globals<'_>, action: &Action<'_>)
+    ensures { Finds walk.old walk.new (typing.increase_faults (file_of globals.now.file) (known_outside globals.now) (read.action_of action.now)) }
 {
     let increases = action.increases.as_slice();
-    if !has_cost {
-        refuse_increases(walk, file, increases);
+    if !globals.has_cost() {
+        refuse_increases(walk, globals.file, increases);
     } else if let Some((_, others)) = increases.split_first() {
-        refuse_increases(walk, file, others);
+        refuse_increases(walk, globals.file, others);
     }
 }
 
 /// The amount of an increase.
-fn amount(
-    alloc: Global,
-    walk: &mut Walk,
-    globals: &Globals<'_>,
-    variables: &IndexMap<Vec<u8>, TypeUnion>,
-    given: &Amount<'_>,
-) -> Result<Increase, NoMemory>
-    ensures value { IfOk result (λ i. parts.increase_of i ≡ typing.increase_in (known_over globals.now variables.now.entries) (read.amount_of given.now)) }
-    ensures finds { OnOk result (Finds walk.old walk.new (typing.amount_faults (file_of globals.now.file) (known_over globals.now variables.now.entries) (read.amount_of given.now))) }
+fn amount(walk: &mut Walk, scope: &Scope<'_>, given: &Amount<'_>) -> Result<Increase, NoMemory>
+    ensures value { IfOk result (λ i. parts.increase_of i ≡ typing.increase_in (known_of scope.now) (read.amount_of given.now)) }
+    ensures finds { OnOk result (Finds walk.old walk.new (typing.amount_faults (file_of scope.now.globals.now.file) (known_of scope.now) (read.amount_of given.now))) }
 {
     match given {
         Amount::Number(number) => Ok(Increase::Number(*number)),
         Amount::Function(function) => {
-            let scope = globals.with(variables);
             let functions = scope.in_function();
-            Ok(Increase::Function(functions.lifted_atom(alloc, walk, function)?))
+            Ok(Increase::Function(functions.lifted_atom(walk, function)?))
         }
     }
 }
 
 /// Reports the faults of the functions that increases use.
 fn check_amounts(
-    alloc: Global,
     walk: &mut Walk,
-    globals: &Globals<'_>,
-    variables: &IndexMap<Vec<u8>, TypeUnion>,
+    scope: &Scope<'_>,
     increases: &[tree::Increase<'_>],
 ) -> Result<(), NoMemory>
-    ensures { OnOk result (Finds walk.old walk.new (flat_map (λ i. typing.amount_faults (file_of globals.now.file) (known_over globals.now variables.now.entries) (read.amount_of i.amount)) increases.now)) }
+    ensures { OnOk result (Finds walk.old walk.new (flat_map (λ i. typing.amount_faults (file_of scope.now.globals.now.file) (known_of scope.now) (read.amount_of i.amount)) increases.now)) }
 {
     for increase in increases {
-        amount(alloc, walk, globals, variables, &increase.amount)?;
+        amount(walk, scope, &increase.amount)?;
     }
     Ok(())
 }
 
 /// The amount of the first increase; 0 if there is none.
 fn first_amount(
-    alloc: Global,
     walk: &mut Walk,
-    globals: &Globals<'_>,
-    variables: &IndexMap<Vec<u8>, TypeUnion>,
+    scope: &Scope<'_>,
     increases: &[tree::Increase<'_>],
 ) -> Result<Increase, NoMemory>
     ensures value { IfOk result (λ i. parts.increase_of i
-        ≡ option_map_or (λ j. typing.increase_in (known_over globals.now variables.now.entries) j.amount) (slice_get (map read.increase_of increases.now) 0) (task.by_number 0)) }
-    ensures finds { OnOk result (Finds walk.old walk.new (flat_map (λ i. typing.amount_faults (file_of globals.now.file) (known_over globals.now variables.now.entries) (read.amount_of i.amount)) increases.now)) }
+        ≡ option_map_or (λ j. typing.increase_in (known_of scope.now) j.amount) (slice_get (map read.increase_of increases.now) 0) (task.by_number 0)) }
+    ensures finds { OnOk result (Finds walk.old walk.new (flat_map (λ i. typing.amount_faults (file_of scope.now.globals.now.file) (known_of scope.now) (read.amount_of i.amount)) increases.now)) }
 {
     match increases.split_first() {
         Some((first, others)) => {
-            let increase = amount(alloc, walk, globals, variables, &first.amount)?;
-            check_amounts(alloc, walk, globals, variables, others)?;
+            let increase = amount(walk, scope, &first.amount)?;
+            check_amounts(walk, scope, others)?;
             Ok(increase)
         }
         None => Ok(Increase::Number(0)),
@@ -133,18 +127,15 @@ fn first_amount(
 
 /// The amount by which an action increases the total cost: that of its first increase, or 0.
 pub fn increase(
-    alloc: Global,
     walk: &mut Walk,
-    globals: &Globals<'_>,
-    variables: &IndexMap<Vec<u8>, TypeUnion>,
+    scope: &Scope<'_>,
     action: &Action<'_>,
 ) -> Result<Increase, NoMemory>
-    ensures value { IfOk result (λ i. parts.increase_of i ≡ typing.increase_of (known_over globals.now variables.now.entries) (read.action_of action.now)) }
+    ensures value { IfOk result (λ i. parts.increase_of i ≡ typing.increase_of (known_of scope.now) (read.action_of action.now)) }
     ensures finds { OnOk result (Finds walk.old walk.new
-        (typing.increase_faults (file_of globals.now.file) (known_over globals.now variables.now.entries) (read.action_of action.now)
-        ++ flat_map (λ i. typing.amount_faults (file_of globals.now.file) (known_over globals.now variables.now.entries) i.amount) (read.action_of action.now).increases)) }
+        (typing.increase_faults (file_of scope.now.globals.now.file) (known_of scope.now) (read.action_of action.now)
+        ++ flat_map (λ i. typing.amount_faults (file_of scope.now.globals.now.file) (known_of scope.now) i.amount) (read.action_of action.now).increases)) }
 {
-    let scope = globals.with(variables);
-    check_increases(walk, globals.file, scope.has_cost(), action);
-    first_amount(alloc, walk, globals, variables, &action.increases)
+    check_increases(walk, scope.globals, action);
+    first_amount(walk, scope, &action.increases)
 }

@@ -1,11 +1,12 @@
 //! All faults of a pair that are found before one of them hides what comes after it.
 ghost use Rattle.std.specs.Prelude.{◌≡◌, ◌++◌, List, [], IfErr, IfOk, OnOk};
 ghost use Rattle.pddl_tree_parts.specs.Tree.{domain_of, file_of, problem_of};
-ghost use Rattle.typing_names.specs.Scope.{known_outside, known_over};
+ghost use Rattle.typing_names.specs.Resolver.{file_in, known_to};
+ghost use Rattle.typing_names.specs.Scope.{known_outside};
 ghost use Rattle.typing_names.specs.Walk.{Finds};
 ghost use Rattle.typing.specs.Task.{ReportsAll};
 ghost use Rattle.typing.specs.Listed.{AreFaultsOf, AreListed, AreNamesOf, faults_listed, known_in_names, use_faults};
-ghost use Rattle.model.specs.Trees.{problem_file};
+ghost use Rattle.model.specs.Trees.{domain_file, problem_file};
 ghost use Rattle.model.specs.Typing.{TypingFault, formula_faults, init_faults};
 
 use crate::actions::walked_actions;
@@ -16,9 +17,9 @@ use faults::{NoMemory, Refused};
 use indexmap::IndexMap;
 use pddl_tree_parts::{Domain, Problem};
 use std::alloc::Global;
-use task::{Predicate, TypeUnion};
+use task::Predicate;
 use typing_names::formulas::formula;
-use typing_names::{Globals, TypeTable, Walk};
+use typing_names::{Globals, Resolver, TypeTable, Walk};
 
 /// The faults of a pair: those of the first phase of typing that has any, up to [`MAX_LISTED`](crate::MAX_LISTED), and none if the
 /// pair is well-typed. The actions, the initial state and the goal are a single phase here, since they do not depend on each
@@ -95,15 +96,20 @@ impl Names<'_> {
         ensures none { OnOk result (use_faults (domain_of domain.now) (problem_of problem.now) ≡ []) }
         ensures reported { IfErr result (ReportsAll (use_faults (domain_of domain.now) (problem_of problem.now))) }
     {
-        let mut walk = Walk::new(alloc)?;
-        walked_actions(alloc, &mut walk, &self.in_domain(), domain)?;
-        walk_statements(alloc, &mut walk, &self.in_problem(), problem)?;
-        walk.finish(())
+        let walk = Walk::new(alloc)?;
+        let in_domain = self.in_domain();
+        let mut resolver = Resolver::new(walk, &in_domain);
+        walked_actions(&mut resolver, domain)?;
+        let in_problem = self.in_problem();
+        let mut resolver = Resolver::new(resolver.into_walk(), &in_problem);
+        walk_statements(&mut resolver, problem)?;
+        resolver.finish(())
     }
 
     /// Those visible in the domain.
     fn in_domain(&self) -> Globals<'_>
-        ensures { known_outside result ≡ known_in_names self.now self.now.objects.now.constants.entries }
+        ensures file { file_of result.file ≡ domain_file }
+        ensures known { known_outside result ≡ known_in_names self.now self.now.objects.now.constants.entries }
     {
         Globals {
             file: TaskFile::Domain,
@@ -130,33 +136,12 @@ impl Names<'_> {
 }
 
 /// Finds the faults of the initial state and of the goal.
-fn walk_statements(
-    alloc: Global,
-    walk: &mut Walk,
-    globals: &Globals<'_>,
-    problem: &Problem<'_>,
-) -> Result<(), NoMemory>
-    ensures { OnOk result (Finds walk.old walk.new (init_faults (file_of globals.now.file) (known_outside globals.now) (problem_of problem.now).init
-        ++ formula_faults (file_of globals.now.file) (known_outside globals.now) (problem_of problem.now).goal)) }
+fn walk_statements(resolver: &mut Resolver<'_>, problem: &Problem<'_>) -> Result<(), NoMemory>
+    ensures { OnOk result (Finds resolver.old.walk resolver.new.walk (init_faults (file_in resolver.old) (known_to resolver.old) (problem_of problem.now).init
+        ++ formula_faults (file_in resolver.old) (known_to resolver.old) (problem_of problem.now).goal)) }
 {
-    let none = IndexMap::new(alloc);
-    walk_init(alloc, walk, globals, &none, problem)?;
-    let mut variables = IndexMap::new(alloc);
-    formula(alloc, walk, globals, &mut variables, &problem.goal)?;
-    Ok(())
-}
-
-/// Finds the faults of the initial state.
-fn walk_init(
-    alloc: Global,
-    walk: &mut Walk,
-    globals: &Globals<'_>,
-    variables: &IndexMap<Vec<u8>, TypeUnion>,
-    problem: &Problem<'_>,
-) -> Result<(), NoMemory>
-    ensures { OnOk result (Finds walk.old walk.new (init_faults (file_of globals.now.file) (known_over globals.now variables.now.entries) (problem_of problem.now).init)) }
-{
-    let scope = globals.with(variables);
-    walked_init(alloc, walk, &scope, problem)?;
+    let scope = resolver.globals.with(&resolver.variables);
+    walked_init(&mut resolver.walk, &scope, problem)?;
+    formula(resolver, &problem.goal)?;
     Ok(())
 }

@@ -24,7 +24,6 @@ use typing_names::{TypeTable, Walk};
 
 /// The declared objects.
 fn table(
-    alloc: Global,
     walk: &mut Walk,
     types: &TypeTable,
     declared: &[Declared<'_>],
@@ -33,10 +32,10 @@ fn table(
         → map parts.object_entry_of m.entries ≡ map (typing.object_in (keys_in types.now.by_name.entries)) (map declared_of declared.now)) }
     ensures finds { OnOk result (Finds walk.old walk.new (typing.refused 16 (typing.repeated (typing.words_of (map declared_of declared.now))))) }
 {
-    let mut objects = IndexMap::new(alloc);
+    let mut objects = IndexMap::new(walk.alloc);
     for one in declared {
         let of_type = types.declared_type(&mut walk.folded, one.types)?;
-        declare(alloc, walk, one.file, &mut objects, &one.name, of_type)?;
+        declare(walk, &mut objects, one.placed, of_type)?;
     }
     Ok(objects)
 }
@@ -53,7 +52,7 @@ fn all(
 {
     let mut walk = Walk::new(alloc)?;
     check_all(&mut walk, &types.by_name, declared)?;
-    let objects = table(alloc, &mut walk, types, declared)?;
+    let objects = table(&mut walk, types, declared)?;
     limit(&mut walk, declared, MAX_OBJECTS);
     walk.finish(objects)
 }
@@ -71,7 +70,7 @@ fn made(
 {
     let all = all(alloc, types, declared)?;
     let (first, _) = declared.split_at(count);
-    let constants = table(alloc, &mut Walk::new(alloc)?, types, first)?;
+    let constants = table(&mut Walk::new(alloc)?, types, first)?;
     Ok(DeclaredObjects { constants, all })
 }
 

@@ -12,11 +12,11 @@ ghost use Rattle.std.specs.List.{flat_map};
 use crate::{PairFault, TaskFile};
 use faults::{Code, NoMemory};
 use indexmap::IndexMap;
-use pddl_tree_parts::{Fact, InitialCost, InitialValue, Problem};
+use pddl_tree_parts::{Fact, InitialCost, InitialValue, Name, Problem};
 use std::alloc::Global;
 use task::{Atom, Formula, TypeUnion};
 use typing_names::formulas::formula;
-use typing_names::{Globals, Scope, Walk};
+use typing_names::{Globals, Resolver, Scope, Walk};
 
 /// The statements of `:init`: the atoms that are true, and the values of functions.
 #[derive(Drop)]
@@ -25,36 +25,35 @@ pub(crate) struct Initial {
     pub(crate) values: IndexMap<Atom, u32>,
 }
 
-/// Refuses an initial total cost that is not declared or is not 0.
-fn check_initial_cost(walk: &mut Walk, scope: &Scope<'_>, cost: &InitialCost<'_>)
-    ensures { Finds walk.old walk.new (typing.initial_cost_faults (file_of scope.now.file) (known_of scope.now) (read.initial_cost_of cost.now)) }
+/// Refuses this word unless the total cost is declared.
+fn check_declared(walk: &mut Walk, globals: &Globals<'_>, word: &Name<'_>)
+    ensures { Finds walk.old walk.new (if typing.has_cost (known_outside globals.now) then [] else typing.refused_word (file_of globals.now.file) 23 (read.name_of word.now)) }
 {
-    walk.refuse_unless(scope.has_cost(), scope.file, Code::BadCost, &cost.function);
-    walk.refuse_unless(cost.amount == 0, scope.file, Code::BadCost, &cost.number);
+    if !globals.has_cost() {
+        walk.refuse(globals.file, Code::BadCost, word);
+    }
 }
 
-/// Gives this value to a function of objects, unless it has one. Refuses a second value that differs.
-fn put_value(
-    walk: &mut Walk,
-    file: TaskFile,
-    values: &mut IndexMap<Atom, u32>,
-    function: Atom,
-    given: &InitialValue<'_>,
-) -> Result<(), NoMemory>
-    ensures value { OnOk result (map parts.value_of values.new.entries ≡ typing.with_value (map parts.value_of values.old.entries) (record { function = parts.atom_of function; value = given.now.value })) }
-    ensures finds { OnOk result (Finds walk.old walk.new
-        (if typing.differing (map parts.value_of values.old.entries) (record { function = parts.atom_of function; value = given.now.value })
-        then typing.refused_word (file_of file) 16 (read.name_of given.now.function.predicate) else [])) }
+/// Refuses an initial total cost that is not declared or is not 0.
+fn check_initial_cost(walk: &mut Walk, scope: &Scope<'_>, cost: &InitialCost<'_>)
+    ensures { Finds walk.old walk.new (typing.initial_cost_faults (file_of scope.now.globals.now.file) (known_of scope.now) (read.initial_cost_of cost.now)) }
+{
+    check_declared(walk, scope.globals, &cost.function);
+    if cost.amount != 0 {
+        walk.refuse(scope.globals.file, Code::BadCost, &cost.number);
+    }
+}
+
+/// Gives this value to a function of objects, unless it has one. Returns whether it has another.
+fn put_value(values: &mut IndexMap<Atom, u32>, function: Atom, value: u32) -> Result<bool, NoMemory>
+    ensures value { OnOk result (map parts.value_of values.new.entries ≡ typing.with_value (map parts.value_of values.old.entries) (record { function = parts.atom_of function; value = value })) }
+    ensures differs { IfOk result (λ differs. differs ≡ typing.differing (map parts.value_of values.old.entries) (record { function = parts.atom_of function; value = value })) }
 {
     match values.get(&function).copied() {
-        Some(first) => {
-            let same = first == given.value;
-            walk.refuse_unless(same, file, Code::Duplicate, &given.function.predicate);
-            Ok(())
-        }
+        Some(first) => Ok(first != value),
         None => {
-            values.insert(function, given.value)?;
-            Ok(())
+            values.insert(function, value)?;
+            Ok(false)
         }
     }
 }
@@ -69,12 +68,21 @@ fn add_value(
     ensures value { OnOk result (map parts.value_of values.new.entries
         ≡ typing.values_after (known_of scope.now) (map parts.value_of values.old.entries) (tree.initial_value (read.initial_value_of given.now) ∷ [])) }
     ensures finds { OnOk result (Finds walk.old walk.new
-        (typing.fact_faults (file_of scope.now.file) (known_of scope.now) (tree.initial_value (read.initial_value_of given.now))
-        ++ typing.value_faults (file_of scope.now.file) (known_of scope.now) (map parts.value_of values.old.entries) (tree.initial_value (read.initial_value_of given.now)))) }
+        (typing.fact_faults (file_of scope.now.globals.now.file) (known_of scope.now) (tree.initial_value (read.initial_value_of given.now))
+        ++ typing.value_faults (file_of scope.now.globals.now.file) (known_of scope.now) (map parts.value_of values.old.entries) (tree.initial_value (read.initial_value_of given.now)))) }
 {
     let functions = scope.in_function();
     match functions.named_atom(walk, &given.function)? {
-        Some(function) => put_value(walk, scope.file, values, function, given),
+        Some(function) => {
+            if put_value(values, function, given.value)? {
+                walk.refuse(
+                    scope.globals.file,
+                    Code::Duplicate,
+                    &given.function.predicate,
+                );
+            }
+            Ok(())
+        }
         None => Ok(()),
     }
 }
@@ -83,66 +91,65 @@ fn add_value(
 fn add_fact(
     walk: &mut Walk,
     scope: &Scope<'_>,
-    atoms: &mut Vec<Atom>,
-    values: &mut IndexMap<Atom, u32>,
+    initial: &mut Initial,
     fact: &Fact<'_>,
 ) -> Result<(), NoMemory>
-    ensures atoms { OnOk result (map parts.atom_of atoms.new.items ≡ map parts.atom_of atoms.old.items ++ narrow_atoms_in (known_of scope.now) (read.fact_of fact.now)) }
-    ensures values { OnOk result (map parts.value_of values.new.entries
-        ≡ typing.values_after (known_of scope.now) (map parts.value_of values.old.entries) (read.fact_of fact.now ∷ [])) }
+    ensures atoms { OnOk result (map parts.atom_of initial.new.atoms.items ≡ map parts.atom_of initial.old.atoms.items ++ narrow_atoms_in (known_of scope.now) (read.fact_of fact.now)) }
+    ensures values { OnOk result (map parts.value_of initial.new.values.entries
+        ≡ typing.values_after (known_of scope.now) (map parts.value_of initial.old.values.entries) (read.fact_of fact.now ∷ [])) }
     ensures finds { OnOk result (Finds walk.old walk.new
-        (typing.fact_faults (file_of scope.now.file) (known_of scope.now) (read.fact_of fact.now)
-        ++ typing.value_faults (file_of scope.now.file) (known_of scope.now) (map parts.value_of values.old.entries) (read.fact_of fact.now))) }
+        (typing.fact_faults (file_of scope.now.globals.now.file) (known_of scope.now) (read.fact_of fact.now)
+        ++ typing.value_faults (file_of scope.now.globals.now.file) (known_of scope.now) (map parts.value_of initial.old.values.entries) (read.fact_of fact.now))) }
 {
     match fact {
         Fact::Atom(atom) => {
-            atoms.push(scope.atom(walk, atom)?)?;
+            initial.atoms.push(scope.atom(walk, atom)?)?;
             Ok(())
         }
         Fact::Negated(word, _) => {
-            walk.refuse(scope.file, Code::NegativeInit, word);
+            walk.refuse(scope.globals.file, Code::NegativeInit, word);
             Ok(())
         }
         Fact::InitialCost(cost) => {
             check_initial_cost(walk, scope, cost);
             Ok(())
         }
-        Fact::InitialValue(value) => add_value(walk, scope, values, value),
+        Fact::InitialValue(value) => add_value(walk, scope, &mut initial.values, value),
     }
 }
 
 /// The statements of a list of facts: its atoms, possibly repeated, and its values, at most one for each function of objects.
-fn stated(
-    alloc: Global,
-    walk: &mut Walk,
-    scope: &Scope<'_>,
-    facts: &[Fact<'_>],
-) -> Result<Initial, NoMemory>
+fn stated(walk: &mut Walk, scope: &Scope<'_>, facts: &[Fact<'_>]) -> Result<Initial, NoMemory>
     ensures atoms { IfOk result (λ s. map parts.atom_of s.atoms.items ≡ flat_map (narrow_atoms_in (known_of scope.now)) (map read.fact_of facts.now)) }
     ensures values { IfOk result (λ s. map parts.value_of s.values.entries ≡ typing.values_after (known_of scope.now) [] (map read.fact_of facts.now)) }
-    ensures finds { OnOk result (Finds walk.old walk.new (typing.facts_faults (file_of scope.now.file) (known_of scope.now) [] (map read.fact_of facts.now))) }
+    ensures finds { OnOk result (Finds walk.old walk.new (typing.facts_faults (file_of scope.now.globals.now.file) (known_of scope.now) [] (map read.fact_of facts.now))) }
 {
-    let mut atoms = Vec::with_capacity(alloc, facts.len())?;
-    let mut values = IndexMap::new(alloc);
+    let atoms = Vec::with_capacity(walk.alloc, facts.len())?;
+    let values = IndexMap::new(walk.alloc);
+    let mut made = Initial { atoms, values };
     for fact in facts {
-        add_fact(walk, scope, &mut atoms, &mut values, fact)?;
+        add_fact(walk, scope, &mut made, fact)?;
     }
-    Ok(Initial { atoms, values })
+    Ok(made)
 }
 
-/// Refuses an initial total cost after the first. Returns whether the first is still to come.
-fn check_equals(walk: &mut Walk, file: TaskFile, none_yet: bool, fact: &Fact<'_>) -> bool
-    ensures { (rest : _) → found (found_by walk.new) (typing.refused 23 (drop (if result then 1 else 0) (typing.equals_in (file_of file) rest)))
-        ≡ found (found_by walk.old) (typing.refused 23 (drop (if none_yet then 1 else 0) (typing.equals_in (file_of file) (read.fact_of fact.now ∷ rest)))) }
+/// Refuses an initial total cost if no more are allowed. Returns how many more are allowed after the fact.
+fn check_equals(walk: &mut Walk, file: TaskFile, allowed: usize, fact: &Fact<'_>) -> usize
+    ensures { (rest : _) → found (found_by walk.new) (typing.refused 23 (drop result (typing.equals_in (file_of file) rest)))
+        ≡ found (found_by walk.old) (typing.refused 23 (drop allowed (typing.equals_in (file_of file) (read.fact_of fact.now ∷ rest)))) }
 {
     match fact {
         Fact::InitialCost(cost) => {
-            walk.refuse_unless(none_yet, file, Code::BadCost, &cost.equals);
-            false
+            if allowed == 0 {
+                walk.refuse(file, Code::BadCost, &cost.equals);
+                0
+            } else {
+                allowed - 1
+            }
         }
-        Fact::Atom(_) => none_yet,
-        Fact::Negated(_, _) => none_yet,
-        Fact::InitialValue(_) => none_yet,
+        Fact::Atom(_) => allowed,
+        Fact::Negated(_, _) => allowed,
+        Fact::InitialValue(_) => allowed,
     }
 }
 
@@ -150,9 +157,9 @@ fn check_equals(walk: &mut Walk, file: TaskFile, none_yet: bool, fact: &Fact<'_>
 fn check_all_equals(walk: &mut Walk, file: TaskFile, facts: &[Fact<'_>])
     ensures { Finds walk.old walk.new (typing.refused 23 (drop 1 (typing.equals_in (file_of file) (map read.fact_of facts.now)))) }
 {
-    let mut none_yet = true;
+    let mut allowed = 1;
     for fact in facts {
-        none_yet = check_equals(walk, file, none_yet, fact);
+        allowed = check_equals(walk, file, allowed, fact);
     }
 }
 
@@ -171,24 +178,23 @@ pub(crate) fn init(
 {
     let mut walk = Walk::new(alloc)?;
     let scope = globals.with(variables);
-    let init = walked_init(alloc, &mut walk, &scope, problem)?;
+    let init = walked_init(&mut walk, &scope, problem)?;
     walk.finish(init)
 }
 
 /// The same. Faults are recorded in the walk.
 pub(crate) fn walked_init(
-    alloc: Global,
     walk: &mut Walk,
     scope: &Scope<'_>,
     problem: &Problem<'_>,
 ) -> Result<Initial, NoMemory>
     ensures atoms { IfOk result (λ s. map parts.atom_of s.atoms.items ≡ flat_map (narrow_atoms_in (known_of scope.now)) (read.problem_of problem.now).init) }
     ensures values { IfOk result (λ s. map parts.value_of s.values.entries ≡ typing.values_after (known_of scope.now) [] (read.problem_of problem.now).init) }
-    ensures finds { OnOk result (Finds walk.old walk.new (typing.init_faults (file_of scope.now.file) (known_of scope.now) (read.problem_of problem.now).init)) }
+    ensures finds { OnOk result (Finds walk.old walk.new (typing.init_faults (file_of scope.now.globals.now.file) (known_of scope.now) (read.problem_of problem.now).init)) }
 {
     let facts = problem.init.as_slice();
-    let init = stated(alloc, walk, scope, facts)?;
-    check_all_equals(walk, scope.file, facts);
+    let init = stated(walk, scope, facts)?;
+    check_all_equals(walk, scope.globals.file, facts);
     Ok(init)
 }
 
@@ -203,8 +209,8 @@ pub(crate) fn goal(
         × (parts.formula_of f ≡ typing.formula_in (file_of globals.now.file) (known_outside globals.now) (read.problem_of problem.now).goal)) }
     ensures err { IfErr result (ReportsAll (typing.formula_faults (file_of globals.now.file) (known_outside globals.now) (read.problem_of problem.now).goal)) }
 {
-    let mut walk = Walk::new(alloc)?;
-    let mut variables = IndexMap::new(alloc);
-    let goal = formula(alloc, &mut walk, globals, &mut variables, &problem.goal)?;
-    walk.finish(goal)
+    let walk = Walk::new(alloc)?;
+    let mut resolver = Resolver::new(walk, globals);
+    let goal = formula(&mut resolver, &problem.goal)?;
+    resolver.finish(goal)
 }

@@ -1,5 +1,7 @@
 use Rattle.std.proofs.Common.{◌≡◌, ◌∙◌, map, ap}
 use Rattle.task.specs.TaskParts as parts
+use Rattle.pddl_tree_parts.specs.Tree.{file_of}
+use Rattle.typing_names.specs.declared.scope.Globals.{Globals}
 use Rattle.typing_names.specs.Scope.{known_outside}
 use Rattle.typing_names.specs.Walk.{found, found_by, nothing}
 use Rattle.typing_names.proofs.Reports as printing
@@ -12,8 +14,13 @@ returns c =
     let known = known_outside c.args.globals.now in
     let actions = (read.domain_of c.args.domain.now).actions in
     let faults = typing.action_faults known actions in
-    let total : found_by c.walked_actions.new.walk ≡ found nothing faults = c.in_ok-schemas.ensures.finds ∙ ap (λ o. found o faults) c.in_ok-walk.ensures in
+    let is : known_outside c.new-resolver.result.globals.now ≡ known = ap known_outside c.new-resolver.ensures.globals in
+    let total : found_by c.walked_actions.new.resolver.walk ≡ found nothing faults =
+    c.in_ok-schemas.ensures.finds ∙ (λ i. found ((c.new-resolver.ensures.found ∙ c.in_ok-walk.ensures) i) (typing.action_faults (is i) actions)) in
     record {
-      ok = printing.given (λ m. map parts.schema_of m.entries ≡ map (typing.schema_in known) actions) c.in_ok-schemas.schemas faults _ total c.in_ok-schemas.ensures.table c.finish.result c.finish.ensures.none;
+      ok = printing.given (λ m. map parts.schema_of m.entries ≡ map (typing.schema_in known) actions) c.in_ok-schemas.schemas faults _ total (λ none. c.in_ok-schemas.ensures.table (ap (λ k. typing.action_faults k actions) is ∙ none) ∙ ap (λ k. map (typing.schema_in k) actions) is) c.finish.result c.finish.ensures.none;
       err = printing.reports_result faults _ total c.finish.result c.finish.ensures.some;
     }
+
+pub walked_actions-requires : goal.walked_actions-requires
+walked_actions-requires c = record { file = ap (λ (g : Globals). file_of g.file) c.new-resolver.ensures.globals ∙ c.requires; outside = c.new-resolver.ensures.outside }

@@ -10,10 +10,12 @@ use Rattle.typing.proofs.actions.table.Given as goal
 
 abbrev pub invariant-loop-action : goal.invariant-loop-action
 invariant-loop-action l = record {
-  finds : found (found_by l.walk) (flat_map (λ a. typing.schema_faults (known_outside l.globals) (read.action_of a)) (drop l.action-index l.actions))
-      ≡ found (found_by l.initial.walk) (flat_map (λ a. typing.schema_faults (known_outside l.globals) (read.action_of a)) l.actions);
+  globals : l.resolver.globals ≡ l.initial.resolver.globals;
+  outside : l.resolver.variables.entries ≡ [];
+  finds : found (found_by l.resolver.walk) (flat_map (λ a. typing.schema_faults (known_outside l.initial.resolver.globals.now) (read.action_of a)) (drop l.action-index l.actions))
+      ≡ found (found_by l.initial.resolver.walk) (flat_map (λ a. typing.schema_faults (known_outside l.initial.resolver.globals.now) (read.action_of a)) l.actions);
   table : typing.repeated_after [] (map (λ a. typing.placed domain_file (read.name_of a.name)) l.actions) ≡ []
       → (typing.repeated_after (keys_in l.schemas.entries) (map (λ a. typing.placed domain_file (read.name_of a.name)) (drop l.action-index l.actions)) ≡ [])
-      × (map parts.schema_of l.schemas.entries ++ map (λ a. typing.schema_in (known_outside l.globals) (read.action_of a)) (drop l.action-index l.actions)
-      ≡ map (λ a. typing.schema_in (known_outside l.globals) (read.action_of a)) l.actions);
+      × (map parts.schema_of l.schemas.entries ++ map (λ a. typing.schema_in (known_outside l.initial.resolver.globals.now) (read.action_of a)) (drop l.action-index l.actions)
+      ≡ map (λ a. typing.schema_in (known_outside l.initial.resolver.globals.now) (read.action_of a)) l.actions);
 }

@@ -30,17 +30,17 @@ same_faults known xs ys is =
 
 pub returns-clause-finds : goal.returns-clause-finds
 returns-clause-finds c =
-    let known = known_outside c.args.globals.now in
+    let known = known_outside c.args.resolver.now.globals.now in
     let xs = c.as_slice-actions.result.now in
     let inner = flat_map (λ (a : Action). typing.schema_faults known (read.action_of a)) xs in
     on_ok_weaker c.table.result
-    (λ finds. finding.found_after (found_by c.args.walk.now) (found_by c.declare_actions.new.walk) (found_by c.table.new.walk) (twice xs) inner c.in_ok-declare_actions.ensures finds
-    ∙ ap (found (found_by c.args.walk.now)) (same_faults known xs c.args.domain.now.actions.items c.as_slice-actions.ensures.value))
+    (λ finds. finding.found_after (found_by c.args.resolver.now.walk) (found_by c.declare_actions.new.walk) (found_by c.table.new.resolver.walk) (twice xs) inner c.in_ok-declare_actions.ensures finds
+    ∙ ap (found (found_by c.args.resolver.now.walk)) (same_faults known xs c.args.domain.now.actions.items c.as_slice-actions.ensures.value))
     c.table.ensures.finds
 
 pub returns-clause-table : goal.returns-clause-table
 returns-clause-table c =
-    let known = known_outside c.args.globals.now in
+    let known = known_outside c.args.resolver.now.globals.now in
     let xs = c.as_slice-actions.result.now in
     let ys = c.args.domain.now.actions.items in
     let inner = flat_map (λ (a : Action). typing.schema_faults known (read.action_of a)) xs in

@@ -1,8 +1,7 @@
 use Rattle.std.proofs.Common.{◌≡◌, map, take, drop}
 use Rattle.std.specs.List.{flat_map}
 use Rattle.task.specs.TaskParts as parts
-use Rattle.typing_names.specs.Scope.{known_over}
-use Rattle.typing.specs.Task.{file_of}
+use Rattle.typing_names.specs.Resolver.{file_in, known_to}
 use Rattle.typing_names.specs.Walk.{found, found_by}
 use Rattle.pddl_tree_parts.specs.Tree as read
 use Rattle.model.specs.Typing as typing
@@ -11,8 +10,9 @@ use Rattle.typing.proofs.effects.+effects.Given as goal
 abbrev pub invariant-several-loop-part : goal.invariant-several-loop-part
 invariant-several-loop-part l = record {
   resolved : map parts.effect_of l.resolved.items
-      ≡ map (λ x. typing.effect_in (file_of l.globals.file) (known_over l.globals l.initial.variables.entries) (read.effect_of x)) (take l.part-index l.given);
-  finds : found (found_by l.walk) (flat_map (λ x. typing.effect_faults (file_of l.globals.file) (known_over l.globals l.initial.variables.entries) (read.effect_of x)) (drop l.part-index l.given))
-      ≡ found (found_by l.initial.walk) (flat_map (λ x. typing.effect_faults (file_of l.globals.file) (known_over l.globals l.initial.variables.entries) (read.effect_of x)) l.given);
-  variables : l.variables.entries ≡ l.initial.variables.entries;
+      ≡ map (λ x. typing.effect_in (file_in l.initial.resolver) (known_to l.initial.resolver) (read.effect_of x)) (take l.part-index l.given);
+  finds : found (found_by l.resolver.walk) (flat_map (λ x. typing.effect_faults (file_in l.initial.resolver) (known_to l.initial.resolver) (read.effect_of x)) (drop l.part-index l.given))
+      ≡ found (found_by l.initial.resolver.walk) (flat_map (λ x. typing.effect_faults (file_in l.initial.resolver) (known_to l.initial.resolver) (read.effect_of x)) l.given);
+  globals : l.resolver.globals ≡ l.initial.resolver.globals;
+  variables : l.resolver.variables.entries ≡ l.initial.resolver.variables.entries;
 }

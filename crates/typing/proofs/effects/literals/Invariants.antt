@@ -1,7 +1,7 @@
 use Rattle.std.proofs.Common.{◌≡◌, map, take, drop}
 use Rattle.std.specs.List.{flat_map}
 use Rattle.task.specs.TaskParts as parts
-use Rattle.typing_names.specs.Scope.{known_over}
+use Rattle.typing_names.specs.Scope.{known_of}
 use Rattle.typing.specs.Task.{file_of}
 use Rattle.typing_names.specs.Walk.{found, found_by}
 use Rattle.pddl_tree_parts.specs.Tree as read
@@ -11,7 +11,7 @@ use Rattle.typing.proofs.effects.literals.Given as goal
 abbrev pub invariant-loop-one : goal.invariant-loop-one
 invariant-loop-one l = record {
   resolved : map parts.effect_literal_of l.resolved.items
-      ≡ map (λ x. typing.effect_literal_in (known_over l.globals l.variables.entries) (read.effect_literal_of x)) (take l.one-index l.given);
-  finds : found (found_by l.walk) (flat_map (λ x. typing.effect_literal_faults (file_of l.globals.file) (known_over l.globals l.variables.entries) (read.effect_literal_of x)) (drop l.one-index l.given))
-      ≡ found (found_by l.initial.walk) (flat_map (λ x. typing.effect_literal_faults (file_of l.globals.file) (known_over l.globals l.variables.entries) (read.effect_literal_of x)) l.given);
+      ≡ map (λ x. typing.effect_literal_in (known_of l.scope) (read.effect_literal_of x)) (take l.one-index l.given);
+  finds : found (found_by l.walk) (flat_map (λ x. typing.effect_literal_faults (file_of l.scope.globals.now.file) (known_of l.scope) (read.effect_literal_of x)) (drop l.one-index l.given))
+      ≡ found (found_by l.initial.walk) (flat_map (λ x. typing.effect_literal_faults (file_of l.scope.globals.now.file) (known_of l.scope) (read.effect_literal_of x)) l.given);
 }

@@ -1,5 +1,5 @@
 use Rattle.std.proofs.Common.{◌≡◌, ◌∙◌, ap, sym, subst}
-use Rattle.typing_names.specs.Scope.{known_over}
+use Rattle.typing_names.specs.Scope.{known_of}
 use Rattle.task.specs.TaskParts as parts
 use Rattle.pddl_tree_parts.specs.Tree as read
 use Rattle.model.specs.Task as task
@@ -8,7 +8,7 @@ use Rattle.typing.proofs.functions.amount.Goals as goal
 
 pub returns-in_ok-lifted_atom-in-Function-clause-value : goal.returns-in_ok-lifted_atom-in-Function-clause-value
 returns-in_ok-lifted_atom-in-Function-clause-value c =
-    let known = known_over c.args.globals.now c.args.variables.now.entries in
+    let known = known_of c.args.scope.now in
     subst (λ a. task.by_function (parts.lifted_atom_of c.in_ok-lifted_atom-in-Function.field-0) ≡ typing.increase_in known (read.amount_of a)) (sym c.in-Function.is)
     (ap task.by_function (c.in_ok-lifted_atom-in-Function.ensures.value
-    ∙ ap (λ k. typing.lifted_atom_in k (read.atom_of c.in-Function.function)) (c.in_function-functions.ensures.known ∙ ap typing.in_function c.with-scope.ensures.known)))
+    ∙ ap (λ k. typing.lifted_atom_in k (read.atom_of c.in-Function.function)) c.in_function-functions.ensures.known))

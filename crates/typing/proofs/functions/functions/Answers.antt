@@ -17,12 +17,12 @@ use Rattle.typing.proofs.functions.functions.Goals as goal
 pub returns : goal.returns
 returns c =
     let d = read.domain_of c.args.domain.now in let p = read.problem_of c.args.problem.now in
-    let functions = c.in_ok-functions.functions in let has = c.declares_cost-has_cost.result in
+    let functions = c.in_ok-functions.functions in let has = list_any (typing.is_same typing.total_cost) (typing.names_of_predicates (map parts.predicate_of functions.entries)) in
     -- the declarations, with the names of the types
     let declared : typing.declaration_faults _ (map read.predicate_of c.deref.result.now) ≡ typing.declaration_faults (typing.type_names d) d.functions =
     λ i. typing.declaration_faults (c.requires i) (map read.predicate_of (c.deref.ensures.value i)) in
     let is : has ≡ typing.declares_cost d =
-    c.declares_cost-has_cost.ensures ∙ ap (list_any (typing.is_same typing.total_cost)) c.in_ok-functions.ensures.names
+    ap (list_any (typing.is_same typing.total_cost)) c.in_ok-functions.ensures.names
     ∙ ap (λ zs. list_any (typing.is_same typing.total_cost) (fold typing.with_name [] (map (λ (q : tree.Predicate). q.name) (map read.predicate_of zs)))) c.deref.ensures.value
     ∙ cost_declared (typing.type_names d) d.functions in
     let metric = metric_reported has c.as_ref.result c.args.problem.now.metric c.as_ref.ensures.value ∙ ap (λ b. metric_faults b p.metric) is in

@@ -2,7 +2,7 @@ use Rattle.std.proofs.Common.{◌≡◌, ◌∙◌, List, drop, if◌then◌else
 use Rattle.std.specs.List.{flat_map}
 use Rattle.std.proofs.lemmas.List.Folds.{flat_map-map}
 use Rattle.typing.specs.Task.{file_of}
-use Rattle.typing_names.specs.Scope.{known_over}
+use Rattle.typing_names.specs.Scope.{known_of}
 use Rattle.typing_names.specs.Walk.{found, found_by}
 use Rattle.pddl_tree_parts.specs.declared.tree.Increase.{Increase}
 use Rattle.pddl_tree_parts.specs.Tree as read
@@ -15,12 +15,11 @@ use Rattle.typing.proofs.functions.increase.Goals as goal
 pub returns-clause-finds : goal.returns-clause-finds
 returns-clause-finds c =
     let a = read.action_of c.args.action.now in
-    let file = file_of c.args.globals.now.file in let known = known_over c.args.globals.now c.args.variables.now.entries in
+    let file = file_of c.args.scope.now.globals.now.file in let known = known_of c.args.scope.now in
     let before = found_by c.args.walk.now in let middle = found_by c.check_increases.new.walk in
     let amounts = λ (i : tree.Increase). typing.amount_faults file known i.amount in
     let first : middle ≡ found before (typing.increase_faults file known a) =
-    c.check_increases.ensures
-    ∙ ap (λ b. found before (typing.refused 23 (drop (if b then 1 else 0) (typing.increase_words file a)))) (c.has_cost.ensures ∙ ap typing.has_cost c.with-scope.ensures.known) in
+    c.check_increases.ensures in
     on_ok_weaker c.first_amount.result
     (λ finds. found_after before middle _ (typing.increase_faults file known a) (flat_map amounts a.increases) first
     (finds ∙ ap (λ (xs : List Increase). found middle (flat_map (λ (i : Increase). amounts (read.increase_of i)) xs)) c.deref.ensures.value

@@ -1,4 +1,4 @@
-use Rattle.std.proofs.Common.{◌≡◌, map, drop, if◌then◌else◌}
+use Rattle.std.proofs.Common.{◌≡◌, map, drop}
 use Rattle.typing.specs.Task.{file_of}
 use Rattle.typing_names.specs.Walk.{found, found_by}
 use Rattle.pddl_tree_parts.specs.Tree as read
@@ -7,5 +7,5 @@ use Rattle.typing.proofs.statements.check_all_equals.Given as goal
 
 abbrev pub invariant-loop-fact : goal.invariant-loop-fact
 invariant-loop-fact l =
-    found (found_by l.walk) (typing.refused 23 (drop (if l.none_yet then 1 else 0) (typing.equals_in (file_of l.file) (map read.fact_of (drop l.fact-index l.facts)))))
+    found (found_by l.walk) (typing.refused 23 (drop l.allowed (typing.equals_in (file_of l.file) (map read.fact_of (drop l.fact-index l.facts)))))
     ≡ found (found_by l.initial.walk) (typing.refused 23 (drop 1 (typing.equals_in (file_of l.file) (map read.fact_of l.facts))))

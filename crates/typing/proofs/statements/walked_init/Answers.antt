@@ -11,7 +11,7 @@ use Rattle.typing.proofs.statements.walked_init.Goals as goal
 pub returns : goal.returns
 returns c =
     let known = known_of c.args.scope.now in
-    let file = file_of c.args.scope.now.file in
+    let file = file_of c.args.scope.now.globals.now.file in
     let ys = map read.fact_of c.args.problem.now.init.items in
     let facts = c.as_slice-facts.ensures.value in
     let own = typing.facts_faults file known [] ys in

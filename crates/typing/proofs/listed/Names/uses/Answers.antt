@@ -1,6 +1,8 @@
 use Rattle.std.proofs.Common.{◌≡◌, ◌∙◌, [], ◌++◌, map, ap}
-use Rattle.pddl_tree_parts.specs.Tree.{domain_of, problem_of}
-use Rattle.typing_names.specs.Scope.{known_outside}
+use Rattle.pddl_tree_parts.specs.Tree.{domain_of, file_of, problem_of}
+use Rattle.typing_names.specs.declared.scope.Globals.{Globals}
+use Rattle.typing_names.specs.Resolver.{file_in, known_to}
+use Rattle.typing_names.specs.Scope.{known_outside, known_over}
 use Rattle.typing_names.specs.Walk.{found, found_by, nothing}
 use Rattle.typing_names.proofs.Found.{found_after}
 use Rattle.typing_names.proofs.Reports as printing
@@ -16,15 +18,25 @@ returns c =
     λ i. record { type_names = r.types.names i; types = r.types.all i; predicates = r.predicates i; functions = r.functions i; variables = []; objects = r.objects.constants i } in
     let problem : known_in_names names names.objects.now.all.entries ≡ known_in_problem d p =
     λ i. record { type_names = r.types.names i; types = r.types.all i; predicates = r.predicates i; functions = r.functions i; variables = []; objects = r.objects.all i } in
-    let in_domain : known_outside c.in_domain.result ≡ known_in_domain d = c.in_domain.ensures ∙ domain in
-    let in_problem : known_outside c.in_problem.result ≡ known_in_problem d p = c.in_problem.ensures.known ∙ problem in
-    let total : found_by c.walk_statements.new.walk ≡ found nothing (use_faults d p) =
-    found_after nothing (found_by c.walked_actions.new.walk) (found_by c.walk_statements.new.walk) (action_faults (known_in_domain d) d.actions)
+    let in_domain : known_outside c.new-resolver.result.globals.now ≡ known_in_domain d = ap known_outside c.new-resolver.ensures.globals ∙ c.in_domain-in_domain.ensures.known ∙ domain in
+    let in_file : file_in c.new-resolver-2.result ≡ problem_file = ap (λ (g : Globals). file_of g.file) c.new-resolver-2.ensures.globals ∙ c.in_problem-in_problem.ensures.file in
+    let in_problem : known_to c.new-resolver-2.result ≡ known_in_problem d p =
+    (λ i. known_over (c.new-resolver-2.ensures.globals i) (c.new-resolver-2.ensures.outside i)) ∙ c.in_problem-in_problem.ensures.known ∙ problem in
+    let actions = action_faults (known_in_domain d) d.actions in
+    let start = c.new-resolver.ensures.found ∙ c.in_ok-walk.ensures in
+    let next = c.new-resolver-2.ensures.found ∙ c.into_walk.ensures in
+    let total : found_by c.walk_statements.new.resolver.walk ≡ found nothing (use_faults d p) =
+    found_after nothing (found_by c.walked_actions.new.resolver.walk) (found_by c.walk_statements.new.resolver.walk) actions
     (init_faults problem_file (known_in_problem d p) p.init ++ formula_faults problem_file (known_in_problem d p) p.goal)
-    (c.in_ok-walked_actions.ensures.finds ∙ (λ i. found (c.in_ok-walk.ensures i) (action_faults (in_domain i) d.actions)))
-    (c.in_ok-walk_statements.ensures
-    ∙ (λ i. found (found_by c.walked_actions.new.walk) (init_faults (c.in_problem.ensures.file i) (in_problem i) p.init ++ formula_faults (c.in_problem.ensures.file i) (in_problem i) p.goal))) in
+    (c.in_ok-walked_actions.ensures.finds ∙ (λ i. found (start i) (action_faults (in_domain i) d.actions)))
+    (c.in_ok-walk_statements.ensures ∙ (λ i. found (next i) (init_faults (in_file i) (in_problem i) p.init ++ formula_faults (in_file i) (in_problem i) p.goal))) in
     record {
       none = printing.none_result tt (use_faults d p) _ total c.finish.result c.finish.ensures.none;
       reported = printing.reports_result (use_faults d p) _ total c.finish.result c.finish.ensures.some;
     }
+
+pub walked_actions-requires : goal.walked_actions-requires
+walked_actions-requires c = record {
+  file = ap (λ (g : Globals). file_of g.file) c.new-resolver.ensures.globals ∙ c.in_domain-in_domain.ensures.file;
+  outside = c.new-resolver.ensures.outside;
+}
