@@ -1,4 +1,3 @@
-pub mod Beginnings
 pub mod Candidates
 pub mod WantedWords
 pub mod WrongLemmas

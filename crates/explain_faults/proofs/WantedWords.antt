@@ -13,8 +13,7 @@ use Rattle.explain_hints.specs.declared.texts.NamedTexts.{NamedTexts}
 use Rattle.explain_hints.specs.ReportedBytes.{reported_in}
 use Rattle.explain_hints.specs.declared.refusal.FileRefusal.{FileRefusal}
 use Rattle.explain_faults.specs.Explained.{AreWhole}
-use Rattle.explain_faults.specs.Expected.{AreTold, AreToldIn, HaveBytes, MayFollow, MayOccur, words_before}
-use Rattle.explain_faults.proofs.Candidates.{before_have, read_have}
+use Rattle.explain_faults.specs.Expected.{AreTold, AreToldIn, MayFollow, MayOccur, words_before}
 
 module _ (file : TaskFile) (text : List ℕ) (offset : ℕ) (words items before : List Word) (reads : ReadsAs text (map word_of words)) (same : items ≡ words) (are : before ≡ words_before offset items) where
   occur : before ≡ words_before offset words
@@ -24,11 +23,9 @@ module _ (file : TaskFile) (text : List ℕ) (offset : ℕ) (words items before 
   may_occur (Ok found) follow = inr (record { words = words; reads = reads; follow = subst (λ b. All (MayFollow file b) found.items) occur follow })
   may_occur (Err e) follow = tt
 
-  pub are_told : {E : Type 0} (reported : List ℕ) (r : Result (Vec Word) E) → (HaveBytes before → IfOk r (λ told. AreTold file before reported told.items))
+  pub are_told : {E : Type 0} (reported : List ℕ) (r : Result (Vec Word) E) → IfOk r (λ told. AreTold file before reported told.items)
       → IfOk r (λ wanted. AreToldIn file text offset reported wanted.items)
-  are_told reported (Ok found) told =
-      let have : HaveBytes before = subst HaveBytes (sym occur) (before_have offset words (read_have text words reads)) in
-      record { words = words; reads = reads; are_told = subst (λ b. AreTold file b reported found.items) occur (told have) }
+  are_told reported (Ok found) told = record { words = words; reads = reads; are_told = subst (λ b. AreTold file b reported found.items) occur told }
   are_told reported (Err e) told = tt
 
 -- what is reported at a place of a text is reported for its file

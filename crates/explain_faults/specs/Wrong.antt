@@ -1,5 +1,5 @@
 -- Where a text with unbalanced parentheses goes wrong as a file.
-use Rattle.std.specs.Prelude.{◌≡◌, ℕ, List, ◌++◌, ◌<◌, ◌≤◌, length, map, take}
+use Rattle.std.specs.Prelude.{ℕ, List, ◌++◌, ◌<◌, ◌≤◌, length, map, take}
 use Rattle.faults.specs.declared.refused.TextRefusal.{TextRefusal}
 use Rattle.tokens.specs.Reported.{refusal_of}
 use Rattle.tokens.specs.Word.{word_of}

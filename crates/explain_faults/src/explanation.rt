@@ -2,7 +2,7 @@
 ghost use Rattle.std.specs.Prelude.{IfOk, IsTrue};
 ghost use Rattle.explain_faults.specs.Explained.{AreWanted, AreWhole, IsExplained, IsOfWords};
 
-use crate::wanted::words_at;
+use crate::wanted::{RefusedBytes, words_at};
 use crate::wrong::{WrongPlace, wrong_place};
 use explain_hints::{
     File, FileRefusal, Help, Hint, LineColumn, NamedTexts, help_with, hint_of, place_of,
@@ -71,10 +71,13 @@ fn wanted_words<'a>(
         return Ok(Vec::new(alloc));
     }
     let (domain, problem) = (texts.domain.text, texts.problem.text);
-    let (at, reported) = (fault.span.start, reported_bytes(texts, fault));
+    let refused = RefusedBytes {
+        offset: fault.span.start,
+        bytes: reported_bytes(texts, fault),
+    };
     match fault.file {
-        File::Domain => words_at(alloc, TaskFile::Domain, domain, at, reported),
-        File::Problem => words_at(alloc, TaskFile::Problem, problem, at, reported),
+        File::Domain => words_at(alloc, TaskFile::Domain, domain, refused),
+        File::Problem => words_at(alloc, TaskFile::Problem, problem, refused),
         File::Plan => Ok(Vec::new(alloc)),
     }
 }

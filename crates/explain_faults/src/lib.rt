@@ -1,7 +1,6 @@
 //! Explains a fault of a text: its place, the line with marks, and a sentence of help.
 #![tactic(auto)]
 
-mod expected;
 mod explanation;
 mod sentences;
 mod shown;

@@ -2,17 +2,26 @@
 ghost use Rattle.std.specs.Prelude.{◌≡◌, All, IfOk, position};
 ghost use Rattle.model.specs.Words.{Reads};
 ghost use Rattle.pddl_tree_parts.specs.Tree.{file_of};
-ghost use Rattle.explain_faults.specs.Expected.{AreSome, AreTold, AreToldIn, HaveBytes, MayFollow, MayOccur, begins_from, words_before};
+ghost use Rattle.explain_faults.specs.Expected.{AreSome, AreTold, AreToldIn, MayFollow, MayOccur, begins_from, words_before};
 
-use crate::expected::expected;
 use explain_hints::is_near;
+use explain_words::expected;
 use faults::{NoMemory, Refused};
 use pddl_tree::TaskFile;
 use std::alloc::Global;
 use tokens::{Word, scan};
 
-/// The words that may occur at an offset of a file's text in place of the reported ones: for a keyword only the similar ones, if
-/// there are any. None if the text does not read as words.
+/// What is refused in a text.
+#[derive(Clone, Copy)]
+pub(crate) struct RefusedBytes<'t> {
+    /// Where it begins.
+    pub(crate) offset: usize,
+    /// Its bytes.
+    pub(crate) bytes: &'t [u8],
+}
+
+/// The words that may occur in a file's text in place of the refused ones: for a keyword only the similar ones, if there are any.
+/// None if the text does not read as words.
 ///
 /// # Errors
 /// An allocation failed.
@@ -20,18 +29,22 @@ pub(crate) fn words_at<'a>(
     alloc: Global,
     file: TaskFile,
     text: &'a [u8],
-    offset: usize,
-    reported: &[u8],
+    refused: RefusedBytes<'_>,
 ) -> Result<Vec<Word<'a>>, NoMemory>
-    ensures occur { IfOk result (λ wanted. MayOccur (file_of file) text.now offset wanted.items) }
-    ensures told { Reads text.now → IfOk result (λ wanted. AreToldIn (file_of file) text.now offset reported.now wanted.items) }
+    ensures occur { IfOk result (λ wanted. MayOccur (file_of file) text.now refused.entry.offset wanted.items) }
+    ensures told { Reads text.now → IfOk result (λ wanted. AreToldIn (file_of file) text.now refused.entry.offset refused.entry.bytes.now wanted.items) }
 {
     let words = match scan(alloc, text) {
         Ok(words) => words,
         Err(Refused::At(_)) => return Ok(Vec::new(alloc)),
         Err(Refused::NoMemory) => return Err(NoMemory),
     };
-    words_after(alloc, file, words_before(&words, offset), reported)
+    words_after(
+        alloc,
+        file,
+        words_before(&words, refused.offset),
+        refused.bytes,
+    )
 }
 
 /// The words that may occur after these in place of the reported bytes.
@@ -42,7 +55,7 @@ fn words_after<'a>(
     reported: &[u8],
 ) -> Result<Vec<Word<'a>>, NoMemory>
     ensures follow { IfOk result (λ told. All (MayFollow (file_of file) before.now) told.items) }
-    ensures told { HaveBytes before.now → IfOk result (λ told. AreTold (file_of file) before.now reported.now told.items) }
+    ensures told { IfOk result (λ told. AreTold (file_of file) before.now reported.now told.items) }
 {
     let all = expected(alloc, file, before)?;
     if !reported.starts_with(b":") {

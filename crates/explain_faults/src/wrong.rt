@@ -72,7 +72,8 @@ fn in_text(
     ensures { IfOk result (λ found. IfSome found (λ place. GoesWrong (file_of file) text.now place.refusal)) }
 {
     let pieces = pieces(alloc, text)?;
-    let found = first_wrong(alloc, file, text, fault, open_lists(&pieces))?;
+    let cut = cut_at(text, fault, open_lists(&pieces));
+    let found = wrong_in(alloc, file, text, cut)?;
     match found {
         Some(refusal) => Ok(Some(placed(&pieces, refusal, fault))),
         None => Ok(None),
@@ -92,40 +93,44 @@ fn open_lists(pieces: &[Piece<'_>]) -> usize {
     count
 }
 
-/// The first unexpected word of a text: of the part before the fault, or of the whole text with its open lists closed if that is
-/// the fault.
-fn first_wrong(
-    alloc: Global,
-    file: TaskFile,
-    text: &[u8],
-    fault: Span,
-    lists: usize,
-) -> Result<Option<TextRefusal>, NoMemory>
-    ensures { IfOk result (λ found. IfSome found (GoesWrong (file_of file) text.now)) }
+/// A beginning of a text, and an ending for it.
+#[derive(Clone, Copy)]
+struct Cut {
+    /// The length of the beginning.
+    kept: usize,
+    /// The ending.
+    ending: &'static [u8],
+}
+
+/// What is read of a text: the part before the fault, or the whole text with its open lists closed if that is the fault.
+fn cut_at(text: &[u8], fault: Span, lists: usize) -> Cut
+    ensures { result.kept ≤ length text.now }
 {
     if fault.start < fault.end {
         let kept = fault.start.min(text.len());
-        wrong_in(alloc, file, text, kept, b"")
+        Cut { kept, ending: b"" }
     } else {
-        let closing = CLOSING.get(..lists.saturating_add(1)).unwrap_or(CLOSING);
-        wrong_in(alloc, file, text, text.len(), closing)
+        let ending = CLOSING.get(..lists.saturating_add(1)).unwrap_or(CLOSING);
+        Cut {
+            kept: text.len(),
+            ending,
+        }
     }
 }
 
-/// The first unexpected word of a text that is cut at this length and continued by this ending.
+/// The first unexpected word of a text that is cut like this.
 fn wrong_in(
     alloc: Global,
     file: TaskFile,
     text: &[u8],
-    kept: usize,
-    ending: &[u8],
+    cut: Cut,
 ) -> Result<Option<TextRefusal>, NoMemory>
-    requires { kept ≤ length text.now }
+    requires { cut.kept ≤ length text.now }
     ensures { IfOk result (λ found. IfSome found (GoesWrong (file_of file) text.now)) }
 {
-    let whole = joined(alloc, &text[..kept], ending)?;
+    let whole = joined(alloc, &text[..cut.kept], cut.ending)?;
     let found = refused_in(alloc, file, &whole)?;
-    Ok(if_within(found, kept))
+    Ok(if_within(found, cut.kept))
 }
 
 /// The refusal, if its span is non-empty and ends by `kept`.

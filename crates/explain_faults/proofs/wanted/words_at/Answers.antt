@@ -5,9 +5,9 @@ use Rattle.explain_faults.proofs.wanted.words_at.Goals as goal
 pub returns : goal.returns
 returns c = record {
   occur =
-      may_occur (file_of c.args.file) c.args.text.now c.args.offset c.in-Ok.words.items c.deref.result.now c.words_before.result.now
+      may_occur (file_of c.args.file) c.args.text.now c.args.refused.offset c.in-Ok.words.items c.deref.result.now c.words_before.result.now
       c.in-Ok.ensures.words c.deref.ensures.value c.words_before.ensures c.words_after.result c.words_after.ensures.follow;
   told =
-      λ reads. are_told (file_of c.args.file) c.args.text.now c.args.offset c.in-Ok.words.items c.deref.result.now c.words_before.result.now
-      c.in-Ok.ensures.words c.deref.ensures.value c.words_before.ensures c.args.reported.now c.words_after.result c.words_after.ensures.told;
+      λ reads. are_told (file_of c.args.file) c.args.text.now c.args.refused.offset c.in-Ok.words.items c.deref.result.now c.words_before.result.now
+      c.in-Ok.ensures.words c.deref.ensures.value c.words_before.ensures c.args.refused.bytes.now c.words_after.result c.words_after.ensures.told;
 }

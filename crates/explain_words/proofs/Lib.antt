@@ -1,0 +1,5 @@
+pub mod Automaton
+pub mod Left
+pub mod Levels
+pub mod Stacked
+pub mod Told
