@@ -116,8 +116,12 @@ fn add_solve<'a>(alloc: Global, commands: &mut Vec<Command<'a>>) -> Result<(), A
         json(alloc),
         progress(alloc, "Say on the standard error how far the search is"),
     ]?;
-    let about = "Find a cheapest plan, or show that there is none";
-    add_command(alloc, commands, "solve", about, SOLVE_HELP, arguments)
+    let texts = CommandTexts {
+        name: "solve",
+        about: "Find a cheapest plan, or show that there is none",
+        help: SOLVE_HELP,
+    };
+    add_command(alloc, texts, arguments, commands)
 }
 
 /// Adds the command `validate`.
@@ -130,8 +134,12 @@ fn add_validate<'a>(alloc: Global, commands: &mut Vec<Command<'a>>) -> Result<()
         file(alloc, "PLAN", "The plan file"),
         json(alloc),
     ]?;
-    let about = "Test whether a plan solves a task";
-    add_command(alloc, commands, "validate", about, VALIDATE_HELP, arguments)
+    let texts = CommandTexts {
+        name: "validate",
+        about: "Test whether a plan solves a task",
+        help: VALIDATE_HELP,
+    };
+    add_command(alloc, texts, arguments, commands)
 }
 
 /// Adds the command `check`.
@@ -155,8 +163,12 @@ fn add_check<'a>(alloc: Global, commands: &mut Vec<Command<'a>>) -> Result<(), A
             "Say on the standard error how much of the certificate is read"
         ),
     ]?;
-    let about = "Check a certificate, and say what it shows";
-    add_command(alloc, commands, "check", about, CHECK_HELP, arguments)
+    let texts = CommandTexts {
+        name: "check",
+        about: "Check a certificate, and say what it shows",
+        help: CHECK_HELP,
+    };
+    add_command(alloc, texts, arguments, commands)
 }
 
 /// Adds the command `explain`.
@@ -174,25 +186,37 @@ fn add_explain<'a>(alloc: Global, commands: &mut Vec<Command<'a>>) -> Result<(),
         limit(alloc, "instances", INSTANCES_HELP),
         json(alloc),
     ]?;
-    let about = "Explain what is wrong with a task or a plan, or summarize a task";
-    add_command(alloc, commands, "explain", about, EXPLAIN_HELP, arguments)
+    let texts = CommandTexts {
+        name: "explain",
+        about: "Explain what is wrong with a task or a plan, or summarize a task",
+        help: EXPLAIN_HELP,
+    };
+    add_command(alloc, texts, arguments, commands)
+}
+
+/// The name of a command, and what the program's help says about it.
+#[derive(Clone, Copy)]
+struct CommandTexts<'a> {
+    name: &'a str,
+    /// The line in the list of commands.
+    about: &'a str,
+    /// The text below the list of its arguments.
+    help: &'a str,
 }
 
 /// Adds a command with this name and these arguments.
 fn add_command<'a>(
     alloc: Global,
-    commands: &mut Vec<Command<'a>>,
-    name: &'a str,
-    about: &'a str,
-    help: &'a str,
+    texts: CommandTexts<'a>,
     arguments: Vec<Arg<'a>>,
+    commands: &mut Vec<Command<'a>>,
 ) -> Result<(), AllocError>
     ensures { (rules : List Rule) → HaveRules arguments.entry.items rules
-        → OnOk result (AddsShape commands.old.items (subcommand name.entry.now rules) commands.new.items) }
+        → OnOk result (AddsShape commands.old.items (subcommand texts.entry.name.now rules) commands.new.items) }
 {
-    let command = Command::new(alloc, name)
-        .about(about)
-        .after_help(help)
+    let command = Command::new(alloc, texts.name)
+        .about(texts.about)
+        .after_help(texts.help)
         .args(arguments)?;
     Ok(commands.push(command)?)
 }

@@ -11,7 +11,7 @@ mod writing;
 use crate::device::{IoFault, Sink, Source};
 pub use reading::read_file;
 pub use system::SystemFiles;
-pub use writing::{Bytes, Document, write_file};
+pub use writing::{Bytes, Document};
 
 /// Files by name. A name that cannot be opened or created counts as a failure, and so does a file with a failed write.
 pub trait Files {

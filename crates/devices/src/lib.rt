@@ -8,7 +8,7 @@ mod progress;
 mod system;
 
 pub use device::{DeviceFault, IoFault, Sink, Source, write_all};
-pub use files::{Bytes, Document, Files, SystemFiles, read_file, write_file};
+pub use files::{Bytes, Document, Files, SystemFiles, read_file};
 pub use memory::{Memory, fill};
 pub use progress::{Unheard, say_line};
 pub use system::Device;

@@ -30,13 +30,6 @@ impl<W: Write> Device<W> {
     {
         self.failures
     }
-
-    /// The reader or writer inside.
-    pub fn into_inner(self) -> W
-        ensures { W.contents result ≡ ⟦<Device<W> as Sink>⟧.taken self }
-    {
-        self.inner
-    }
 }
 
 impl<R: Read> Device<R> {

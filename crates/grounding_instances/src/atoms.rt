@@ -18,7 +18,6 @@ use crate::numbers::number_of;
 use crate::statics::Statics;
 use formulas::Instance;
 use indexmap::IndexSet;
-use std::alloc::Global;
 use task::Atom;
 
 /// The maximum number of numbered atoms.
@@ -30,7 +29,6 @@ pub const MAX_ATOMS: usize = 1_048_576;
 /// # Errors
 /// [`GroundLimit::Atoms`] if there are more than [`MAX_ATOMS`]; or an allocation failed.
 pub(crate) fn numbered_atoms<'t>(
-    alloc: Global,
     statics: &Statics<'t>,
     more: &[Atom],
     kept: &[Instance],
@@ -42,10 +40,10 @@ pub(crate) fn numbered_atoms<'t>(
     ensures reported { IfErr result (ReportsAtoms (numbered.numbered_atoms (task_of statics.now.task.now) (map atom_of more.now))) }
     ensures kept { IfOk result (λ atoms. IsEmpty changes.old → AreKept (task_of statics.now.task.now) (map atom_of atoms.keys) (map instance_of kept.now) changes.new) }
 {
-    let mut atoms = IndexSet::new(alloc);
+    let mut atoms = IndexSet::new(statics.alloc);
     number_all(&mut atoms, more)?;
     number_initial(statics, &mut atoms)?;
-    number_touched(alloc, statics, kept, &mut atoms, changes)?;
+    number_touched(statics, kept, &mut atoms, changes)?;
     Ok(atoms)
 }
 
@@ -97,7 +95,6 @@ fn number_if_fluent(
 
 /// Numbers the atoms that counting changes of the instances add or delete, and keeps these changes.
 fn number_touched<'t>(
-    alloc: Global,
     statics: &Statics<'t>,
     instances: &[Instance],
     atoms: &mut IndexSet<Atom>,
@@ -111,7 +108,7 @@ fn number_touched<'t>(
     ensures kept { OnOk result (IsEmpty kept.old → AreKept (task_of statics.now.task.now) (map atom_of atoms.new.keys) (map instance_of instances.now) kept.new) }
 {
     for instance in instances {
-        number_instance(alloc, statics, instance, atoms, kept)?;
+        number_instance(statics, instance, atoms, kept)?;
     }
     Ok(())
 }

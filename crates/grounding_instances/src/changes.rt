@@ -92,7 +92,6 @@ impl KeptChanges<'_> {
 
 /// Numbers the atoms that counting changes of the instance add or delete, and keeps these changes.
 pub(crate) fn number_instance<'t>(
-    alloc: Global,
     statics: &Statics<'t>,
     instance: &Instance,
     atoms: &mut IndexSet<Atom>,
@@ -107,16 +106,15 @@ pub(crate) fn number_instance<'t>(
     ensures kept { OnOk result (kept.old.keeps ≡ true → (before : List model_task.Instance) → AreKept (task_of statics.now.task.now) (map atom_of atoms.old.keys) before kept.old
         → AreKept (task_of statics.now.task.now) (map atom_of atoms.new.keys) (before ++ instance_of instance.now ∷ []) kept.new) }
 {
-    let changes = changes(alloc, statics.task, instance)?;
+    let changes = changes(statics.alloc, statics.task, instance)?;
     let begin = kept.changes.len();
-    number_counting(alloc, statics, changes.as_slice(), atoms, &mut kept.changes)?;
+    number_counting(statics, changes.as_slice(), atoms, &mut kept.changes)?;
     kept.end_instance(begin)?;
     Ok(())
 }
 
 /// Numbers the atoms that the counting ones of these changes add or delete, and adds these changes.
 fn number_counting<'t>(
-    alloc: Global,
     statics: &Statics<'_>,
     changes: &[Change<'t>],
     atoms: &mut IndexSet<Atom>,
@@ -130,14 +128,13 @@ fn number_counting<'t>(
     ensures found { OnOk result (AddsEffects (task_of statics.now.task.now) (map atom_of atoms.new.keys) (map change_of changes.now) found.old.items found.new.items) }
 {
     for change in changes {
-        number_if_counting(alloc, statics, change, atoms, found)?;
+        number_if_counting(statics, change, atoms, found)?;
     }
     Ok(())
 }
 
 /// Numbers the atom that the change adds or deletes, and adds the change, if the change counts.
 fn number_if_counting<'t>(
-    alloc: Global,
     statics: &Statics<'_>,
     change: &Change<'t>,
     atoms: &mut IndexSet<Atom>,
@@ -157,7 +154,7 @@ fn number_if_counting<'t>(
     }
     let atom = number(atoms, changed_atom(&change.literal))?;
     let value = is_addition(&change.literal);
-    let guard = guard_of(alloc, change)?;
+    let guard = guard_of(statics.alloc, change)?;
     found.push(NumberedChange { atom, value, guard })?;
     Ok(())
 }

@@ -51,7 +51,6 @@ pub(crate) struct Join<'t> {
 impl<'t> Join<'t> {
     /// The join for the parameter with this number and these types, from these literals.
     pub(crate) fn of_literals(
-        alloc: Global,
         statics: &Statics<'_>,
         types: &'t TypeUnion,
         literals: &[&'t Formula],
@@ -60,9 +59,10 @@ impl<'t> Join<'t> {
         ensures types { IfOk result (λ j. j.types.now ≡ types.now) }
         ensures indexes { IfOk result (λ j. AreIndexes (task_of statics.now.task.now) (map lent_formula literals.now) number j.indexes.items) }
     {
-        let mut indexes = Vec::new(alloc);
+        let indexer = Indexer { statics, number };
+        let mut indexes = Vec::new(statics.alloc);
         for literal in literals {
-            add_indexes(alloc, statics, literal, number, &mut indexes)?;
+            indexer.add_indexes(literal, &mut indexes)?;
         }
         Ok(Join { types, indexes })
     }
@@ -174,68 +174,88 @@ fn objects_in(
     Ok(found)
 }
 
-/// Adds the literal's indexes for the parameter with this number, if the literal is an atom of a static predicate that the
-/// parameter occurs in: one for each position of an object or an earlier parameter, or one without a key if there is none.
-fn add_indexes<'t>(
-    alloc: Global,
-    statics: &Statics<'_>,
-    literal: &'t Formula,
+/// Makes the indexes that restrict the objects of one parameter.
+#[derive(Drop)]
+struct Indexer<'a, 's> {
+    statics: &'a Statics<'s>,
+    /// The parameter's number, from 0.
     number: usize,
-    indexes: &mut Vec<Index<'t>>,
-) -> Result<(), NoMemory>
-    ensures { OnOk result (AddsIndexes (task_of statics.now.task.now) (formula_of literal.now) number indexes.old.items indexes.new.items) }
-{
-    let Some(joint) = joint_in(statics, literal, number) else {
-        return Ok(());
-    };
-    let before = indexes.len();
-    for key in 0..joint.atom.terms.len() {
-        add_keyed(alloc, statics.task, &joint, key, number, indexes)?;
-    }
-    if indexes.len() > before {
-        return Ok(());
-    }
-    add_index(alloc, statics.task, joint, number, indexes)?;
-    Ok(())
 }
 
-/// Adds the index with this position as the key, if an object or an earlier parameter is there.
-fn add_keyed<'t>(
-    alloc: Global,
-    task: &Task,
-    joint: &Joint<'t>,
-    key: usize,
-    number: usize,
-    indexes: &mut Vec<Index<'t>>,
-) -> Result<(), NoMemory>
-    requires { IsJoint (task_of task.now) number joint.now }
-    ensures { OnOk result (AddsIndexes (task_of task.now) (model_task.atom (lifted_atom_of joint.now.atom.now)) number indexes.old.items indexes.new.items) }
-{
-    if !is_known(joint.atom.terms.as_slice(), key, number) {
-        return Ok(());
+impl Indexer<'_, '_> {
+    /// Adds the literal's indexes for the parameter, if the literal is an atom of a static predicate that the
+    /// parameter occurs in: one for each position of an object or an earlier parameter, or one without a key if there is none.
+    fn add_indexes<'t>(
+        &self,
+        literal: &'t Formula,
+        indexes: &mut Vec<Index<'t>>,
+    ) -> Result<(), NoMemory>
+        ensures { OnOk result (AddsIndexes (task_of self.now.statics.now.task.now) (formula_of literal.now) self.now.number indexes.old.items indexes.new.items) }
+    {
+        let Some(joint) = self.joint_in(literal) else {
+            return Ok(());
+        };
+        let before = indexes.len();
+        for key in 0..joint.atom.terms.len() {
+            self.add_keyed(&joint, key, indexes)?;
+        }
+        if indexes.len() > before {
+            return Ok(());
+        }
+        self.add_index(joint, indexes)?;
+        Ok(())
     }
-    let keyed = Joint {
-        atom: joint.atom,
-        place: joint.place,
-        key: Some(key),
-    };
-    add_index(alloc, task, keyed, number, indexes)
-}
 
-/// Adds the index of the joint.
-fn add_index<'t>(
-    alloc: Global,
-    task: &Task,
-    joint: Joint<'t>,
-    number: usize,
-    indexes: &mut Vec<Index<'t>>,
-) -> Result<(), NoMemory>
-    requires { IsJoint (task_of task.now) number joint }
-    ensures { OnOk result (AddsIndexes (task_of task.now) (model_task.atom (lifted_atom_of joint.entry.atom.now)) number indexes.old.items indexes.new.items) }
-{
-    let index = Index::new(alloc, task, joint)?;
-    indexes.push(index)?;
-    Ok(())
+    /// Adds the index with this position as the key, if an object or an earlier parameter is there.
+    fn add_keyed<'t>(
+        &self,
+        joint: &Joint<'t>,
+        key: usize,
+        indexes: &mut Vec<Index<'t>>,
+    ) -> Result<(), NoMemory>
+        requires { IsJoint (task_of self.now.statics.now.task.now) self.now.number joint.now }
+        ensures { OnOk result (AddsIndexes (task_of self.now.statics.now.task.now) (model_task.atom (lifted_atom_of joint.now.atom.now)) self.now.number indexes.old.items indexes.new.items) }
+    {
+        if !is_known(joint.atom.terms.as_slice(), key, self.number) {
+            return Ok(());
+        }
+        let keyed = Joint {
+            atom: joint.atom,
+            place: joint.place,
+            key: Some(key),
+        };
+        self.add_index(keyed, indexes)
+    }
+
+    /// Adds the index of the joint.
+    fn add_index<'t>(&self, joint: Joint<'t>, indexes: &mut Vec<Index<'t>>) -> Result<(), NoMemory>
+        requires { IsJoint (task_of self.now.statics.now.task.now) self.now.number joint }
+        ensures { OnOk result (AddsIndexes (task_of self.now.statics.now.task.now) (model_task.atom (lifted_atom_of joint.entry.atom.now)) self.now.number indexes.old.items indexes.new.items) }
+    {
+        let index = Index::new(self.statics.alloc, self.statics.task, joint)?;
+        indexes.push(index)?;
+        Ok(())
+    }
+
+    /// The literal with the position of the parameter, without a key, if it is an atom of a static predicate that
+    /// the parameter occurs in.
+    fn joint_in<'t>(&self, literal: &'t Formula) -> Option<Joint<'t>>
+        ensures literal { IfSome result (λ j. formula_of literal.now ≡ model_task.atom (lifted_atom_of j.atom.now)) }
+        ensures joint { IfSome result (IsJoint (task_of self.now.statics.now.task.now) self.now.number) }
+    {
+        let Formula::Atom(atom) = literal else {
+            return None;
+        };
+        if self.statics.is_fluent(atom.predicate) {
+            return None;
+        }
+        let place = place_of(atom.terms.as_slice(), self.number)?;
+        Some(Joint {
+            atom,
+            place,
+            key: None,
+        })
+    }
 }
 
 /// Whether an object is at this position, or a variable before the one with this number.
@@ -246,26 +266,6 @@ fn is_known(terms: &[Term], place: usize, number: usize) -> bool
         Some(term) => is_bound(term, number),
         None => false,
     }
-}
-
-/// The literal with the position of the parameter with this number, without a key, if it is an atom of a static predicate that
-/// the parameter occurs in.
-fn joint_in<'t>(statics: &Statics<'_>, literal: &'t Formula, number: usize) -> Option<Joint<'t>>
-    ensures literal { IfSome result (λ j. formula_of literal.now ≡ model_task.atom (lifted_atom_of j.atom.now)) }
-    ensures joint { IfSome result (IsJoint (task_of statics.now.task.now) number) }
-{
-    let Formula::Atom(atom) = literal else {
-        return None;
-    };
-    if statics.is_fluent(atom.predicate) {
-        return None;
-    }
-    let place = place_of(atom.terms.as_slice(), number)?;
-    Some(Joint {
-        atom,
-        place,
-        key: None,
-    })
 }
 
 /// The first position of the variable with this number.

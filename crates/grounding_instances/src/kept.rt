@@ -18,32 +18,38 @@ use crate::fault::{GroundFault, GroundLimit};
 use crate::parameters::{Parameter, decided_literals, parameters_of};
 use crate::statics::Statics;
 use formulas::{Binding, Instance, with_object};
-use std::alloc::Global;
 use task::{Formula, SchemaId};
 
 /// The kept instances, in the order of all instances, if there are at most `max`.
 ///
 /// # Errors
 /// [`GroundLimit::Instances`] if there are more; or an allocation failed.
-pub(crate) fn kept_instances(
-    alloc: Global,
-    statics: &Statics<'_>,
-    max: u32,
-) -> Result<Vec<Instance>, GroundFault>
+pub(crate) fn kept_instances(statics: &Statics<'_>, max: u32) -> Result<Vec<Instance>, GroundFault>
     ensures kept { IfOk result (λ found. map instance_of found.items ≡ statically_false.kept_instances (task_of statics.now.task.now)) }
     ensures few { IfOk result (λ found. length found.items ≤ max) }
     ensures reported { IfErr result (ReportsInstances max (statically_false.kept_instances (task_of statics.now.task.now))) }
 {
-    let mut found = Vec::new(alloc);
+    let mut found = Vec::new(statics.alloc);
     for number in 0..statics.task.schema_count() {
         let enumeration = Enumeration {
             statics,
             schema: SchemaId(number),
             max,
         };
-        enumeration.add_all(alloc, &mut found)?;
+        enumeration.add_all(&mut found)?;
     }
     Ok(found)
+}
+
+/// The beginning of an instance.
+#[derive(Drop)]
+struct Prefix<'a, 't> {
+    /// The objects of the first parameters.
+    objects: Binding,
+    /// The literals that are first decided by exactly these objects.
+    literals: &'a [&'a Formula],
+    /// The remaining parameters.
+    left: &'a [Parameter<'t>],
 }
 
 /// The enumeration of a schema's instances, for its kept ones.
@@ -56,7 +62,7 @@ struct Enumeration<'a, 't> {
 
 impl Enumeration<'_, '_> {
     /// Adds all kept instances of the schema.
-    fn add_all(&self, alloc: Global, found: &mut Vec<Instance>) -> Result<(), GroundFault>
+    fn add_all(&self, found: &mut Vec<Instance>) -> Result<(), GroundFault>
         requires { length found.old.items ≤ self.now.max }
         ensures kept { OnOk result (map instance_of found.new.items ≡ map instance_of found.old.items
             ++ filter (statically_false.is_kept (task_of self.now.statics.now.task.now)) (instances_of_number (task_of self.now.statics.now.task.now) self.now.schema.0)) }
@@ -67,38 +73,34 @@ impl Enumeration<'_, '_> {
         let Some(schema) = self.statics.task.schema(self.schema) else {
             return Ok(());
         };
-        let literals = decided_literals(alloc, &schema.precondition, 0)?;
-        let parameters = parameters_of(alloc, self.statics, schema)?;
+        let literals = decided_literals(self.statics.alloc, &schema.precondition, 0)?;
+        let parameters = parameters_of(self.statics, schema)?;
         let literals = literals.as_slice();
-        self.add(
-            alloc,
+        let prefix = Prefix {
+            objects: Binding::new(),
             literals,
-            parameters.as_slice(),
-            Binding::new(),
-            found,
-        )
+            left: parameters.as_slice(),
+        };
+        self.add(prefix, found)
     }
 
-    /// Adds the kept instances that begin with these objects and have one more for each remaining parameter. The literals are
-    /// those first decided by exactly these objects.
-    fn add(
-        &self,
-        alloc: Global,
-        literals: &[&Formula],
-        left: &[Parameter<'_>],
-        objects: Binding,
-        found: &mut Vec<Instance>,
-    ) -> Result<(), GroundFault>
-        requires begun { IsBegun (task_of self.now.statics.now.task.now) self.now.schema.0 (map object_of objects.items) (map lent_formula literals.now) (map choice_of left.now) }
-        requires joined { AreJoined (task_of self.now.statics.now.task.now) (length objects.items) left.now }
-        requires room { length objects.items + length left.now ≤ 16 }
+    /// Adds the kept instances that begin with these objects.
+    fn add(&self, prefix: Prefix<'_, '_>, found: &mut Vec<Instance>) -> Result<(), GroundFault>
+        requires begun { IsBegun (task_of self.now.statics.now.task.now) self.now.schema.0 (map object_of prefix.objects.items) (map lent_formula prefix.literals.now) (map choice_of prefix.left.now) }
+        requires joined { AreJoined (task_of self.now.statics.now.task.now) (length prefix.objects.items) prefix.left.now }
+        requires room { length prefix.objects.items + length prefix.left.now ≤ 16 }
         requires few { length found.old.items ≤ self.now.max }
         ensures kept { OnOk result (map instance_of found.new.items ≡ map instance_of found.old.items
-            ++ filter (statically_false.is_kept (task_of self.now.statics.now.task.now)) (begun self.now.schema.0 (map object_of objects.items) (ranges_of (map choice_of left.now)))) }
+            ++ filter (statically_false.is_kept (task_of self.now.statics.now.task.now)) (begun self.now.schema.0 (map object_of prefix.entry.objects.items) (ranges_of (map choice_of prefix.entry.left.now)))) }
         ensures few { OnOk result (length found.new.items ≤ self.now.max) }
         ensures reported { IfErr result (ReportsInstances self.now.max (map instance_of found.old.items
-            ++ filter (statically_false.is_kept (task_of self.now.statics.now.task.now)) (begun self.now.schema.0 (map object_of objects.items) (ranges_of (map choice_of left.now))))) }
+            ++ filter (statically_false.is_kept (task_of self.now.statics.now.task.now)) (begun self.now.schema.0 (map object_of prefix.entry.objects.items) (ranges_of (map choice_of prefix.entry.left.now))))) }
     {
+        let Prefix {
+            objects,
+            literals,
+            left,
+        } = prefix;
         if self.statics.literal_is_statically_false(literals, &objects) {
             return Ok(());
         }
@@ -109,10 +111,14 @@ impl Enumeration<'_, '_> {
             };
             return self.add_one(instance, found);
         };
-        let decided = parameter.literals.as_slice();
-        let candidates = parameter.candidates(alloc, self.statics.task, &objects)?;
+        let candidates = parameter.candidates(self.statics.alloc, self.statics.task, &objects)?;
         for object in &candidates {
-            self.add(alloc, decided, rest, with_object(&objects, *object), found)?;
+            let longer = Prefix {
+                objects: with_object(&objects, *object),
+                literals: parameter.literals.as_slice(),
+                left: rest,
+            };
+            self.add(longer, found)?;
         }
         Ok(())
     }

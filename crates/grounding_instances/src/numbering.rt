@@ -14,10 +14,10 @@ use crate::atoms::{MAX_ATOMS, numbered_atoms};
 use crate::changes::KeptChanges;
 use crate::fault::GroundFault;
 use crate::kept::kept_instances;
-use crate::numbers::{NumberedLiteral, number_of, numbered, numbered_literals};
+use crate::numbers::{NumberedLiteral, number_of, numbered};
 use crate::statics::Statics;
 use faults::NoMemory;
-use formulas::{Binding, Change, Instance, Literal};
+use formulas::{Binding, Change, Instance, Literal, sure};
 use indexmap::IndexSet;
 use std::alloc::Global;
 use task::{Atom, Formula, PredicateId, Task};
@@ -94,12 +94,11 @@ impl<'t> Numbering<'t> {
         ensures kept { IfOk result (λ n. IsEmpty changes.old → AreKept (task_in n) (atoms_in n) (instances_in n) changes.new) }
     {
         let statics = Statics::new(alloc, task)?;
-        Numbering::of_statics(alloc, statics, more, max_instances, changes)
+        Numbering::of_statics(statics, more, max_instances, changes)
     }
 
     /// The numbering of the task with these statics.
     fn of_statics(
-        alloc: Global,
         statics: Statics<'t>,
         more: &[Atom],
         max_instances: u32,
@@ -110,8 +109,8 @@ impl<'t> Numbering<'t> {
         ensures reported { IfErr result (ReportsLimit (task_of statics.entry.task.now) (map atom_of more.now) max_instances) }
         ensures kept { IfOk result (λ n. IsEmpty changes.old → AreKept (task_in n) (atoms_in n) (instances_in n) changes.new) }
     {
-        let instances = kept_instances(alloc, &statics, max_instances)?;
-        let atoms = numbered_atoms(alloc, &statics, more, instances.as_slice(), changes)?;
+        let instances = kept_instances(&statics, max_instances)?;
+        let atoms = numbered_atoms(&statics, more, instances.as_slice(), changes)?;
         Ok(Numbering {
             statics,
             atoms,
@@ -203,7 +202,8 @@ impl<'t> Numbering<'t> {
         requires { FitsFormula (task_in self.now) (formula_of formula.now) (map object_of binding.now.items) }
         ensures { IfOk result (λ found. map numbered_of found.items ≡ model_literals.numbered_literals (task_in self.now) (atoms_in self.now) (formula_of formula.now) (map object_of binding.now.items)) }
     {
-        numbered_literals(alloc, self.statics.task, &self.atoms, formula, binding)
+        let literals = sure(alloc, self.statics.task, formula, binding)?;
+        self.numbered(alloc, literals.as_slice())
     }
 
     /// The literals that are of numbered atoms, in order.

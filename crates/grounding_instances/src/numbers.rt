@@ -1,9 +1,7 @@
 //! Literals by the numbers of their atoms.
 ghost use Rattle.std.specs.Prelude.{◌≡◌, ◌≤◌, ◌++◌, ◌∷◌, [], if◌then◌else◌, length, map, IfOk, OnOk};
 ghost use Rattle.std.specs.List.{filter_map};
-ghost use Rattle.task.specs.Task.{task_of};
-ghost use Rattle.task.specs.TaskParts.{atom_of, object_of, formula_of};
-ghost use Rattle.formulas.specs.State.{FitsFormula};
+ghost use Rattle.task.specs.TaskParts.{atom_of};
 ghost use Rattle.formulas.specs.Literals.{literal_of};
 ghost use Rattle.model.specs.SureLiterals as sure_literals;
 ghost use Rattle.model.specs.NumberedAtoms as numbered;
@@ -12,10 +10,10 @@ ghost use Rattle.grounding_instances.specs.Numbers.{numbered_of};
 
 use crate::atoms::MAX_ATOMS;
 use faults::NoMemory;
-use formulas::{Binding, Literal, sure};
+use formulas::Literal;
 use indexmap::IndexSet;
 use std::alloc::Global;
-use task::{Atom, Formula, Task};
+use task::Atom;
 
 /// A literal of a numbered atom.
 #[derive(Clone, Copy, Debug, Default, PartialEq, Eq)]
@@ -24,23 +22,6 @@ pub struct NumberedLiteral {
     pub atom: u32,
     /// Whether the atom is true.
     pub value: bool,
-}
-
-/// The sure literals of the formula, under this binding, that are of numbered atoms, in order. The formula is well-typed for
-/// variables of some types that the objects are of.
-pub(crate) fn numbered_literals(
-    alloc: Global,
-    task: &Task,
-    atoms: &IndexSet<Atom>,
-    formula: &Formula,
-    binding: &Binding,
-) -> Result<Vec<NumberedLiteral>, NoMemory>
-    requires fits { FitsFormula (task_of task.now) (formula_of formula.now) (map object_of binding.now.items) }
-    requires few { length atoms.now.keys ≤ MAX_ATOMS }
-    ensures { IfOk result (λ found. map numbered_of found.items ≡ model_literals.numbered_literals (task_of task.now) (map atom_of atoms.now.keys) (formula_of formula.now) (map object_of binding.now.items)) }
-{
-    let literals = sure(alloc, task, formula, binding)?;
-    numbered(alloc, atoms, literals.as_slice())
 }
 
 /// The literals that are of numbered atoms, in order.

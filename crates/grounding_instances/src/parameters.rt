@@ -48,7 +48,6 @@ impl Parameter<'_> {
 
 /// The parameters of the schema, in order.
 pub(crate) fn parameters_of<'t>(
-    alloc: Global,
     statics: &Statics<'_>,
     schema: &'t Schema,
 ) -> Result<Vec<Parameter<'t>>, NoMemory>
@@ -56,10 +55,10 @@ pub(crate) fn parameters_of<'t>(
         ≡ choices_from (task_of statics.now.task.now) (formula_of schema.now.precondition) 0 (map union_of schema.now.parameters.items)) }
     ensures joined { IfOk result (λ parameters. AreJoined (task_of statics.now.task.now) 0 parameters.items) }
 {
-    let mut parameters = Vec::new(alloc);
+    let mut parameters = Vec::new(statics.alloc);
     for types in &schema.parameters {
         let number = parameters.len();
-        let parameter = parameter_of(alloc, statics, &schema.precondition, types, number)?;
+        let parameter = parameter_of(statics, &schema.precondition, types, number)?;
         parameters.push(parameter)?;
     }
     Ok(parameters)
@@ -67,7 +66,6 @@ pub(crate) fn parameters_of<'t>(
 
 /// The parameter with this number and these types, in a schema with this precondition.
 fn parameter_of<'t>(
-    alloc: Global,
     statics: &Statics<'_>,
     precondition: &'t Formula,
     types: &'t TypeUnion,
@@ -78,9 +76,9 @@ fn parameter_of<'t>(
     ensures literals { IfOk result (λ p. map lent_formula p.literals.items ≡ literals.decided_literals (number + 1) (formula_of precondition.now)) }
     ensures joined { IfOk result (λ p. IsJoined (task_of statics.now.task.now) number p) }
 {
-    let objects = statics.task.objects_of(alloc, types)?;
-    let literals = decided_literals(alloc, precondition, number + 1)?;
-    let join = Join::of_literals(alloc, statics, types, literals.as_slice(), number)?;
+    let objects = statics.task.objects_of(statics.alloc, types)?;
+    let literals = decided_literals(statics.alloc, precondition, number + 1)?;
+    let join = Join::of_literals(statics, types, literals.as_slice(), number)?;
     Ok(Parameter {
         objects,
         literals,

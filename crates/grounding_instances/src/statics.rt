@@ -16,9 +16,10 @@ use formulas::{
 use std::alloc::Global;
 use task::{Atom, Formula, PredicateId, Task, TypeUnion};
 
-/// A task with its fluent predicates and its initial state.
+/// A task with its fluent predicates and its initial state, and the allocator of what is made from them.
 #[derive(Drop)]
 pub(crate) struct Statics<'t> {
+    pub(crate) alloc: Global,
     pub(crate) task: &'t Task,
     fluents: FluentPredicates,
     initial: InitialAtoms,
@@ -44,6 +45,7 @@ impl<'t> Statics<'t> {
         let fluents = FluentPredicates::new(alloc, task)?;
         let initial = InitialAtoms::new(alloc, task)?;
         Ok(Statics {
+            alloc,
             task,
             fluents,
             initial,

@@ -6,13 +6,13 @@ use Rattle.json.specs.Json as json
 use Rattle.printed_answers.specs.JsonText as text
 use Rattle.printed_answers.specs.declared.members.Member.{Member}
 use Rattle.printed_answers.specs.declared.members.Value.{Value}
-use Rattle.printed_answers.specs.declared.members.Value.TheVariants.{Number, Text, InputTexts}
+use Rattle.printed_answers.specs.declared.members.Value.TheVariants.{Number, Text, Texts}
 
 -- the value of the code, and the member
 abbrev pub value_of : Value → text.Value
 value_of (Number n) = text.number n
 value_of (Text s) = text.text s.now
-value_of (InputTexts list) = text.texts (map string_bytes list.now)
+value_of (Texts list) = text.texts (map string_bytes list.now)
 
 abbrev pub member_of : Member → text.Member
 member_of member = record { key = member.key.now; value = value_of member.value }

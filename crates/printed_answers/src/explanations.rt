@@ -12,6 +12,24 @@ use grounding_instances::GroundLimit;
 use std::alloc::{AllocError, Global};
 use validator::Verdict;
 
+/// The fields of the object of a fault that do not depend on its place.
+#[derive(Drop)]
+struct FaultFields<'a> {
+    code: Code,
+    /// The lines of each further fault.
+    further: &'a [String],
+    hints: &'a [String],
+    lines: &'a str,
+}
+
+/// The fields of the object of a task that do not depend on the outcome of grounding.
+#[derive(Drop)]
+struct TaskFields<'a> {
+    holds: Summary,
+    notes: &'a [String],
+    lines: &'a str,
+}
+
 /// The object of an explanation, as compact text. The only error, here and in the functions below, is that an allocation failed.
 pub(crate) fn explanation_object(
     alloc: Global,
@@ -24,18 +42,22 @@ pub(crate) fn explanation_object(
         Subject::Fault { code, .. } => {
             let hints = explanation.hints.as_slice();
             let further = further_texts(alloc, &explanation.further)?;
-            fault_object(
-                alloc,
+            let fault = FaultFields {
                 code,
-                &explanation.location,
-                further.as_slice(),
+                further: further.as_slice(),
                 hints,
                 lines,
-            )
+            };
+            fault_object(alloc, &fault, &explanation.location)
         }
         Subject::Plan(verdict) => plan_object(alloc, verdict, &explanation.location, lines),
         Subject::Task { holds, grounded } => {
-            task_object(alloc, holds, grounded, &explanation.notes, lines)
+            let task = TaskFields {
+                holds,
+                notes: &explanation.notes,
+                lines,
+            };
+            task_object(alloc, &task, grounded)
         }
     }
 }
@@ -54,72 +76,56 @@ fn further_texts(alloc: Global, further: &[FurtherFault]) -> Result<Vec<String>,
 /// The object of a fault.
 fn fault_object(
     alloc: Global,
-    code: Code,
+    fault: &FaultFields<'_>,
     location: &Option<Location>,
-    further: &[String],
-    hints: &[String],
-    lines: &str,
 ) -> Result<String, AllocError>
-    ensures { IfOk result (λ text. string_bytes text ≡ object_text (defined.of_fault code location.now (map string_bytes further.now) (map string_bytes hints.now) lines.now)) }
+    ensures { IfOk result (λ text. string_bytes text ≡ object_text (defined.of_fault fault.now.code location.now (map string_bytes fault.now.further.now) (map string_bytes fault.now.hints.now) fault.now.lines.now)) }
 {
     match location {
-        Some(at) => {
-            let name = at.file.as_str();
-            located_fault_object(alloc, code, name, at, further, hints, lines)
-        }
-        None => plain_fault_object(alloc, code, further, hints, lines),
+        Some(at) => located_fault_object(alloc, fault, at),
+        None => plain_fault_object(alloc, fault),
     }
 }
 
-/// The object of a fault at this place in the file with this name.
+/// The object of a fault at this place.
 fn located_fault_object(
     alloc: Global,
-    code: Code,
-    name: &str,
+    fault: &FaultFields<'_>,
     at: &Location,
-    further: &[String],
-    hints: &[String],
-    lines: &str,
 ) -> Result<String, AllocError>
-    ensures { IfOk result (λ text. string_bytes text ≡ object_text (defined.of_located_fault code name.now at.now.line at.now.column at.now.length (map string_bytes further.now) (map string_bytes hints.now) lines.now)) }
+    ensures { IfOk result (λ text. string_bytes text ≡ object_text (defined.of_located_fault fault.now.code (string_bytes at.now.file) at.now.line at.now.column at.now.length (map string_bytes fault.now.further.now) (map string_bytes fault.now.hints.now) fault.now.lines.now)) }
 {
-    let numbered = Member::number("code", u64::from(code.number()));
+    let numbered = Member::number("code", u64::from(fault.code.number()));
     let column = Member::number("column", at.column as u64);
     let command = Member::text("command", "explain");
-    let file = Member::text("file", name);
-    let others = Member::texts("further", further);
-    let told = Member::texts("hints", hints);
+    let file = Member::text("file", at.file.as_str());
+    let others = Member::texts("further", fault.further);
+    let hints = Member::texts("hints", fault.hints);
     let length = Member::number("length", at.length as u64);
     let line = Member::number("line", at.line as u64);
-    let named = Member::text("name", code.name());
+    let named = Member::text("name", fault.code.name());
     let result = Member::text("result", "fault");
-    let text = Member::text("text", lines);
+    let text = Member::text("text", fault.lines);
     let members = [
-        numbered, column, command, file, others, told, length, line, named, result, text,
+        numbered, column, command, file, others, hints, length, line, named, result, text,
     ];
     object_text(alloc, &members)
 }
 
 /// The object of a fault without a known place.
-fn plain_fault_object(
-    alloc: Global,
-    code: Code,
-    further: &[String],
-    hints: &[String],
-    lines: &str,
-) -> Result<String, AllocError>
-    ensures { IfOk result (λ text. string_bytes text ≡ object_text (defined.of_plain_fault code (map string_bytes further.now) (map string_bytes hints.now) lines.now)) }
+fn plain_fault_object(alloc: Global, fault: &FaultFields<'_>) -> Result<String, AllocError>
+    ensures { IfOk result (λ text. string_bytes text ≡ object_text (defined.of_plain_fault fault.now.code (map string_bytes fault.now.further.now) (map string_bytes fault.now.hints.now) fault.now.lines.now)) }
 {
-    let numbered = Member::number("code", u64::from(code.number()));
+    let numbered = Member::number("code", u64::from(fault.code.number()));
     let command = Member::text("command", "explain");
-    let others = Member::texts("further", further);
-    let told = Member::texts("hints", hints);
-    let named = Member::text("name", code.name());
+    let others = Member::texts("further", fault.further);
+    let hints = Member::texts("hints", fault.hints);
+    let named = Member::text("name", fault.code.name());
     let result = Member::text("result", "fault");
-    let text = Member::text("text", lines);
+    let text = Member::text("text", fault.lines);
     object_text(
         alloc,
-        &[numbered, command, others, told, named, result, text],
+        &[numbered, command, others, hints, named, result, text],
     )
 }
 
@@ -170,24 +176,23 @@ fn step_object(
     ensures { IfOk result (λ text. string_bytes text ≡ object_text (defined.of_step step location.now lines.now)) }
 {
     match location {
-        Some(at) => located_step_object(alloc, step, at.file.as_str(), at, lines),
+        Some(at) => located_step_object(alloc, step, at, lines),
         None => plain_step_object(alloc, step, lines),
     }
 }
 
-/// The object of a step at this place in the file with this name.
+/// The object of a step at this place.
 fn located_step_object(
     alloc: Global,
     step: usize,
-    name: &str,
     at: &Location,
     lines: &str,
 ) -> Result<String, AllocError>
-    ensures { IfOk result (λ text. string_bytes text ≡ object_text (defined.of_located_step step name.now at.now.line at.now.column at.now.length lines.now)) }
+    ensures { IfOk result (λ text. string_bytes text ≡ object_text (defined.of_located_step step (string_bytes at.now.file) at.now.line at.now.column at.now.length lines.now)) }
 {
     let column = Member::number("column", at.column as u64);
     let command = Member::text("command", "explain");
-    let file = Member::text("file", name);
+    let file = Member::text("file", at.file.as_str());
     let length = Member::number("length", at.length as u64);
     let line = Member::number("line", at.line as u64);
     let result = Member::text("result", "not applicable");
@@ -211,72 +216,60 @@ fn plain_step_object(alloc: Global, step: usize, lines: &str) -> Result<String, 
 /// The object of a task: its summary, the outcome of grounding, and the notes.
 fn task_object(
     alloc: Global,
-    holds: Summary,
+    task: &TaskFields<'_>,
     grounded: Grounded,
-    notes: &[String],
-    lines: &str,
 ) -> Result<String, AllocError>
-    ensures { IfOk result (λ text. string_bytes text ≡ object_text (defined.of_task holds grounded (map string_bytes notes.now) lines.now)) }
+    ensures { IfOk result (λ text. string_bytes text ≡ object_text (defined.of_task task.now.holds grounded (map string_bytes task.now.notes.now) task.now.lines.now)) }
 {
     match grounded {
-        Grounded::Within { instances, atoms } => {
-            grounded_object(alloc, holds, instances, atoms, notes, lines)
-        }
-        Grounded::Beyond(limit) => beyond_object(alloc, holds, limit_name(limit), notes, lines),
+        Grounded::Within { instances, atoms } => grounded_object(alloc, task, instances, atoms),
+        Grounded::Beyond(limit) => beyond_object(alloc, task, limit_name(limit)),
     }
 }
 
 /// The object of a task with this many kept instances and numbered atoms.
 fn grounded_object(
     alloc: Global,
-    holds: Summary,
+    task: &TaskFields<'_>,
     kept: usize,
     width: u32,
-    notes: &[String],
-    lines: &str,
 ) -> Result<String, AllocError>
-    ensures { IfOk result (λ text. string_bytes text ≡ object_text (defined.of_grounded holds kept width (map string_bytes notes.now) lines.now)) }
+    ensures { IfOk result (λ text. string_bytes text ≡ object_text (defined.of_grounded task.now.holds kept width (map string_bytes task.now.notes.now) task.now.lines.now)) }
 {
-    let actions = Member::number("actions", holds.actions as u64);
+    let actions = Member::number("actions", task.holds.actions as u64);
     let atoms = Member::number("atoms", u64::from(width));
     let command = Member::text("command", "explain");
-    let functions = Member::number("functions", holds.functions as u64);
+    let functions = Member::number("functions", task.holds.functions as u64);
     let instances = Member::number("instances", kept as u64);
-    let told = Member::texts("notes", notes);
-    let objects = Member::number("objects", holds.objects as u64);
-    let predicates = Member::number("predicates", holds.predicates as u64);
+    let notes = Member::texts("notes", task.notes);
+    let objects = Member::number("objects", task.holds.objects as u64);
+    let predicates = Member::number("predicates", task.holds.predicates as u64);
     let result = Member::text("result", "task");
-    let text = Member::text("text", lines);
-    let types = Member::number("types", holds.types as u64);
+    let text = Member::text("text", task.lines);
+    let types = Member::number("types", task.holds.types as u64);
     let members = [
-        actions, atoms, command, functions, instances, told, objects, predicates, result, text,
+        actions, atoms, command, functions, instances, notes, objects, predicates, result, text,
         types,
     ];
     object_text(alloc, &members)
 }
 
 /// The object of a task that exceeds the limit with this name.
-fn beyond_object(
-    alloc: Global,
-    holds: Summary,
-    limit: &str,
-    notes: &[String],
-    lines: &str,
-) -> Result<String, AllocError>
-    ensures { IfOk result (λ text. string_bytes text ≡ object_text (defined.of_beyond holds limit.now (map string_bytes notes.now) lines.now)) }
+fn beyond_object(alloc: Global, task: &TaskFields<'_>, limit: &str) -> Result<String, AllocError>
+    ensures { IfOk result (λ text. string_bytes text ≡ object_text (defined.of_beyond task.now.holds limit.now (map string_bytes task.now.notes.now) task.now.lines.now)) }
 {
-    let actions = Member::number("actions", holds.actions as u64);
+    let actions = Member::number("actions", task.holds.actions as u64);
     let command = Member::text("command", "explain");
-    let functions = Member::number("functions", holds.functions as u64);
-    let told = Member::texts("notes", notes);
-    let objects = Member::number("objects", holds.objects as u64);
-    let predicates = Member::number("predicates", holds.predicates as u64);
+    let functions = Member::number("functions", task.holds.functions as u64);
+    let notes = Member::texts("notes", task.notes);
+    let objects = Member::number("objects", task.holds.objects as u64);
+    let predicates = Member::number("predicates", task.holds.predicates as u64);
     let reason = Member::text("reason", limit);
     let result = Member::text("result", "unknown");
-    let text = Member::text("text", lines);
-    let types = Member::number("types", holds.types as u64);
+    let text = Member::text("text", task.lines);
+    let types = Member::number("types", task.holds.types as u64);
     let members = [
-        actions, command, functions, told, objects, predicates, reason, result, text, types,
+        actions, command, functions, notes, objects, predicates, reason, result, text, types,
     ];
     object_text(alloc, &members)
 }

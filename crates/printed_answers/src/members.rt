@@ -19,7 +19,7 @@ pub(crate) enum Value<'a> {
     /// A string.
     Text(&'a str),
     /// An array of strings.
-    InputTexts(&'a [String]),
+    Texts(&'a [String]),
 }
 
 /// A member of an object.
@@ -54,11 +54,11 @@ impl<'a> Member<'a> {
 
     /// A member with an array of strings.
     pub(crate) fn texts(key: &'a str, texts: &'a [String]) -> Member<'a>
-        ensures { result ≡ record { key = key.entry; value = Value.InputTexts texts.entry } }
+        ensures { result ≡ record { key = key.entry; value = Value.Texts texts.entry } }
     {
         Member {
             key,
-            value: Value::InputTexts(texts),
+            value: Value::Texts(texts),
         }
     }
 }
@@ -97,13 +97,13 @@ fn built_value(alloc: Global, value: Value<'_>) -> Result<serde_json::Value, All
     match value {
         Value::Number(number) => Ok(serde_json::Value::from(number)),
         Value::Text(text) => serde_json::Value::try_from_str(alloc, text),
-        Value::InputTexts(texts) => built_texts(alloc, texts),
+        Value::Texts(texts) => built_texts(alloc, texts),
     }
 }
 
 /// An array of strings as a JSON value.
 fn built_texts(alloc: Global, texts: &[String]) -> Result<serde_json::Value, AllocError>
-    ensures { IfOk result (λ built. view built ≡ value_built (value_of (Value.InputTexts texts.entry))) }
+    ensures { IfOk result (λ built. view built ≡ value_built (value_of (Value.Texts texts.entry))) }
 {
     let mut array = Vec::with_capacity(alloc, texts.len())?;
     'texts: for text in texts {

@@ -1,11 +1,9 @@
-//! Writing a whole file.
-ghost use Rattle.std.specs.Prelude.{◌≡◌, ◌≢◌, ℕ, IsTrue, List, OnOk, Some};
+//! Texts that can be written to any device.
+ghost use Rattle.std.specs.Prelude.{◌≡◌, ℕ, List, OnOk};
 ghost use Rattle.std.specs.Io.KnownBytes.{Appends};
-ghost use Rattle.devices.specs.Written.{HoldsBeginning};
 ghost use Rattle.devices.specs.Devices.{AppendsBeginning, CountsDevice};
 
 use crate::device::{IoFault, Sink, write_all};
-use crate::files::Files;
 
 /// A text that can be written to any device.
 pub trait Document {
@@ -30,23 +28,4 @@ impl Document for Bytes<'_> {
     fn write_to<S: Sink>(&self, sink: &mut S) -> Result<(), IoFault> {
         write_all(sink, self.0)
     }
-}
-
-/// Writes this document to the file with this name, replacing its contents. It is a device failure if the file cannot be created
-/// or a write of it fails: then the file is unchanged, or holds a prefix of the document.
-pub fn write_file<F: Files, D: Document>(
-    files: &mut F,
-    name: &str,
-    document: &D,
-) -> Result<(), IoFault>
-    ensures held { IsTrue F.is_known → OnOk result (F.contents files.new name.now ≡ Some (D.text document.now)) }
-    ensures partly { IsTrue F.is_known → HoldsBeginning (F.contents files.old name.now) (F.contents files.new name.now) (D.text document.now) }
-    ensures kept { IsTrue F.is_known → (other : List ℕ) → other ≢ name.now → F.contents files.new other ≡ F.contents files.old other }
-    ensures failures { CountsDevice (F.failures files.old) (F.failures files.new) result }
-{
-    let mut output = files.create(name)?;
-    let written = document.write_to(&mut output);
-    // Closed first, since closing counts a failed write.
-    files.close(output)?;
-    written
 }

@@ -8,7 +8,7 @@ use Rattle.command_line.proofs.description.add_command.Goals as goal
 pub returns : goal.returns
 returns c rules have =
     let has_globals = λ (f : Command-F Command). f.has_globals in
-    let reported : IsDescribed c.after_help.result (new_app c.args.name.now) = record {
+    let reported : IsDescribed c.after_help.result (new_app c.args.texts.name.now) = record {
       is = ap app_of_fields c.after_help.ensures ∙ ap app_of_fields c.about.ensures ∙ c.new.ensures.app;
       local = ap has_globals c.after_help.ensures ∙ ap has_globals c.about.ensures ∙ c.new.ensures.local;
     } in

@@ -6,9 +6,9 @@ use Rattle.printed_answers.proofs.JsonReported.{reported_as_meant}
 use Rattle.printed_answers.proofs.explanations.grounded_object.Goals as goal
 
 pub object_text-requires : goal.object_text-requires
-object_text-requires c = rw (c.number-actions.ensures, c.number-atoms.ensures, c.text-command.ensures, c.number-functions.ensures, c.number-instances.ensures, c.texts-told.ensures, c.number-objects.ensures, c.number-predicates.ensures, c.text-result.ensures, c.text-text.ensures, c.number-types.ensures) refl
+object_text-requires c = rw (c.number-actions.ensures, c.number-atoms.ensures, c.text-command.ensures, c.number-functions.ensures, c.number-instances.ensures, c.texts-notes.ensures, c.number-objects.ensures, c.number-predicates.ensures, c.text-result.ensures, c.text-text.ensures, c.number-types.ensures) refl
 
 pub returns : goal.returns
 returns c =
-    let same : members_of (c.number-actions.result ∷ c.number-atoms.result ∷ c.text-command.result ∷ c.number-functions.result ∷ c.number-instances.result ∷ c.texts-told.result ∷ c.number-objects.result ∷ c.number-predicates.result ∷ c.text-result.result ∷ c.text-text.result ∷ c.number-types.result ∷ []) ≡ of_grounded c.args.holds c.args.kept c.args.width (map string_bytes c.args.notes.now) c.args.lines.now = rw (c.number-actions.ensures, c.number-atoms.ensures, c.text-command.ensures, c.number-functions.ensures, c.number-instances.ensures, c.texts-told.ensures, c.number-objects.ensures, c.number-predicates.ensures, c.text-result.ensures, c.text-text.ensures, c.number-types.ensures, c.from.ensures) refl in
-    reported_as_meant c.object_text.result (members_of (c.number-actions.result ∷ c.number-atoms.result ∷ c.text-command.result ∷ c.number-functions.result ∷ c.number-instances.result ∷ c.texts-told.result ∷ c.number-objects.result ∷ c.number-predicates.result ∷ c.text-result.result ∷ c.text-text.result ∷ c.number-types.result ∷ [])) (of_grounded c.args.holds c.args.kept c.args.width (map string_bytes c.args.notes.now) c.args.lines.now) same c.object_text.ensures.text
+    let same : members_of (c.number-actions.result ∷ c.number-atoms.result ∷ c.text-command.result ∷ c.number-functions.result ∷ c.number-instances.result ∷ c.texts-notes.result ∷ c.number-objects.result ∷ c.number-predicates.result ∷ c.text-result.result ∷ c.text-text.result ∷ c.number-types.result ∷ []) ≡ of_grounded c.args.task.now.holds c.args.kept c.args.width (map string_bytes c.args.task.now.notes.now) c.args.task.now.lines.now = rw (c.number-actions.ensures, c.number-atoms.ensures, c.text-command.ensures, c.number-functions.ensures, c.number-instances.ensures, c.texts-notes.ensures, c.number-objects.ensures, c.number-predicates.ensures, c.text-result.ensures, c.text-text.ensures, c.number-types.ensures, c.from.ensures) refl in
+    reported_as_meant c.object_text.result (members_of (c.number-actions.result ∷ c.number-atoms.result ∷ c.text-command.result ∷ c.number-functions.result ∷ c.number-instances.result ∷ c.texts-notes.result ∷ c.number-objects.result ∷ c.number-predicates.result ∷ c.text-result.result ∷ c.text-text.result ∷ c.number-types.result ∷ [])) (of_grounded c.args.task.now.holds c.args.kept c.args.width (map string_bytes c.args.task.now.notes.now) c.args.task.now.lines.now) same c.object_text.ensures.text

@@ -1,4 +1,5 @@
 use Rattle.std.proofs.Common.{◌≡◌, [], ◌∷◌, refl}
+use Rattle.std.specs.String.{string_bytes}
 use Rattle.printed_answers.specs.Members.{members_of}
 use Rattle.printed_answers.specs.ExplanationObjects.{of_located_step}
 use Rattle.printed_answers.proofs.JsonReported.{reported_as_meant}
@@ -9,5 +10,5 @@ object_text-requires c = rw (c.number-column.ensures, c.text-command.ensures, c.
 
 pub returns : goal.returns
 returns c =
-    let same : members_of (c.number-column.result ∷ c.text-command.result ∷ c.text-file.result ∷ c.number-length.result ∷ c.number-line.result ∷ c.text-result.result ∷ c.number-numbered.result ∷ c.text-text.result ∷ []) ≡ of_located_step c.args.step c.args.name.now c.args.at.now.line c.args.at.now.column c.args.at.now.length c.args.lines.now = rw (c.number-column.ensures, c.text-command.ensures, c.text-file.ensures, c.number-length.ensures, c.number-line.ensures, c.text-result.ensures, c.number-numbered.ensures, c.text-text.ensures) refl in
-    reported_as_meant c.object_text.result (members_of (c.number-column.result ∷ c.text-command.result ∷ c.text-file.result ∷ c.number-length.result ∷ c.number-line.result ∷ c.text-result.result ∷ c.number-numbered.result ∷ c.text-text.result ∷ [])) (of_located_step c.args.step c.args.name.now c.args.at.now.line c.args.at.now.column c.args.at.now.length c.args.lines.now) same c.object_text.ensures.text
+    let same : members_of (c.number-column.result ∷ c.text-command.result ∷ c.text-file.result ∷ c.number-length.result ∷ c.number-line.result ∷ c.text-result.result ∷ c.number-numbered.result ∷ c.text-text.result ∷ []) ≡ of_located_step c.args.step (string_bytes c.args.at.now.file) c.args.at.now.line c.args.at.now.column c.args.at.now.length c.args.lines.now = rw (c.number-column.ensures, c.text-command.ensures, c.text-file.ensures, c.as_str.ensures.value, c.number-length.ensures, c.number-line.ensures, c.text-result.ensures, c.number-numbered.ensures, c.text-text.ensures) refl in
+    reported_as_meant c.object_text.result (members_of (c.number-column.result ∷ c.text-command.result ∷ c.text-file.result ∷ c.number-length.result ∷ c.number-line.result ∷ c.text-result.result ∷ c.number-numbered.result ∷ c.text-text.result ∷ [])) (of_located_step c.args.step (string_bytes c.args.at.now.file) c.args.at.now.line c.args.at.now.column c.args.at.now.length c.args.lines.now) same c.object_text.ensures.text

@@ -6,9 +6,9 @@ use Rattle.printed_answers.proofs.JsonReported.{reported_as_meant}
 use Rattle.printed_answers.proofs.explanations.plain_fault_object.Goals as goal
 
 pub object_text-requires : goal.object_text-requires
-object_text-requires c = rw (c.number-numbered.ensures, c.text-command.ensures, c.texts-others.ensures, c.texts-told.ensures, c.text-named.ensures, c.text-result.ensures, c.text-text.ensures) refl
+object_text-requires c = rw (c.number-numbered.ensures, c.text-command.ensures, c.texts-others.ensures, c.texts-hints.ensures, c.text-named.ensures, c.text-result.ensures, c.text-text.ensures) refl
 
 pub returns : goal.returns
 returns c =
-    let same : members_of (c.number-numbered.result ∷ c.text-command.result ∷ c.texts-others.result ∷ c.texts-told.result ∷ c.text-named.result ∷ c.text-result.result ∷ c.text-text.result ∷ []) ≡ of_plain_fault c.args.code (map string_bytes c.args.further.now) (map string_bytes c.args.hints.now) c.args.lines.now = rw (c.number-numbered.ensures, c.text-command.ensures, c.texts-others.ensures, c.texts-told.ensures, c.text-named.ensures, c.text-result.ensures, c.text-text.ensures, c.from.ensures, c.number.ensures, c.name.ensures) refl in
-    reported_as_meant c.object_text.result (members_of (c.number-numbered.result ∷ c.text-command.result ∷ c.texts-others.result ∷ c.texts-told.result ∷ c.text-named.result ∷ c.text-result.result ∷ c.text-text.result ∷ [])) (of_plain_fault c.args.code (map string_bytes c.args.further.now) (map string_bytes c.args.hints.now) c.args.lines.now) same c.object_text.ensures.text
+    let same : members_of (c.number-numbered.result ∷ c.text-command.result ∷ c.texts-others.result ∷ c.texts-hints.result ∷ c.text-named.result ∷ c.text-result.result ∷ c.text-text.result ∷ []) ≡ of_plain_fault c.args.fault.now.code (map string_bytes c.args.fault.now.further.now) (map string_bytes c.args.fault.now.hints.now) c.args.fault.now.lines.now = rw (c.number-numbered.ensures, c.text-command.ensures, c.texts-others.ensures, c.texts-hints.ensures, c.text-named.ensures, c.text-result.ensures, c.text-text.ensures, c.from.ensures, c.number.ensures, c.name.ensures) refl in
+    reported_as_meant c.object_text.result (members_of (c.number-numbered.result ∷ c.text-command.result ∷ c.texts-others.result ∷ c.texts-hints.result ∷ c.text-named.result ∷ c.text-result.result ∷ c.text-text.result ∷ [])) (of_plain_fault c.args.fault.now.code (map string_bytes c.args.fault.now.further.now) (map string_bytes c.args.fault.now.hints.now) c.args.fault.now.lines.now) same c.object_text.ensures.text

@@ -10,7 +10,7 @@ use Rattle.grounding_instances.proofs.ChosenObjects.{begun_from}
 use Rattle.grounding_instances.proofs.kept.Enumeration.+add.Given as goal
 
 abbrev pub decreases-add : goal.decreases-add
-decreases-add l = length l.left.now
+decreases-add l = length l.prefix.left.now
 
 -- what was found, together with the kept instances for the remaining next objects, is all
 abbrev pub invariant-loop-object : goal.invariant-loop-object
@@ -18,6 +18,6 @@ invariant-loop-object l = record {
   all : map instance_of l.found.items
       ++ filter (is_kept (task_of l.self.statics.now.task.now)) (begun_from l.self.schema.0 (map object_of l.objects.items) (ranges_of (map choice_of l.rest)) (drop l.object-index (map object_of l.object-items)))
       ≡ map instance_of l.fn.found.items
-      ++ filter (is_kept (task_of l.self.statics.now.task.now)) (begun l.self.schema.0 (map object_of l.objects.items) (ranges_of (map choice_of l.left)));
+      ++ filter (is_kept (task_of l.self.statics.now.task.now)) (begun l.self.schema.0 (map object_of l.objects.items) (ranges_of (map choice_of l.fn.prefix.left.now)));
   few : length l.found.items ≤ l.self.max;
 }
