@@ -1,10 +1,9 @@
 -- Sets that grow, call by call.
-use Rattle.std.proofs.Common.{arith, ◌≡◌, ◌∙◌, ℕ, ◌+◌, ◌<◌, ◌≤◌, Bool, true, false, true≢false, not, ◌&&◌, ◌||◌, inl, inr, List, get_or, length, map, take, set, refl, sym, ap, subst}
+use Rattle.std.proofs.Common.{arith, ◌≡◌, ◌∙◌, ℕ, ◌+◌, ◌<◌, Bool, true, false, true≢false, not, ◌&&◌, ◌||◌, inl, inr, List, get_or, length, take, set, refl, sym, ap, subst}
 use Rattle.std.specs.Prelude.{◌==◌, ◌⊎◌, ◌≢◌, nat_lt, cond}
-use Rattle.std.specs.List.{count_by, list_all}
+use Rattle.std.specs.List.{list_all}
 use Rattle.std.proofs.lemmas.Bool.{or_cases, or_left, or_right, lt-ltb, and_parts, and_from, eqb-true, eq-eqb}
-use Rattle.std.proofs.lemmas.Bool.Decides.{nat_tests}
-use Rattle.std.proofs.lemmas.List.{length-set, length-map, get_or-set_same, get_or-set_other, take_all}
+use Rattle.std.proofs.lemmas.List.{length-set, length-map, get_or-set_same, get_or-set_other}
 use Rattle.std.proofs.lemmas.List.Folds.{list_all_more}
 use Rattle.std.proofs.lemmas.List.Sums.{sum_by-set}
 use Rattle.model.specs.Task.{Atom, Task}
@@ -14,7 +13,7 @@ use Rattle.model.specs.Grounding.{bits_of_state}
 use Rattle.model.specs.NumberedLiterals.{NumberedLiteral, literals_of_number}
 use Rattle.model.specs.ConditionalChanges.{ConditionalChange, conditional_of_number, number_wants_unnumbered}
 use Rattle.model.proofs.Tests.{passes_weaker}
-use Rattle.explain_goals.specs.Settled.{has, IsWithin, allows, allows_all, may_hold, may_add, may_apply, is_there, is_made, AreMade, AreSettledBelow, is_settled, IsSettled, IsLeastSettled, lacking, IsGrown, IsGrownTo}
+use Rattle.explain_goals.specs.Settled.{has, IsWithin, allows, allows_all, may_hold, may_add, may_apply, is_there, is_made, AreMade, AreSettledBelow, is_settled, IsLeastSettled, lacking, IsGrown, IsGrownTo}
 
 -- ---- one number
 

@@ -1,10 +1,10 @@
 -- A closed set is an invariant: by induction on the list of actions, each of whose states has the initial static atoms.
-use Rattle.std.proofs.Common.{◌≡◌, ◌∙◌, Bool, true, false, true≢false, not, ◌&&◌, ◌||◌, inl, inr, List, [], ◌∷◌, ◌++◌, Option, None, Some, refl, sym, ap}
+use Rattle.std.proofs.Common.{◌≡◌, ◌∙◌, Bool, true, false, true≢false, not, ◌&&◌, inl, inr, List, [], ◌∷◌, ◌++◌, Option, None, Some, refl, sym, ap}
 use Rattle.std.specs.Prelude.{Contains, cond, filter, if◌then◌else◌, map, slice_get}
 use Rattle.std.specs.List.{list_all}
 use Rattle.std.specs.Option.{option_and_then, option_map_or}
 use Rattle.std.specs.FinSet.{contains}
-use Rattle.std.proofs.lemmas.Bool.{and_parts, and_from, or_cases, false_from_ne_true}
+use Rattle.std.proofs.lemmas.Bool.{and_parts, and_from, or_cases}
 use Rattle.std.proofs.lemmas.List.Folds.{list_all-append}
 use Rattle.model.specs.Task.{Atom, Schema, Task, Instance}
 use Rattle.model.specs.Runs.{run}

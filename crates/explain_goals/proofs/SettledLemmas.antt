@@ -1,6 +1,6 @@
 -- A set of numbers to which no instance adds is a closed set of atoms.
-use Rattle.std.proofs.Common.{arith, ◌≡◌, ◌∙◌, ℕ, ◌<◌, Bool, true, false, true≢false, not, ◌&&◌, ◌||◌, inl, inr, List, [], ◌∷◌, ◌++◌, Option, None, Some, refl, sym, ap, subst, get_or, length, map}
-use Rattle.std.specs.Prelude.{Contains, nat_lt, slice_get}
+use Rattle.std.proofs.Common.{arith, ◌≡◌, ◌∙◌, ℕ, ◌<◌, Bool, true, false, true≢false, not, ◌&&◌, ◌||◌, inl, inr, List, [], ◌∷◌, Option, None, Some, refl, sym, ap, subst, length}
+use Rattle.std.specs.Prelude.{Contains, slice_get}
 use Rattle.std.specs.List.{list_all, list_any, filter_map, cons_option}
 use Rattle.std.specs.Option.{option_map, option_map_or}
 use Rattle.std.specs.FinSet.{contains}
@@ -14,16 +14,52 @@ use Rattle.model.specs.Fluents.{is_fluent}
 use Rattle.model.specs.SureLiterals.{Literal, is_true, is_false, are_same, are_different, sure}
 use Rattle.model.specs.StaticallyFalse.{kept_instances, counting_changes, is_unconditional}
 use Rattle.model.specs.NumberedAtoms.{occurs_in, numbered_atoms, number_of, touched_by, atom_of_literal}
-use Rattle.model.specs.NumberedLiterals.{NumberedLiteral, NumberedChange, numbered_ground_literal, numbered_literal, numbered_literals, literals_of_instance, literals_of_number}
-use Rattle.model.specs.ConditionalChanges.{ConditionalChange, conditional_change, conditional_of_instance, conditional_of_number, instance_wants_unnumbered, is_unnumbered, number_wants_unnumbered, wants_unnumbered}
-use Rattle.model.specs.Grounding.{bits_of_state}
+use Rattle.model.specs.NumberedLiterals.{NumberedLiteral, NumberedChange, numbered_ground_literal, numbered_literal, numbered_literals, literals_of_instance}
+use Rattle.model.specs.ConditionalChanges.{ConditionalChange, conditional_change, conditional_of_instance, conditional_of_number, instance_wants_unnumbered, is_unnumbered, wants_unnumbered}
 use Rattle.model.proofs.ListLemmas.{Contains-here, Contains-there, Contains-place, Contains-map, Contains-filter_map}
 use Rattle.model.proofs.Tests.{passes_got}
 use Rattle.model.proofs.NumberingLemmas.{occurs_in-Contains, Contains-occurs_in, occurs_in-got, occurs_in-flat_map, number_of-got, got-number_of}
 use Rattle.model.proofs.GroundTaskLemmas.{initial-numbered, numbered-distinct, occurs_in-numbered}
 use Rattle.explain_goals.proofs.GrownLemmas.{there-has}
 use Rattle.explain_goals.specs.Relaxation.{sure_of_instance, Needs, Adds, IsClosed}
-use Rattle.explain_goals.specs.Settled.{has, allows, allows_all, may_hold, may_apply, may_add, is_there, is_made, is_settled, IsSettled, is_in}
+use Rattle.explain_goals.specs.Settled.{has, allows, allows_all, may_hold, may_apply, may_add, is_there, is_made, IsSettled, is_in}
+
+-- ---- what a change adds, by numbers
+
+module _ (t : Task) (i : Instance) (c : Change) (a : Atom) (by : Adds t i c a) where
+  -- the atom has a number
+  touched : occurs_in (touched_by t i) a ≡ true
+  touched =
+      Contains-occurs_in (touched_by t i) a
+      (subst (λ q. Contains (touched_by t i) q) (ap atom_of_literal by.is) (Contains-map (λ (d : Change). atom_of_literal d.literal) (counting_changes t i) c by.counts))
+
+  pub added-number : (n : ℕ) × (number_of (numbered_atoms t []) a ≡ Some n)
+  added-number =
+      let among : occurs_in (numbered_atoms t []) a ≡ true = occurs_in-numbered t [] a ∙ or_right _ _ (occurs_in-flat_map (touched_by t) (kept_instances t) i a by.kept touched) in
+      let at = Contains-place (numbered_atoms t []) a (occurs_in-Contains (numbered_atoms t []) a among) in
+      (at.0, number_of-got (numbered_atoms t []) at.0 a (numbered-distinct t []) at.1)
+
+  abbrev pub added-conditional : ConditionalChange
+  added-conditional = record {
+    change = record { atom = added-number.0; value = true; is_unconditional = is_unconditional c };
+    condition = numbered_literals t (numbered_atoms t []) c.condition c.binding;
+    wants_unnumbered = wants_unnumbered t (numbered_atoms t []) c.condition c.binding;
+  }
+
+  is-added-conditional : conditional_change t (numbered_atoms t []) c ≡ Some added-conditional
+  is-added-conditional =
+      let number : numbered_literal (numbered_atoms t []) (is_true a) ≡ Some (record { atom = added-number.0; value = true }) =
+      ap (option_map (λ (n : ℕ). record { atom = n; value = true })) added-number.1 in
+      ap (λ l. conditional_of l (numbered_ground_literal (numbered_atoms t []) l)) by.is ∙ ap (conditional_of (adds a)) number
+    where
+      conditional_of : GroundLiteral → Option NumberedLiteral → Option ConditionalChange
+      conditional_of l o = option_map (λ (k : NumberedChange). record { change = k; condition = numbered_literals t (numbered_atoms t []) c.condition c.binding; wants_unnumbered = wants_unnumbered t (numbered_atoms t []) c.condition c.binding })
+          (option_map (λ (m : NumberedLiteral). record { atom = m.atom; value = m.value; is_unconditional = is_unconditional c }) o)
+
+  pub added-among : Contains (conditional_of_instance t (numbered_atoms t []) i) added-conditional
+  added-among = Contains-filter_map (conditional_change t (numbered_atoms t [])) (counting_changes t i) c added-conditional by.counts is-added-conditional
+
+-- ---- sets
 
 module _ (t : Task) (set : List Bool) where
   abbrev atoms : List Atom
@@ -117,16 +153,16 @@ module _ (t : Task) (set : List Bool) where
       literals-are : literals_of_instance t atoms i ≡ filter_map (numbered_literal atoms) (sure_of_instance t i)
       literals-are = elim (slice_get t.schemas i.schema) as (λ o. option_map_or (λ (s : Schema). numbered_literals t atoms s.precondition i.objects) o []
           ≡ filter_map (numbered_literal atoms) (option_map_or (λ (s : Schema). sure t s.precondition i.objects) o [])) [
-        | None ↦ refl
-        | Some s ↦ refl
-      ]
+            | None ↦ refl
+            | Some s ↦ refl
+          ]
 
       wants-are : instance_wants_unnumbered t atoms i ≡ list_any (is_unnumbered t atoms) (sure_of_instance t i)
       wants-are = elim (slice_get t.schemas i.schema) as (λ o. option_map_or (λ (s : Schema). wants_unnumbered t atoms s.precondition i.objects) o false
           ≡ list_any (is_unnumbered t atoms) (option_map_or (λ (s : Schema). sure t s.precondition i.objects) o [])) [
-        | None ↦ refl
-        | Some s ↦ refl
-      ]
+            | None ↦ refl
+            | Some s ↦ refl
+          ]
 
       place : (number : ℕ) × (slice_get (kept_instances t) number ≡ Some i)
       place = Contains-place (kept_instances t) i by.kept
@@ -144,34 +180,11 @@ module _ (t : Task) (set : List Bool) where
           ∙ sym (ap (λ b. not b || list_all (is_made set) (conditional_of_number t atoms place.0)) applies)
           ∙ settled.instances place.0 (slice_get_within (kept_instances t) place.0 i place.1)
 
-      -- the atom has a number
-      touched : occurs_in (touched_by t i) a ≡ true
-      touched =
-          Contains-occurs_in (touched_by t i) a
-          (subst (λ q. Contains (touched_by t i) q) (ap atom_of_literal by.is) (Contains-map (λ (d : Change). atom_of_literal d.literal) (counting_changes t i) c by.counts))
-
-      numbered : (n : ℕ) × (number_of atoms a ≡ Some n)
-      numbered =
-          let among : occurs_in atoms a ≡ true = occurs_in-numbered t [] a ∙ or_right _ _ (occurs_in-flat_map (touched_by t) (kept_instances t) i a by.kept touched) in
-          let at = Contains-place atoms a (occurs_in-Contains atoms a among) in
-          (at.0, number_of-got atoms at.0 a (numbered-distinct t []) at.1)
+      abbrev numbered : (n : ℕ) × (number_of atoms a ≡ Some n)
+      numbered = added-number t i c a by
 
       abbrev conditional : ConditionalChange
-      conditional = record {
-        change = record { atom = numbered.0; value = true; is_unconditional = is_unconditional c };
-        condition = numbered_literals t atoms c.condition c.binding;
-        wants_unnumbered = wants_unnumbered t atoms c.condition c.binding;
-      }
-
-      is-conditional : conditional_change t atoms c ≡ Some conditional
-      is-conditional =
-          let number : numbered_literal atoms (is_true a) ≡ Some (record { atom = numbered.0; value = true }) =
-          ap (option_map (λ (n : ℕ). record { atom = n; value = true })) numbered.1 in
-          ap (λ l. conditional_of l (numbered_ground_literal atoms l)) by.is ∙ ap (conditional_of (adds a)) number
-        where
-          conditional_of : GroundLiteral → Option NumberedLiteral → Option ConditionalChange
-          conditional_of l o = option_map (λ (k : NumberedChange). record { change = k; condition = numbered_literals t atoms c.condition c.binding; wants_unnumbered = wants_unnumbered t atoms c.condition c.binding })
-              (option_map (λ (m : NumberedLiteral). record { atom = m.atom; value = m.value; is_unconditional = is_unconditional c }) o)
+      conditional = added-conditional t i c a by
 
       adds-it : may_add set conditional ≡ true
       adds-it =
@@ -185,7 +198,7 @@ module _ (t : Task) (set : List Bool) where
 
       is_in-after : is_in t atoms set a ≡ true
       is_in-after =
-          let at = Contains-place (conditional_of_instance t atoms i) conditional (Contains-filter_map (conditional_change t atoms) (counting_changes t i) c conditional by.counts is-conditional) in
+          let at = Contains-place (conditional_of_instance t atoms i) conditional (added-among t i c a by) in
           let made = passes_got (is_made set) (conditional_of_instance t atoms i) at.0 conditional at.1 all-made in
           has-is_in a numbered.0 numbered.1 (there-has set numbered.0 below (sym (ap (λ b. not b || is_there set numbered.0) adds-it) ∙ made))
 

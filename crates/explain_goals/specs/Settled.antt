@@ -69,8 +69,11 @@ pub record IsLeastSettled (t : Task) (atoms : List Atom) (set : List Bool) : Typ
   pub least : (other : List Bool) → IsSettled t atoms other → IsWithin set other
 
 -- the set of atoms: those initially true, and those with these numbers
+abbrev pub has_number : List Atom → List Bool → Atom → Bool
+has_number atoms set a = option_map_or (has set) (number_of atoms a) false
+
 abbrev pub is_in : Task → List Atom → List Bool → Atom → Bool
-is_in t atoms set a = contains (initial_state t) a || option_map_or (has set) (number_of atoms a) false
+is_in t atoms set a = contains (initial_state t) a || has_number atoms set a
 
 -- ---- growing sets
 

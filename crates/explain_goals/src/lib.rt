@@ -1,7 +1,13 @@
 //! Explains why a task has no plan: atoms of the goal that can never become true, with what they need, and contradictions.
 #![tactic(auto)]
 
+mod chains;
+mod goal_notes;
 mod laws;
+mod needs;
+mod printing;
 mod reached;
+mod relaxation;
 
+pub use goal_notes::{GoalNotes, MOST_FOUND, MOST_TOLD, Unreachable};
 pub use laws::{closed_sets_are_invariants, never_true_goals_are_unsolvable};

@@ -12,6 +12,7 @@ ghost use Rattle.explain_goals.specs.Settled.{AreMade, AreSettledBelow, IsGrown,
 use faults::NoMemory;
 use grounding::{CountingChange, Ground, NumberedLiteral};
 use packed_state::Packed;
+use potentials::instance_count;
 use std::alloc::Global;
 
 /// The least set of atoms, by number, that has the initial ones and to which no instance adds, if deletes and negative literals are
@@ -136,10 +137,4 @@ pub(crate) fn has(set: &Packed, number: u32) -> bool
     ensures { result ≡ defined.has (bits_of set.now) number }
 {
     number < set.width() && set.has(number)
-}
-
-fn instance_count(ground: &Ground<'_>) -> u32
-    ensures { result ≡ length (kept_instances (task_in ground.now)) }
-{
-    ground.instances().len() as u32
 }

@@ -7,8 +7,10 @@ ghost use Rattle.file_answers.specs.ExplanationLines.{grounded_line, on_lines};
 ghost use Rattle.file_answers.specs.Explanations.{IsGrounded, IsTaskExplained};
 
 use crate::explanation::{Explanation, Grounded, Subject};
+use explain_goals::GoalNotes;
 use explain_tasks::{GroundNotes, Summary, TaskNotes};
 use faults::{NoMemory, Refused};
+use grounding::Ground;
 use grounding_instances::{GroundLimit, Numbering};
 use std::alloc::{AllocError, Global};
 use task::Task;
@@ -105,7 +107,22 @@ fn notes_of(alloc: Global, numbering: &Numbering<'_>, most: u32) -> Result<Vec<S
     let notes = GroundNotes::of(alloc, numbering, most)?;
     let mut lines = Vec::new(alloc);
     notes.add_lines(alloc, numbering.task(), most, &mut lines)?;
+    add_goal_notes(alloc, numbering.task(), most, &mut lines)?;
     Ok(lines)
+}
+
+/// Adds the notes on the goal, if the ground task is within its limits.
+fn add_goal_notes(
+    alloc: Global,
+    task: &Task,
+    most: u32,
+    lines: &mut Vec<String>,
+) -> Result<(), NoMemory> {
+    match Ground::new(alloc, task, &[], most) {
+        Ok(ground) => GoalNotes::of(alloc, &ground)?.add_lines(alloc, task, lines),
+        Err(Refused::At(_)) => Ok(()),
+        Err(Refused::NoMemory) => Err(NoMemory),
+    }
 }
 
 /// The line for the outcome of grounding.

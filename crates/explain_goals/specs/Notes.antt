@@ -1,0 +1,23 @@
+-- The notes on the goal of a task.
+use Rattle.std.specs.Prelude.{ℕ, map, All}
+use Rattle.task.specs.TaskParts.{atom_of}
+use Rattle.formulas.specs.State.{state_of}
+use Rattle.model.specs.Task.{Task}
+use Rattle.explain_goals.specs.declared.goal_notes.GoalNotes.{GoalNotes}
+use Rattle.explain_goals.specs.declared.goal_notes.Unreachable.{Unreachable}
+use Rattle.explain_goals.specs.Chains.{IsChain}
+use Rattle.explain_goals.specs.Relaxation.{IsNeverTrue, IsRequired}
+
+-- the maximum number of atoms that are searched for: one more than are told
+abbrev pub most_found : ℕ
+most_found = 11
+
+-- the goal requires the atom, no list of actions makes it true, and this is what it needs
+pub record IsNoteOf (t : Task) (u : Unreachable) : Type 0 where
+  pub required : IsRequired t (atom_of u.atom)
+  pub never_true : IsNeverTrue t (atom_of u.atom)
+  pub chain : IsChain t (atom_of u.atom) (map state_of u.chain.items)
+
+-- so a task with a note is unsolvable
+pub record AreGoalNotesOf (t : Task) (notes : GoalNotes) : Type 0 where
+  pub unreachable : All (IsNoteOf t) notes.unreachable.items

@@ -1,0 +1,190 @@
+//! Notes on a goal as lines of text, each without LF.
+use crate::goal_notes::{GoalNotes, MOST_TOLD, Unreachable};
+use faults::NoMemory;
+use formulas::{Atom, State};
+use std::alloc::Global;
+use task::{ObjectId, PredicateId, Task};
+
+/// The maximum number of atoms, or kinds of atoms, that are named of a link.
+const MOST_NAMED: usize = 3;
+
+impl GoalNotes {
+    /// Adds a line for each atom of the goal that is never true although some action adds it.
+    ///
+    /// # Errors
+    /// An allocation failed.
+    ///
+    /// # Examples
+    /// ```text
+    /// The goal asks for (at p2 north), which can never become true: it needs (in p2 d1) or (in p2 t1); these need some (at p2 ..), all false at the start.
+    /// ```
+    pub fn add_lines(
+        &self,
+        alloc: Global,
+        task: &Task,
+        lines: &mut Vec<String>,
+    ) -> Result<(), NoMemory> {
+        for one in self.unreachable.iter().take(MOST_TOLD) {
+            add_unreachable(alloc, task, one, lines)?;
+        }
+        if self.unreachable.len() > MOST_TOLD {
+            let line = "The goal asks for more atoms that can never become true.";
+            lines.push(String::from_str(alloc, line)?)?;
+        }
+        Ok(())
+    }
+}
+
+/// Adds the line for an atom, unless no action adds it, which is told elsewhere.
+fn add_unreachable(
+    alloc: Global,
+    task: &Task,
+    one: &Unreachable,
+    lines: &mut Vec<String>,
+) -> Result<(), NoMemory> {
+    let needed = match one.chain.as_slice().split_first() {
+        Some((_, needed)) => needed,
+        None => return Ok(()),
+    };
+    if needed.first().is_some_and(|link| link.atoms().len() == 0) {
+        return Ok(());
+    }
+    let mut line = String::from_str(alloc, "The goal asks for ")?;
+    add_pattern(task, &Pattern::of(alloc, &one.atom)?, &mut line)?;
+    line.push_str(", which can never become true")?;
+    add_needed(alloc, task, needed, &mut line)?;
+    line.push_str(".")?;
+    lines.push(line)?;
+    Ok(())
+}
+
+/// Adds what is needed, link by link, and how the last one ends.
+fn add_needed(
+    alloc: Global,
+    task: &Task,
+    links: &[State],
+    line: &mut String,
+) -> Result<(), NoMemory> {
+    let mut opening = ": it needs ";
+    let mut ending = "";
+    for link in links {
+        match link.atoms().len() {
+            0 => {
+                line.push_str(ending)?;
+                ending = ", and no action adds one";
+            }
+            count => {
+                line.push_str(opening)?;
+                add_link(alloc, task, link, line)?;
+                opening = if count == 1 {
+                    "; that needs "
+                } else {
+                    "; these need "
+                };
+                ending = if count == 1 {
+                    ", which is false at the start"
+                } else {
+                    ", all false at the start"
+                };
+            }
+        }
+    }
+    line.push_str(ending)?;
+    Ok(())
+}
+
+/// Adds the atoms of a link: each, if they are few, and otherwise by predicate.
+fn add_link(alloc: Global, task: &Task, link: &State, line: &mut String) -> Result<(), NoMemory> {
+    let patterns = patterns_of(alloc, link)?;
+    let named = patterns.len().min(MOST_NAMED);
+    for (place, pattern) in patterns.iter().take(MOST_NAMED).enumerate() {
+        if place > 0 {
+            let is_last = place + 1 == patterns.len();
+            line.push_str(if is_last { " or " } else { ", " })?;
+        }
+        add_pattern(task, pattern, line)?;
+    }
+    if patterns.len() > named {
+        line.push_str(" or others")?;
+    }
+    Ok(())
+}
+
+/// Atoms of one predicate: the objects that all of them have at a place.
+#[derive(Drop)]
+struct Pattern {
+    predicate: PredicateId,
+    objects: Vec<Option<ObjectId>>,
+    /// The number of atoms.
+    count: usize,
+}
+
+impl Pattern {
+    /// The pattern of this atom alone.
+    fn of(alloc: Global, atom: &Atom) -> Result<Pattern, NoMemory> {
+        let mut objects = Vec::new(alloc);
+        for object in atom.objects.as_slice() {
+            objects.push(Some(*object))?;
+        }
+        Ok(Pattern {
+            predicate: atom.predicate,
+            objects,
+            count: 1,
+        })
+    }
+
+    /// Takes the atom in, if it has the predicate; whether it has.
+    fn takes(&mut self, atom: &Atom) -> bool {
+        if self.predicate != atom.predicate {
+            return false;
+        }
+        for (place, object) in atom.objects.as_slice().iter().enumerate() {
+            if let Some(held) = self.objects.get_mut(place) {
+                if *held != Some(*object) {
+                    *held = None;
+                }
+            }
+        }
+        self.count = self.count.saturating_add(1);
+        true
+    }
+}
+
+/// The patterns of these atoms: each alone, if they are few, and otherwise those of a predicate together.
+fn patterns_of(alloc: Global, atoms: &State) -> Result<Vec<Pattern>, NoMemory> {
+    let few = atoms.atoms().len() <= MOST_NAMED;
+    let mut patterns: Vec<Pattern> = Vec::new(alloc);
+    for atom in atoms.atoms() {
+        let is_taken = !few && patterns.last_mut().is_some_and(|last| last.takes(atom));
+        if !is_taken {
+            patterns.push(Pattern::of(alloc, atom)?)?;
+        }
+    }
+    Ok(patterns)
+}
+
+/// Adds the pattern, with `..` for what differs.
+fn add_pattern(task: &Task, pattern: &Pattern, line: &mut String) -> Result<(), NoMemory> {
+    if pattern.count > 1 {
+        line.push_str("some ")?;
+    }
+    line.push_str("(")?;
+    add_bytes(task.predicate_name(pattern.predicate).unwrap_or(b""), line)?;
+    for object in &pattern.objects {
+        line.push_str(" ")?;
+        match object {
+            Some(object) => add_bytes(task.object_name(*object).unwrap_or(b""), line)?,
+            None => line.push_str("..")?,
+        }
+    }
+    line.push_str(")")?;
+    Ok(())
+}
+
+/// Adds bytes, which are all ASCII, as names are.
+fn add_bytes(bytes: &[u8], line: &mut String) -> Result<(), NoMemory> {
+    for byte in bytes {
+        line.push(char::from(*byte))?;
+    }
+    Ok(())
+}
