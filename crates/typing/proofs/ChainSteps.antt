@@ -1,5 +1,5 @@
 -- How a chain of parents grows step by step, and how the types and the faults of their chains continue by number.
-use Rattle.std.proofs.Common.{◌≡◌, ℕ, ◌+◌, ◌-◌, ◌<◌, ◌≤◌, Bool, true, false, not, List, [], ◌∷◌, ◌++◌, map, length, get_or, drop, take, slice_index, Option, refl, ap, sym, ◌∙◌, arith, zero, suc, if◌then◌else◌}
+use Rattle.std.proofs.Common.{◌≡◌, ℕ, ◌+◌, ◌-◌, ◌<◌, ◌≤◌, Bool, true, false, not, List, [], ◌∷◌, ◌++◌, map, length, get_or, drop, take, slice_index, refl, ap, sym, ◌∙◌, arith, zero, suc, if◌then◌else◌}
 use Rattle.std.specs.Map.{keys_of}
 use Rattle.std.proofs.lemmas.List.{append_assoc, append-nil, drop_more, drop_all, length-map}
 use Rattle.std.specs.Global.{Vec}

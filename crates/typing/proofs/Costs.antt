@@ -10,7 +10,7 @@ use Rattle.pddl_tree_parts.specs.Tree.{name_of}
 use Rattle.model.specs.Task as task
 use Rattle.model.specs.Trees.{TaskFile, problem_file}
 use Rattle.model.specs.Trees as tree
-use Rattle.model.specs.Typing.{Placed, TypingFault, folded, is_same, is_known, names_of_predicates, placed, predicate_in, refused, refused_word, total_cost, with_name}
+use Rattle.model.specs.Typing.{TypingFault, folded, is_same, is_known, names_of_predicates, predicate_in, refused, refused_word, total_cost, with_name}
 use Rattle.typing_names.specs.Walk.{Findings, found}
 use Rattle.typing_names.proofs.Found.{map-map}
 

@@ -1,5 +1,5 @@
 -- The parts of effects as lists: what they resolve to, and the faults found in them.
-use Rattle.std.proofs.Common.{◌≡◌, List, [], ◌∷◌, ◌++◌, map, Option, refl, sym, ap, ◌∙◌}
+use Rattle.std.proofs.Common.{◌≡◌, List, [], ◌∷◌, ◌++◌, map, refl, sym, ap, ◌∙◌}
 use Rattle.std.specs.Global.{Vec}
 use Rattle.std.specs.List.{flat_map}
 use mathlib.Core.Former.{Count}
@@ -11,7 +11,7 @@ use Rattle.pddl_tree_parts.proofs.Rows as rows
 use Rattle.task.specs.TaskParts.{effect_of, effects_of}
 use Rattle.model.specs.Task as task
 use Rattle.model.specs.Trees.{TaskFile, effects}
-use Rattle.model.specs.Typing.{Known, TypingFault, effect_in, effects_in, effect_faults, effects_faults, each_of}
+use Rattle.model.specs.Typing.{Known, effect_in, effects_in, effect_faults, effects_faults, each_of}
 use Rattle.typing_names.specs.Walk.{Findings, found}
 
 abbrev pub joined_effects : List task.Effect → task.Effects

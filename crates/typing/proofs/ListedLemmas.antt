@@ -1,14 +1,15 @@
 -- The listed faults are faults of the pair.
-use Rattle.std.proofs.Common.{◌≡◌, ◌∙◌, List, [], ◌∷◌, ◌++◌, drop, map, take, All, Contains, ◌⊎◌, inl, inr, refl, sym, ap, subst}
+use Rattle.std.proofs.Common.{◌≡◌, ◌∙◌, List, [], ◌∷◌, ◌++◌, drop, map, take, Contains, ◌⊎◌, inl, inr, refl, sym, ap, subst}
 use Rattle.std.proofs.lemmas.List.{take-append-drop}
 use Rattle.std.proofs.lemmas.List.Elements.{All-contains_itself, Contains-append_cases, Contains-append_left}
 use Rattle.std.proofs.lemmas.List.Sorted.{All-permutation}
 use Rattle.typing_names.specs.Refusals.{refusal_of}
 use Rattle.typing_names.specs.declared.fault.TaskRefusal.{TaskRefusal}
-use Rattle.typing.specs.Declarations.{type_faults_of}
+use Rattle.typing.specs.Declarations.{declared_faults, type_faults_of}
 use Rattle.typing.specs.DeclaredObjects.{AreObjects, AreObjectsOf}
 use Rattle.typing.specs.Listed.{AreFaultsOf, AreListed, IsFaultOf, faults_listed, use_faults}
 use Rattle.typing.specs.declared.names.DeclaredObjects.{DeclaredObjects}
+use Rattle.typing.proofs.Tasks.{first_filled-append}
 use Rattle.model.specs.Task.{Name}
 use Rattle.model.specs.Trees.{Domain, Problem}
 use Rattle.model.specs.Typing.{TypingFault, cycle_faults, declaration_faults, declared_constants, declared_objects, domain_name_faults, first_filled, function_faults, object_faults, object_in, objects_faults, type_declaration_faults, type_names}
@@ -28,6 +29,10 @@ objects_named {d = d} {p = p} are same = record {
 }
 
 -- ---- the phases
+
+-- the listed faults: those of the declarations, and of what uses them
+pub listed_by_parts : (d : Domain) (p : Problem) → faults_listed d p ≡ first_filled (declared_faults d p ∷ use_faults d p ∷ [])
+listed_by_parts d p = first_filled-append (type_faults_of d p ∷ object_faults d p ∷ declaration_faults (type_names d) d.predicates ∷ function_faults d p ∷ []) (use_faults d p ∷ [])
 
 module _ (d : Domain) (p : Problem) where
   -- a listed fault of a phase

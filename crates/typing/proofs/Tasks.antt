@@ -1,5 +1,5 @@
 -- The parts that the phases produce are those of the trees' task, if no phase has a fault.
-use Rattle.std.proofs.Common.{◌≡◌, ℕ, ◌+◌, ◌≤◌, ◌<◌, Bool, true, false, is_some, drop, List, [], ◌∷◌, ◌++◌, codes, map, length, slice_get, slice_index, nat_le, refl, ap, sym, subst, ◌∙◌, arith, zero, suc, Some}
+use Rattle.std.proofs.Common.{◌≡◌, ℕ, ◌+◌, ◌≤◌, ◌<◌, true, false, is_some, drop, List, [], ◌∷◌, ◌++◌, codes, map, length, slice_get, slice_index, nat_le, refl, ap, sym, subst, ◌∙◌, arith, zero, suc, Some}
 use Rattle.std.specs.Prelude.{◌↔◌, Contains}
 use Rattle.std.specs.List.{flat_map, list_all}
 use Rattle.std.proofs.lemmas.Bool.Decides.{nat_tests}
@@ -7,19 +7,14 @@ use Rattle.std.proofs.lemmas.List.{length-map, take_all, map-append}
 use Rattle.model.specs.Task as task
 use Rattle.model.specs.Trees as tree
 use Rattle.model.specs.Trees.{TaskFile, domain_file, problem_file}
-use Rattle.model.specs.Typing.{TypingFault, Declared, Known, folded, names_of, names_of_objects, number_in, type_in, type_names, parents_of, types_of, Descends, whole_chain, comes_back, type_faults, words_of, one_after, refused, repeated, repeated_after, predicate_faults, terms_faults, arguments_in, ground_atom_faults, initial_cost_faults, fact_faults, facts_faults, init_faults, function_faults, formula_faults, domain_name_faults, type_declaration_faults, cycle_faults, object_faults, declaration_faults, action_faults, argument_faults, schema_faults, atom_in, atoms_in, object_in, declared_types, declared_constants, declared, equals_in, in_function, predicate_in, predicates_of, known_in_domain, known_in_problem, task_of_trees, faults_of, first_filled, ListsNoFault}
+use Rattle.model.specs.Typing.{TypingFault, Declared, Known, folded, names_of, names_of_objects, number_in, type_in, type_names, parents_of, types_of, Descends, whole_chain, comes_back, type_faults, words_of, one_after, refused, repeated, repeated_after, predicate_faults, terms_faults, arguments_in, ground_atom_faults, initial_cost_faults, fact_faults, facts_faults, init_faults, function_faults, formula_faults, domain_name_faults, type_declaration_faults, cycle_faults, object_faults, declaration_faults, action_faults, argument_faults, schema_faults, atom_in, atoms_in, object_in, declared_types, declared_constants, declared, equals_in, in_function, predicate_in, predicates_of, functions_of, objects_of, schema_in, values_after, formula_in, known_in_domain, known_in_problem, task_of_trees, faults_of, first_filled, ListsNoFault}
 use Rattle.model.specs.WellTyped.{is_task}
 use Rattle.model.proofs.Tests.{passes_got}
-use Rattle.typing.specs.declared.names.Declarations.{Declarations}
-use Rattle.typing.specs.declared.names.DeclaredObjects.{DeclaredObjects}
-use Rattle.typing.specs.declared.names.Start.{Start}
-use Rattle.typing_names.specs.declared.type_names.TypeTable.{TypeTable}
-use Rattle.typing.specs.Declarations.{type_faults_of, domain_faults, contents_faults, stated_faults_in, AreContents, AreTypesOf}
-use Rattle.task.specs.TaskParts.{task_of_parts}
+use Rattle.typing.specs.declared.names.Names.{Names}
+use Rattle.typing.specs.Declarations.{declared_faults, known_in_names, stated_faults_in, type_faults_of, AreNamesOf}
+use Rattle.task.specs.TaskParts.{atom_of, formula_of, object_entry_of, predicate_of, schema_of, task_of_parts, type_entry_of, value_of}
 use Rattle.task.specs.declared.parts.TaskParts.{TaskParts}
-use Rattle.typing.specs.Task.{PairFault, ReportsAll, ReportsFaults}
 use Rattle.typing_names.specs.Scope.{narrow_atoms_in}
-use Rattle.typing_names.proofs.Reports.{reports_here, reports_later}
 use Rattle.typing_names.proofs.Empty.{nil_left, nil_right, not_refused, and_true}
 use Rattle.typing.proofs.ParentChains.{all_whole, descends_on_chain, type_at, among_Contains, Contains_among}
 use Rattle.typing_names.proofs.Declared.{names_are}
@@ -71,27 +66,39 @@ first_filled-later : (faults : List TypingFault) (later others : List (List Typi
 first_filled-later [] later others e = e
 first_filled-later (f ∷ more) later others e = refl
 
-first_filled-append : (lists later : List (List TypingFault)) → first_filled (lists ++ later) ≡ first_filled (first_filled lists ∷ later)
+pub first_filled-append : (lists later : List (List TypingFault)) → first_filled (lists ++ later) ≡ first_filled (first_filled lists ∷ later)
 first_filled-append [] later = refl
 first_filled-append ([] ∷ lists) later = first_filled-append lists later
 first_filled-append ((f ∷ more) ∷ lists) later = refl
 
--- the pair's faults: those of the types, and of the other declarations and statements
-faults_by_parts : (d : tree.Domain) (p : tree.Problem) → faults_of d p ≡ first_filled (type_faults_of d p ∷ contents_faults d p ∷ [])
+-- the pair's faults: those of its declarations, of the actions, and of the problem's statements
+pub faults_by_parts : (d : tree.Domain) (p : tree.Problem)
+    → faults_of d p ≡ first_filled (declared_faults d p ∷ action_faults (known_in_domain d) d.actions ∷ stated_faults_in problem_file (known_in_problem d p) p ∷ [])
 faults_by_parts d p =
     let types = (domain_name_faults d p ++ type_declaration_faults d) ∷ cycle_faults d ∷ [] in
-    let others = declaration_faults (type_names d) d.predicates ∷ function_faults d p ∷ action_faults (known_in_domain d) d.actions ∷ [] in
+    let names = object_faults d p ∷ declaration_faults (type_names d) d.predicates ∷ function_faults d p ∷ [] in
+    let actions = action_faults (known_in_domain d) d.actions in
     let stated = init_faults problem_file (known_in_problem d p) p.init ∷ formula_faults problem_file (known_in_problem d p) p.goal ∷ [] in
-    let parts = object_faults d p ∷ first_filled others ∷ first_filled stated ∷ [] in
-    first_filled-append types (object_faults d p ∷ (others ++ stated))
-    ∙ first_filled-later (first_filled types) (object_faults d p ∷ (others ++ stated)) (first_filled parts ∷ [])
-    (first_filled-later (object_faults d p) (others ++ stated) (first_filled others ∷ first_filled stated ∷ [])
-    (first_filled-append others stated ∙ first_filled-later (first_filled others) stated (first_filled stated ∷ []) (first_filled-append stated []))
-    ∙ first_filled-append parts [])
+    first_filled-append types (names ++ (actions ∷ stated)) ∙ first_filled-append (first_filled types ∷ names) (actions ∷ stated)
+    ∙ first_filled-later (declared_faults d p) (actions ∷ stated) (actions ∷ first_filled stated ∷ []) (first_filled-later actions stated (first_filled stated ∷ []) (first_filled-append stated []))
+
+-- the names visible in the domain and in the problem
+module _ (d : tree.Domain) (p : tree.Problem) (n : Names) (are : AreNamesOf d p n) where
+  pub names_in_domain : known_in_names n n.objects.constants.entries ≡ known_in_domain d
+  names_in_domain = λ i. record { type_names = are.types.names i; types = are.types.all i; predicates = are.predicates i; functions = are.functions i; variables = []; objects = are.objects.constants i }
+
+  pub names_in_problem : known_in_names n n.objects.all.entries ≡ known_in_problem d p
+  names_in_problem = λ i. record { type_names = are.types.names i; types = are.types.all i; predicates = are.predicates i; functions = are.functions i; variables = []; objects = are.objects.all i }
 
 -- ---- the task of a pair without faults
 
-module _ (d : tree.Domain) (p : tree.Problem) (no_type : type_faults_of d p ≡ []) (no_other : domain_faults d p ≡ []) (no_stated : stated_faults_in problem_file (known_in_problem d p) p ≡ []) where
+module _ (d : tree.Domain) (p : tree.Problem) (no_declared : declared_faults d p ≡ []) (no_action : action_faults (known_in_domain d) d.actions ≡ []) (no_stated : stated_faults_in problem_file (known_in_problem d p) p ≡ []) where
+  no_type : type_faults_of d p ≡ []
+  no_type = (none_filled _ _ no_declared).0
+
+  no_other : first_filled (declaration_faults (type_names d) d.predicates ∷ function_faults d p ∷ []) ≡ []
+  no_other = (none_filled (object_faults d p) _ (none_filled (type_faults_of d p) _ no_declared).1).1
+
   no_names : type_declaration_faults d ≡ []
   no_names = nil_right (domain_name_faults d p) (type_declaration_faults d) (none_filled _ _ no_type).0
 
@@ -103,9 +110,6 @@ module _ (d : tree.Domain) (p : tree.Problem) (no_type : type_faults_of d p ≡ 
 
   no_function : declaration_faults (type_names d) d.functions ≡ []
   no_function = nil_left (declaration_faults (type_names d) d.functions) _ (none_filled _ _ (none_filled (declaration_faults (type_names d) d.predicates) _ no_other).1).0
-
-  no_action : action_faults (known_in_domain d) d.actions ≡ []
-  no_action = (none_filled _ _ (none_filled (function_faults d p) _ (none_filled (declaration_faults (type_names d) d.predicates) _ no_other).1).1).0
 
   no_init : flat_map (fact_faults problem_file (known_in_problem d p)) p.init ≡ []
   no_init =
@@ -187,41 +191,27 @@ pub record IsMade (d : tree.Domain) (p : tree.Problem) (made : task.Task) : Type
   pub same : made ≡ task_of_trees d p
   pub typed : is_task made ≡ true
 
--- the products of the phases, as the parts of a task
-abbrev pub parts_of : TypeTable → DeclaredObjects → Declarations → Start → Bool → TaskParts
-parts_of types objects names start has_metric = record {
-  types = types.by_name;
-  objects = objects.all;
-  predicates = names.predicates;
-  functions = names.functions;
-  schemas = names.schemas;
-  init = start.init;
-  values = start.values;
-  goal = start.goal;
-  has_metric = has_metric;
-}
+-- these are the parts of the pair's task, each atom with at most as many of its objects as a predicate may have
+pub record AreParts (d : tree.Domain) (p : tree.Problem) (parts : TaskParts) : Type 0 where
+  pub types : map type_entry_of parts.types.entries ≡ types_of d
+  pub objects : map object_entry_of parts.objects.entries ≡ objects_of d p
+  pub predicates : map predicate_of parts.predicates.entries ≡ predicates_of d
+  pub functions : map predicate_of parts.functions.entries ≡ functions_of d
+  pub schemas : map schema_of parts.schemas.entries ≡ map (schema_in (known_in_domain d)) d.actions
+  pub init : map atom_of parts.init.items ≡ flat_map (narrow_atoms_in (known_in_problem d p)) p.init
+  pub values : map value_of parts.values.entries ≡ values_after (known_in_problem d p) [] p.init
+  pub goal : formula_of parts.goal ≡ formula_in problem_file (known_in_problem d p) p.goal
+  pub metric : parts.has_metric ≡ is_some p.metric
 
-module _ (d : tree.Domain) (p : tree.Problem) where
-  -- the fault reported for the types is the pair's
-  pub reported_of_types : (e : PairFault) → ReportsAll (type_faults_of d p) e → ReportsFaults d p e
-  reported_of_types e h = subst (λ fs. ReportsAll fs e) (sym (faults_by_parts d p)) (reports_here (type_faults_of d p) _ e h)
-
-  module _ (no_type : type_faults_of d p ≡ []) where
-    -- and so is that of the other declarations and statements, if the types have none
-    pub reported_of_contents : (e : PairFault) → ReportsAll (contents_faults d p) e → ReportsFaults d p e
-    reported_of_contents e h =
-        subst (λ fs. ReportsAll fs e) (sym (faults_by_parts d p)) (reports_later (type_faults_of d p) _ no_type e (reports_here (contents_faults d p) [] e h))
-
-    pub made_by_phases : (types : TypeTable) → AreTypesOf d types → (objects : DeclaredObjects) (names : Declarations) (start : Start) → AreContents d p objects names start → (has_metric : Bool) → has_metric ≡ is_some p.metric
-        → IsMade d p (task_of_parts (parts_of types objects names start has_metric))
-    made_by_phases types are objects names start hold has_metric metric =
-        let known = known_in_problem d p in
-        let same_init = hold.start.init ∙ narrow_is_all problem_file known (low_arguments d p no_type hold.no_other hold.start.right) p.init (no_init d p no_type hold.no_other hold.start.right) in
-        let made : task.Task = task_of_parts (parts_of types objects names start has_metric) in
-        let same : made ≡ task_of_trees d p =
-        λ i. record { types = are.all i; objects = hold.objects i; predicates = hold.names.predicates i; functions = hold.names.functions i; schemas = hold.names.schemas i; init = same_init i; values = hold.start.values i; goal = hold.start.goal i; has_metric = metric i } in
-        record {
-          well_typed = faults_by_parts d p ∙ (λ i. first_filled (no_type i ∷ first_filled (hold.no_object i ∷ hold.no_other i ∷ hold.start.right i ∷ []) ∷ []));
-          same = same;
-          typed = ap is_task same ∙ typed d p no_type hold.no_other hold.start.right;
-        }
+module _ (d : tree.Domain) (p : tree.Problem) (parts : TaskParts) (are : AreParts d p parts) (no_declared : declared_faults d p ≡ []) (no_action : action_faults (known_in_domain d) d.actions ≡ [])
+    (no_stated : stated_faults_in problem_file (known_in_problem d p) p ≡ []) where
+  pub made_by_phases : IsMade d p (task_of_parts parts)
+  made_by_phases =
+      let same_init = are.init ∙ narrow_is_all problem_file (known_in_problem d p) (low_arguments d p no_declared no_action no_stated) p.init (no_init d p no_declared no_action no_stated) in
+      let same : task_of_parts parts ≡ task_of_trees d p =
+      λ i. record { types = are.types i; objects = are.objects i; predicates = are.predicates i; functions = are.functions i; schemas = are.schemas i; init = same_init i; values = are.values i; goal = are.goal i; has_metric = are.metric i } in
+      record {
+        well_typed = faults_by_parts d p ∙ (λ i. first_filled (no_declared i ∷ no_action i ∷ no_stated i ∷ []));
+        same = same;
+        typed = ap is_task same ∙ typed d p no_declared no_action no_stated;
+      }

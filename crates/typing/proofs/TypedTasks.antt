@@ -22,8 +22,8 @@ pub trees_are_typed : (d : Domain) (p : Problem) → IsWellTyped d p → is_task
 trees_are_typed d p well =
     let empty = each_empty (phases d p) (well_typed_listed d p well) in
     typed d p
-    (λ i. first_filled (empty 0 _ refl i ∷ empty 1 _ refl i ∷ []))
-    (λ i. first_filled (empty 3 _ refl i ∷ empty 4 _ refl i ∷ empty 5 _ refl i ∷ []))
+    (λ i. first_filled (first_filled (empty 0 _ refl i ∷ empty 1 _ refl i ∷ []) ∷ empty 2 _ refl i ∷ empty 3 _ refl i ∷ empty 4 _ refl i ∷ []))
+    (empty 5 _ refl)
     (λ i. first_filled (empty 6 _ refl i ∷ empty 7 _ refl i ∷ []))
 
 -- and its supertypes
@@ -31,8 +31,8 @@ pub supertypes_are_those_above : SupertypesAreThoseAbove
 supertypes_are_those_above d p well =
     let empty = each_empty (phases d p) (well_typed_listed d p well) in
     supertypes_above d p
-    (λ i. first_filled (empty 0 _ refl i ∷ empty 1 _ refl i ∷ []))
-    (λ i. first_filled (empty 3 _ refl i ∷ empty 4 _ refl i ∷ empty 5 _ refl i ∷ []))
+    (λ i. first_filled (first_filled (empty 0 _ refl i ∷ empty 1 _ refl i ∷ []) ∷ empty 2 _ refl i ∷ empty 3 _ refl i ∷ empty 4 _ refl i ∷ []))
+    (empty 5 _ refl)
     (λ i. first_filled (empty 6 _ refl i ∷ empty 7 _ refl i ∷ []))
 
 -- a task read from files

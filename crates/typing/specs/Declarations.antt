@@ -3,34 +3,29 @@ use Rattle.std.specs.Prelude.{◌≡◌, ℕ, List, [], ◌∷◌, ◌++◌, map
 use Rattle.std.specs.Global.{Vec}
 use Rattle.std.specs.List.{flat_map}
 use Rattle.task.specs.declared.atoms.TypeId.{TypeId}
-use Rattle.typing.specs.declared.names.Declarations.{Declarations}
-use Rattle.typing.specs.declared.names.DeclaredObjects.{DeclaredObjects}
+use Rattle.typing.specs.DeclaredObjects.{AreObjectsOf}
+use Rattle.typing.specs.declared.names.Names.{Names}
 use Rattle.typing.specs.declared.names.Start.{Start}
 use Rattle.typing_names.specs.declared.type_names.TypeTable.{TypeTable}
 use Rattle.task.specs.declared.schemas.Predicate.{Predicate}
-use Rattle.task.specs.declared.schemas.Schema.{Schema}
 use Rattle.typing_names.specs.Scope.{keys_in, narrow_atoms_in}
-use Rattle.task.specs.TaskParts.{atom_of, formula_of, object_entry_of, predicate_of, schema_of, type_entry_of, value_of}
+use Rattle.task.specs.TaskParts.{atom_of, formula_of, object_entry_of, predicate_of, type_entry_of, value_of}
 use Rattle.model.specs.Trees as tree
 use Rattle.model.specs.Trees.{TaskFile, problem_file}
-use Rattle.model.specs.Typing.{first_filled, init_faults, formula_faults, function_faults, domain_name_faults, type_declaration_faults, cycle_faults, object_faults, declaration_faults, action_faults, type_names, types_of, objects_of, predicates_of, functions_of, values_after, known_in_domain, known_in_problem, schema_in, formula_in, Known, TypingFault}
+use Rattle.model.specs.Typing.{first_filled, init_faults, formula_faults, function_faults, domain_name_faults, type_declaration_faults, cycle_faults, object_faults, declaration_faults, type_names, types_of, predicates_of, functions_of, values_after, formula_in, Known, TypingFault}
 
 -- the faults of the types: those of the first phase that has any
 abbrev pub type_faults_of : tree.Domain → tree.Problem → List TypingFault
 type_faults_of d p = first_filled ((domain_name_faults d p ++ type_declaration_faults d) ∷ cycle_faults d ∷ [])
 
--- the faults of the domain's other declarations, and of the metric
-abbrev pub domain_faults : tree.Domain → tree.Problem → List TypingFault
-domain_faults d p =
-    first_filled (declaration_faults (type_names d) d.predicates ∷ function_faults d p ∷ action_faults (known_in_domain d) d.actions ∷ [])
+-- the faults of the declarations, and of the metric: those of the first phase that has any
+abbrev pub declared_faults : tree.Domain → tree.Problem → List TypingFault
+declared_faults d p =
+    first_filled (type_faults_of d p ∷ object_faults d p ∷ declaration_faults (type_names d) d.predicates ∷ function_faults d p ∷ [])
 
 -- the faults of the initial state of a file, or if it has none, those of the goal
 abbrev pub stated_faults_in : TaskFile → Known → tree.Problem → List TypingFault
 stated_faults_in file known p = first_filled (init_faults file known p.init ∷ formula_faults file known p.goal ∷ [])
-
--- the faults of all declarations and statements except the types
-abbrev pub contents_faults : tree.Domain → tree.Problem → List TypingFault
-contents_faults d p = first_filled (object_faults d p ∷ domain_faults d p ∷ stated_faults_in problem_file (known_in_problem d p) p ∷ [])
 
 -- the names visible with these types, objects, predicates and functions
 abbrev pub known_in : TypeTable → List (Vec ℕ × TypeId) → List (Vec ℕ × Predicate) → List (Vec ℕ × Predicate) → Known
@@ -43,25 +38,21 @@ known_in t objects predicates functions = record {
   objects = map object_entry_of objects;
 }
 
--- the names visible in the problem
-abbrev pub known_by : TypeTable → DeclaredObjects → Declarations → Known
-known_by t o n = known_in t o.all.entries n.predicates.entries n.functions.entries
+-- the names visible with these objects
+abbrev pub known_in_names : Names → List (Vec ℕ × TypeId) → Known
+known_in_names n objects = known_in n.types objects n.predicates.entries n.functions.entries
 
 -- these are the types that the domain declares
 pub record AreTypesOf (d : tree.Domain) (t : TypeTable) : Type 0 where
   pub names : keys_in t.by_name.entries ≡ type_names d
   pub all : map type_entry_of t.by_name.entries ≡ types_of d
 
--- these are the declarations of the domain over its types
-pub record AreDeclared (d : tree.Domain) (n : Declarations) : Type 0 where
+-- these are the names that the pair declares
+pub record AreNamesOf (d : tree.Domain) (p : tree.Problem) (n : Names) : Type 0 where
+  pub types : AreTypesOf d n.types
+  pub objects : AreObjectsOf d p n.objects
   pub predicates : map predicate_of n.predicates.entries ≡ predicates_of d
   pub functions : map predicate_of n.functions.entries ≡ functions_of d
-  pub schemas : map schema_of n.schemas.entries ≡ map (schema_in (known_in_domain d)) d.actions
-
--- these are the schemas of the domain, which have no fault
-pub record AreSchemasOf (known : Known) (d : tree.Domain) (entries : List (Vec ℕ × Schema)) : Type 0 where
-  pub right : action_faults known d.actions ≡ []
-  pub schemas : map schema_of entries ≡ map (schema_in known) d.actions
 
 -- the problem's statements have no fault, and these are its initial state and goal
 pub record Starts (file : TaskFile) (known : Known) (p : tree.Problem) (s : Start) : Type 0 where
@@ -69,11 +60,3 @@ pub record Starts (file : TaskFile) (known : Known) (p : tree.Problem) (s : Star
   pub init : map atom_of s.init.items ≡ flat_map (narrow_atoms_in known) p.init
   pub values : map value_of s.values.entries ≡ values_after known [] p.init
   pub goal : formula_of s.goal ≡ formula_in file known p.goal
-
--- nothing except the types may have a fault, and these are the pair's objects, declarations and statements
-pub record AreContents (d : tree.Domain) (p : tree.Problem) (o : DeclaredObjects) (n : Declarations) (s : Start) : Type 0 where
-  pub no_object : object_faults d p ≡ []
-  pub no_other : domain_faults d p ≡ []
-  pub objects : map object_entry_of o.all.entries ≡ objects_of d p
-  pub names : AreDeclared d n
-  pub start : Starts problem_file (known_in_problem d p) p s

@@ -1,17 +1,12 @@
 -- The listed faults of a pair.
-use Rattle.std.specs.Prelude.{◌≡◌, ℕ, List, [], ◌∷◌, ◌++◌, map, take, All}
+use Rattle.std.specs.Prelude.{◌≡◌, List, [], ◌∷◌, ◌++◌, map, take, All}
 use Rattle.std.specs.List.Sorted.{IsPermutation}
-use Rattle.std.specs.Global.{Vec}
-use Rattle.task.specs.TaskParts.{predicate_of}
-use Rattle.task.specs.declared.atoms.TypeId.{TypeId}
 use Rattle.typing_names.specs.Refusals.{refusal_of}
 use Rattle.typing_names.specs.declared.fault.TaskRefusal.{TaskRefusal}
-use Rattle.typing.specs.Declarations.{AreTypesOf, known_in, type_faults_of}
-use Rattle.typing.specs.DeclaredObjects.{AreObjectsOf}
-use Rattle.typing.specs.declared.listed.Names.{Names}
+use Rattle.typing.specs.Declarations.{type_faults_of}
 use Rattle.model.specs.Trees.{Domain, Problem, problem_file}
-use Rattle.model.specs.Resolution.{Placed, TypingFault, functions_of, predicates_of}
-use Rattle.model.specs.Typing.{Known, action_faults, declaration_faults, first_filled, formula_faults, function_faults, init_faults, known_in_domain, known_in_problem, object_faults, type_names}
+use Rattle.model.specs.Resolution.{Placed, TypingFault}
+use Rattle.model.specs.Typing.{action_faults, declaration_faults, first_filled, formula_faults, function_faults, init_faults, known_in_domain, known_in_problem, object_faults, type_names}
 use Rattle.model.specs.TypingFaults.{Phase, IsFaultIn}
 
 -- the faults of the actions, of the initial state and of the goal, which do not depend on each other
@@ -40,16 +35,3 @@ pub record IsFaultOf (d : Domain) (p : Problem) (f : TypingFault) : Type 0 where
 -- every listed fault is a fault of the pair
 abbrev pub AreFaultsOf : Domain → Problem → List TaskRefusal → Type 0
 AreFaultsOf d p listed = All (λ r. IsFaultOf d p (refusal_of r)) listed
-
--- ---- intermediate definitions
-
--- the names visible with these objects
-abbrev pub known_in_names : Names → List (Vec ℕ × TypeId) → Known
-known_in_names n objects = known_in n.types.now objects n.predicates.now.entries n.functions.now.entries
-
--- these are the names that the pair declares
-pub record AreNamesOf (d : Domain) (p : Problem) (n : Names) : Type 0 where
-  pub types : AreTypesOf d n.types.now
-  pub objects : AreObjectsOf d p n.objects.now
-  pub predicates : map predicate_of n.predicates.now.entries ≡ predicates_of d
-  pub functions : map predicate_of n.functions.now.entries ≡ functions_of d

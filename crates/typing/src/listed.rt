@@ -1,25 +1,22 @@
 //! All faults of a pair that are found before one of them hides what comes after it.
 ghost use Rattle.std.specs.Prelude.{◌≡◌, ◌++◌, List, [], IfErr, IfOk, OnOk};
-ghost use Rattle.pddl_tree_parts.specs.Tree.{domain_of, file_of, problem_of};
+ghost use Rattle.pddl_tree_parts.specs.Tree.{domain_of, problem_of};
 ghost use Rattle.typing_names.specs.Resolver.{file_in, known_to};
-ghost use Rattle.typing_names.specs.Scope.{known_outside};
 ghost use Rattle.typing_names.specs.Walk.{Finds};
 ghost use Rattle.typing.specs.Task.{ReportsAll};
-ghost use Rattle.typing.specs.Listed.{AreFaultsOf, AreListed, AreNamesOf, faults_listed, known_in_names, use_faults};
-ghost use Rattle.model.specs.Trees.{domain_file, problem_file};
+ghost use Rattle.typing.specs.Declarations.{AreNamesOf};
+ghost use Rattle.typing.specs.Listed.{AreFaultsOf, AreListed, faults_listed, use_faults};
 ghost use Rattle.model.specs.Typing.{TypingFault, formula_faults, init_faults};
 
 use crate::actions::walked_actions;
-use crate::names::DeclaredObjects;
+use crate::names::Names;
 use crate::statements::walked_init;
-use crate::{PairFault, TaskFile, TaskRefusal, chains, declarations, functions, objects};
+use crate::{PairFault, TaskFile, TaskRefusal};
 use faults::{NoMemory, Refused};
-use indexmap::IndexMap;
 use pddl_tree_parts::{Domain, Problem};
 use std::alloc::Global;
-use task::Predicate;
 use typing_names::formulas::formula;
-use typing_names::{Globals, Resolver, TypeTable, Walk};
+use typing_names::{Resolver, Walk};
 
 /// The faults of a pair: those of the first phase of typing that has any, up to [`MAX_LISTED`](crate::MAX_LISTED), and none if the
 /// pair is well-typed. The actions, the initial state and the goal are a single phase here, since they do not depend on each
@@ -62,77 +59,29 @@ fn every_fault(alloc: Global, domain: &Domain<'_>, problem: &Problem<'_>) -> Res
     ensures none { OnOk result (faults_listed (domain_of domain.now) (problem_of problem.now) ≡ []) }
     ensures reported { IfErr result (ReportsAll (faults_listed (domain_of domain.now) (problem_of problem.now))) }
 {
-    let types = chains::types(alloc, domain, problem)?;
-    let objects = objects::of_pair(alloc, &types, domain, problem)?;
-    let predicates = declarations::predicates(alloc, &types, domain)?;
-    let functions = functions::functions(alloc, &types, domain, problem)?;
-    let names = Names {
-        types: &types,
-        objects: &objects,
-        predicates: &predicates,
-        functions: &functions,
-    };
-    names.uses(alloc, domain, problem)
+    let names = Names::declared(alloc, domain, problem)?;
+    uses(alloc, &names, domain, problem)
 }
 
-/// The names that a pair declares.
-#[derive(Drop)]
-struct Names<'a> {
-    types: &'a TypeTable,
-    objects: &'a DeclaredObjects,
-    predicates: &'a IndexMap<Vec<u8>, Predicate>,
-    functions: &'a IndexMap<Vec<u8>, Predicate>,
-}
-
-impl Names<'_> {
-    /// Fails with the faults of the actions, of the initial state and of the goal.
-    fn uses(
-        &self,
-        alloc: Global,
-        domain: &Domain<'_>,
-        problem: &Problem<'_>,
-    ) -> Result<(), PairFault>
-        requires { AreNamesOf (domain_of domain.now) (problem_of problem.now) self.now }
-        ensures none { OnOk result (use_faults (domain_of domain.now) (problem_of problem.now) ≡ []) }
-        ensures reported { IfErr result (ReportsAll (use_faults (domain_of domain.now) (problem_of problem.now))) }
-    {
-        let walk = Walk::new(alloc)?;
-        let in_domain = self.in_domain();
-        let mut resolver = Resolver::new(walk, &in_domain);
-        walked_actions(&mut resolver, domain)?;
-        let in_problem = self.in_problem();
-        let mut resolver = Resolver::new(resolver.into_walk(), &in_problem);
-        walk_statements(&mut resolver, problem)?;
-        resolver.finish(())
-    }
-
-    /// Those visible in the domain.
-    fn in_domain(&self) -> Globals<'_>
-        ensures file { file_of result.file ≡ domain_file }
-        ensures known { known_outside result ≡ known_in_names self.now self.now.objects.now.constants.entries }
-    {
-        Globals {
-            file: TaskFile::Domain,
-            types: self.types,
-            predicates: self.predicates,
-            functions: self.functions,
-            objects: &self.objects.constants,
-        }
-    }
-
-    /// Those visible in the problem.
-    fn in_problem(&self) -> Globals<'_>
-        ensures file { file_of result.file ≡ problem_file }
-        ensures known { known_outside result ≡ known_in_names self.now self.now.objects.now.all.entries }
-    {
-        Globals {
-            file: TaskFile::Problem,
-            types: self.types,
-            predicates: self.predicates,
-            functions: self.functions,
-            objects: &self.objects.all,
-        }
-    }
+/// Fails with the faults of the actions, of the initial state and of the goal.
+fn uses(
+    alloc: Global,
+    names: &Names,
+    domain: &Domain<'_>,
+    problem: &Problem<'_>,
+) -> Result<(), PairFault>
+    requires { AreNamesOf (domain_of domain.now) (problem_of problem.now) names.now }
+    ensures none { OnOk result (use_faults (domain_of domain.now) (problem_of problem.now) ≡ []) }
+    ensures reported { IfErr result (ReportsAll (use_faults (domain_of domain.now) (problem_of problem.now))) }
+{
+    let walk = Walk::new(alloc)?;
+    let in_domain = names.in_domain();
+    let mut resolver = Resolver::new(walk, &in_domain);
+    walked_actions(&mut resolver, domain)?;
+    let in_problem = names.in_problem();
+    let mut resolver = Resolver::new(resolver.into_walk(), &in_problem);
+    walk_statements(&mut resolver, problem)?;
+    resolver.finish(())
 }
 
 /// Finds the faults of the initial state and of the goal.

@@ -7,8 +7,8 @@ ghost use Rattle.model.specs.TypingFaults as typing_faults;
 ghost use Rattle.pddl_tree_parts.specs.Tree.{domain_of, problem_of};
 ghost use Rattle.model.specs.Typing.{task_of_trees, ListsNoFault, TypingFault};
 
-use crate::names::Declarations;
-use crate::{PairFault, TaskFault, chains, objects};
+use crate::names::{Names, Start};
+use crate::{PairFault, TaskFault, actions};
 use faults::Refused;
 use pddl_tree_parts::{Domain, Problem};
 use std::alloc::Global;
@@ -76,16 +76,21 @@ fn made(alloc: Global, domain: &Domain<'_>, problem: &Problem<'_>) -> Result<Tas
     ensures task { IfOk result (λ t. task_of t ≡ task_of_trees (domain_of domain.now) (problem_of problem.now)) }
     ensures reported { IfErr result (ReportsFaults (domain_of domain.now) (problem_of problem.now)) }
 {
-    let types = chains::types(alloc, domain, problem)?;
-    let objects = objects::of_pair(alloc, &types, domain, problem)?;
-    let names = Declarations::declared(alloc, &types, &objects, domain, problem)?;
-    let start = names.stated(alloc, &types, &objects, problem)?;
+    let names = Names::declared(alloc, domain, problem)?;
+    let schemas = actions::schemas(alloc, &names.in_domain(), domain)?;
+    let start = Start::stated_in(alloc, &names.in_problem(), problem)?;
+    let Names {
+        types,
+        objects,
+        predicates,
+        functions,
+    } = names;
     Ok(Task::from_parts(TaskParts {
         types: types.by_name,
         objects: objects.all,
-        predicates: names.predicates,
-        functions: names.functions,
-        schemas: names.schemas,
+        predicates,
+        functions,
+        schemas,
         init: start.init,
         values: start.values,
         goal: start.goal,

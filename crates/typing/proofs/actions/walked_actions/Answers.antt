@@ -1,10 +1,9 @@
-use Rattle.std.proofs.Common.{◌≡◌, ◌∙◌, List, [], ◌++◌, map, ap, sym}
+use Rattle.std.proofs.Common.{◌≡◌, ◌∙◌, List, ◌++◌, map, ap, sym}
 use Rattle.std.specs.List.{flat_map}
 use Rattle.std.proofs.lemmas.List.Folds.{flat_map-map}
 use Rattle.std.proofs.lemmas.Result.{IfOk-weaker, on_ok_weaker}
-use Rattle.task.specs.TaskParts as parts
 use Rattle.typing_names.specs.Scope.{known_outside}
-use Rattle.typing_names.specs.Walk.{Finds, found, found_by}
+use Rattle.typing_names.specs.Walk.{found, found_by}
 use Rattle.typing_names.proofs.Empty as empty
 use Rattle.typing_names.proofs.Found as finding
 use Rattle.pddl_tree_parts.specs.Tree as read

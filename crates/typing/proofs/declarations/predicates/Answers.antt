@@ -1,4 +1,4 @@
-use Rattle.std.proofs.Common.{◌≡◌, ◌∙◌, [], map, None, ap}
+use Rattle.std.proofs.Common.{◌≡◌, ◌∙◌, [], map, ap}
 use Rattle.typing_names.specs.Walk.{found, found_by, nothing}
 use Rattle.task.specs.TaskParts as parts
 use Rattle.typing_names.specs.Scope.{keys_in}

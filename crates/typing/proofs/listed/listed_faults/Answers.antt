@@ -1,4 +1,4 @@
-use Rattle.std.proofs.Common.{◌≡◌, ◌∙◌, [], map, take, ap, sym}
+use Rattle.std.proofs.Common.{◌∙◌, map, take, ap, sym}
 use Rattle.std.proofs.lemmas.List.Sorted.{IsPermutation-refl}
 use Rattle.faults.proofs.Results.{if_ok}
 use Rattle.pddl_tree_parts.specs.Tree.{domain_of, problem_of}

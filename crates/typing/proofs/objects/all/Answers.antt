@@ -1,4 +1,4 @@
-use Rattle.std.proofs.Common.{◌≡◌, ◌≤◌, ◌∙◌, [], ◌++◌, map, length, None, ap, arith}
+use Rattle.std.proofs.Common.{◌≡◌, ◌≤◌, ◌∙◌, [], ◌++◌, map, length, ap, arith}
 use Rattle.typing_names.specs.Walk.{found, found_by, nothing}
 use Rattle.task.specs.TaskParts as parts
 use Rattle.typing_names.specs.TypedLists.{declared_of}

@@ -1,4 +1,4 @@
-use Rattle.std.proofs.Common.{◌≡◌, ◌∙◌, None, ap}
+use Rattle.std.proofs.Common.{◌≡◌, ◌∙◌, ap}
 use Rattle.typing.specs.Task.{file_of}
 use Rattle.typing_names.specs.declared.scope.Globals.{Globals}
 use Rattle.typing_names.specs.Resolver.{file_in, known_to}

@@ -1,4 +1,4 @@
-use Rattle.std.proofs.Common.{◌≡◌, ◌∙◌, [], map, drop, ap}
+use Rattle.std.proofs.Common.{◌∙◌, [], map, drop, ap}
 use Rattle.std.specs.List.{flat_map}
 use Rattle.typing.specs.Task.{file_of}
 use Rattle.typing_names.specs.Scope.{known_of, narrow_atoms_in}

@@ -1,4 +1,4 @@
-use Rattle.std.proofs.Common.{◌≡◌, ◌∙◌, [], ◌++◌, map, ap}
+use Rattle.std.proofs.Common.{◌≡◌, ◌∙◌, ◌++◌, ap}
 use Rattle.pddl_tree_parts.specs.Tree.{domain_of, file_of, problem_of}
 use Rattle.typing_names.specs.declared.scope.Globals.{Globals}
 use Rattle.typing_names.specs.Resolver.{file_in, known_to}
@@ -6,18 +6,17 @@ use Rattle.typing_names.specs.Scope.{known_outside, known_over}
 use Rattle.typing_names.specs.Walk.{found, found_by, nothing}
 use Rattle.typing_names.proofs.Found.{found_after}
 use Rattle.typing_names.proofs.Reports as printing
-use Rattle.typing.specs.Listed.{known_in_names, use_faults}
+use Rattle.typing.proofs.Tasks.{names_in_domain, names_in_problem}
+use Rattle.typing.specs.Listed.{use_faults}
 use Rattle.model.specs.Trees.{problem_file}
 use Rattle.model.specs.Typing.{action_faults, formula_faults, init_faults, known_in_domain, known_in_problem}
-use Rattle.typing.proofs.listed.Names.uses.Goals as goal
+use Rattle.typing.proofs.listed.uses.Goals as goal
 
 pub returns : goal.returns
 returns c =
-    let d = domain_of c.args.domain.now in let p = problem_of c.args.problem.now in let r = c.requires in let names = c.args.self.now in
-    let domain : known_in_names names names.objects.now.constants.entries ≡ known_in_domain d =
-    λ i. record { type_names = r.types.names i; types = r.types.all i; predicates = r.predicates i; functions = r.functions i; variables = []; objects = r.objects.constants i } in
-    let problem : known_in_names names names.objects.now.all.entries ≡ known_in_problem d p =
-    λ i. record { type_names = r.types.names i; types = r.types.all i; predicates = r.predicates i; functions = r.functions i; variables = []; objects = r.objects.all i } in
+    let d = domain_of c.args.domain.now in let p = problem_of c.args.problem.now in let names = c.args.names.now in
+    let domain = names_in_domain d p names c.requires in
+    let problem = names_in_problem d p names c.requires in
     let in_domain : known_outside c.new-resolver.result.globals.now ≡ known_in_domain d = ap known_outside c.new-resolver.ensures.globals ∙ c.in_domain-in_domain.ensures.known ∙ domain in
     let in_file : file_in c.new-resolver-2.result ≡ problem_file = ap (λ (g : Globals). file_of g.file) c.new-resolver-2.ensures.globals ∙ c.in_problem-in_problem.ensures.file in
     let in_problem : known_to c.new-resolver-2.result ≡ known_in_problem d p =
