@@ -54,6 +54,27 @@ impl StateListing for GroundListing<'_, '_> {
         }
     }
 
+    fn is_large(&self) -> bool {
+        match self {
+            GroundListing::Alone(listing) => listing.is_large(),
+            GroundListing::Orbits(_) => false,
+        }
+    }
+
+    fn key(&self, state: &Packed) -> u32 {
+        match self {
+            GroundListing::Alone(listing) => listing.key(state),
+            GroundListing::Orbits(_) => 0,
+        }
+    }
+
+    fn touch(&self, keys: &[u32]) -> u32 {
+        match self {
+            GroundListing::Alone(listing) => listing.touch(keys),
+            GroundListing::Orbits(_) => 0,
+        }
+    }
+
     fn append(&mut self, state: &Packed, place: u32) -> Result<(), NoMemory> {
         match self {
             GroundListing::Alone(listing) => listing.append(state, place),

@@ -48,7 +48,7 @@ impl MatchTree {
         ensures { IfOk result (AreMatched width conditions.now) }
     {
         let lists = WatchLists::new(alloc, width, conditions, often)?;
-        let builder = TreeBuilder::new(width, conditions, often);
+        let builder = TreeBuilder::new(alloc, width, conditions, often);
         MatchTree::of_lists(alloc, &builder, &lists)
     }
 
@@ -62,7 +62,7 @@ impl MatchTree {
         ensures { IfOk result (AreMatched builder.now.width builder.now.conditions.now) }
     {
         let rows = rows(alloc, builder, lists)?;
-        let unwatched = builder.of_unwatched(alloc, &lists.unwatched)?;
+        let unwatched = builder.of_unwatched(&lists.unwatched)?;
         Ok(MatchTree { rows, unwatched })
     }
 
@@ -88,7 +88,7 @@ fn rows(
 {
     let mut rows = Vec::new(alloc);
     for atom in 0..builder.width {
-        let row = builder.of_row(alloc, atom, lists.of(atom))?;
+        let row = builder.of_row(atom, lists.of(atom))?;
         rows.push(row)?;
     }
     Ok(rows)

@@ -160,8 +160,8 @@ impl Walk {
         if !condition.can_hold() || !are_true(condition.literals(), &self.state) {
             return Ok(());
         }
-        make(changes, false, &mut self.state);
-        make(changes, true, &mut self.state);
+        delete(changes, &mut self.state);
+        add(changes, &mut self.state);
         self.state.list_numbers(&mut self.atoms)?;
         self.often.count(&self.atoms);
         Ok(())
@@ -200,7 +200,9 @@ fn watching(lists: &WatchLists, atom: Option<u32>) -> &[u32] {
 fn initial(alloc: Global, numbering: &Numbering<'_>) -> Result<Packed, NoMemory> {
     let mut state = Packed::empty(alloc, numbering.width())?;
     for (number, atom) in numbering.atoms().iter().enumerate() {
-        set(&mut state, number as u32, numbering.is_initial(atom));
+        if numbering.is_initial(atom) {
+            insert(&mut state, number as u32);
+        }
     }
     Ok(state)
 }
@@ -215,11 +217,20 @@ fn are_true(literals: &[NumberedLiteral], state: &Packed) -> bool {
     true
 }
 
-/// Makes the unconditional changes that set atoms to `value`.
-fn make(changes: &[CountingChange<'_>], value: bool, state: &mut Packed) {
+/// Makes the unconditional deletes.
+fn delete(changes: &[CountingChange<'_>], state: &mut Packed) {
     for change in changes {
-        if change.value == value && change.is_unconditional() {
-            set(state, change.atom, value);
+        if !change.value && change.is_unconditional() {
+            remove(state, change.atom);
+        }
+    }
+}
+
+/// Makes the unconditional adds.
+fn add(changes: &[CountingChange<'_>], state: &mut Packed) {
+    for change in changes {
+        if change.value && change.is_unconditional() {
+            insert(state, change.atom);
         }
     }
 }
@@ -229,14 +240,16 @@ fn has(state: &Packed, atom: u32) -> bool {
     atom < state.width() && state.has(atom)
 }
 
-/// Sets the atom to `value`, if the state has a bit for it.
-fn set(state: &mut Packed, atom: u32, value: bool) {
-    if atom >= state.width() {
-        return;
-    }
-    if value {
+/// Makes the atom true, if the state has a bit for it.
+fn insert(state: &mut Packed, atom: u32) {
+    if atom < state.width() {
         state.insert(atom);
-    } else {
+    }
+}
+
+/// Makes the atom false, if the state has a bit for it.
+fn remove(state: &mut Packed, atom: u32) {
+    if atom < state.width() {
         state.remove(atom);
     }
 }

@@ -18,10 +18,20 @@ const LEVELS: u32 = 8;
 /// Builds trees of instances with these preconditions, over atoms below the width.
 #[derive(Drop)]
 pub(crate) struct TreeBuilder<'a> {
+    alloc: Global,
     pub(crate) width: u32,
     conditions: &'a [Condition],
     often: &'a Often,
     ghost within: { AreWithin width conditions.now } by { Prim.hlevel props },
+}
+
+/// The tests above a tree.
+#[derive(Clone, Copy, Drop)]
+struct Path<'a> {
+    /// Their literals, which are true in the states that the tree is for.
+    literals: &'a [NumberedLiteral],
+    /// Tests of shared literals that may follow one another, at most.
+    levels: u32,
 }
 
 /// The nodes of the first instances of a list.
@@ -42,12 +52,18 @@ struct Run {
 
 impl<'a> TreeBuilder<'a> {
     /// A builder for these preconditions.
-    pub(crate) fn new(width: u32, conditions: &'a [Condition], often: &'a Often) -> TreeBuilder<'a>
+    pub(crate) fn new(
+        alloc: Global,
+        width: u32,
+        conditions: &'a [Condition],
+        often: &'a Often,
+    ) -> TreeBuilder<'a>
         requires { AreWithin width conditions.now }
         ensures width { result.width ≡ width }
         ensures conditions { result.conditions.now ≡ conditions.now }
     {
         TreeBuilder {
+            alloc,
             width,
             conditions,
             often,
@@ -55,62 +71,52 @@ impl<'a> TreeBuilder<'a> {
     }
 
     /// The tree of these instances for states in which the atom is true.
-    pub(crate) fn of_row(
-        &self,
-        alloc: Global,
-        atom: u32,
-        numbers: &[u32],
-    ) -> Result<Vec<Node>, NoMemory>
+    pub(crate) fn of_row(&self, atom: u32, numbers: &[u32]) -> Result<Vec<Node>, NoMemory>
         requires { All (λ n. n < length self.now.conditions.now) numbers.now }
         ensures { IfOk result (λ nodes. IsTreeOf self.now.width self.now.conditions.now (λ bits. get_or bits atom false ≡ true) numbers.now nodes.items) }
     {
-        let mut path = Vec::new(alloc);
-        path.push(NumberedLiteral { atom, value: true })?;
-        self.subtree(alloc, numbers, &path, LEVELS)
+        let mut literals = Vec::new(self.alloc);
+        literals.push(NumberedLiteral { atom, value: true })?;
+        let path = Path {
+            literals: &literals,
+            levels: LEVELS,
+        };
+        self.subtree(numbers, path)
     }
 
     /// The tree of these instances for all states.
-    pub(crate) fn of_unwatched(&self, alloc: Global, numbers: &[u32]) -> Result<Vec<Node>, NoMemory>
+    pub(crate) fn of_unwatched(&self, numbers: &[u32]) -> Result<Vec<Node>, NoMemory>
         requires { All (λ n. n < length self.now.conditions.now) numbers.now }
         ensures { IfOk result (λ nodes. IsTreeOf self.now.width self.now.conditions.now (AgreesWith []) numbers.now nodes.items) }
     {
-        self.subtree(alloc, numbers, &[], LEVELS)
+        let path = Path {
+            literals: &[],
+            levels: LEVELS,
+        };
+        self.subtree(numbers, path)
     }
 
-    /// The tree of these instances for states in which the literals on the path are true, with at most `levels` tests of shared
-    /// literals on a path.
+    /// The tree of these instances below the path.
     #[cycle(subtree)]
-    fn subtree(
-        &self,
-        alloc: Global,
-        numbers: &[u32],
-        path: &[NumberedLiteral],
-        levels: u32,
-    ) -> Result<Vec<Node>, NoMemory>
+    fn subtree(&self, numbers: &[u32], path: Path<'_>) -> Result<Vec<Node>, NoMemory>
         requires { All (λ n. n < length self.now.conditions.now) numbers.now }
-        ensures { IfOk result (λ nodes. IsTreeOf self.now.width self.now.conditions.now (AgreesWith (map numbered_of path.now)) numbers.now nodes.items) }
+        ensures { IfOk result (λ nodes. IsTreeOf self.now.width self.now.conditions.now (AgreesWith (map numbered_of path.entry.literals.now)) numbers.now nodes.items) }
     {
-        let sorted = self.in_order(alloc, numbers, path)?;
-        let nodes = self.in_groups(alloc, &sorted, path, levels)?;
+        let sorted = self.in_order(numbers, path.literals)?;
+        let nodes = self.in_groups(&sorted, path)?;
         Ok(nodes)
     }
 
     /// [`subtree`](TreeBuilder::subtree) of instances in which those with the same first test are consecutive.
     #[cycle(subtree)]
-    fn in_groups(
-        &self,
-        alloc: Global,
-        numbers: &[u32],
-        path: &[NumberedLiteral],
-        levels: u32,
-    ) -> Result<Vec<Node>, NoMemory>
+    fn in_groups(&self, numbers: &[u32], path: Path<'_>) -> Result<Vec<Node>, NoMemory>
         requires { All (λ n. n < length self.now.conditions.now) numbers.now }
-        ensures { IfOk result (λ nodes. IsTreeOf self.now.width self.now.conditions.now (AgreesWith (map numbered_of path.now)) numbers.now nodes.items) }
+        ensures { IfOk result (λ nodes. IsTreeOf self.now.width self.now.conditions.now (AgreesWith (map numbered_of path.entry.literals.now)) numbers.now nodes.items) }
     {
-        let mut nodes = Vec::new(alloc);
+        let mut nodes = Vec::new(self.alloc);
         let mut seen = 0;
         'groups: while seen < numbers.len() {
-            let group = self.group(alloc, &numbers[seen..], path, levels)?;
+            let group = self.group(&numbers[seen..], path)?;
             nodes.extend_from_slice(&group.nodes)?;
             seen += group.count;
         }
@@ -119,75 +125,69 @@ impl<'a> TreeBuilder<'a> {
 
     /// The nodes of the first instances: of those that need the first one's rarest literal, or of the first one alone.
     #[cycle(subtree)]
-    fn group(
-        &self,
-        alloc: Global,
-        numbers: &[u32],
-        path: &[NumberedLiteral],
-        levels: u32,
-    ) -> Result<Group, NoMemory>
+    fn group(&self, numbers: &[u32], path: Path<'_>) -> Result<Group, NoMemory>
         requires some { 0 < length numbers.now }
         requires within { All (λ n. n < length self.now.conditions.now) numbers.now }
-        ensures { IfOk result (λ group. IsGroup self.now.width self.now.conditions.now (AgreesWith (map numbered_of path.now)) numbers.now group.count group.nodes.items) }
+        ensures { IfOk result (λ group. IsGroup self.now.width self.now.conditions.now (AgreesWith (map numbered_of path.entry.literals.now)) numbers.now group.count group.nodes.items) }
     {
-        if levels == 0 {
-            return self.alone(alloc, numbers[0], path);
+        if path.levels == 0 {
+            return self.alone(numbers[0], path.literals);
         }
-        match self.shared(numbers, path) {
+        match self.shared(numbers, path.literals) {
             Some(run) => {
-                let levels = levels_below(levels, run.length);
-                self.branch(alloc, &numbers[..run.length], path, run.literal, levels)
+                let shared = Path {
+                    literals: path.literals,
+                    levels: levels_below(path.levels, run.length),
+                };
+                self.branch(&numbers[..run.length], shared, run.literal)
             }
-            None => self.alone(alloc, numbers[0], path),
+            None => self.alone(numbers[0], path.literals),
         }
     }
 
-    /// The nodes of these instances, which all need the literal, below its test.
+    /// The nodes of these instances, which all need the literal: its test below the path, and their tree below it.
     #[cycle(subtree)]
     fn branch(
         &self,
-        alloc: Global,
         numbers: &[u32],
-        path: &[NumberedLiteral],
+        path: Path<'_>,
         literal: NumberedLiteral,
-        levels: u32,
     ) -> Result<Group, NoMemory>
         requires within { All (λ n. n < length self.now.conditions.now) numbers.now }
         requires atom { literal.atom < self.now.width }
         requires shared { All (Wants self.now.conditions.now (numbered_of literal)) numbers.now }
         ensures count { IfOk result (λ group. group.count ≡ length numbers.now) }
-        ensures tree { IfOk result (λ group. IsTreeOf self.now.width self.now.conditions.now (AgreesWith (map numbered_of path.now)) numbers.now group.nodes.items) }
+        ensures tree { IfOk result (λ group. IsTreeOf self.now.width self.now.conditions.now (AgreesWith (map numbered_of path.entry.literals.now)) numbers.now group.nodes.items) }
     {
-        let mut longer = Vec::from_slice(alloc, path)?;
+        let mut longer = Vec::from_slice(self.alloc, path.literals)?;
         longer.push(literal)?;
-        let mut nodes = self.subtree(alloc, numbers, &longer, levels)?;
+        let below = Path {
+            literals: &longer,
+            levels: path.levels,
+        };
+        let mut nodes = self.subtree(numbers, below)?;
         put_above(literal, &mut nodes)?;
         let count = numbers.len();
         Ok(Group { nodes, count })
     }
 
     /// The nodes of one instance as a group.
-    fn alone(&self, alloc: Global, number: u32, path: &[NumberedLiteral]) -> Result<Group, NoMemory>
+    fn alone(&self, number: u32, path: &[NumberedLiteral]) -> Result<Group, NoMemory>
         requires { number < length self.now.conditions.now }
         ensures count { IfOk result (λ group. group.count ≡ 1) }
         ensures tree { IfOk result (λ group. IsTreeOf self.now.width self.now.conditions.now (AgreesWith (map numbered_of path.now)) (number ∷ []) group.nodes.items) }
     {
-        let group = self.single(alloc, number, path)?;
+        let group = self.single(number, path)?;
         Ok(group)
     }
 
     /// The nodes of one instance: the tests of its literals that are not on the path, and the instance below them.
-    fn single(
-        &self,
-        alloc: Global,
-        number: u32,
-        path: &[NumberedLiteral],
-    ) -> Result<Group, NoMemory>
+    fn single(&self, number: u32, path: &[NumberedLiteral]) -> Result<Group, NoMemory>
         requires { number < length self.now.conditions.now }
         ensures count { IfOk result (λ group. group.count ≡ 1) }
         ensures tree { IfOk result (λ group. IsTree self.now.width self.now.conditions.now (AgreesWith (map numbered_of path.now)) (number ∷ []) group.nodes.items) }
     {
-        let mut nodes = Vec::new(alloc);
+        let mut nodes = Vec::new(self.alloc);
         nodes.push(Node::Instance(number))?;
         let literals = self.conditions[number as usize].literals();
         for literal in literals {
@@ -266,32 +266,22 @@ impl<'a> TreeBuilder<'a> {
     }
 
     /// The instances in an order in which those with the same rarest literal off the path are consecutive.
-    fn in_order(
-        &self,
-        alloc: Global,
-        numbers: &[u32],
-        path: &[NumberedLiteral],
-    ) -> Result<Vec<u32>, NoMemory>
+    fn in_order(&self, numbers: &[u32], path: &[NumberedLiteral]) -> Result<Vec<u32>, NoMemory>
         requires { All (λ n. n < length self.now.conditions.now) numbers.now }
         ensures { IfOk result (λ sorted. IsPermutation numbers.now sorted.items) }
     {
-        let mut ranked = self.ranked(alloc, numbers, path)?;
+        let mut ranked = self.ranked(numbers, path)?;
         ranked.sort_unstable();
-        let sorted = without_ranks(alloc, &ranked)?;
+        let sorted = without_ranks(self.alloc, &ranked)?;
         Ok(sorted)
     }
 
     /// The numbers, each with the rank of its instance's rarest literal off the path.
-    fn ranked(
-        &self,
-        alloc: Global,
-        numbers: &[u32],
-        path: &[NumberedLiteral],
-    ) -> Result<Vec<(u64, u32)>, NoMemory>
+    fn ranked(&self, numbers: &[u32], path: &[NumberedLiteral]) -> Result<Vec<(u64, u32)>, NoMemory>
         requires { All (λ n. n < length self.now.conditions.now) numbers.now }
         ensures { IfOk result (λ ranked. map (λ p. p.1) ranked.items ≡ numbers.now) }
     {
-        let mut ranked = Vec::with_capacity(alloc, numbers.len())?;
+        let mut ranked = Vec::with_capacity(self.alloc, numbers.len())?;
         for &number in numbers {
             ranked.push((self.rank_of(self.rarest(number, path)), number))?;
         }

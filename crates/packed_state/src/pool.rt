@@ -145,7 +145,7 @@ impl Pool {
 }
 
 /// The key of these words: the upper half of their hash. It is mixed once more after the last word.
-fn key(words: &[u64]) -> u32
+pub(crate) fn key(words: &[u64]) -> u32
     ensures { result ≡ key_of words.now }
 {
     let mut hash = 0;

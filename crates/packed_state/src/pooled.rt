@@ -5,7 +5,7 @@ ghost use Rattle.packed_state.specs.Words.{AreWordsOf};
 ghost use Rattle.packed_state.specs.PooledStore.{IsPoolOf};
 
 use crate::packed::Packed;
-use crate::pool::Pool;
+use crate::pool::{Pool, key};
 use crate::store::StateStore;
 use crate::words;
 use faults::NoMemory;
@@ -21,6 +21,9 @@ pub struct PooledStore {
 
 /// Slots of a new table: a power of two, since it grows by doubling, and a key names its slot by its lowest bits.
 const FIRST_SLOTS: usize = 16;
+
+/// From this number of states on, slots are seldom at hand in a cache.
+const LARGE: usize = 65_536;
 
 impl PooledStore {
     ghost use Rattle.packed_state.specs.Store.{IsPlaced};
@@ -87,6 +90,18 @@ impl StateStore for PooledStore {
 
     fn insert_copy_if_new(&mut self, state: &Packed) -> Result<(u32, bool), NoMemory> {
         self.put(state.words())
+    }
+
+    fn is_large(&self) -> bool {
+        self.pool.len() >= LARGE
+    }
+
+    fn key(&self, state: &Packed) -> u32 {
+        key(state.words())
+    }
+
+    fn touch(&self, keys: &[u32]) -> u32 {
+        self.pool.table.touch(keys)
     }
 
     ghost distinct = { λ store. store.pooled.stored.distinct };

@@ -59,5 +59,21 @@ pub trait StateStore: Drop {
         self.insert_copy_if_new(&state)
     }
 
+    /// Whether look-ups mostly wait for memory, so that it pays to [`touch`](StateStore::touch) the keys of several first.
+    fn is_large(&self) -> bool {
+        false
+    }
+
+    /// The key by which a set is looked up.
+    fn key(&self, _state: &Packed) -> u32 {
+        0
+    }
+
+    /// Reads where the look-ups of these keys begin. These reads depend on nothing, so the processor waits for many of them at a
+    /// time. The answer means nothing: it is there so that no read is left out as useless.
+    fn touch(&self, _keys: &[u32]) -> u32 {
+        0
+    }
+
     ghost distinct: { (store : Self) → AreDistinct (states store) };
 }

@@ -64,6 +64,18 @@ impl Table {
         if slot < slots { slot } else { slot - slots }
     }
 
+    /// Reads the slot that each key names. The answer means nothing.
+    pub(crate) fn touch(&self, keys: &[u32]) -> u32 {
+        let last = self.entries.len().saturating_sub(1);
+        let mut read = FREE;
+        for key in keys {
+            if let Some(&entry) = self.entries.get(*key as usize & last) {
+                read |= entry;
+            }
+        }
+        read
+    }
+
     /// The first free slot for the key.
     pub(crate) fn first_free(&self, key: u32) -> usize
         requires free { 0 < free_in self.now.entries.items }

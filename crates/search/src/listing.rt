@@ -87,6 +87,21 @@ pub trait StateListing: Drop {
         ensures class { class_of self.new ≡ class_of self.old }
         ensures states { states self.new ≡ slice_set (states self.old) place (bits_of state.now) };
 
+    /// Whether look-ups mostly wait for memory, so that it pays to [`touch`](StateListing::touch) the keys of several first.
+    fn is_large(&self) -> bool {
+        false
+    }
+
+    /// The key by which a state is looked up.
+    fn key(&self, _state: &Packed) -> u32 {
+        0
+    }
+
+    /// Reads where the look-ups of these keys begin (`StateStore::touch`). The answer means nothing.
+    fn touch(&self, _keys: &[u32]) -> u32 {
+        0
+    }
+
     ghost distinct: { (listing : Self) → AreDistinct (states listing) };
 }
 
@@ -130,6 +145,18 @@ impl<S: StateStore> StateListing for OwnClasses<S> {
             Some(place) => Ok(Some(Place::Listed(place))),
             None => Ok(None),
         }
+    }
+
+    fn is_large(&self) -> bool {
+        self.0.is_large()
+    }
+
+    fn key(&self, state: &Packed) -> u32 {
+        self.0.key(state)
+    }
+
+    fn touch(&self, keys: &[u32]) -> u32 {
+        self.0.touch(keys)
     }
 
     fn append(&mut self, _state: &Packed, _place: u32) -> Result<(), NoMemory> {

@@ -3,6 +3,7 @@ ghost use Rattle.std.specs.Prelude.{◌≡◌, ◌≢◌, ℕ, ◌+◌, ◌<◌,
 ghost use Rattle.packed_state.specs.Packed.{bits_of};
 ghost use Rattle.search.specs.Outcome.{AreClassesOf};
 ghost use Rattle.search.specs.Nodes.{Waiting, IsEntry, IsCurrent, AreOpen, IsPath, IsReachedIn};
+ghost use Rattle.search.specs.Transitions.{AreApplicable};
 ghost use Rattle.search.specs.OpenList.{waiting_in, IsOpenList, JoinsBy};
 ghost use Rattle.search.specs.Progress.{AreNotedWith, TakesNext, IsLeastWith, nodes_in, IsSearch, IsAtTurn, IsStopped, IsExpanding, IsPlaceAmong, IsReachedWithin, IsReachedCheaper, IsFreeFor, TakesPlace, IsLeftOut, Reaches, IsFull, Expands, AreWide};
 
@@ -39,6 +40,10 @@ pub(crate) struct Buffers<R> {
     pub(crate) applicable: Vec<u32>,
     /// The guide's scratch.
     pub(crate) scratch: R,
+    /// The keys of the successors.
+    pub(crate) keys: Vec<u32>,
+    /// What was read of their slots. Nothing depends on it.
+    pub(crate) touched: u32,
 }
 
 impl<R: Drop> Buffers<R> {
@@ -52,7 +57,35 @@ impl<R: Drop> Buffers<R> {
             next: Packed::empty(alloc, width)?,
             applicable: Vec::new(alloc),
             scratch,
+            keys: Vec::new(alloc),
+            touched: 0,
         })
+    }
+
+    /// Touches the keys of all successors in a large listing, before they are looked up one after another. To make a successor twice
+    /// takes less time than to wait for its slot.
+    fn touch_successors<T: TransitionSystem, L: StateListing>(
+        &mut self,
+        system: &T,
+        store: &L,
+    ) -> Result<(), NoMemory>
+        requires buffers { AreWide (T.width_of system.now) self.old }
+        requires applicable { AreApplicable (T.means system.now) (bits_of self.old.state) self.old.applicable.items }
+        ensures state { OnOk result (self.new.state ≡ self.old.state) }
+        ensures next { OnOk result (length (bits_of self.new.next) ≡ T.width_of system.now) }
+        ensures applicable { OnOk result (self.new.applicable ≡ self.old.applicable) }
+        ensures scratch { OnOk result (self.new.scratch ≡ self.old.scratch) }
+    {
+        if !store.is_large() {
+            return Ok(());
+        }
+        self.keys.clear();
+        for &action in &self.applicable {
+            system.successor(action, &self.state, &mut self.next);
+            self.keys.push(store.key(&self.next))?;
+        }
+        self.touched = store.touch(&self.keys);
+        Ok(())
     }
 }
 
@@ -319,6 +352,7 @@ impl<L: StateListing> Progress<L> {
         system.applicable(&buffers.state, &mut buffers.applicable)?;
         self.mark(turn.id, NodeStatus::Expanded);
         guide.move_to(&buffers.state, &mut buffers.scratch);
+        buffers.touch_successors(system, &self.store)?;
         for &action in &buffers.applicable {
             system.successor(action, &buffers.state, &mut buffers.next);
             let to = Successor {

@@ -10,7 +10,7 @@ use Rattle.grounding.proofs.tree_builder.TreeBuilder.+subtree.Goals as goal
 pub branch-returns-clause-tree : goal.branch-returns-clause-tree
 branch-returns-clause-tree t c =
     let b = c.args.self.now in
-    let path = c.args.path.now in
+    let path = c.args.path.literals.now in
     subst (IsTreeOf b.width b.conditions.now (AgreesWith (map numbered_of path)) c.args.numbers.now) (sym c.in_ok-put_above.ensures.nodes)
     (tree-branch b.width b.conditions.now (AgreesWith (map numbered_of c.deref.result.now)) (AgreesWith (map numbered_of path)) c.args.literal c.args.numbers.now c.in_ok-nodes.nodes.items c.requires.atom
     c.in_ok-put_above.ensures.few c.requires.shared
@@ -24,7 +24,7 @@ in_groups-groups-preserved t c =
     let seen = c.groups.seen in
     let group = c.in_ok-group.group in
     let left = drop seen c.args.numbers.now in
-    let given = AgreesWith (map numbered_of c.args.path.now) in
+    let given = AgreesWith (map numbered_of c.args.path.literals.now) in
     let whole : take (length c.args.numbers.now - seen) left ≡ left = take_all (length c.args.numbers.now - seen) left (omega (arith, length-drop seen c.args.numbers.now)) in
     let is : IsGroup b.width b.conditions.now given left group.count group.nodes.items =
     subst (λ ns. IsGroup b.width b.conditions.now given ns group.count group.nodes.items) whole c.in_ok-group.ensures in record {
@@ -43,6 +43,6 @@ subtree-in_groups-requires t c =
 pub subtree-returns : goal.subtree-returns
 subtree-returns t c =
     let b = c.args.self.now in
-    let given = AgreesWith (map numbered_of c.args.path.now) in
+    let given = AgreesWith (map numbered_of c.args.path.literals.now) in
     tree-moved b.width b.conditions.now given c.args.numbers.now c.in_ok-sorted.sorted.items c.in_ok-nodes.nodes.items c.in_ok-sorted.ensures
     (subst (λ ns. IsTreeOf b.width b.conditions.now given ns c.in_ok-nodes.nodes.items) c.deref.ensures.value c.in_ok-nodes.ensures)

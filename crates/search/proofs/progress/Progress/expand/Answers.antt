@@ -48,6 +48,12 @@ has_begun g c =
     (subst (λ x. t.meets_goal x ≡ false) (is_state g c) c.requires.no_goal) c.requires.open _ _ (ap g.L.StateListing.states c.mark.ensures.store)
     (c.mark.ensures.nodes turn.found.node (found_of-get states all _ turn.found turn.occurs).1)
 
+pub touch_successors-requires-clause-buffers : goal.touch_successors-requires-clause-buffers
+touch_successors-requires-clause-buffers g c = record { state = c.requires.buffers.state; next = c.requires.buffers.next }
+
+pub touch_successors-requires-clause-applicable : goal.touch_successors-requires-clause-applicable
+touch_successors-requires-clause-applicable g c = c.in_ok-applicable.ensures.ok
+
 pub loop-action-init : goal.loop-action-init
 loop-action-init g c =
     let turn = c.requires.turn in
@@ -57,6 +63,7 @@ loop-action-init g c =
     let class_of = g.L.StateListing.class_of c.args.self.now.store in
     let same : g.L.StateListing.class_of begun.store ≡ class_of = ap g.L.StateListing.class_of c.mark.ensures.store in
     let t = g.T.TransitionSystem.means c.args.system.now in
+    let touched = c.in_ok-touch_successors.ensures in
     record {
       expanding = rw same (record {
         search = record { one_each = begins.one_each; nodes = rw c.mark.ensures.open_list begins.nodes; heap = rw c.mark.ensures.open_list turn.heap };
@@ -67,11 +74,11 @@ loop-action-init g c =
       continues = continues_same (g.L.StateListing.class_of begun.store) nodes c.args.turn.id.0;
       class = refl;
       width = rw c.mark.ensures.store c.requires.width;
-      state = c.requires.buffers.state;
-      scratch = c.move_to.ensures;
-      next = c.requires.buffers.next;
-      occurs = rw c.mark.ensures.store c.requires.state;
-      left = rw c.deref-action-items.ensures.value
+      state = ap (λ s. length (bits_of s)) touched.state ∙ c.requires.buffers.state;
+      scratch = subst (g.G.Guide.fits c.args.guide.now) (sym touched.scratch) c.move_to.ensures;
+      next = touched.next;
+      occurs = rw (c.mark.ensures.store, touched.state) c.requires.state;
+      left = rw (c.deref-action-items.ensures.value, touched.applicable)
           (left_start t (g.L.StateListing.class_of begun.store) nodes c.args.turn.id.0 (marked Expanded turn.found) begins.occurs (bits_of c.args.buffers.now.state) c.applicable.new.into.items
           (is_state g (goal.at.loop-action-init g c).After-deref-action-items) c.in_ok-applicable.ensures.ok);
     }
