@@ -7,7 +7,7 @@ use faults::NoMemory;
 use std::alloc::Global;
 
 /// The step of an instance for each variable of a table; none if it does not mention the variable.
-#[derive(Clone, Copy, Debug, PartialEq, Eq)]
+#[derive(Clone, Copy, PartialEq, Eq)]
 pub(crate) struct TableSteps {
     pub(crate) steps: [Option<u32>; MAX_TABLE_VARIABLES],
 }
@@ -80,7 +80,7 @@ impl Classes {
 }
 
 /// An instance, with its step for each variable of a table.
-#[derive(Clone, Copy, Debug)]
+#[derive(Clone, Copy)]
 struct Entry {
     instance: u32,
     steps: TableSteps,

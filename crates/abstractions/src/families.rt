@@ -96,13 +96,13 @@ impl Families {
 }
 
 impl Family {
-    /// Whether the family may join a group that begins with `first`: both have the same object, or both have all atoms of a
-    /// predicate, or the predicate has no arguments.
-    pub(crate) fn goes_with(&self, first: &Family, has_arguments: bool) -> bool {
+    /// Whether the family, of a predicate with this many arguments, may join a group that begins with `first`: both have the same
+    /// object, or both have all atoms of a predicate, or there are no arguments.
+    pub(crate) fn goes_with(&self, first: &Family, argument_count: usize) -> bool {
         match (self.argument, first.argument) {
             (Some(own), Some(other)) => own.object == other.object,
             (None, None) => true,
-            (None, Some(_)) => !has_arguments,
+            (None, Some(_)) => argument_count == 0,
             (Some(_), None) => false,
         }
     }

@@ -1,6 +1,6 @@
 //! The values of variables that the goal allows.
 use crate::numbers::place_of;
-use crate::variables::Variables;
+use crate::variables::{Value, Variables};
 use faults::NoMemory;
 use grounding::NumberedLiteral;
 use std::alloc::Global;
@@ -29,21 +29,21 @@ impl GoalValues {
             goals.is_asked.push(false)?;
         }
         for literal in literals {
-            for value in variables.of_atom(literal.atom) {
-                goals.ask(value.variable, value.value, literal.value);
+            for said in variables.of_atom(literal.atom) {
+                goals.ask(*said, literal);
             }
         }
         Ok(goals)
     }
 
-    /// Requires the variable to have this value, or forbids it.
-    fn ask(&mut self, variable: u32, value: u32, has: bool) {
-        if let Some(is_asked) = self.is_asked.get_mut(place_of(variable)) {
+    /// Requires this value, or forbids it, as the literal says of its atom.
+    fn ask(&mut self, said: Value, literal: &NumberedLiteral) {
+        if let Some(is_asked) = self.is_asked.get_mut(place_of(said.variable)) {
             *is_asked = true;
         }
-        if let Some(allowed) = self.is_allowed.get_mut(place_of(variable)) {
+        if let Some(allowed) = self.is_allowed.get_mut(place_of(said.variable)) {
             for (place, is_allowed) in allowed.iter_mut().enumerate() {
-                if (place == place_of(value)) != has {
+                if (place == place_of(said.value)) != literal.value {
                     *is_allowed = false;
                 }
             }

@@ -4,7 +4,7 @@
 //! A candidate begins with one family. If an instance adds one of its atoms and deletes none, it grows by a family of an atom
 //! that the instance deletes (Edelkamp & Helmert 1999, "Exhibiting Knowledge in Planning Problems to Minimize State Encoding
 //! Length").
-use crate::adders::{Adders, Balance, balance_of, is_marked, surely_deletes};
+use crate::adders::{Adders, Balance, balance_of, surely_deletes};
 use crate::families::{Families, Family};
 use crate::numbers::place_of;
 use faults::NoMemory;
@@ -28,6 +28,7 @@ pub type AtomGroup = Vec<u32>;
 /// The state of the search for groups.
 #[derive(Drop)]
 struct Finder<'g, 't> {
+    alloc: Global,
     ground: &'g Ground<'t>,
     families: Families,
     adders: Adders,
@@ -55,6 +56,7 @@ pub fn found_groups(
     initial: &Packed,
 ) -> Result<Vec<AtomGroup>, NoMemory> {
     let mut finder = Finder {
+        alloc,
         ground,
         families: Families::new(alloc, ground)?,
         adders: Adders::new(alloc, ground)?,
@@ -62,7 +64,7 @@ pub fn found_groups(
         looks: 0,
         found: Vec::new(alloc),
     };
-    finder.find_all(alloc, initial)?;
+    finder.find_all(initial)?;
     let Finder { mut found, .. } = finder;
     found.sort_unstable_by(|one, other| {
         other
@@ -76,35 +78,31 @@ pub fn found_groups(
 
 impl Finder<'_, '_> {
     /// Starts from each family.
-    fn find_all(&mut self, alloc: Global, initial: &Packed) -> Result<(), NoMemory> {
+    fn find_all(&mut self, initial: &Packed) -> Result<(), NoMemory> {
         for place in 0..self.families.all().len() {
             let Some(first) = self.families.all().get(place) else {
                 return Ok(());
             };
             let first = *first;
-            self.find_from(alloc, first, initial)?;
+            self.find_from(first, initial)?;
         }
         Ok(())
     }
 
     /// Tries the family alone, and then with others that instances suggest.
-    fn find_from(
-        &mut self,
-        alloc: Global,
-        first: Family,
-        initial: &Packed,
-    ) -> Result<(), NoMemory> {
+    fn find_from(&mut self, first: Family, initial: &Packed) -> Result<(), NoMemory> {
+        let alloc = self.alloc;
         let mut waiting: Vec<Vec<Family>> = Vec::new(alloc);
         waiting.push(vec![in alloc; first]?)?;
         for _ in 0..MAX_TRIED {
             let Some(families) = waiting.pop() else {
                 return Ok(());
             };
-            let atoms = self.atoms_of(alloc, &families)?;
+            let atoms = self.atoms_of(&families)?;
             match self.tried(&atoms, initial) {
                 Trial::Group => self.keep(atoms, initial)?,
                 Trial::RaisedBy(number) => {
-                    self.grow(alloc, &families, number, &mut waiting)?;
+                    self.grow(&families, number, &mut waiting)?;
                 }
                 Trial::GivenUp => {}
             }
@@ -113,8 +111,8 @@ impl Finder<'_, '_> {
     }
 
     /// The atoms of the families, in ascending order.
-    fn atoms_of(&self, alloc: Global, families: &[Family]) -> Result<AtomGroup, NoMemory> {
-        let mut atoms = Vec::new(alloc);
+    fn atoms_of(&self, families: &[Family]) -> Result<AtomGroup, NoMemory> {
+        let mut atoms = Vec::new(self.alloc);
         for family in families {
             atoms.extend_from_slice(self.families.atoms(family))?;
         }
@@ -128,9 +126,9 @@ impl Finder<'_, '_> {
         if self.looks > MAX_LOOKS || true_among(atoms, initial) > 1 {
             return Trial::GivenUp;
         }
-        self.mark(atoms, true);
+        self.mark(atoms);
         let trial = self.tried_marked(atoms);
-        self.mark(atoms, false);
+        self.unmark(atoms);
         trial
     }
 
@@ -149,11 +147,20 @@ impl Finder<'_, '_> {
         Trial::Group
     }
 
-    /// Marks the atoms, or removes their marks.
-    fn mark(&mut self, atoms: &[u32], is_marked: bool) {
+    /// Marks the atoms.
+    fn mark(&mut self, atoms: &[u32]) {
         for atom in atoms {
             if let Some(mark) = self.marked.get_mut(place_of(*atom)) {
-                *mark = is_marked;
+                *mark = true;
+            }
+        }
+    }
+
+    /// Removes the marks of the atoms.
+    fn unmark(&mut self, atoms: &[u32]) {
+        for atom in atoms {
+            if let Some(mark) = self.marked.get_mut(place_of(*atom)) {
+                *mark = false;
             }
         }
     }
@@ -169,7 +176,6 @@ impl Finder<'_, '_> {
     /// Queues the families extended by a family of an atom that the instance requires and deletes.
     fn grow(
         &self,
-        alloc: Global,
         families: &[Family],
         number: u32,
         waiting: &mut Vec<Vec<Family>>,
@@ -180,7 +186,7 @@ impl Finder<'_, '_> {
         let changes = self.ground.counting(number);
         for literal in self.ground.literals(number) {
             if literal.value && surely_deletes(changes, literal.atom) {
-                self.grow_by(alloc, families, literal.atom, waiting)?;
+                self.grow_by(families, literal.atom, waiting)?;
             }
         }
         Ok(())
@@ -189,7 +195,6 @@ impl Finder<'_, '_> {
     /// The same for one atom.
     fn grow_by(
         &self,
-        alloc: Global,
         families: &[Family],
         atom: u32,
         waiting: &mut Vec<Vec<Family>>,
@@ -198,13 +203,13 @@ impl Finder<'_, '_> {
             return Ok(());
         };
         let of_atom = self.families.of_atom(atom);
-        let has_arguments = of_atom.len() > 1;
+        let argument_count = of_atom.len().saturating_sub(1);
         for more in of_atom {
             let is_new = families
                 .iter()
                 .all(|family| family.predicate != more.predicate);
-            if is_new && more.goes_with(first, has_arguments) {
-                let mut grown = Vec::from_slice(alloc, families)?;
+            if is_new && more.goes_with(first, argument_count) {
+                let mut grown = Vec::from_slice(self.alloc, families)?;
                 grown.push(*more)?;
                 waiting.push(grown)?;
             }

@@ -5,7 +5,7 @@ use grounding::{CountingChange, NumberedLiteral};
 use std::alloc::Global;
 
 /// The target of a move.
-#[derive(Clone, Copy, Debug, PartialEq, Eq, PartialOrd, Ord)]
+#[derive(Clone, Copy, PartialEq, Eq, PartialOrd, Ord)]
 pub(crate) enum Target {
     /// This value.
     Value(u32),
@@ -14,19 +14,32 @@ pub(crate) enum Target {
 }
 
 /// A move of a variable from one value.
-#[derive(Clone, Copy, Debug, PartialEq, Eq, PartialOrd, Ord)]
+#[derive(Clone, Copy, PartialEq, Eq, PartialOrd, Ord)]
 pub(crate) struct Move {
     pub(crate) from: u32,
     pub(crate) to: Target,
 }
 
-/// When a change of a variable's atom takes effect.
-#[derive(Clone, Copy, Debug, PartialEq, Eq)]
-enum Made {
-    /// Whenever the instance is applied.
-    Always,
-    /// Under a `when`.
-    Sometimes,
+/// A kind of change of a variable's atom.
+#[derive(Clone, Copy)]
+enum Kind {
+    /// An add whenever the instance is applied.
+    SureAdd,
+    /// A delete whenever the instance is applied.
+    SureDelete,
+    /// A delete under a `when`.
+    PossibleDelete,
+}
+
+impl Kind {
+    /// Whether the change is of this kind.
+    fn is_of(self, change: &CountingChange<'_>) -> bool {
+        match self {
+            Kind::SureAdd => change.value && change.is_unconditional(),
+            Kind::SureDelete => !change.value && change.is_unconditional(),
+            Kind::PossibleDelete => !change.value && !change.is_unconditional(),
+        }
+    }
 }
 
 /// The part of an instance that concerns one variable.
@@ -97,8 +110,8 @@ impl InstancePart<'_, '_> {
         };
         moves.push(Move { from, to: certain })?;
         if value > 0
-            && !self.makes(Made::Always, true, value, from)
-            && self.makes(Made::Sometimes, false, value, from)
+            && !self.makes(Kind::SureAdd, value, from)
+            && self.makes(Kind::PossibleDelete, value, from)
         {
             let to = Target::Value(0);
             moves.push(Move { from, to })?;
@@ -109,7 +122,7 @@ impl InstancePart<'_, '_> {
     /// The target of the unconditional changes from this value.
     fn certain_target(&self, from: u32) -> Target {
         let mut value = from;
-        if from > 0 && self.makes(Made::Always, false, from, from) {
+        if from > 0 && self.makes(Kind::SureDelete, from, from) {
             value = 0;
         }
         for change in self.changes {
@@ -152,11 +165,10 @@ impl InstancePart<'_, '_> {
         Ok(())
     }
 
-    /// Whether a change of this kind adds (or deletes) the atom of this value, from that value.
-    fn makes(&self, made: Made, is_add: bool, value: u32, from: u32) -> bool {
+    /// Whether a change of this kind is made to the atom of this value, from that value.
+    fn makes(&self, kind: Kind, value: u32, from: u32) -> bool {
         self.changes.iter().any(|change| {
-            change.value == is_add
-                && change.is_unconditional() == (made == Made::Always)
+            kind.is_of(change)
                 && self.value_of(change.atom) == Some(value)
                 && self.is_open(change, from)
         })

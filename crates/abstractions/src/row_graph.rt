@@ -1,6 +1,6 @@
 //! The reachable rows of a table, and the arcs between them.
-use crate::goals::GoalValues;
 use crate::numbers::{number_of, place_of};
+use crate::reached::VariableTask;
 use crate::variables::Variables;
 use faults::NoMemory;
 use std::alloc::Global;
@@ -49,6 +49,19 @@ impl RowGraph {
     /// The table's variables, in ascending order.
     pub fn variables(&self) -> &[u32] {
         &self.variables
+    }
+
+    /// Finds out whether the goal allows each of the rows.
+    pub(crate) fn find_goals(&mut self, task: &VariableTask<'_>) -> Result<(), NoMemory> {
+        self.is_goal.clear();
+        for index in &self.rows {
+            let is_goal = self.variables.iter().zip(&self.radices).all(|(variable, radix)| {
+                let value = value_at(*index, *radix, task.variables.value_count(*variable));
+                task.goals.allow(*variable, value)
+            });
+            self.is_goal.push(is_goal)?;
+        }
+        Ok(())
     }
 
     /// The number of rows.
@@ -198,26 +211,6 @@ pub(crate) fn value_at(index: u32, radix: u32, count: u32) -> u32 {
         return 0;
     }
     index / radix % count
-}
-
-/// Whether the goal allows each of the rows with these indices.
-pub(crate) fn goal_rows(
-    alloc: Global,
-    goals: &GoalValues,
-    variables: &Variables,
-    of_table: &[u32],
-    radices: &[u32],
-    rows: &[u32],
-) -> Result<Vec<bool>, NoMemory> {
-    let mut are_goals = Vec::with_capacity(alloc, rows.len())?;
-    for index in rows {
-        let is_goal = of_table.iter().zip(radices).all(|(variable, radix)| {
-            let value = value_at(*index, *radix, variables.value_count(*variable));
-            goals.allow(*variable, value)
-        });
-        are_goals.push(is_goal)?;
-    }
-    Ok(are_goals)
 }
 
 /// The numbers of the rows, sorted by index.

@@ -11,7 +11,7 @@ use std::alloc::Global;
 const MAX_MOVES: usize = 4_000_000;
 
 /// An instance, and the variable's step that it takes.
-#[derive(Clone, Copy, Debug, PartialEq, Eq, PartialOrd, Ord)]
+#[derive(Clone, Copy, PartialEq, Eq, PartialOrd, Ord)]
 pub(crate) struct StepUse {
     pub(crate) instance: u32,
     pub(crate) step: u32,
@@ -39,7 +39,9 @@ pub struct Shutters {
 
 /// For each variable, the effects of instances on it, still in the order of instances.
 #[derive(Drop)]
-struct Drafts {
+struct Drafts<'a> {
+    alloc: Global,
+    variables: &'a Variables,
     moves: Vec<Vec<(Vec<Move>, u32)>>,
     count: usize,
 }
@@ -52,6 +54,8 @@ impl Steps {
         variables: &Variables,
     ) -> Result<Option<Steps>, NoMemory> {
         let mut drafts = Drafts {
+            alloc,
+            variables,
             moves: Vec::new(alloc),
             count: 0,
         };
@@ -59,13 +63,7 @@ impl Steps {
             drafts.moves.push(Vec::new(alloc))?;
         }
         for number in 0..instance_count(ground) {
-            drafts.add(
-                alloc,
-                variables,
-                number,
-                ground.literals(number),
-                ground.counting(number),
-            )?;
+            drafts.add(number, ground.literals(number), ground.counting(number))?;
             if drafts.count > MAX_MOVES {
                 return Ok(None);
             }
@@ -88,16 +86,16 @@ impl Steps {
     }
 }
 
-impl Drafts {
+impl Drafts<'_> {
     /// Adds the effect of the instance with these literals and changes on each variable of their atoms.
-    fn add<'a, 't>(
+    fn add(
         &mut self,
-        alloc: Global,
-        variables: &'a Variables,
         number: u32,
-        literals: &'a [NumberedLiteral],
-        changes: &'a [CountingChange<'t>],
+        literals: &[NumberedLiteral],
+        changes: &[CountingChange<'_>],
     ) -> Result<(), NoMemory> {
+        let alloc = self.alloc;
+        let variables = self.variables;
         let mut mentioned = variables.of_literals(alloc, literals)?;
         mentioned.extend_from_slice(&variables.of_changes(alloc, changes)?)?;
         mentioned.sort_unstable();

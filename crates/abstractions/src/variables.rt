@@ -1,10 +1,14 @@
 //! Variables: each has the atoms of a group as its values, and one more value for "none of them".
 //!
-//! The groups are chosen by the greedy covering of Helmert 2009, "Concise finite-domain representations for PDDL planning tasks".
+//! The first groups are chosen by the greedy covering of Helmert 2009, "Concise finite-domain representations for PDDL planning
+//! tasks". Other groups are variables too, so an atom may have several: a table has the one that serves it best.
 use crate::groups::AtomGroup;
 use crate::numbers::{number_of, place_of};
 use faults::NoMemory;
 use std::alloc::Global;
+
+/// The maximum number of values of the variables beyond a cover of the atoms, as a multiple of the number of atoms.
+const MAX_TIMES: usize = 4;
 
 /// A value of a variable: the position, from 1, of the atom that is true, or 0 if none is.
 #[derive(Clone, Copy, Debug, PartialEq, Eq, PartialOrd, Ord)]
@@ -26,7 +30,8 @@ pub struct Variables {
 
 impl Variables {
     /// Variables for this many atoms. While some group has several atoms without a variable, the one with the most such atoms
-    /// becomes a variable with all its atoms; each remaining atom is a variable by itself.
+    /// becomes a variable with all its atoms. So do other groups that are no part of one before, within a limit. Each remaining atom
+    /// is a variable by itself.
     pub fn new(alloc: Global, width: u32, groups: &[AtomGroup]) -> Result<Variables, NoMemory> {
         let mut of_atom: Vec<Vec<Value>> = Vec::new(alloc);
         for _ in 0..width {
@@ -42,12 +47,36 @@ impl Variables {
             };
             variables.add(Vec::from_slice(alloc, group)?)?;
         }
+        variables.add_others(alloc, groups)?;
         for atom in 0..width {
             if !variables.has(atom) {
                 variables.add(vec![in alloc; atom]?)?;
             }
         }
         Ok(variables)
+    }
+
+    /// Adds the groups of which no variable has all atoms, the first ones first, within a limit.
+    fn add_others(&mut self, alloc: Global, groups: &[AtomGroup]) -> Result<(), NoMemory> {
+        let mut left = self.of_atom.len().saturating_mul(MAX_TIMES);
+        for group in groups {
+            if group.len() <= left && !self.has_all(group) {
+                left = left.saturating_sub(group.len());
+                self.add(Vec::from_slice(alloc, group)?)?;
+            }
+        }
+        Ok(())
+    }
+
+    /// Whether some variable has all these atoms, which ascend.
+    fn has_all(&self, atoms: &[u32]) -> bool {
+        let Some(first) = atoms.first() else {
+            return true;
+        };
+        self.of_atom(*first).iter().any(|value| {
+            let others = self.atoms(value.variable);
+            atoms.iter().all(|atom| others.binary_search(atom).is_ok())
+        })
     }
 
     /// The group with the most atoms without a variable, if it has several such atoms.
