@@ -22,10 +22,11 @@ use crate::failures::{Failure, report_failure, report_words};
 use acceptance::{CheckAsked, InputNames, report_of_check};
 use command_line::{MaxCount, Order, read_words};
 use devices::{Files, Sink};
-use explaining::report_of_explain;
+use explaining::{ExplainAsked, report_of_explain};
+use inputs::PairNames;
 use outputs::outputs_of;
 use printed_answers::Report;
-use solution::{PairNames, report_of_solve};
+use solution::{SolveAsked, report_of_solve};
 use solver::Limits;
 use std::alloc::Global;
 use validation::report_of_validate;
@@ -40,7 +41,7 @@ use writing::write_report;
 /// of `--cert`, then a plan's text to the file of `--plan`, then the answer to standard output; if one of them fails, the later
 /// ones are not touched, and neither is a file for which there is nothing to write. `validate` judges whether the plan solves the
 /// task. `check` prints what the certificate shows: with a plan, read from the file of `--plan`, that it is optimal; otherwise
-/// that no plan costs less, or that there is none. `explain` tells people what is wrong with a text or a plan, and where; if
+/// that no plan costs less, or that there is none. `explain` says what is wrong with a text or a plan, and where; if
 /// nothing is, it summarizes the task. At most 16,777,217 bytes of a file are read and taken as its whole text, and all files are
 /// read before any fault in them is reported. The exception is the certificate: it is only opened then, and later read line by
 /// line, to its end or its first fault, whatever its length.
@@ -171,7 +172,10 @@ fn report_of<F: Files, E: Sink>(
             problem,
             plan,
             ..
-        } => report_of_validate(alloc, domain, problem, plan, files),
+        } => {
+            let names = PairNames { domain, problem };
+            report_of_validate(alloc, names, plan, files)
+        }
         Order::Solve {
             domain,
             problem,
@@ -181,8 +185,13 @@ fn report_of<F: Files, E: Sink>(
             ..
         } => {
             let limits = limits_of(states, instances);
-            let pair = PairNames { domain, problem };
-            report_of_solve(alloc, pair, limits, progress, files, err)
+            let names = PairNames { domain, problem };
+            let asked = SolveAsked {
+                names,
+                limits,
+                progress,
+            };
+            report_of_solve(alloc, asked, files, err)
         }
         Order::Check {
             domain,
@@ -194,17 +203,18 @@ fn report_of<F: Files, E: Sink>(
             ..
         } => {
             let instances = instances.number();
-            let asked = CheckAsked {
-                instances,
-                progress,
-            };
             let names = InputNames {
                 domain,
                 problem,
                 cert,
                 plan,
             };
-            report_of_check(alloc, names, asked, files, err)
+            let asked = CheckAsked {
+                names,
+                instances,
+                progress,
+            };
+            report_of_check(alloc, asked, files, err)
         }
         Order::Explain {
             domain,
@@ -212,7 +222,15 @@ fn report_of<F: Files, E: Sink>(
             plan,
             instances,
             ..
-        } => report_of_explain(alloc, domain, problem, plan, instances.number(), files),
+        } => {
+            let most = instances.number();
+            let asked = ExplainAsked {
+                plan,
+                instances: most,
+            };
+            let names = PairNames { domain, problem };
+            report_of_explain(alloc, names, asked, files)
+        }
     }
 }
 

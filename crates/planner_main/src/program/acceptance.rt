@@ -37,20 +37,23 @@ pub(super) struct InputNames<'a> {
     pub(super) plan: Option<&'a str>,
 }
 
-/// The options of `check`.
+/// The files and options of `check`.
 #[derive(Clone, Copy)]
-pub(super) struct CheckAsked {
+pub(super) struct CheckAsked<'a> {
+    /// The input files.
+    pub(super) names: InputNames<'a>,
     /// The maximum number of instances that may be kept.
     pub(super) instances: u32,
     /// Whether the progress of reading it is reported.
     pub(super) progress: bool,
 }
 
-/// The texts of the files that are read before the certificate.
+/// The texts of the files that are read before the certificate, and the options of `check`.
 #[derive(Drop)]
-struct InputTexts {
+struct InputTexts<'a> {
     pair: TaskTexts,
     plan: Option<Vec<u8>>,
+    asked: CheckAsked<'a>,
 }
 
 /// What the certificate in a file shows about the task of two files, and about the plan in a third, if one is named. The
@@ -59,29 +62,28 @@ struct InputTexts {
 /// If progress is asked for, it reports how much of the certificate has been read.
 pub(super) fn report_of_check<F: Files, E: Sink>(
     alloc: Global,
-    names: InputNames<'_>,
-    asked: CheckAsked,
+    asked: CheckAsked<'_>,
     files: &mut F,
     err: &mut E,
 ) -> Result<Report, Failure>
-    ensures report { IfOk result (IsCheckOn (F.contents files.old) names.entry.domain.now names.entry.problem.now names.entry.cert.now (text_in names.entry.plan) asked.instances) }
+    ensures report { IfOk result (IsCheckOn (F.contents files.old) asked.entry.names.domain.now asked.entry.names.problem.now asked.entry.names.cert.now (text_in asked.entry.names.plan) asked.entry.instances) }
     ensures refused { IfErr result (λ failure. IfSome (fault_in failure) (λ fault.
-        OnInputs (F.contents files.old) names.entry.domain.now names.entry.problem.now (text_in names.entry.plan) (λ d p l. IsInputFault d p l fault))) }
+        OnInputs (F.contents files.old) asked.entry.names.domain.now asked.entry.names.problem.now (text_in asked.entry.names.plan) (λ d p l. IsInputFault d p l fault))) }
     ensures kept { AreKept (F.contents files.old) (F.contents files.new) }
     ensures unfailed { IfOk result (λ _. F.failures files.new ≡ F.failures files.old) }
     ensures failures { IfErr result (CountsFailure (F.failures files.old) (F.failures files.new)) }
-    ensures unread { (name : List ℕ) → IsOneOf (names.entry.domain.now ∷ names.entry.problem.now ∷ names.entry.cert.now ∷ if_named (text_in names.entry.plan)) name
+    ensures unread { (name : List ℕ) → IsOneOf (asked.entry.names.domain.now ∷ asked.entry.names.problem.now ∷ asked.entry.names.cert.now ∷ if_named (text_in asked.entry.names.plan)) name
         → IsTrue (F.is_missing files.old name) → IsUnread result }
-    ensures unreadable { (name : List ℕ) → IsOneOf (names.entry.domain.now ∷ names.entry.problem.now ∷ if_named (text_in names.entry.plan)) name
+    ensures unreadable { (name : List ℕ) → IsOneOf (asked.entry.names.domain.now ∷ asked.entry.names.problem.now ∷ if_named (text_in asked.entry.names.plan)) name
         → IsTrue (F.is_unreadable files.old name) → IsUnread result }
-    ensures progress { AreSaid (IsCheckingLine (F.contents files.old) names.entry.domain.now names.entry.problem.now names.entry.cert.now asked.progress) E.wants_memory (stream (E.failures err.old) (E.taken err.old)) (stream (E.failures err.new) (E.taken err.new)) }
+    ensures progress { AreSaid (IsCheckingLine (F.contents files.old) asked.entry.names.domain.now asked.entry.names.problem.now asked.entry.names.cert.now asked.entry.progress) E.wants_memory (stream (E.failures err.old) (E.taken err.old)) (stream (E.failures err.new) (E.taken err.new)) }
 {
-    let pair = read_pair(alloc, files, names.domain, names.problem)?;
-    let input = files.open(names.cert)?;
-    let plan = read_named(alloc, files, names.plan)?;
-    let texts = InputTexts { pair, plan };
+    let pair = read_pair(alloc, files, asked.names.domain, asked.names.problem)?;
+    let input = files.open(asked.names.cert)?;
+    let plan = read_named(alloc, files, asked.names.plan)?;
+    let texts = InputTexts { pair, plan, asked };
     let mut cert = CertReader::new(alloc, input);
-    let report = check_texts(alloc, &texts, &mut cert, asked, err);
+    let report = check_texts(alloc, &texts, &mut cert, err);
     files.finish(cert.into_source());
     report
 }
@@ -89,21 +91,20 @@ pub(super) fn report_of_check<F: Files, E: Sink>(
 /// What the certificate shows, read by a new reader.
 fn check_texts<R: Source, E: Sink>(
     alloc: Global,
-    texts: &InputTexts,
+    texts: &InputTexts<'_>,
     cert: &mut CertReader<R>,
-    asked: CheckAsked,
     err: &mut E,
 ) -> Result<Report, Failure>
     requires { IsFresh cert.old }
     ensures report { (known : Option (List ℕ)) → IsKept known (R.remaining (source_of cert.old))
         → IfOk result (λ found. (c : Checked) × (found ≡ Check c)
-        × IsCheckedIn known texts.now.pair.domain.items texts.now.pair.problem.items (items_in texts.now.plan) asked.instances (task_of c.task) c.answer) }
+        × IsCheckedIn known texts.now.pair.domain.items texts.now.pair.problem.items (items_in texts.now.plan) texts.now.asked.instances (task_of c.task) c.answer) }
     ensures refused { IfErr result (λ failure. IfSome (fault_in failure) (IsInputFault texts.now.pair.domain.items texts.now.pair.problem.items (items_in texts.now.plan))) }
     ensures unfailed { IfOk result (λ _. R.failures (source_of cert.new) ≡ R.failures (source_of cert.old)) }
     ensures failures { IfErr result (CountsFailure (R.failures (source_of cert.old)) (R.failures (source_of cert.new))) }
-    ensures progress { AreSaid (λ line. IsTrue asked.progress × IsCheckLineOf texts.now.pair.domain.items texts.now.pair.problem.items (R.remaining (source_of cert.old)) line) E.wants_memory (stream (E.failures err.old) (E.taken err.old)) (stream (E.failures err.new) (E.taken err.new)) }
+    ensures progress { AreSaid (λ line. IsTrue texts.now.asked.progress × IsCheckLineOf texts.now.pair.domain.items texts.now.pair.problem.items (R.remaining (source_of cert.old)) line) E.wants_memory (stream (E.failures err.old) (E.taken err.old)) (stream (E.failures err.new) (E.taken err.new)) }
 {
-    let checked = checked(alloc, texts, cert, asked, err)?;
+    let checked = checked(alloc, texts, cert, err)?;
     match failure_of(&checked.answer) {
         Some(fault) => Err(Failure::Device(fault)),
         None => Ok(Report::Check(checked)),
@@ -113,25 +114,32 @@ fn check_texts<R: Source, E: Sink>(
 /// The checker's answer to the certificate.
 fn checked<R: Source, E: Sink>(
     alloc: Global,
-    texts: &InputTexts,
+    texts: &InputTexts<'_>,
     cert: &mut CertReader<R>,
-    asked: CheckAsked,
     err: &mut E,
 ) -> Result<Checked, FileFault>
     requires { IsFresh cert.old }
     ensures task { IfOk result (λ c. IsTaskOf texts.now.pair.domain.items texts.now.pair.problem.items (task_of c.task)) }
-    ensures answer { IfOk result (λ c. IsChecked R.remaining (task_of c.task) cert.old cert.new (items_in texts.now.plan) asked.instances c.answer) }
+    ensures answer { IfOk result (λ c. IsChecked R.remaining (task_of c.task) cert.old cert.new (items_in texts.now.plan) texts.now.asked.instances c.answer) }
     ensures failures { IfOk result (λ c. CountsRefusal (R.failures (source_of cert.old)) (R.failures (source_of cert.new)) c.answer) }
     ensures refused { IfErr result (λ fault. IfSome (reported_in fault) (IsInputFault texts.now.pair.domain.items texts.now.pair.problem.items (items_in texts.now.plan))) }
     ensures unread { IsErr result → cert.new ≡ cert.old }
-    ensures progress { AreSaid (λ line. IsTrue asked.progress × IsCheckLineOf texts.now.pair.domain.items texts.now.pair.problem.items (R.remaining (source_of cert.old)) line) E.wants_memory (stream (E.failures err.old) (E.taken err.old)) (stream (E.failures err.new) (E.taken err.new)) }
+    ensures progress { AreSaid (λ line. IsTrue texts.now.asked.progress × IsCheckLineOf texts.now.pair.domain.items texts.now.pair.problem.items (R.remaining (source_of cert.old)) line) E.wants_memory (stream (E.failures err.old) (E.taken err.old)) (stream (E.failures err.new) (E.taken err.new)) }
 {
     let plan = slice_in(&texts.plan);
     let (domain, problem) = (&texts.pair.domain, &texts.pair.problem);
-    if asked.progress {
-        check_files_and_say(alloc, domain, problem, cert, plan, asked.instances, err)
+    if texts.asked.progress {
+        check_files_and_say(
+            alloc,
+            domain,
+            problem,
+            cert,
+            plan,
+            texts.asked.instances,
+            err,
+        )
     } else {
-        check_files(alloc, domain, problem, cert, plan, asked.instances)
+        check_files(alloc, domain, problem, cert, plan, texts.asked.instances)
     }
 }
 

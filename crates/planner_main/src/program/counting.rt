@@ -68,8 +68,9 @@ impl<F: Files> Sink for Counted<F> {
     }
 }
 
-/// Writes the document to the file with this name, as `write_file` of `devices` does, and returns its size in bytes. The count
-/// saturates at 18446744073709551615.
+/// Writes this document to the file with this name, replacing its contents, and returns its size in bytes, which saturates at
+/// 18446744073709551615. It is a device failure if the file cannot be created or a write of it fails: then the file is unchanged,
+/// or holds a prefix of the document.
 pub(super) fn write_counted<F: Files, D: Document>(
     files: &mut F,
     name: &str,

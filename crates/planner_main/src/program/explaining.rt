@@ -8,41 +8,49 @@ ghost use Rattle.file_answers.specs.Explanations as explanations;
 ghost use Rattle.std.specs.Option.{option_map};
 
 use crate::failures::Failure;
-use crate::program::inputs::{read_named, read_pair};
+use crate::program::inputs::{PairNames, read_named, read_pair};
 use devices::Files;
 use file_answers::{NamedText, explain_files};
 use printed_answers::Report;
 use std::alloc::Global;
 
+/// The plan file and the option of `explain`.
+#[derive(Clone, Copy)]
+pub(super) struct ExplainAsked<'a> {
+    /// The plan file, if any.
+    pub(super) plan: Option<&'a str>,
+    /// The maximum number of instances that may be kept.
+    pub(super) instances: u32,
+}
+
 /// The explanation of the files of a task, and of a plan file if one is named.
 pub(super) fn report_of_explain<F: Files>(
     alloc: Global,
-    domain: &str,
-    problem: &str,
-    plan: Option<&str>,
-    instances: u32,
+    names: PairNames<'_>,
+    asked: ExplainAsked<'_>,
     files: &mut F,
 ) -> Result<Report, Failure>
-    ensures report { IfOk result (IsExplanationOn (F.contents files.old) domain.now problem.now (text_in plan.entry) instances) }
+    ensures report { IfOk result (IsExplanationOn (F.contents files.old) names.entry.domain.now names.entry.problem.now (text_in asked.entry.plan) asked.entry.instances) }
     // A fault of a text is explained; it is not a failure.
     ensures no_text { IfErr result (λ failure. fault_in failure ≡ None) }
     ensures kept { AreKept (F.contents files.old) (F.contents files.new) }
     ensures unfailed { IfOk result (λ _. F.failures files.new ≡ F.failures files.old) }
     ensures failures { IfErr result (CountsFailure (F.failures files.old) (F.failures files.new)) }
-    ensures unread { (name : List ℕ) → IsOneOf (domain.now ∷ problem.now ∷ if_named (text_in plan.entry)) name → IsTrue (F.is_missing files.old name) → IsUnread result }
-    ensures unreadable { (name : List ℕ) → IsOneOf (domain.now ∷ problem.now ∷ if_named (text_in plan.entry)) name → IsTrue (F.is_unreadable files.old name) → IsUnread result }
+    ensures unread { (name : List ℕ) → IsOneOf (names.entry.domain.now ∷ names.entry.problem.now ∷ if_named (text_in asked.entry.plan)) name → IsTrue (F.is_missing files.old name) → IsUnread result }
+    ensures unreadable { (name : List ℕ) → IsOneOf (names.entry.domain.now ∷ names.entry.problem.now ∷ if_named (text_in asked.entry.plan)) name → IsTrue (F.is_unreadable files.old name) → IsUnread result }
 {
-    let pair = read_pair(alloc, files, domain, problem)?;
-    let text = read_named(alloc, files, plan)?;
+    let pair = read_pair(alloc, files, names.domain, names.problem)?;
+    let text = read_named(alloc, files, asked.plan)?;
     let domain = NamedText {
-        name: domain,
+        name: names.domain,
         text: &pair.domain,
     };
     let problem = NamedText {
-        name: problem,
+        name: names.problem,
         text: &pair.problem,
     };
-    let explanation = explain_files(alloc, domain, problem, named(plan, &text), instances)?;
+    let plan = named(asked.plan, &text);
+    let explanation = explain_files(alloc, domain, problem, plan, asked.instances)?;
     Ok(Report::Explain(explanation))
 }
 

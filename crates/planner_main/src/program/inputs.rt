@@ -9,6 +9,15 @@ ghost use Rattle.devices.specs.Devices.{CountsDevice};
 use devices::{Files, IoFault, read_file};
 use std::alloc::Global;
 
+/// The names of a domain file and a problem file.
+#[derive(Clone, Copy)]
+pub(super) struct PairNames<'a> {
+    /// The domain file.
+    pub(super) domain: &'a str,
+    /// The problem file.
+    pub(super) problem: &'a str,
+}
+
 /// The texts of a domain file and a problem file.
 #[derive(Drop)]
 pub(super) struct TaskTexts {

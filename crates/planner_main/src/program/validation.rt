@@ -5,7 +5,7 @@ ghost use Rattle.devices.specs.Texts.{AreKept};
 ghost use Rattle.model.specs.Files.{IsFileFault};
 
 use crate::failures::Failure;
-use crate::program::inputs::read_pair;
+use crate::program::inputs::{PairNames, read_pair};
 use devices::{Files, read_file};
 use file_answers::validate_files;
 use printed_answers::Report;
@@ -14,21 +14,20 @@ use std::alloc::Global;
 /// The verdict on the plan in a file, for the task of two files.
 pub(super) fn report_of_validate<F: Files>(
     alloc: Global,
-    domain: &str,
-    problem: &str,
+    names: PairNames<'_>,
     plan: &str,
     files: &mut F,
 ) -> Result<Report, Failure>
-    ensures report { IfOk result (IsVerdictOn (F.contents files.old) domain.now problem.now plan.now) }
+    ensures report { IfOk result (IsVerdictOn (F.contents files.old) names.entry.domain.now names.entry.problem.now plan.now) }
     ensures refused { IfErr result (λ failure. IfSome (fault_in failure) (λ fault.
-        OnThree (F.contents files.old) domain.now problem.now plan.now (λ d p l. IsFileFault d p l fault))) }
+        OnThree (F.contents files.old) names.entry.domain.now names.entry.problem.now plan.now (λ d p l. IsFileFault d p l fault))) }
     ensures kept { AreKept (F.contents files.old) (F.contents files.new) }
     ensures unfailed { IfOk result (λ _. F.failures files.new ≡ F.failures files.old) }
     ensures failures { IfErr result (CountsFailure (F.failures files.old) (F.failures files.new)) }
-    ensures unread { (name : List ℕ) → IsOneOf (domain.now ∷ problem.now ∷ plan.now ∷ []) name → IsTrue (F.is_missing files.old name) → IsUnread result }
-    ensures unreadable { (name : List ℕ) → IsOneOf (domain.now ∷ problem.now ∷ plan.now ∷ []) name → IsTrue (F.is_unreadable files.old name) → IsUnread result }
+    ensures unread { (name : List ℕ) → IsOneOf (names.entry.domain.now ∷ names.entry.problem.now ∷ plan.now ∷ []) name → IsTrue (F.is_missing files.old name) → IsUnread result }
+    ensures unreadable { (name : List ℕ) → IsOneOf (names.entry.domain.now ∷ names.entry.problem.now ∷ plan.now ∷ []) name → IsTrue (F.is_unreadable files.old name) → IsUnread result }
 {
-    let task = read_pair(alloc, files, domain, problem)?;
+    let task = read_pair(alloc, files, names.domain, names.problem)?;
     let plan = read_file(alloc, files, plan)?;
     let verdict = validate_files(alloc, &task.domain, &task.problem, &plan)?;
     Ok(Report::Validate(verdict))

@@ -53,50 +53,70 @@ pub(super) fn write_report<F: Files, O: Sink, E: Sink>(
     let text = report_text(alloc, report)?;
     let json = json_text(alloc, report, outputs.format)?;
     let cert = cert_text(alloc, report);
-    save_cert(alloc, outputs.cert, &cert, outputs.progress, files, err)?;
+    let progress = outputs.progress;
+    let cert_file = Target {
+        alloc,
+        name: outputs.cert,
+        progress,
+    };
+    save_cert(&cert_file, &cert, files, err)?;
     let plan = plan_text(report, &text);
-    save_or_say(alloc, outputs.plan, &plan, outputs.progress, files, err)?;
+    let plan_file = Target {
+        alloc,
+        name: outputs.plan,
+        progress,
+    };
+    save_or_say(&plan_file, &plan, files, err)?;
     write_all(out, said(&json, &text))?;
     Ok(status_of(report))
+}
+
+/// The file that a document is written to.
+#[derive(Clone, Copy)]
+struct Target<'a> {
+    /// The allocator of the lines about it.
+    alloc: Global,
+    /// Its name; `None` if the document is not written.
+    name: Option<&'a str>,
+    /// Whether it is reported what happens to the file.
+    progress: bool,
 }
 
 /// Writes the certificate as `save_or_say` does, and if progress is asked for, reports its size. If an allocation for that line
 /// fails, the file is written, but nothing after it.
 fn save_cert<F: Files, D: Document, E: Sink>(
-    alloc: Global,
-    name: Option<&str>,
+    target: &Target<'_>,
     document: &Option<D>,
-    progress: bool,
     files: &mut F,
     err: &mut E,
 ) -> Result<(), IoFault>
     ensures written { OnOk result (IsTrue F.is_known
-        → AreWritten (F.contents files.old) (F.contents files.new) (in_file (text_in name.entry) (option_map D.text document.now))) }
-    ensures partly { IsErr result → IsBegun F.is_known (F.contents files.old) (F.contents files.new) (in_file (text_in name.entry) (option_map D.text document.now)) }
+        → AreWritten (F.contents files.old) (F.contents files.new) (in_file (text_in target.now.name) (option_map D.text document.now))) }
+    ensures partly { IsErr result → IsBegun F.is_known (F.contents files.old) (F.contents files.new) (in_file (text_in target.now.name) (option_map D.text document.now)) }
     ensures failures { CountsDevice (F.failures files.old) (F.failures files.new) result }
-    ensures progress { AreSaid (IsCertificateLine progress (text_in name.entry) (option_map D.text document.now)) E.wants_memory (stream (E.failures err.old) (E.taken err.old)) (stream (E.failures err.new) (E.taken err.new)) }
-    ensures sized { OnOk result (SaysIf (size_line_for (text_in name.entry) (option_map D.text document.now) progress) E.wants_memory (stream (E.failures err.old) (E.taken err.old)) (stream (E.failures err.new) (E.taken err.new))) }
+    ensures progress { AreSaid (IsCertificateLine target.now.progress (text_in target.now.name) (option_map D.text document.now)) E.wants_memory (stream (E.failures err.old) (E.taken err.old)) (stream (E.failures err.new) (E.taken err.new)) }
+    ensures sized { OnOk result (SaysIf (size_line_for (text_in target.now.name) (option_map D.text document.now) target.now.progress) E.wants_memory (stream (E.failures err.old) (E.taken err.old)) (stream (E.failures err.new) (E.taken err.new))) }
 {
-    match save(files, name, document) {
-        Ok(Some(size)) => say_size(alloc, size, progress, err),
+    match save(files, target.name, document) {
+        Ok(Some(size)) => say_size(size, target, err),
         Ok(None) => Ok(()),
         Err(fault) => {
-            say_failed(alloc, name, progress, err);
+            say_failed(target, err);
             Err(fault)
         }
     }
 }
 
 /// Reports the size of the written certificate, if progress is asked for. The only error is running out of memory.
-fn say_size<E: Sink>(alloc: Global, size: u64, progress: bool, err: &mut E) -> Result<(), IoFault>
-    ensures said { OnOk result (SaysIf (line_if progress (Some size)) E.wants_memory (stream (E.failures err.old) (E.taken err.old)) (stream (E.failures err.new) (E.taken err.new))) }
+fn say_size<E: Sink>(size: u64, target: &Target<'_>, err: &mut E) -> Result<(), IoFault>
+    ensures said { OnOk result (SaysIf (line_if target.now.progress (Some size)) E.wants_memory (stream (E.failures err.old) (E.taken err.old)) (stream (E.failures err.new) (E.taken err.new))) }
     ensures quiet { IsErr result → stream (E.failures err.new) (E.taken err.new) ≡ stream (E.failures err.old) (E.taken err.old) }
     ensures memory { IfErr result (λ fault. fault ≡ NoMemory) }
 {
-    if !progress {
+    if !target.progress {
         return Ok(());
     }
-    let line = size_line(alloc, size)?;
+    let line = size_line(target.alloc, size)?;
     say(err, line.as_bytes());
     Ok(())
 }
@@ -110,24 +130,22 @@ fn size_line(alloc: Global, size: u64) -> Result<String, AllocError>
 
 /// Writes the document as `save` does. If that fails and progress is asked for, reports the file's name.
 fn save_or_say<F: Files, D: Document, E: Sink>(
-    alloc: Global,
-    name: Option<&str>,
+    target: &Target<'_>,
     document: &Option<D>,
-    progress: bool,
     files: &mut F,
     err: &mut E,
 ) -> Result<(), IoFault>
     ensures written { OnOk result (IsTrue F.is_known
-        → AreWritten (F.contents files.old) (F.contents files.new) (in_file (text_in name.entry) (option_map D.text document.now))) }
-    ensures partly { IsErr result → IsBegun F.is_known (F.contents files.old) (F.contents files.new) (in_file (text_in name.entry) (option_map D.text document.now)) }
+        → AreWritten (F.contents files.old) (F.contents files.new) (in_file (text_in target.now.name) (option_map D.text document.now))) }
+    ensures partly { IsErr result → IsBegun F.is_known (F.contents files.old) (F.contents files.new) (in_file (text_in target.now.name) (option_map D.text document.now)) }
     ensures failures { CountsDevice (F.failures files.old) (F.failures files.new) result }
-    ensures progress { AreSaid (IsFailedLineOf progress (text_in name.entry)) E.wants_memory (stream (E.failures err.old) (E.taken err.old)) (stream (E.failures err.new) (E.taken err.new)) }
+    ensures progress { AreSaid (IsFailedLineOf target.now.progress (text_in target.now.name)) E.wants_memory (stream (E.failures err.old) (E.taken err.old)) (stream (E.failures err.new) (E.taken err.new)) }
     ensures quiet { OnOk result (stream (E.failures err.new) (E.taken err.new) ≡ stream (E.failures err.old) (E.taken err.old)) }
 {
-    match save(files, name, document) {
+    match save(files, target.name, document) {
         Ok(_) => Ok(()),
         Err(fault) => {
-            say_failed(alloc, name, progress, err);
+            say_failed(target, err);
             Err(fault)
         }
     }
@@ -135,14 +153,14 @@ fn save_or_say<F: Files, D: Document, E: Sink>(
 
 /// Reports that the file with this name failed, if progress is asked for. If an allocation for the line fails, nothing is
 /// reported.
-fn say_failed<E: Sink>(alloc: Global, name: Option<&str>, progress: bool, err: &mut E)
-    ensures { AreSaid (IsFailedLineOf progress (text_in name.entry)) E.wants_memory (stream (E.failures err.old) (E.taken err.old)) (stream (E.failures err.new) (E.taken err.new)) }
+fn say_failed<E: Sink>(target: &Target<'_>, err: &mut E)
+    ensures { AreSaid (IsFailedLineOf target.now.progress (text_in target.now.name)) E.wants_memory (stream (E.failures err.old) (E.taken err.old)) (stream (E.failures err.new) (E.taken err.new)) }
 {
-    let Some(name) = name else { return };
-    if !progress {
+    let Some(name) = target.name else { return };
+    if !target.progress {
         return;
     }
-    if let Ok(line) = failed_line(alloc, name) {
+    if let Ok(line) = failed_line(target.alloc, name) {
         say(err, line.as_bytes());
     }
 }

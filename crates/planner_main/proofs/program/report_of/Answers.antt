@@ -38,7 +38,7 @@ returns-in-Check-clause-found g c = subst
 pub returns-in-Explain-clause-found : goal.returns-in-Explain-clause-found
 returns-in-Explain-clause-found g c = subst
     (λ (wanted : Wanted). IsFound (g.F.Files.contents c.args.files.now) (g.F.Files.is_missing c.args.files.now) (g.F.Files.is_unreadable c.args.files.now) wanted c.report_of_explain.result)
-    (wanted_of_explain c.args.order c.in-Explain.domain c.in-Explain.problem c.in-Explain.plan c.in-Explain.instances _ c.number.result c.in-Explain.is c.number.ensures.number)
+    (wanted_of_explain c.args.order c.in-Explain.domain c.in-Explain.problem c.in-Explain.plan c.in-Explain.instances _ c.number-most.result c.in-Explain.is c.number-most.ensures.number)
     (let said = c.report_of_explain.ensures in record {
       report = said.report;
       refused = IfErr-weaker c.report_of_explain.result _ _ (λ failure is. without_fault failure _ is) said.no_text;

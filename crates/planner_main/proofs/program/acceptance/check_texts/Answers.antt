@@ -10,7 +10,7 @@ returns-in-None-clause-report g c = λ known kept.
       checked,
       refl,
       checked_in g.R.Source.remaining (task_of checked.task) c.args.cert.now c.checked.new.cert known kept
-          c.args.texts.now.pair.domain.items c.args.texts.now.pair.problem.items (items_in c.args.texts.now.plan) c.args.asked.instances checked.answer
+          c.args.texts.now.pair.domain.items c.args.texts.now.pair.problem.items (items_in c.args.texts.now.plan) c.args.texts.now.asked.instances checked.answer
           c.in_ok-checked.ensures.task c.in_ok-checked.ensures.answer (sym c.failure_of.ensures ∙ c.in-None.is),
     )
 

@@ -12,7 +12,7 @@ use Rattle.planner_main.proofs.program.acceptance.report_of_check.Goals as goal
 pub returns-clause-report : goal.returns-clause-report
 returns-clause-report g c =
     let contents = g.F.Files.contents c.args.files.now in
-    let names = c.args.names in
+    let names = c.args.asked.names in
     let came = subst (λ source. IsKept (g.F.Files.contents c.read_pair.new.files names.cert.now) (g.F.Input.Source.remaining source)) (sym c.new-cert.ensures.source) c.in_ok-input.ensures.bytes in
     let kept = subst (λ known. IsKept known (g.F.Input.Source.remaining (source_of c.new-cert.result))) (c.in_ok-pair.ensures.kept names.cert.now) came in
     check_on_inputs contents names.domain.now names.problem.now names.cert.now (text_in names.plan) _ _ _ c.in_ok-pair.ensures.domain c.in_ok-pair.ensures.problem
@@ -22,7 +22,7 @@ returns-clause-report g c =
 pub returns-clause-progress : goal.returns-clause-progress
 returns-clause-progress g c =
     let contents = g.F.Files.contents c.args.files.now in
-    let names = c.args.names in
+    let names = c.args.asked.names in
     let came = subst (λ source. IsKept (g.F.Files.contents c.read_pair.new.files names.cert.now) (g.F.Input.Source.remaining source)) (sym c.new-cert.ensures.source) c.in_ok-input.ensures.bytes in
     let kept = subst (λ known. IsKept known (g.F.Input.Source.remaining (source_of c.new-cert.result))) (c.in_ok-pair.ensures.kept names.cert.now) came in
     said_of_more

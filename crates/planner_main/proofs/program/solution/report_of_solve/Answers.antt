@@ -15,7 +15,7 @@ pub returns-in_err-solved-clause-refused : goal.returns-in_err-solved-clause-ref
 returns-in_err-solved-clause-refused g c =
     let p = err_from_is_err_and c.from_residual-in_err-solved.result c.from_residual-in_err-solved.ensures.1 in
     rw (p.1, p.2)
-    (refused_on_two (g.F.Files.contents c.args.files.now) c.args.names.domain.now c.args.names.problem.now _ _ c.in_ok-pair.ensures.domain c.in_ok-pair.ensures.problem _ c.in_err-solved.ensures.refused)
+    (refused_on_two (g.F.Files.contents c.args.files.now) c.args.asked.names.domain.now c.args.asked.names.problem.now _ _ c.in_ok-pair.ensures.domain c.in_ok-pair.ensures.problem _ c.in_err-solved.ensures.refused)
 
 pub returns-clause-report : goal.returns-clause-report
 returns-clause-report g c =

@@ -20,7 +20,7 @@ returns-in_err-verdict-clause-refused g c =
     let p = err_from_is_err_and c.from_residual-in_err-verdict.result c.from_residual-in_err-verdict.ensures.1 in
     let refused = rw (c.deref.ensures.value, c.deref-2.ensures.value, c.deref-3.ensures.value) at c.in_err-verdict.ensures.refused in
     rw (p.1, p.2)
-    (refused_on_three (g.F.Files.contents c.args.files.now) c.args.domain.now c.args.problem.now c.args.plan.now _ _ _ c.in_ok-task.ensures.domain c.in_ok-task.ensures.problem
+    (refused_on_three (g.F.Files.contents c.args.files.now) c.args.names.domain.now c.args.names.problem.now c.args.plan.now _ _ _ c.in_ok-task.ensures.domain c.in_ok-task.ensures.problem
     (text_kept _ _ c.in_ok-task.ensures.kept _ _ c.in_ok-plan.ensures.bytes) _ refused)
 
 pub returns-clause-report : goal.returns-clause-report
