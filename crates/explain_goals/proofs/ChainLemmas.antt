@@ -2,14 +2,14 @@
 use Rattle.std.proofs.Common.{arith, ◌≡◌, ◌∙◌, ℕ, zero, suc, ◌+◌, true, true≢false, not, inl, inr, List, [], ◌∷◌, ◌++◌, Some, refl, sym, ap, subst, length, take}
 use Rattle.std.specs.Prelude.{◌⊎◌, All, Contains, filter, slice_get}
 use Rattle.std.specs.List.{fold}
-use Rattle.std.specs.FinSet.{contains, insert, empty}
+use Rattle.std.specs.FinSet.{contains, contains-empty, insert, empty}
 use Rattle.std.proofs.lemmas.Bool.{false_from_ne_true}
 use Rattle.std.proofs.lemmas.Option.{slice_get_within}
 use Rattle.task.specs.TaskParts.{atom_of}
 use Rattle.packed_state.specs.Packed.{bits_of}
 use Rattle.grounding.specs.Ground.{atoms_in, task_in}
 use Rattle.model.specs.Task.{Atom, Task}
-use Rattle.model.specs.Meaning.{State}
+use Rattle.model.specs.Meaning.{State, atom_cmp}
 use Rattle.model.specs.SureLiterals.{Literal, is_true, is_false, are_same, are_different, sure}
 use Rattle.model.specs.NumberedAtoms.{numbered_atoms}
 use Rattle.model.proofs.ListLemmas.{Contains-here, Contains-there, Contains-cases, Contains-none, filter-Contains, flat_map-Contains}
@@ -17,6 +17,7 @@ use Rattle.explain_tasks.specs.Goals.{atom_asked_for, atoms_asked_for, with_pass
 use Rattle.explain_tasks.proofs.FoldLemmas.{gathered}
 use Rattle.explain_goals.specs.declared.goal_notes.Unreachable.{Unreachable}
 use Rattle.explain_goals.specs.declared.relaxation.Relaxation.{Relaxation}
+use Rattle.explain_goals.specs.Contradictions.{IsBoth, IsOneRequired}
 use Rattle.explain_goals.specs.Chains.{NeedOneOf}
 use Rattle.explain_goals.specs.Needed.{AreOut, IsNeed, IsOutChain, IsUnreachable, AreUnreachable}
 use Rattle.explain_goals.specs.Notes.{IsNoteOf, most_found}
@@ -149,3 +150,17 @@ module _ (r : Relaxation) (numbered : atoms_in r.ground.now ≡ numbered_atoms (
 
   pub notes-of : (found : List Unreachable) → AreUnreachable r (sure task task.goal []) found → All (IsNoteOf task) found
   notes-of found all k d below = note-of _ (all k d below)
+
+-- ---- contradictions
+
+pub both-of : (literals : List Literal) (b copy : Atom) (set : State) → set ≡ insert empty b → IsOneRequired literals set → Contains literals (is_false b) → copy ≡ b → IsBoth literals copy
+both-of literals b copy set is one at same =
+    let alone : one.atom ≡ b =
+    elim (inserted-cases empty b one.atom (ap (λ (s : State). contains s one.atom) (sym is) ∙ one.there)) [
+      | inl here ↦ here
+      | inr none ↦ absurd (true≢false (sym none ∙ contains-empty atom_cmp one.atom))
+    ] in
+    record {
+      as_true = subst (λ a. Contains literals (is_true a)) (alone ∙ sym same) one.required;
+      as_false = subst (λ a. Contains literals (is_false a)) (sym same) at;
+    }

@@ -10,7 +10,7 @@ use Rattle.model.specs.Task.{Atom, Schema, Task, Instance}
 use Rattle.model.specs.Runs.{run}
 use Rattle.model.specs.Meaning.{State, fits, has_amount, holds, can_apply, GroundLiteral, adds, deletes, Change, after_changes, after_literals, changes_of, literals_in, added_by, deleted_by, initial_state, step, system_of}
 use Rattle.model.specs.Fluents.{HasInitialStatics}
-use Rattle.model.specs.SureLiterals.{Literal, is_true, literal_holds, sure}
+use Rattle.model.specs.SureLiterals.{Literal, is_true, is_false, literal_holds, sure}
 use Rattle.model.specs.StaticallyFalse.{counting_changes}
 use Rattle.model.specs.NumberedAtoms.{occurs_in}
 use Rattle.model.proofs.ListLemmas.{Contains-here, Contains-there, Contains-place}
@@ -20,6 +20,7 @@ use Rattle.model.proofs.StaticallyFalseLemmas.{Contains-kept}
 use Rattle.model.proofs.SureLiteralsHold.{sure_literals_hold}
 use Rattle.model.proofs.GroundTaskLemmas.{step-counting, step-HasInitialStatics}
 use Rattle.explain_goals.specs.Relaxation.{sure_of_instance, IsClosed}
+use Rattle.explain_goals.specs.Contradictions.{ContradictoryGoalsAreUnsolvable}
 use Rattle.explain_goals.specs.Laws.{ClosedSetsAreInvariants, NeverTrueGoalsAreUnsolvable}
 
 -- a literal among literals that hold
@@ -109,3 +110,10 @@ closed_sets_are_invariants t set closed s reached a there = along t set closed r
 pub never_true_goals_are_unsolvable : NeverTrueGoalsAreUnsolvable
 never_true_goals_are_unsolvable t a required never plan solves =
     true≢false (sym (holds-at solves.0 (sure t t.goal []) (is_true a) (sure_literals_hold t t.goal [] solves.0 solves.2) required) ∙ never solves.0 (plan, solves.1))
+
+pub contradictory_goals_are_unsolvable : ContradictoryGoalsAreUnsolvable
+contradictory_goals_are_unsolvable t a both plan solves =
+    let surely = sure_literals_hold t t.goal [] solves.0 solves.2 in
+    let there = holds-at solves.0 (sure t t.goal []) (is_true a) surely both.as_true in
+    let not_there = holds-at solves.0 (sure t t.goal []) (is_false a) surely both.as_false in
+    true≢false (sym not_there ∙ ap not there)

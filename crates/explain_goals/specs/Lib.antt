@@ -5,3 +5,4 @@ pub mod Views
 pub mod Notes
 pub mod Chains
 pub mod Needed
+pub mod Contradictions

@@ -1,10 +1,12 @@
 -- The notes on the goal of a task.
-use Rattle.std.specs.Prelude.{ℕ, map, All}
+use Rattle.std.specs.Prelude.{ℕ, [], map, All, IfSome}
 use Rattle.task.specs.TaskParts.{atom_of}
 use Rattle.formulas.specs.State.{state_of}
 use Rattle.model.specs.Task.{Task}
 use Rattle.explain_goals.specs.declared.goal_notes.GoalNotes.{GoalNotes}
 use Rattle.explain_goals.specs.declared.goal_notes.Unreachable.{Unreachable}
+use Rattle.model.specs.SureLiterals.{sure}
+use Rattle.explain_goals.specs.Contradictions.{IsBoth}
 use Rattle.explain_goals.specs.Chains.{IsChain}
 use Rattle.explain_goals.specs.Relaxation.{IsNeverTrue, IsRequired}
 
@@ -21,3 +23,4 @@ pub record IsNoteOf (t : Task) (u : Unreachable) : Type 0 where
 -- so a task with a note is unsolvable
 pub record AreGoalNotesOf (t : Task) (notes : GoalNotes) : Type 0 where
   pub unreachable : All (IsNoteOf t) notes.unreachable.items
+  pub contradictory : IfSome notes.contradictory (λ a. IsBoth (sure t t.goal []) (atom_of a))

@@ -70,7 +70,7 @@ impl Relaxation<'_, '_> {
 }
 
 /// The set of this atom alone.
-fn alone(alloc: Global, atom: &Atom) -> Result<State, NoMemory>
+pub(crate) fn alone(alloc: Global, atom: &Atom) -> Result<State, NoMemory>
     ensures { IfOk result (λ s. state_of s ≡ insert empty (atom_of atom.now)) }
 {
     let mut set = State::new(alloc);

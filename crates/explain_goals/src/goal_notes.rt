@@ -13,6 +13,7 @@ ghost use Rattle.explain_goals.specs.Notes.{AreGoalNotesOf};
 ghost use Rattle.explain_goals.specs.Settled.{IsLeastSettled};
 ghost use Rattle.explain_goals.specs.Views.{is_out};
 
+use crate::contradictions::contradictory;
 use crate::reached::reached;
 use crate::relaxation::Relaxation;
 use faults::NoMemory;
@@ -31,6 +32,8 @@ pub const MOST_FOUND: usize = 11;
 pub struct GoalNotes {
     /// Atoms that the goal requires and that are never true: at most [`MOST_FOUND`].
     pub unreachable: Vec<Unreachable>,
+    /// The first atom that the goal requires to be true and to be false.
+    pub contradictory: Option<Atom>,
 }
 
 /// An atom of the goal that is never true.
@@ -75,7 +78,11 @@ impl Relaxation<'_, '_> {
         ensures { IfOk result (AreGoalNotesOf (task_in self.now.ground.now)) }
     {
         let unreachable = self.unreachable(alloc, literals)?;
-        Ok(GoalNotes { unreachable })
+        let contradictory = contradictory(alloc, literals)?;
+        Ok(GoalNotes {
+            unreachable,
+            contradictory,
+        })
     }
 
     /// The atoms that the literals require and that may not become true, each with its chain.

@@ -1,4 +1,5 @@
 //! Laws of the delete relaxation, over all tasks. They are proved; the calls do nothing.
+ghost use Rattle.explain_goals.specs.Contradictions.{ContradictoryGoalsAreUnsolvable};
 ghost use Rattle.explain_goals.specs.Laws.{ClosedSetsAreInvariants, NeverTrueGoalsAreUnsolvable};
 
 /// No list of actions leads to a state with an atom outside a closed set.
@@ -9,4 +10,9 @@ pub fn closed_sets_are_invariants()
 /// A task is unsolvable if its goal requires an atom that is never true.
 pub fn never_true_goals_are_unsolvable()
     ensures { NeverTrueGoalsAreUnsolvable }
+{}
+
+/// A task is unsolvable if its goal requires an atom to be true and to be false.
+pub fn contradictory_goals_are_unsolvable()
+    ensures { ContradictoryGoalsAreUnsolvable }
 {}

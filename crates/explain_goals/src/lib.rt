@@ -2,6 +2,7 @@
 #![tactic(auto)]
 
 mod chains;
+mod contradictions;
 mod goal_notes;
 mod laws;
 mod needs;
@@ -10,4 +11,6 @@ mod reached;
 mod relaxation;
 
 pub use goal_notes::{GoalNotes, MOST_FOUND, MOST_TOLD, Unreachable};
-pub use laws::{closed_sets_are_invariants, never_true_goals_are_unsolvable};
+pub use laws::{
+    closed_sets_are_invariants, contradictory_goals_are_unsolvable, never_true_goals_are_unsolvable,
+};

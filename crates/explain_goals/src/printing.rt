@@ -9,7 +9,8 @@ use task::{ObjectId, PredicateId, Task};
 const MOST_NAMED: usize = 3;
 
 impl GoalNotes {
-    /// Adds a line for each atom of the goal that is never true although some action adds it.
+    /// Adds a line for each atom of the goal that is never true although some action adds it, and one for an
+    /// atom that the goal requires to be true and to be false.
     ///
     /// # Errors
     /// An allocation failed.
@@ -24,15 +25,32 @@ impl GoalNotes {
         task: &Task,
         lines: &mut Vec<String>,
     ) -> Result<(), NoMemory> {
+        let before = lines.len();
         for one in self.unreachable.iter().take(MOST_TOLD) {
             add_unreachable(alloc, task, one, lines)?;
         }
-        if self.unreachable.len() > MOST_TOLD {
+        if self.unreachable.len() > MOST_TOLD && lines.len() > before {
             let line = "The goal asks for more atoms that can never become true.";
             lines.push(String::from_str(alloc, line)?)?;
         }
-        Ok(())
+        add_contradictory(alloc, task, &self.contradictory, lines)
     }
+}
+
+/// Adds the line for an atom that the goal requires to be true and to be false.
+fn add_contradictory(
+    alloc: Global,
+    task: &Task,
+    atom: &Option<Atom>,
+    lines: &mut Vec<String>,
+) -> Result<(), NoMemory> {
+    if let Some(atom) = atom {
+        let mut line = String::from_str(alloc, "The goal asks for ")?;
+        add_pattern(task, &Pattern::of(alloc, atom)?, &mut line)?;
+        line.push_str(" and for its opposite, so it can never be met.")?;
+        lines.push(line)?;
+    }
+    Ok(())
 }
 
 /// Adds the line for an atom, unless no action adds it, which is told elsewhere.
