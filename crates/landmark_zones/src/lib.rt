@@ -4,8 +4,6 @@
 mod landmarks;
 mod limits;
 mod line_text;
-#[cfg(test)]
-mod tests;
 mod values;
 mod zones;
 

@@ -1,4 +1,4 @@
-//! Tests of trees, tasks, states, ground tasks and certificates, as far as runs of the program cannot show them.
+//! Tests of trees, tasks, states, ground tasks, landmark values and certificates, as far as runs of the program cannot show them.
 #![tactic(auto)]
 
 #[cfg(test)]
@@ -9,6 +9,8 @@ mod checked_streams;
 mod explained;
 #[cfg(test)]
 mod ground_tasks;
+#[cfg(test)]
+mod landmark_lines;
 #[cfg(test)]
 mod laws;
 #[cfg(test)]

@@ -1,6 +1,6 @@
 //! Landmark values as lines of a text.
-use crate::{Landmarks, Share, ZoneRef, add_cut_by, add_dead_by, add_value, add_zone};
 use faults::NoMemory;
+use landmark_zones::{Landmarks, Share, ZoneRef, add_cut_by, add_dead_by, add_value, add_zone};
 use std::alloc::{AllocError, Global};
 use std::test::Fail;
 
