@@ -11,7 +11,8 @@ use Rattle.model.specs.Task.{Atom, Task, Instance}
 use Rattle.model.specs.WellTyped.{is_atom}
 use Rattle.model.specs.Fluents.{is_fluent}
 use Rattle.model.specs.Meaning.{State}
-use Rattle.model.specs.Claims.{Claim, Allows, opened, Line, none}
+use Rattle.model.specs.Claims.{Claim, Allows, Line, none}
+use Rattle.certificate_definitions.specs.Evidence.{opened, bare}
 use Rattle.model.proofs.ListLemmas.{Contains-cases, Contains-filter_map, Contains-here, Contains-map, Contains-none, Contains-there, map-Contains}
 use Rattle.lower_bounds.specs.TableFunctions.{Row, Table, is_among}
 use Rattle.certificate_definitions.specs.Certificates.{Version, one, two, three, Certificate, IsClosedFor, StateLine, are_weights, has_tables, is_row, is_table, rise, state_of_line}
@@ -187,7 +188,7 @@ claim_there said d there =
 -- ---- no line says what is wrong of the task
 
 abbrev line_at : Task → Certificate → StateLine → Line State
-line_at task c l = record { state = state_of_line task c l; cost = l.cost; mark = l.mark }
+line_at task c l = record { state = state_of_line task c l; cost = l.cost; mark = bare l.mark }
 
 module _ (task : Task) (c : Certificate) (closed : IsClosedFor task c) (text : List ℕ) (is : IsTextOf task text c) where
   module _ (before after : List TextLine) where
@@ -255,11 +256,11 @@ module _ (task : Task) (c : Certificate) (closed : IsClosedFor task c) (text : L
         (ap (λ (numbers : List ℕ). state_of_line task c (record { cost = 0; mark = opened; atoms = numbers })) same)
 
     no_cut : (l : StateLine) → text_lines is.said ≡ before ++ listed l ∷ after → IsCut l.mark → Contains before (claims none) → ⊥
-    no_cut l splits (rest, cut_is) there =
+    no_cut l splits (basis, rest, cut_is) there =
         let is_none : c.claim ≡ none = sym is.claim
         ∙ claim_there is.said none (subst (λ lines. Contains lines (claims none)) (sym splits) (Contains-append_left before (listed l ∷ after) (claims none) there)) in
         let among : Contains c.lines l = subst (λ lines. Contains lines l) (sym (lines_after l splits)) (Contains-append_right (states_given before) (l ∷ states_given after) l (Contains-here l (states_given after))) in
-        let allowed = closed.listing_is_closed.cuts_allowed (line_at task c l) rest (Contains-map (line_at task c) c.lines l among) cut_is in
+        let allowed = closed.listing_is_closed.cuts_allowed (line_at task c l) rest (Contains-map (line_at task c) c.lines l among) (ap bare cut_is) in
         subst (λ claim. Allows claim (l.cost + rest)) is_none allowed
 
     not_wrong : (line : TextLine) (number : ℕ) → text_lines is.said ≡ before ++ line ∷ after → IsWrongAfter task before line number → ⊥

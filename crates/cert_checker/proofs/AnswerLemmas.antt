@@ -2,13 +2,14 @@
 use Rattle.std.proofs.Common.{◌≡◌, ℕ, ◌≤◌, arith, List, length, get_or, Option, sym, ap, ◌∙◌, refl}
 use Rattle.std.specs.Prelude.{Contains, IfErr, MatchOption, OnOk, Result, Ok, Err, None, Some}
 use Rattle.std.proofs.lemmas.Option.{slice_get_within}
+use Rattle.std.proofs.lemmas.List.{length-map}
 use Rattle.std.proofs.lemmas.List.Elements.{All-contains_itself}
 use Rattle.formulas.specs.State.{instance_of}
 use Rattle.cert_checker.specs.declared.refusal.Refusal.{Refusal}
 use Rattle.cert_checker.specs.declared.refusal.Refusal.TheVariants as refusal
 use Rattle.cert_checker.specs.Reasons.{reason_of}
 use Rattle.cert_checker.specs.CertChecker.{IsTrueRefusal, IsNoFault, IsWrongSomewhere}
-use Rattle.cert_checker.specs.CheckedLines.{IsLineClosed, IsRightUpTo}
+use Rattle.cert_checker.specs.CheckedLines.{IsClosedAs, IsLineClosed, IsRightUpTo}
 use Rattle.validator.specs.declared.verdict.Verdict as code_verdict
 use Rattle.validator.specs.declared.verdict.Verdict.TheVariants as verdict
 use Rattle.validator.specs.Verdict.{verdict_of}
@@ -16,11 +17,12 @@ use Rattle.validator.proofs.VerdictLaws.{exactly_one_verdict}
 use Rattle.model.specs.Task.{Task, Instance}
 use Rattle.model.specs.Runs.{System, cost_of_all, Solves, CostsAtLeast, IsOptimal, valid, IsVerdict}
 use Rattle.model.specs.Meaning.{State}
-use Rattle.model.specs.Claims.{opened, cut, dead, Line}
-use Rattle.certificate_definitions.specs.Certificates.{Certificate, is_dead_end_weight, lines_of, IsSupported, IsClosedFor}
+use Rattle.model.specs.Claims.{Line}
+use Rattle.certificate_definitions.specs.Evidence.{LineMark, opened, cut, dead}
+use Rattle.certificate_definitions.specs.Certificates.{Certificate, StateLine, is_dead_end_weight, state_of_line, lines_of, IsSupported, IsClosedFor}
 use Rattle.certificate_definitions.specs.CertificateRefusals.{Reason, not_fluent, repeated, no_initial, unfair, unfair_goal, goal_open, successor_missing, successor_dearer, cut_weak, cut_not_allowed, plan_invalid, plan_dearer, limit, dead_unfair, dead_unfair_goal, not_dead, not_symmetry, IsPlanWithin, IsWrongAt}
-use Rattle.model.proofs.ListLemmas.{Contains-map, Contains-place}
-use Rattle.cert_checker.proofs.CertCheckerLemmas.{entry}
+use Rattle.model.proofs.ListLemmas.{Contains-place, map-Contains}
+use Rattle.cert_checker.proofs.CertCheckerLemmas.{cut_line, entry, open_line}
 use Rattle.cert_checker.proofs.LimitsLemmas.{AreLimits, limits_of}
 use Rattle.cert_checker.proofs.VersionLemmas.{one_weight_each, weights_of_each}
 use Rattle.certificate_definitions.proofs.CertificateRefusalsLemmas.{right, right_line}
@@ -44,31 +46,34 @@ closed_for task c most right = record {
   states_are_distinct = right.distinct;
   listing_is_closed = record {
     initial_listed = right.initial;
-    successors_listed = λ line i next listed is leads. ((closed line listed).is_open is).successors_listed i next leads;
-    open_goals_allowed = λ line listed is. ((closed line listed).is_open is).goal_allowed;
-    cuts_allowed = λ line rest listed is. ((closed line listed).is_cut rest is).1;
+    successors_listed = λ line i next listed is leads.
+        let (l, is_line, closed) = line_there line listed in
+        (open_line task c l line is_line is closed).successors_listed i next leads;
+    open_goals_allowed = λ line listed is. let (l, is_line, closed) = line_there line listed in (open_line task c l line is_line is closed).goal_allowed;
+    cuts_allowed = λ line rest listed is. let (l, is_line, closed) = line_there line listed in cut_line task c l line rest is_line is closed;
   };
   lines_are_supported = λ place d within.
       let l = get_or c.lines place d in
-      let line = entry task c l in
-      supported line (closed line (Contains-map (entry task c) c.lines l (All-contains_itself c.lines place d within)));
+      supported (state_of_line task c l) l.cost l.mark (line_closed l (All-contains_itself c.lines place d within));
 }
   where
     limits : AreLimits c
     limits = limits_of c right.keeps
 
-    supported : (line : Line State) → IsLineClosed task c line → IsSupported task c line.state line.mark
-    supported line right =
-        elim line.mark as (λ m. line.mark ≡ m → IsSupported task c line.state m) [
-          | opened ↦ λ is_open. tt
-          | cut rest ↦ λ is_cut. (right.is_cut rest is_cut).0
-          | dead ↦ λ is_dead. right.is_dead is_dead
-        ] refl
+    supported : (s : State) (cost : ℕ) (mark : LineMark) → IsClosedAs task c s cost mark → IsSupported task c s mark
+    supported s cost opened closed = tt
+    supported s cost (cut basis rest) closed = closed.0
+    supported s cost (dead basis) closed = closed
 
-    closed : (line : Line State) → Contains (lines_of task c) line → IsLineClosed task c line
-    closed line listed =
-        let at = Contains-place (lines_of task c) line listed in
-        right.lines at.0 line (slice_get_within (lines_of task c) at.0 line at.1) at.1
+    line_closed : (l : StateLine) → Contains c.lines l → IsLineClosed task c l
+    line_closed l among =
+        let (place, at) = Contains-place c.lines l among in
+        right.lines place l (omega (arith, slice_get_within c.lines place l at, length-map c.lines (entry task c))) at
+
+    line_there : (line : Line State) → Contains (lines_of task c) line → (l : StateLine) × (entry task c l ≡ line) × IsLineClosed task c l
+    line_there line listed =
+        let (l, among, is) = map-Contains (entry task c) c.lines line listed in
+        (l, is, line_closed l among)
 
 -- nothing is wrong with a line of a closed certificate, and what else is wrong is a limit of its ground task
 no_line : (task : Task) (c : Certificate) → IsClosedFor task c → (line : ℕ) (o : Option Reason) → MatchOption o ⊥ (λ reason. IsWrongAt task c reason line) → ⊥

@@ -1,19 +1,21 @@
 -- Why a certificate that the checker goes through without a refusal is closed.
 use Rattle.std.proofs.Common.{◌≡◌, ℕ, zero, suc, ◌+◌, ◌<◌, ◌≤◌, true, ◌&&◌, List, [], ◌∷◌, ◌++◌, length, map, take, get_or, Option, None, Some, inl, inr, refl, sym, ap, ◌∙◌, subst, arith}
 use Rattle.std.specs.Prelude.{IsTrue, MatchOption, OnOk, Result, Ok, Err, nat_eq, Contains, slice_get}
-use Rattle.std.specs.Option.{option_eq, option_map}
+use Rattle.std.specs.Option.{option_eq}
 use Rattle.std.proofs.lemmas.Bool.{eqb-true, ltb-true, and_parts}
 use Rattle.std.specs.List.{list_all}
 use Rattle.std.proofs.lemmas.List.{take_all, take_more, map-append, length-map}
 use Rattle.std.proofs.lemmas.List.Elements.{Contains-append_cases}
-use Rattle.std.proofs.lemmas.Option.{same_Some, slice_get_within}
+use Rattle.std.proofs.lemmas.Option.{slice_get_within}
 use Rattle.model.proofs.Tests.{passes_got}
-use Rattle.cert_checker.specs.CheckedLines.{HasCost, IsLeastCost, IsOpenClosed, IsCutClosed, IsLineClosed}
+use Rattle.cert_checker.specs.CheckedLines.{HasCost, IsLeastCost, IsListedAs, IsListedBy, IsOpenClosed, IsClosedAs, IsLineClosed}
 use Rattle.model.specs.Task.{Task, Instance}
-use Rattle.model.specs.Meaning.{State, step, system_of}
+use Rattle.model.specs.Meaning.{State, system_of}
 use Rattle.model.specs.Instances.{successors_of}
-use Rattle.model.specs.Claims.{Allows, Mark, opened, cut, dead, Line, IsListedWithin}
-use Rattle.certificate_definitions.specs.Certificates.{Version, one, two, three, Certificate, StateLine, is_dead_end_of, is_mark, is_number, is_state_line, keeps_limits, lines_of, AreAlikeFor, rise, state_of_line}
+use Rattle.model.specs.Claims as claims
+use Rattle.model.specs.Claims.{Allows, Line, IsListedWithin}
+use Rattle.certificate_definitions.specs.Evidence.{Basis, LineMark, opened, cut, dead, bare}
+use Rattle.certificate_definitions.specs.Certificates.{Version, one, two, three, Certificate, StateLine, is_mark, is_number, is_state_line, keeps_limits, lines_of, AreAlikeFor, rise, state_of_line}
 use Rattle.certificate_definitions.specs.CertificateRefusals.{IsListed}
 use Rattle.model.proofs.ListLemmas.{Contains-cases, Contains-got, Contains-none}
 use Rattle.cert_checker.proofs.LimitsLemmas.{limits_of}
@@ -42,7 +44,7 @@ same_place xs i x y at_x at_y = cc
 -- ---- the listing
 
 abbrev pub entry : Task → Certificate → StateLine → Line State
-entry task cert l = record { state = state_of_line task cert l; cost = l.cost; mark = l.mark }
+entry task cert l = record { state = state_of_line task cert l; cost = l.cost; mark = bare l.mark }
 
 pub listed_within : {S : Type 0} (alike : S → S → Type 0) (lines : List (Line S)) (s : S) (listed cost : ℕ) → IsLeastCost alike lines s listed → listed ≤ cost → IsListedWithin alike lines s cost
 listed_within alike lines s listed cost (place, cheapest, is) le =
@@ -83,26 +85,32 @@ open_closed task cert state cost view xs k past is all goal = record {
 
 -- ---- each line
 
-pub line_open : (task : Task) (cert : Certificate) (s : State) (cost : ℕ) → IsOpenClosed task cert s cost → IsLineClosed task cert (record { state = s; cost = cost; mark = opened })
-line_open task cert s cost closed = record {
-  is_open = λ _. closed;
-  is_cut = λ rest is. absurd (cc);
-  is_dead = λ is. absurd (cc);
-}
+-- the line lists its state
+pub as_listed : (task : Task) (c : Certificate) (place : ℕ) (s : State) (cost : ℕ) (mark : LineMark) → IsListedBy task c place s cost mark → IsListedAs task c place s cost (bare mark)
+as_listed task c place s cost mark (l, at, state_is, cost_is, mark_is) =
+    slice_get-map (entry task c) c.lines place l at ∙ (λ i. Some (record { state = state_is i; cost = cost_is i; mark = bare (mark_is i) }))
 
-pub line_cut : (task : Task) (cert : Certificate) (s : State) (cost rest : ℕ) → IsCutClosed task cert s cost rest → IsLineClosed task cert (record { state = s; cost = cost; mark = cut rest })
-line_cut task cert s cost rest closed = record {
-  is_open = λ is. absurd (cc);
-  is_cut = λ other is. let alike : rest ≡ other = cc in subst (IsCutClosed task cert s cost) alike closed;
-  is_dead = λ is. absurd (cc);
-}
+-- an open one is right as an open state
+open_as : (task : Task) (c : Certificate) (s : State) (cost : ℕ) (mark : LineMark) → bare mark ≡ claims.opened → IsClosedAs task c s cost mark → IsOpenClosed task c s cost
+open_as task c s cost opened is closed = closed
+open_as task c s cost (cut basis rest) is closed = absurd (cc)
+open_as task c s cost (dead basis) is closed = absurd (cc)
 
-pub line_dead : (task : Task) (cert : Certificate) (s : State) (cost : ℕ) → IsTrue (is_dead_end_of task cert s) → IsLineClosed task cert (record { state = s; cost = cost; mark = dead })
-line_dead task cert s cost reported = record {
-  is_open = λ is. absurd (cc);
-  is_cut = λ rest is. absurd (cc);
-  is_dead = λ _. reported;
-}
+pub open_line : (task : Task) (c : Certificate) (l : StateLine) (line : Line State) → entry task c l ≡ line → line.mark ≡ claims.opened → IsLineClosed task c l → IsOpenClosed task c line.state line.cost
+open_line task c l line is is_open closed =
+    subst (λ (k : Line State). IsOpenClosed task c k.state k.cost) is
+    (open_as task c (state_of_line task c l) l.cost l.mark (ap (λ (k : Line State). k.mark) is ∙ is_open) closed)
+
+-- and a cut is allowed by the claim
+cut_as : (task : Task) (c : Certificate) (s : State) (cost rest : ℕ) (mark : LineMark) → bare mark ≡ claims.cut rest → IsClosedAs task c s cost mark → Allows c.claim (cost + rest)
+cut_as task c s cost rest opened is closed = absurd (cc)
+cut_as task c s cost rest (cut basis least) is closed = let same : least ≡ rest = cc in subst (λ bound. Allows c.claim (cost + bound)) same closed.1
+cut_as task c s cost rest (dead basis) is closed = absurd (cc)
+
+pub cut_line : (task : Task) (c : Certificate) (l : StateLine) (line : Line State) (rest : ℕ) → entry task c l ≡ line → line.mark ≡ claims.cut rest → IsLineClosed task c l → Allows c.claim (line.cost + rest)
+cut_line task c l line rest is is_cut closed =
+    subst (λ (k : Line State). Allows c.claim (k.cost + rest)) is
+    (cut_as task c (state_of_line task c l) l.cost rest l.mark (ap (λ (k : Line State). k.mark) is ∙ is_cut) closed)
 
 -- ---- the initial state
 
@@ -114,10 +122,14 @@ listed_at_none alike lines s t (Some cost) listed is same =
 
 -- ---- outcomes
 
-pub line_if_ok : {T E : Type 0} (task : Task) (cert : Certificate) (place : ℕ) (line : Line State) (r : Result T E) → slice_get (lines_of task cert) place ≡ Some line
-    → OnOk r (IsLineClosed task cert line) → OnOk r ((other : Line State) → slice_get (lines_of task cert) place ≡ Some other → IsLineClosed task cert other)
-line_if_ok task cert place line (Ok v) here closed = λ other there. subst (IsLineClosed task cert) (same_place (lines_of task cert) place line other here there) closed
-line_if_ok task cert place line (Err e) here closed = tt
+pub line_if_ok : {T E : Type 0} (task : Task) (c : Certificate) (place : ℕ) (s : State) (cost : ℕ) (mark : LineMark) (r : Result T E) → IsListedBy task c place s cost mark
+    → OnOk r (IsClosedAs task c s cost mark) → OnOk r ((other : StateLine) → slice_get c.lines place ≡ Some other → IsLineClosed task c other)
+line_if_ok task c place s cost mark (Ok v) (l, at, state_is, cost_is, mark_is) closed = λ other there.
+    let here : IsLineClosed task c l =
+    subst (λ (m : LineMark). IsClosedAs task c (state_of_line task c l) l.cost m) (sym mark_is)
+    (subst (λ n. IsClosedAs task c (state_of_line task c l) n mark) (sym cost_is) (subst (λ (t : State). IsClosedAs task c t cost mark) (sym state_is) closed)) in
+    subst (IsLineClosed task c) (same_place c.lines place l other at there) here
+line_if_ok task c place s cost mark (Err e) here closed = tt
 
 pub lines_within : (task : Task) (cert : Certificate) (k : ℕ) (line : Line State) → slice_get (lines_of task cert) k ≡ Some line → k < length cert.lines
 lines_within task cert k line at = omega (arith, slice_get_within (lines_of task cert) k line at, length-map cert.lines (entry task cert))
@@ -132,17 +144,17 @@ small_line c place l keeps at =
     let all = lines_within_limits c keeps in
     (and_parts (is_number l.cost && is_mark c.version l.mark) (rise (length c.atoms) 0 l.atoms) (passes_got (is_state_line c.version (length c.atoms)) c.lines place l at all)).0
 
-pub small_cost : (c : Certificate) (place cost : ℕ) (mark : Mark) → keeps_limits c ≡ true → HasCost c place cost mark → cost < 1152921504606846976
+pub small_cost : (c : Certificate) (place cost : ℕ) (mark : LineMark) → keeps_limits c ≡ true → HasCost c place cost mark → cost < 1152921504606846976
 small_cost c place cost mark keeps (l, at, cost_is, mark_is) =
     let small = ltb-true l.cost 1152921504606846976 (and_parts (is_number l.cost) (is_mark c.version l.mark) (small_line c place l keeps at)).0 in
     omega (arith, small, cost_is)
 
-pub small_cut : (c : Certificate) (place cost rest : ℕ) → keeps_limits c ≡ true → HasCost c place cost (cut rest) → rest < 1152921504606846976
-small_cut c place cost rest keeps (l, at, cost_is, mark_is) =
+pub small_cut : (c : Certificate) (place cost : ℕ) (basis : Basis) (rest : ℕ) → keeps_limits c ≡ true → HasCost c place cost (cut basis rest) → rest < 1152921504606846976
+small_cut c place cost basis rest keeps (l, at, cost_is, mark_is) =
     let small = (and_parts (is_number l.cost) (is_mark c.version l.mark) (small_line c place l keeps at)).1 in
     ltb-true rest 1152921504606846976 (cut_small c.version (subst (λ mark. is_mark c.version mark ≡ true) mark_is small))
   where
-    cut_small : (v : Version) → is_mark v (cut rest) ≡ true → is_number rest ≡ true
+    cut_small : (v : Version) → is_mark v (cut basis rest) ≡ true → is_number rest ≡ true
     cut_small one is = is
     cut_small two is = is
     cut_small three is = is

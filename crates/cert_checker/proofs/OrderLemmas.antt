@@ -11,11 +11,13 @@ use Rattle.model.specs.Limits.{max_numbered_atoms}
 use Rattle.model.specs.Grounding.{exceeded_limit}
 use Rattle.model.specs.Claims.{none, Allows, opened, cut, Line, IsListedWithin}
 use Rattle.model.specs.Fluents.{is_fluent}
+use Rattle.certificate_definitions.specs.Evidence.{bare}
 use Rattle.symmetries_definitions.specs.Exchanges.{Exchange}
-use Rattle.certificate_definitions.specs.Certificates.{Certificate, lines_of, is_symmetry_for, AreAlikeFor, AreFairFor, IsClosedFor}
+use Rattle.certificate_definitions.specs.Certificates.{Certificate, StateLine, state_of_line, lines_of, is_symmetry_for, AreAlikeFor, AreFairFor, IsClosedFor}
 use Rattle.certificate_definitions.specs.CertificateRefusals.{Reason, not_fluent, repeated, no_initial, unfair, unfair_goal, goal_open, successor_missing, successor_dearer, cut_weak, cut_not_allowed, plan_invalid, plan_dearer, limit, dead_unfair, dead_unfair_goal, not_dead, not_symmetry, HasExchange, exchange_line, IsUnfairIn, IsUnfairAtGoalsIn, IsDeadUnfairIn, IsWrongAt, IsWrong, IsFirst, stage_of, rank_of, state_line}
 use Rattle.cert_checker.specs.FluentAtoms.{AreFluent}
-use Rattle.cert_checker.specs.CheckedLines.{AreSymmetries, CutsAreAllowed, IsLineClosed, IsRightUpTo}
+use Rattle.cert_checker.specs.CheckedLines.{AreSymmetries, CutsAreAllowed, IsClosedAs, IsLineClosed, IsRightUpTo}
+use Rattle.cert_checker.proofs.CertCheckerLemmas.{entry, got_mapped, open_line, slice_get-map}
 use Rattle.certificate_definitions.proofs.CertificateRefusalsLemmas.{apart, dead_goals_fair, goals_fair, none_dead_unfair, none_unfair, right_line}
 
 -- ---- what is known of a beginning of the certificate
@@ -309,18 +311,23 @@ module _ (task : Task) (c : Certificate) where
 
   -- ---- the state lines
 
-  line_right : (r : Reason) (line place : ℕ) → line < state_line c place → ((k : ℕ) (l : Line State) → k < place → slice_get (lines_of task c) k ≡ Some l → IsLineClosed task c l) → stage_of r ≡ 5
+  line_right : (r : Reason) (line place : ℕ) → line < state_line c place → ((k : ℕ) (l : StateLine) → k < place → slice_get c.lines k ≡ Some l → IsLineClosed task c l) → stage_of r ≡ 5
       → IsWrongAt task c r line → ⊥
-  line_right goal_open line place lt right stage (l, (k, reported, at), is_open, goal, denied) = denied (((right k l (omega arith) at).is_open is_open).goal_allowed goal)
+  line_right goal_open line place lt right stage (l, (k, reported, at), is_open, goal, denied) =
+      let (by, there, is) = got_mapped (entry task c) c.lines k l at in
+      denied ((open_line task c by l is is_open (right k by (omega arith) there)).goal_allowed goal)
   line_right successor_missing line place lt right stage (l, i, next, ((k, reported, at), is_open, leads), missing) =
-      let listed = ((right k l (omega arith) at).is_open is_open).successors_listed i next leads in
+      let (by, there, is) = got_mapped (entry task c) c.lines k l at in
+      let listed = (open_line task c by l is is_open (right k by (omega arith) there)).successors_listed i next leads in
       missing (listed.0, listed.1, listed.2)
   line_right successor_dearer line place lt right stage (l, i, next, ((k, reported, at), is_open, leads), is_listed, dearer) =
-      dearer (((right k l (omega arith) at).is_open is_open).successors_listed i next leads)
-  line_right cut_weak line place lt right stage (l, rest, (k, reported, at), is_cut, inl more) =
-      let allowed = (right k l (omega arith) at).is_cut rest is_cut in
-      omega (arith, allowed.0)
-  line_right cut_weak line place lt right stage (l, rest, (k, reported, at), is_cut, inr denied) = denied ((right k l (omega arith) at).is_cut rest is_cut).1
+      let (by, there, is) = got_mapped (entry task c) c.lines k l at in
+      dearer ((open_line task c by l is is_open (right k by (omega arith) there)).successors_listed i next leads)
+  line_right cut_weak line place lt right stage (l, basis, rest, (k, reported, at), is_cut, inl more) =
+      let allowed = subst (IsClosedAs task c (state_of_line task c l) l.cost) is_cut (right k l (omega arith) at) in
+      omega (arith, allowed.0, more)
+  line_right cut_weak line place lt right stage (l, basis, rest, (k, reported, at), is_cut, inr denied) =
+      denied (subst (IsClosedAs task c (state_of_line task c l) l.cost) is_cut (right k l (omega arith) at)).1
   line_right not_fluent line place lt right stage wrong = absurd (omega arith)
   line_right repeated line place lt right stage wrong = absurd (omega arith)
   line_right cut_not_allowed line place lt right stage wrong = absurd (omega arith)
@@ -330,7 +337,8 @@ module _ (task : Task) (c : Certificate) where
   line_right unfair_goal line place lt right stage wrong = absurd (omega arith)
   line_right dead_unfair line place lt right stage wrong = absurd (omega arith)
   line_right dead_unfair_goal line place lt right stage wrong = absurd (omega arith)
-  line_right not_dead line place lt right stage (l, (k, reported, at), is_dead, alive) = false≢true (sym alive ∙ (right k l (omega arith) at).is_dead is_dead)
+  line_right not_dead line place lt right stage (l, basis, (k, reported, at), is_dead, alive) =
+      false≢true (sym alive ∙ subst (IsClosedAs task c (state_of_line task c l) l.cost) is_dead (right k l (omega arith) at))
   line_right not_symmetry line place lt right stage wrong = absurd (omega arith)
   line_right plan_invalid line place lt right stage wrong = wrong
   line_right plan_dearer line place lt right stage wrong = wrong
@@ -369,15 +377,17 @@ module _ (task : Task) (c : Certificate) where
       let there : k ≡ place = omega arith in
       let same = the_line place k other l there at here in
       denied (subst (λ (a : Line State). Allows c.claim a.cost) (sym same) (allowed (subst (λ (a : Line State). IsTrue ((system_of task).meets_goal a.state)) same goal)))
-  open_here place l here is_open allowed cut_weak stage rank (other, rest, (k, reported, at), is_cut, wrong) =
+  open_here place l here is_open allowed cut_weak stage rank (other, basis, rest, (k, reported, at), is_cut, wrong) =
       let there : k ≡ place = omega arith in
-      let same = the_line place k other l there at here in
+      let same = the_line place k (entry task c other) l there (slice_get-map (entry task c) c.lines k other at) here in
       let none_cut = ap (λ (a : Line State). a.mark) same in
+      let marked = ap bare is_cut in
       absurd (cc)
-  open_here place l here is_open allowed not_dead stage rank (other, (k, reported, at), is_dead, alive) =
+  open_here place l here is_open allowed not_dead stage rank (other, basis, (k, reported, at), is_dead, alive) =
       let there : k ≡ place = omega arith in
-      let same = the_line place k other l there at here in
+      let same = the_line place k (entry task c other) l there (slice_get-map (entry task c) c.lines k other at) here in
       let none_dead = ap (λ (a : Line State). a.mark) same in
+      let marked = ap bare is_dead in
       absurd (cc)
   open_here place l here is_open allowed successor_missing stage rank wrong = omega arith
   open_here place l here is_open allowed successor_dearer stage rank wrong = omega arith

@@ -10,7 +10,7 @@ use Rattle.certificate.specs.declared.cert.Cert.{Cert}
 use Rattle.certificate.specs.Certificate.{certificate_of, store_in}
 use Rattle.certificate.proofs.NumbersLemmas.{sets_are}
 use Rattle.cert_checker.specs.FluentAtoms.{AreFluent}
-use Rattle.cert_checker.specs.CheckedLines.{HasCost, IsListedAs}
+use Rattle.cert_checker.specs.CheckedLines.{HasCost, IsListedBy}
 use Rattle.cert_checker.specs.PackedLines.{packed_line, HoldsLines, IsPackedListing, NamesAtoms}
 use Rattle.cert_checker.proofs.CertCheckerLemmas.{entry, got_mapped, lines_within_limits, slice_get-map}
 use Rattle.cert_checker.proofs.WeightsLemmas.{alike, value-numbered}
@@ -18,17 +18,18 @@ use Rattle.cert_checker.specs.Weights.{HasItsWeights}
 use Rattle.lower_bounds.specs.PotentialFunctions.{PotentialFunction, value, value_of_state}
 use Rattle.cert_checker.proofs.GroundSuccessors.{leads_by, leads_by-successors}
 use Rattle.cert_checker.proofs.RefusalsLemmas.{AreApart}
-use Rattle.cert_checker.proofs.PackedLinesLemmas.{all_fluent, length-set_of, names_atoms, one_set, state_packed}
+use Rattle.cert_checker.proofs.PackedLinesLemmas.{all_fluent, names_atoms, one_set, state_packed}
 use Rattle.model.specs.Task.{Atom, Task}
 use Rattle.model.specs.Meaning.{State, initial_state}
 use Rattle.model.specs.Instances.{successors_of}
-use Rattle.model.specs.Claims.{Mark, Line}
+use Rattle.model.specs.Claims.{Line}
+use Rattle.certificate_definitions.specs.Evidence.{LineMark}
 use Rattle.certificate_definitions.specs.Certificates.{Certificate, StateLine, is_state_line, keeps_limits, state_of_line, lines_of}
 use Rattle.model.specs.NumberedAtoms.{numbered_atoms, HasNumberedFluents}
 use Rattle.model.specs.Grounding.{state_of_bits, bits_of_state, applicable_numbers, PacksStates}
 use Rattle.certificate_definitions.proofs.CertificateRefusalsLemmas.{apart}
 use Rattle.model.proofs.GroundTaskLemmas.{are_numbered, initial-numbered, packs_states}
-use Rattle.model.proofs.ListLemmas.{Contains-got, Contains-map, Contains-place, map-Contains}
+use Rattle.model.proofs.ListLemmas.{Contains-got, Contains-place}
 use Rattle.model.proofs.NumberingLemmas.{distinct-from_pairs}
 use Rattle.model.proofs.Tests.{passes_got}
 
@@ -93,13 +94,13 @@ module _ (task : Task) (atoms : List Atom) (c : Certificate) (store : PooledStor
       let first = first_numbered task atoms c listed.fluent listed.numbered in
       subst (λ those. state_of_bits task those (packed_line (length those) l) ≡ state_of_line task c l) (sym first.1) (state_packed task c first.0 l (listed.holds.named l at))
 
-  pub found_there : (place : ℕ) (bits : List Bool) → slice_get (pooled_states store) place ≡ Some bits → (cost : ℕ) (mark : Mark) → HasCost c place cost mark
-      → IsListedAs task c place (state_of_bits task atoms bits) cost mark
+  pub found_there : (place : ℕ) (bits : List Bool) → slice_get (pooled_states store) place ≡ Some bits → (cost : ℕ) (mark : LineMark) → HasCost c place cost mark
+      → IsListedBy task c place (state_of_bits task atoms bits) cost mark
   found_there place bits at cost mark (l, at_l, cost_is, mark_is) =
       let there = set_there c (length atoms) store listed.holds place l at_l in
       let set : packed_line (length atoms) l ≡ bits = cc in
       let same : state_of_line task c l ≡ state_of_bits task atoms bits = sym (line_state l (Contains-got c.lines place l at_l)) ∙ ap (state_of_bits task atoms) set in
-      slice_get-map (entry task c) c.lines place l at_l ∙ (λ i. Some (record { state = same i; cost = cost_is i; mark = mark_is i }))
+      (l, at_l, same, cost_is, mark_is)
 
   pub place_within : (place : ℕ) (bits : List Bool) → slice_get (pooled_states store) place ≡ Some bits → place < length c.lines
   place_within place bits at = omega (arith, slice_get_within (pooled_states store) place bits at, as_many c (length atoms) store listed.holds)

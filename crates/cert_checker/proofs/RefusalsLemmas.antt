@@ -1,7 +1,7 @@
 -- Why the checker's refusals are true.
 use Rattle.std.proofs.Common.{◌≡◌, ◌≢◌, ℕ, ◌+◌, ◌<◌, ◌≤◌, ◌⊎◌, Bool, false, List, length, map, get_or, Option, None, Some, inl, inr, refl, sym, ap, ◌∙◌, subst, arith}
 use Rattle.std.specs.Prelude.{◌↔◌, Result, Ok, Err, IfErr, IsTrue, AllPairs, Contains, MatchOption, nat_eq, slice_get}
-use Rattle.std.specs.Option.{option_eq, option_map}
+use Rattle.std.specs.Option.{option_eq}
 use Rattle.std.proofs.lemmas.Bool.{cases_order, eq-eqb, false≢true}
 use Rattle.cert_checker.specs.declared.refusal.Refusal.{Refusal}
 use Rattle.cert_checker.specs.declared.refusal.Refusal.TheVariants as refusal
@@ -12,13 +12,14 @@ use Rattle.certificate.specs.CertificateParts.{listed_of}
 use Rattle.certificate.specs.ListedSets.{Marked, marked}
 use Rattle.std.proofs.lemmas.List.{length-map}
 use Rattle.cert_checker.specs.Reasons.{reason_of}
-use Rattle.cert_checker.specs.CheckedLines.{HasCost, IsCheapestAt, IsLeastCost, IsListedAs, IsTrueAnyway}
+use Rattle.cert_checker.specs.CheckedLines.{HasCost, IsLeastCost, IsListedAs, IsListedBy, IsTrueAnyway}
 use Rattle.cert_checker.proofs.CertCheckerLemmas.{got_mapped, slice_get-map}
 use Rattle.model.specs.Task.{Task, Instance}
 use Rattle.model.specs.Meaning.{State, meets_goal, system_of}
 use Rattle.model.specs.Instances.{successors_of}
-use Rattle.model.specs.Claims.{Claim, Allows, opened, cut, dead, Line, IsListedWithin}
-use Rattle.certificate_definitions.specs.Certificates.{Certificate, is_dead_end_of, lines_of, AreAlikeFor, value_of}
+use Rattle.model.specs.Claims.{Claim, Allows, opened, Line, IsListedWithin}
+use Rattle.certificate_definitions.specs.Evidence.{Basis, cut, dead}
+use Rattle.certificate_definitions.specs.Certificates.{Certificate, is_dead_end_by, lines_of, AreAlikeFor, value_by}
 use Rattle.certificate_definitions.specs.CertificateRefusals.{goal_open, successor_missing, successor_dearer, cut_weak, not_dead, IsWrongAt, IsListed, state_line}
 use Rattle.model.proofs.ListLemmas.{Contains-got, Contains-place, Contains-map}
 use Rattle.model.proofs.InstancesLemmas.{successors-Contains}
@@ -116,14 +117,24 @@ wrong_dearer task c place s cost i next listed there leads at dearer = (
 
 -- ---- cuts
 
-pub wrong_cut : (task : Task) (c : Certificate) (place : ℕ) (s : State) (cost rest : ℕ) → IsListedAs task c place s cost (cut rest) → (value_of task c s < rest) ⊎ ¬ Allows c.claim (cost + rest)
-    → IsWrongAt task c cut_weak (state_line c place)
-wrong_cut task c place s cost rest there wrong = (record { state = s; cost = cost; mark = cut rest }, rest, (place, refl, there), refl, wrong)
+pub wrong_cut : (task : Task) (c : Certificate) (place : ℕ) (s : State) (cost : ℕ) (basis : Basis) (rest : ℕ) → IsListedBy task c place s cost (cut basis rest)
+    → (value_by task c basis s < rest) ⊎ ¬ Allows c.claim (cost + rest) → IsWrongAt task c cut_weak (state_line c place)
+wrong_cut task c place s cost basis rest (l, at, state_is, cost_is, mark_is) wrong = (
+  l,
+  basis,
+  rest,
+  (place, refl, at),
+  mark_is,
+  subst (λ (t : State). (value_by task c basis t < rest) ⊎ ¬ Allows c.claim (l.cost + rest)) (sym state_is)
+      (subst (λ n. (value_by task c basis s < rest) ⊎ ¬ Allows c.claim (n + rest)) (sym cost_is) wrong),
+)
 
 -- ---- dead ends
 
-pub wrong_dead : (task : Task) (c : Certificate) (place : ℕ) (s : State) (cost : ℕ) → IsListedAs task c place s cost dead → is_dead_end_of task c s ≡ false → IsWrongAt task c not_dead (state_line c place)
-wrong_dead task c place s cost there alive = (record { state = s; cost = cost; mark = dead }, (place, refl, there), refl, alive)
+pub wrong_dead : (task : Task) (c : Certificate) (place : ℕ) (s : State) (cost : ℕ) (basis : Basis) → IsListedBy task c place s cost (dead basis) → is_dead_end_by task c basis s ≡ false
+    → IsWrongAt task c not_dead (state_line c place)
+wrong_dead task c place s cost basis (l, at, state_is, cost_is, mark_is) alive =
+    (l, basis, (place, refl, at), mark_is, ap (is_dead_end_by task c basis) state_is ∙ alive)
 
 pub not_allowed : (claim whole : Claim) (cost : ℕ) (b : Bool) → claim ≡ whole → IsTrue b ↔ Allows claim cost → b ≡ false → ¬ Allows whole cost
 not_allowed claim whole cost b same iff fails allowed = false≢true (sym fails ∙ iff.1 (subst (λ k. Allows k cost) (sym same) allowed))

@@ -6,7 +6,8 @@ use Rattle.std.specs.List.{list_all}
 use Rattle.std.specs.Option.{option_and_then}
 use Rattle.std.proofs.lemmas.Bool.{and_parts, eqb-true, leb-true, ltb-true, ne_eqb}
 use Rattle.std.proofs.lemmas.Fmt.{length-decimal-le}
-use Rattle.model.specs.Claims.{bound, none, Mark, opened, cut, dead}
+use Rattle.model.specs.Claims.{bound, none}
+use Rattle.certificate_definitions.specs.Evidence.{of_all, LineMark, opened, cut, dead}
 use Rattle.certificate_definitions.specs.Certificates.{Version, one, two, three, are_weights, has_exchanges, has_tables, is_mark, is_number, is_weight, rise}
 use Rattle.model.proofs.ListLemmas.{Contains-here, Contains-there}
 use Rattle.certificate_definitions.specs.CertificateText.{scope, row, NamedCertificate, TextLine, version, claims, constant, swapped, atom, tabled, listed, last, Format, format_of, begin_with_scope, row_count, scope_count, BeginCertificate, HasLine, IsInOneLine, after_blank, are_exchanged, is_line, is_weight_count, keeps_text_limits, line_text, longest_line, mark_text, most_atoms, most_rows, most_states, most_swaps, most_tables, numbers_text, text_lines, text_of, version_number, weights_text, whole_line}
@@ -75,18 +76,18 @@ weights_short (w ∷ weights) all =
     let word : length (after_blank (signed_decimal w)) ≡ 1 + length (signed_decimal w) = omega arith in
     omega (arith, first, rest, word, length-append (after_blank (signed_decimal w)) (weights_text weights))
 
-mark_short : (v : Version) (mark : Mark) (cost : ℕ) → is_number cost ≡ true → is_mark v mark ≡ true → length (mark_text mark cost) ≤ 43
+mark_short : (v : Version) (mark : LineMark) (cost : ℕ) → is_number cost ≡ true → is_mark v mark ≡ true → length (mark_text mark cost) ≤ 43
 mark_short v opened cost is marked =
     let digits = number_short cost is in
     let word : length (codes "open " ++ decimal cost) ≡ 5 + length (decimal cost) = omega arith in
     omega (arith, digits, word)
-mark_short v (cut least) cost is marked =
+mark_short v (cut of_all least) cost is marked =
     let digits = number_short cost is in
     let others = number_short least marked in
     let word : length (codes "cut " ++ decimal cost) ≡ 4 + length (decimal cost) = omega arith in
     let second : length (after_blank (decimal least)) ≡ 1 + length (decimal least) = omega arith in
     omega (arith, digits, others, word, second, length-append (codes "cut " ++ decimal cost) (after_blank (decimal least)))
-mark_short v dead cost is marked =
+mark_short v (dead of_all) cost is marked =
     let digits = number_short cost is in
     let word : length (codes "dead " ++ decimal cost) ≡ 5 + length (decimal cost) = omega arith in
     omega (arith, digits, word)

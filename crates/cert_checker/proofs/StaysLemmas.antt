@@ -1,6 +1,6 @@
 -- What a certificate that is closed for a task shows.
-use Rattle.std.proofs.Common.{◌≡◌, ℕ, ◌+◌, ◌≤◌, true, false, List, [], ◌∷◌, ◌++◌, length, get_or, Some, refl, sym, ap, ◌∙◌, arith}
-use Rattle.std.specs.Prelude.{All, Bool, ◌&&◌, Contains, IsTrue, nat_le, nat_lt}
+use Rattle.std.proofs.Common.{◌≡◌, ℕ, ◌+◌, ◌≤◌, true, false, List, [], ◌∷◌, ◌++◌, length, get_or, Some, refl, sym, ap, ◌∙◌, subst, arith}
+use Rattle.std.specs.Prelude.{All, Bool, ◌&&◌, IsTrue, nat_le, nat_lt}
 use Rattle.std.specs.List.{list_all}
 use Rattle.std.proofs.lemmas.Bool.{and_parts, lt-ltb, ltb-true}
 use Rattle.std.proofs.lemmas.List.{length-append}
@@ -12,19 +12,20 @@ use Rattle.model.specs.Meaning.{State, meets_goal, system_of}
 use Rattle.model.specs.Grounding.{bits_of_state}
 use Rattle.model.specs.Fluents.{is_fluent, HasInitialStatics}
 use Rattle.model.specs.NumberedAtoms.{numbered_atoms}
+use Rattle.model.specs.Claims as claims
 use Rattle.model.specs.Claims.{Line, AreTrue, ClaimHolds, IsLowerBound, AreDeadEnds}
-use Rattle.certificate_definitions.specs.Certificates.{Version, one, two, three, Certificate, potentials_of, several_of, rise, has_tables, is_row, is_table, are_tables, is_dead_end_in, is_dead_end_of, lines_of, AreAlikeFor, value_in, value_of, AreFairIn, IsClosedFor}
+use Rattle.certificate_definitions.specs.Evidence.{Basis, of_all, LineMark, opened, cut, dead, bare}
+use Rattle.certificate_definitions.specs.Certificates.{Version, one, two, three, Certificate, potentials_of, several_of, rise, has_tables, is_row, is_table, are_tables, is_dead_end_in, is_dead_end_of, state_of_line, lines_of, AreAlikeFor, value_in, value_of, value_by, is_dead_end_by, AreFairIn, IsSupported, IsClosedFor}
 use Rattle.symmetries_definitions.specs.Symmetries.{is_symmetry}
 use Rattle.symmetries_definitions.specs.Orbits.{AreOfOneOrbit}
 use Rattle.symmetries_definitions.proofs.OrbitLemmas.{orbits_are_classes}
 use Rattle.symmetries_definitions.proofs.TaskOrbits.{alike_states_are_of_one_orbit, listings_by_exchanges_claim}
 use Rattle.certificate_definitions.proofs.WithoutExchanges.{alike_alone}
-use Rattle.certificate_definitions.proofs.CertificateRefusalsLemmas.{supported_cut, supported_dead_end}
+use Rattle.certificate_definitions.proofs.CertificateRefusalsLemmas.{supported_line}
 use Rattle.cert_checker.proofs.CertCheckerLemmas.{entry}
 use Rattle.cert_checker.proofs.LineStates.{state_statics}
 use Rattle.cert_checker.proofs.SymmetriesLemmas.{all_symmetries}
 use Rattle.model.proofs.ListLemmas.{map-Contains}
-use Rattle.std.specs.FinSet.{contains}
 use Rattle.model.proofs.GroundTaskLemmas.{are_numbered, numbered-distinct, numbered-fluent}
 use Rattle.model.proofs.NumberingLemmas.{distinct-from_pairs, Contains-occurs_in}
 use Rattle.model.proofs.StaticLemmas.{contains-reachable}
@@ -140,6 +141,14 @@ module _ (task : Task) (c : Certificate) (closed : IsClosedFor task c) where
   detects_in two fair = potential_detects c.dead_ends closed.one_dead_end_weight_an_atom fair.dead_ends
   detects_in three fair = λ s end plan statics reported runs. (sound fair).dead_ends.no_plan s end plan statics reported runs
 
+  -- ---- each basis
+
+  below_by : (basis : Basis) → IsLowerBoundOfAll task (value_by task c basis)
+  below_by of_all = below_in c.version closed.are_fair
+
+  detects_by : (basis : Basis) → AreDeadEndsOfAll task (is_dead_end_by task c basis)
+  detects_by of_all = detects_in c.version closed.are_fair
+
   -- what is still to pay from a reachable state on does not fall short of the value that the certificate gives to it
   pub value_below : IsLowerBound (system_of task) (value_of task c)
   value_below s end plan reached runs goal = below_in c.version closed.are_fair s end plan (λ q static. contains-reachable task s q static reached) runs goal
@@ -150,19 +159,31 @@ module _ (task : Task) (c : Certificate) (closed : IsClosedFor task c) where
 
   -- ---- what is claimed
 
-  -- a state of a line has the initial static atoms, as its other atoms are fluent
-  line_statics : (line : Line State) → Contains (lines_of task c) line → HasInitialStatics task line.state
-  line_statics line listed q static =
-      let from = map-Contains (entry task c) c.lines line listed in
-      ap (λ (l : Line State). contains l.state q) (sym from.2) ∙ state_statics task c more_fluent from.0 q static
+  -- what a supported mark says of the state of a line is true
+  cut_is_true : (s : State) (mark : LineMark) (rest : ℕ) (end : State) (plan : List Instance) → HasInitialStatics task s → IsSupported task c s mark → bare mark ≡ claims.cut rest
+      → run (system_of task) s plan ≡ Some end → IsTrue (meets_goal task end) → rest ≤ cost_of_all (system_of task) plan
+  cut_is_true s opened rest end plan statics supported is runs goal = absurd (cc)
+  cut_is_true s (cut basis least) rest end plan statics supported is runs goal =
+      let same : least ≡ rest = cc in
+      omega (arith, same, supported, below_by basis s end plan statics runs goal)
+  cut_is_true s (dead basis) rest end plan statics supported is runs goal = absurd (cc)
+
+  dead_end_is_true : (s : State) (mark : LineMark) (end : State) (plan : List Instance) → HasInitialStatics task s → IsSupported task c s mark → bare mark ≡ claims.dead
+      → run (system_of task) s plan ≡ Some end → meets_goal task end ≡ false
+  dead_end_is_true s opened end plan statics supported is runs = absurd (cc)
+  dead_end_is_true s (cut basis least) end plan statics supported is runs = absurd (cc)
+  dead_end_is_true s (dead basis) end plan statics supported is runs = detects_by basis s end plan statics supported runs
 
   lines_are_true : AreTrue (system_of task) (lines_of task c)
   lines_are_true = record {
     cuts = λ line rest end plan listed is_cut runs goal.
-        let below = below_in c.version closed.are_fair line.state end plan (line_statics line listed) runs goal in
-        omega (arith, supported_cut task c closed line rest listed is_cut, below);
+        let (l, among, is) = map-Contains (entry task c) c.lines line listed in
+        cut_is_true (state_of_line task c l) l.mark rest end plan (state_statics task c more_fluent l) (supported_line task c closed l among) (ap (λ (k : Line State). k.mark) is ∙ is_cut)
+        (subst (λ (k : Line State). run (system_of task) k.state plan ≡ Some end) (sym is) runs) goal;
     dead_ends = λ line end plan listed is_dead runs.
-        detects_in c.version closed.are_fair line.state end plan (line_statics line listed) (supported_dead_end task c closed line listed is_dead) runs;
+        let (l, among, is) = map-Contains (entry task c) c.lines line listed in
+        dead_end_is_true (state_of_line task c l) l.mark end plan (state_statics task c more_fluent l) (supported_line task c closed l among) (ap (λ (k : Line State). k.mark) is ∙ is_dead)
+        (subst (λ (k : Line State). run (system_of task) k.state plan ≡ Some end) (sym is) runs);
   }
 
   module _ (well : IsTrue (is_task task)) where

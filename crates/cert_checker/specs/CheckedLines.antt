@@ -7,10 +7,12 @@ use Rattle.model.specs.Task.{Task, Instance}
 use Rattle.model.specs.Meaning.{State, meets_goal, system_of}
 use Rattle.model.specs.Limits.{max_numbered_atoms}
 use Rattle.model.specs.Grounding.{exceeded_limit}
-use Rattle.model.specs.Claims.{none, Allows, Mark, opened, cut, dead, Line, IsListedWithin}
+use Rattle.model.specs.Claims.{none, Allows, Mark, cut, Line, IsListedWithin}
+use Rattle.certificate_definitions.specs.Evidence as evidence
+use Rattle.certificate_definitions.specs.Evidence.{Basis, LineMark}
 use Rattle.lower_bounds.specs.TableFunctions.{Row, Table}
 use Rattle.symmetries_definitions.specs.Exchanges.{Exchange}
-use Rattle.certificate_definitions.specs.Certificates.{Certificate, StateLine, keeps_limits, lines_of, is_symmetry_for, AreAlikeFor, value_of, is_dead_end_of, AreFairFor}
+use Rattle.certificate_definitions.specs.Certificates.{Certificate, StateLine, keeps_limits, state_of_line, lines_of, is_symmetry_for, AreAlikeFor, value_by, is_dead_end_by, AreFairFor}
 
 -- the refusal is true for any plan and any limit of kept instances
 abbrev pub IsTrueAnyway : Task → Certificate → Refusal → Type 0
@@ -36,12 +38,16 @@ abbrev pub IsFirstSymmetric : Task → Certificate → Refusal → Type 0
 IsFirstSymmetric task c refusal = AreSymmetries task c → IsFirstGrounded task c refusal
 
 -- the certificate's line at a place has this cost and this mark
-abbrev pub HasCost : Certificate → ℕ → ℕ → Mark → Type 0
+abbrev pub HasCost : Certificate → ℕ → ℕ → LineMark → Type 0
 HasCost c place cost mark = (l : StateLine) × (slice_get c.lines place ≡ Some l) × (l.cost ≡ cost) × (l.mark ≡ mark)
 
 -- the listing has this state at a place, at this cost and with this mark
 abbrev pub IsListedAs : Task → Certificate → ℕ → State → ℕ → Mark → Type 0
 IsListedAs task c place state cost mark = slice_get (lines_of task c) place ≡ Some (record { state = state; cost = cost; mark = mark })
+
+-- the certificate's line at a place lists this state, at this cost, with this mark and what it rests on
+abbrev pub IsListedBy : Task → Certificate → ℕ → State → ℕ → LineMark → Type 0
+IsListedBy task c place state cost mark = (l : StateLine) × (slice_get c.lines place ≡ Some l) × (state_of_line task c l ≡ state) × (l.cost ≡ cost) × (l.mark ≡ mark)
 
 -- a cheapest listed state that is alike is at this place
 pub record IsCheapestAt {S : Type 0} (alike : S → S → Type 0) (lines : List (Line S)) (s : S) (place : ℕ) : Type 0 where
@@ -60,15 +66,19 @@ pub record IsOpenClosed (task : Task) (c : Certificate) (state : State) (cost : 
   pub successors_listed : (i : Instance) (next : State) → (system_of task).step state i ≡ Some next → IsListedWithin (AreAlikeFor task c) (lines_of task c) next (cost + (system_of task).cost i)
   pub goal_allowed : IsTrue (meets_goal task state) → Allows c.claim cost
 
--- A cut of this cost and bound: the bound is at most the state's value, and the sum no less than claimed.
-abbrev pub IsCutClosed : Task → Certificate → State → ℕ → ℕ → Type 0
-IsCutClosed task c state cost rest = (rest ≤ value_of task c state) × Allows c.claim (cost + rest)
+-- A cut of this cost, basis and bound: the bound is at most the state's value by the basis, and the sum no less than claimed.
+abbrev pub IsCutClosed : Task → Certificate → State → ℕ → Basis → ℕ → Type 0
+IsCutClosed task c state cost basis rest = (rest ≤ value_by task c basis state) × Allows c.claim (cost + rest)
+
+-- a state of a closed listing, at this cost and with this mark
+abbrev pub IsClosedAs : Task → Certificate → State → ℕ → LineMark → Type 0
+IsClosedAs task c state cost evidence.opened = IsOpenClosed task c state cost
+IsClosedAs task c state cost (evidence.cut basis rest) = IsCutClosed task c state cost basis rest
+IsClosedAs task c state cost (evidence.dead basis) = IsTrue (is_dead_end_by task c basis state)
 
 -- a line of a closed listing
-pub record IsLineClosed (task : Task) (c : Certificate) (line : Line State) : Type 0 where
-  pub is_open : line.mark ≡ opened → IsOpenClosed task c line.state line.cost
-  pub is_cut : (rest : ℕ) → line.mark ≡ cut rest → IsCutClosed task c line.state line.cost rest
-  pub is_dead : line.mark ≡ dead → IsTrue (is_dead_end_of task c line.state)
+abbrev pub IsLineClosed : Task → Certificate → StateLine → Type 0
+IsLineClosed task c l = IsClosedAs task c (state_of_line task c l) l.cost l.mark
 
 -- no table has the same row twice
 abbrev pub AreRowsDistinct : Certificate → Type 0
@@ -86,7 +96,7 @@ pub record IsRightUpTo (task : Task) (c : Certificate) (most place : ℕ) : Type
   pub symmetric : AreSymmetries task c
   pub fair : AreFairFor task c
   pub initial : IsListedWithin (AreAlikeFor task c) (lines_of task c) (system_of task).initial 0
-  pub lines : (k : ℕ) (l : Line State) → k < place → slice_get (lines_of task c) k ≡ Some l → IsLineClosed task c l
+  pub lines : (k : ℕ) (l : StateLine) → k < place → slice_get c.lines k ≡ Some l → IsLineClosed task c l
 
 -- all is right, if the certificate was read without fault and the ground task keeps its limits
 abbrev pub IsRightGrounded : Task → Certificate → Type 0

@@ -97,6 +97,6 @@ fn is_cut(mark: Mark) -> bool
     match mark {
         Mark::Open => false,
         Mark::Cut { .. } => true,
-        Mark::Dead => false,
+        Mark::Dead { .. } => false,
     }
 }

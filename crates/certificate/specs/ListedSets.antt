@@ -2,7 +2,7 @@
 use Rattle.std.specs.Prelude.{ℕ, Bool, List, [], ◌∷◌, length}
 use Rattle.std.specs.List.{filter, range_with_len}
 use Rattle.packed_state.specs.Sets.{has}
-use Rattle.model.specs.Claims.{Mark}
+use Rattle.certificate_definitions.specs.Evidence.{LineMark}
 use Rattle.certificate_definitions.specs.Certificates.{StateLine}
 
 -- the numbers in the set, in ascending order
@@ -12,7 +12,7 @@ numbers_of set = filter (has set) (range_with_len 0 (length set))
 -- a line's cost and role
 pub record Marked : Type 0 where
   pub cost : ℕ
-  pub mark : Mark
+  pub mark : LineMark
 
 abbrev pub marked : StateLine → Marked
 marked l = record { cost = l.cost; mark = l.mark }

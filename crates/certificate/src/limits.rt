@@ -176,8 +176,8 @@ fn is_mark(version: Version, mark: Mark) -> bool
 {
     match mark {
         Mark::Open => true,
-        Mark::Cut { rest } => is_number(rest),
-        Mark::Dead => version != Version::One,
+        Mark::Cut { rest, .. } => is_number(rest),
+        Mark::Dead { .. } => version != Version::One,
     }
 }
 

@@ -16,7 +16,7 @@ ghost use Rattle.symmetries.specs.ObjectPairs.{pairs_in};
 ghost use Rattle.certificate.specs.Gathering.{atom_line, number_text, row_line, scope_line, state_line, swap_line, weight_text};
 
 use crate::header::Bounds;
-use certificate_reader::{Claim, Mark, StateLine, Version};
+use certificate_reader::{Basis, Claim, Mark, StateLine, Version};
 use itoa::Buffer;
 use std::alloc::AllocError;
 use task::{Atom, ObjectId, PredicateId, Task};
@@ -207,11 +207,14 @@ fn add_mark(mark: Mark, cost: u64, text: &mut Vec<u8>) -> Result<(), AllocError>
 {
     match mark {
         Mark::Open => add_number(b"open ", cost, text),
-        Mark::Cut { rest } => {
+        Mark::Cut {
+            by: Basis::OfAll,
+            rest,
+        } => {
             add_number(b"cut ", cost, text)?;
             add_number(b" ", rest, text)
         }
-        Mark::Dead => add_number(b"dead ", cost, text),
+        Mark::Dead { by: Basis::OfAll } => add_number(b"dead ", cost, text),
     }
 }
 

@@ -18,6 +18,7 @@ use Rattle.symmetries_definitions.specs.SymmetryExamples.{swapping}
 use Rattle.model.specs.WellTyped.{is_atom}
 use Rattle.model.specs.Claims.{Claim, bound, Allows, opened, cut, dead, Line, IsListedWithin, IsClosed}
 use Rattle.model.specs.Claims as model
+use Rattle.certificate_definitions.specs.Evidence.{of_all, bare}
 use Rattle.model.specs.Fluents.{is_fluent}
 use Rattle.certificate_definitions.specs.Certificates.{two, StateLine, Certificate, state_of_line, lines_of, is_symmetry_for, AreAlikeFor, IsSupported, IsClosedFor}
 use Rattle.certificate_definitions.specs.CertificateRefusals.{IsWrongAt, unfair, unfair_goal, dead_unfair, dead_unfair_goal, not_dead}
@@ -38,7 +39,7 @@ use Rattle.model.proofs.InstancesLemmas.{is_instance-of_step, Contains-all_insta
 use Rattle.model.proofs.ListLemmas.{Contains-cases, Contains-none}
 
 abbrev line_of : StateLine → Line State
-line_of l = record { state = state_of_line tie_task (claims (bound 1) (tied ∷ []) []) l; cost = l.cost; mark = l.mark }
+line_of l = record { state = state_of_line tie_task (claims (bound 1) (tied ∷ []) []) l; cost = l.cost; mark = bare l.mark }
 
 -- the initial state, and the state after the instance
 abbrev start : State
@@ -273,7 +274,7 @@ dead_closed claim = record {
 
 -- with the constant 1 its value is 0
 not_reported : IsWrongAt token_task (token_reported two model.none (pos 1) (minus 1)) not_dead 6
-not_reported = (dead_line, (0, refl, refl), refl, reported_at_x (fair.potentials (pos 1) (minus 1 ∷ minus 1 ∷ [])))
+not_reported = (dead_at 0 (0 ∷ []), of_all, (0, refl, refl), refl, reported_at_x (fair.potentials (pos 1) (minus 1 ∷ minus 1 ∷ [])))
 
 -- with the constant 3, the value in goal states is 1
 dead_left : IsWrongAt token_task (token_reported two model.none (pos 3) (minus 1)) dead_unfair_goal 1
@@ -333,16 +334,16 @@ are_judged = record {
         let P = IsSupportedLine tie_task (claims (bound 1) (tied ∷ []) start_open) in
         All-cons P (open_at 0 []) (cut_at 1 0 (0 ∷ []) ∷ []) tt (All-cons P (cut_at 1 0 (0 ∷ [])) [] (omega arith) (All-nil P));
   };
-  cut_claims_too_little = (line_of (cut_at 1 0 (0 ∷ [])), 0, (1, refl, refl), refl, inr (λ h. absurd (omega (arith, h))));
+  cut_claims_too_little = (cut_at 1 0 (0 ∷ []), of_all, 0, (1, refl, refl), refl, inr (λ h. absurd (omega (arith, h))));
   open_goal = (line_of (open_at 1 (0 ∷ [])), (1, refl, refl), refl, contains-from_list atoms_total (tied ∷ linked ∷ []) tied, λ h. absurd (omega (arith, h)));
-  cut_by_its_bound = (line_of (cut_at 1 1 (0 ∷ [])), 1, (1, refl, refl), refl, inl (let none = end_value in omega (arith, none)));
+  cut_by_its_bound = (cut_at 1 1 (0 ∷ []), of_all, 1, (1, refl, refl), refl, inl (let none = end_value in omega (arith, none)));
   cut_without_bound = (line_of (cut_at 1 0 (0 ∷ [])), 0, (1, refl, refl), refl, refl);
   missing = (line_of (open_at 0 []), the_instance, after_it, ((0, refl, refl), refl, leads_on), λ listed. apart (one_line listed.0 listed.1 listed.2 ∙ sym same_end));
   dear_start = λ listed.
       of_two (λ (l : Line State). l.cost ≤ 0 → ⊥) (line_of (open_at 1 [])) second listed.0 listed.1 (λ h. absurd (omega (arith, h))) (λ h. absurd (omega (arith, h))) listed.3;
   cut_by_value = cut_closed;
-  claims_above_value = (start_cut 1, 1, (0, refl, refl), refl, inr (λ h. absurd (omega (arith, h))));
-  cut_above_value = (start_cut 2, 2, (0, refl, refl), refl, inl (let one = start_value in omega (arith, one)));
+  claims_above_value = (cut_at 0 1 [], of_all, 1, (0, refl, refl), refl, inr (λ h. absurd (omega (arith, h))));
+  cut_above_value = (cut_at 0 2 [], of_all, 2, (0, refl, refl), refl, inl (let one = start_value in omega (arith, one)));
   worth_more = worth_two;
   left_at_goal = one_left;
   static_atom = (linked, (0, refl, refl), refl);

@@ -1,5 +1,5 @@
 -- A closed certificate has no fault.
-use Rattle.std.proofs.Common.{◌≡◌, ℕ, suc, ◌+◌, ◌<◌, ◌≤◌, ◌&&◌, List, [], ◌∷◌, get_or, Option, None, Some, inl, inr, ⊎_elim, true≢false, refl, sym, ap, ◌∙◌, subst, arith}
+use Rattle.std.proofs.Common.{◌≡◌, ℕ, suc, ◌+◌, ◌<◌, ◌&&◌, List, [], ◌∷◌, get_or, Option, None, Some, inl, inr, ⊎_elim, true≢false, refl, sym, ap, ◌∙◌, subst, arith}
 use Rattle.std.specs.Prelude.{◌≢◌, IsTrue, AllPairs, Contains, slice_get}
 use Rattle.std.proofs.lemmas.Option.{slice_get_within, get_or_from_slice_get}
 use Rattle.std.proofs.lemmas.List.Elements.{All-contains}
@@ -9,9 +9,10 @@ use Rattle.model.specs.Runs.{Solves}
 use Rattle.model.specs.Meaning.{State, cost_of, system_of}
 use Rattle.model.specs.StaticallyFalse.{kept_instances}
 use Rattle.model.specs.NumberedAtoms.{numbered_atoms}
-use Rattle.model.specs.Claims.{Claim, bound, none, Allows, cut, dead, Line}
+use Rattle.model.specs.Claims.{Claim, bound, none, Allows, Line}
+use Rattle.certificate_definitions.specs.Evidence.{bare}
 use Rattle.model.specs.Fluents.{is_fluent}
-use Rattle.certificate_definitions.specs.Certificates.{Version, one, two, three, Certificate, StateLine, potentials_of, several_of, lines_of, state_of_line, is_symmetry_for, value_of, is_dead_end_of, AreFairIn, IsSupported, IsClosedFor}
+use Rattle.certificate_definitions.specs.Certificates.{Version, one, two, three, Certificate, StateLine, potentials_of, several_of, lines_of, state_of_line, is_symmetry_for, AreFairIn, IsSupported, IsClosedFor}
 use Rattle.symmetries_definitions.specs.Exchanges.{Exchange}
 use Rattle.certificate_definitions.specs.CertificateRefusals.{Reason, not_fluent, repeated, no_initial, unfair, unfair_goal, goal_open, successor_missing, successor_dearer, cut_weak, cut_not_allowed, plan_invalid, plan_dearer, limit, dead_unfair, dead_unfair_goal, not_dead, not_symmetry, MayLose, MayLoseByTables, IsUnfairIn, IsUnfairAtGoalsIn, IsDeadUnfairIn, IsDeadUnfairAtGoalsIn, IsWrongAt, IsWrong, IsPlanWithin}
 use Rattle.lower_bounds.specs.PotentialFunctions.{PotentialFunction}
@@ -19,7 +20,7 @@ use Rattle.lower_bounds.specs.FairPotentials.{nothing, IsFairAt, AreFairAt}
 use Rattle.lower_bounds.specs.TableFunctions.{TableFunction, over_tables, functions_of, dead_ends_of}
 use Rattle.lower_bounds.specs.FairTables as fair_tables
 use Rattle.lower_bounds.specs.FairTables.{is_asked}
-use Rattle.model.proofs.ListLemmas.{Contains-cases, Contains-got, Contains-none, map-Contains}
+use Rattle.model.proofs.ListLemmas.{Contains-cases, Contains-got, Contains-map, Contains-none}
 
 -- ---- elements at their indices
 
@@ -82,22 +83,16 @@ module _ (task : Task) (c : Certificate) where
 
 -- ---- a closed certificate's lines
 
--- what the marks of its listing say rests on its values
-pub supported_line : (task : Task) (c : Certificate) → IsClosedFor task c → (line : Line State) → Contains (lines_of task c) line → IsSupported task c line.state line.mark
-supported_line task c closed line among =
-    let from = map-Contains (λ (l : StateLine). record { state = state_of_line task c l; cost = l.cost; mark = l.mark }) c.lines line among in
-    let here = All-contains (λ (l : StateLine). IsSupported task c (state_of_line task c l) l.mark) c.lines from.0 closed.lines_are_supported from.1 in
-    subst (λ (l : Line State). IsSupported task c l.state l.mark) from.2 here
-
-pub supported_cut : (task : Task) (c : Certificate) → IsClosedFor task c → (line : Line State) (rest : ℕ) → Contains (lines_of task c) line → line.mark ≡ cut rest → rest ≤ value_of task c line.state
-supported_cut task c closed line rest among is = subst (IsSupported task c line.state) is (supported_line task c closed line among)
-
-pub supported_dead_end : (task : Task) (c : Certificate) → IsClosedFor task c → (line : Line State) → Contains (lines_of task c) line → line.mark ≡ dead → IsTrue (is_dead_end_of task c line.state)
-supported_dead_end task c closed line among is = subst (IsSupported task c line.state) is (supported_line task c closed line among)
+-- what each line says rests on its basis
+pub supported_line : (task : Task) (c : Certificate) → IsClosedFor task c → (l : StateLine) → Contains c.lines l → IsSupported task c (state_of_line task c l) l.mark
+supported_line task c closed l among = All-contains (λ (l : StateLine). IsSupported task c (state_of_line task c l) l.mark) c.lines l closed.lines_are_supported among
 
 module _ (task : Task) (c : Certificate) (closed : IsClosedFor task c) where
   abbrev listed : List (Line State)
   listed = lines_of task c
+
+  abbrev entry : StateLine → Line State
+  entry l = record { state = state_of_line task c l; cost = l.cost; mark = bare l.mark }
 
   pub right_line : (reason : Reason) (line : ℕ) → IsWrongAt task c reason line → ⊥
   right_line not_fluent line (a, (place, reported, at), wrong) =
@@ -120,15 +115,16 @@ module _ (task : Task) (c : Certificate) (closed : IsClosedFor task c) where
       missing (there.0, there.1, there.2)
   right_line successor_dearer line (l, i, next, ((place, reported, at), is_open, leads), is_listed, dearer) =
       dearer (closed.listing_is_closed.successors_listed l i next (Contains-got listed place l at) is_open leads)
-  right_line cut_weak line (l, rest, (place, reported, at), is_cut, inl more) =
-      absurd (omega (arith, more, supported_cut task c closed l rest (Contains-got listed place l at) is_cut))
-  right_line cut_weak line (l, rest, (place, reported, at), is_cut, inr denied) =
-      denied (closed.listing_is_closed.cuts_allowed l rest (Contains-got listed place l at) is_cut)
+  right_line cut_weak line (l, basis, rest, (place, reported, at), is_cut, inl more) =
+      let here = subst (IsSupported task c (state_of_line task c l)) is_cut (supported_line task c closed l (Contains-got c.lines place l at)) in
+      absurd (omega (arith, more, here))
+  right_line cut_weak line (l, basis, rest, (place, reported, at), is_cut, inr denied) =
+      denied (closed.listing_is_closed.cuts_allowed (entry l) rest (Contains-map entry c.lines l (Contains-got c.lines place l at)) (ap bare is_cut))
   right_line cut_not_allowed line (l, rest, (place, reported, at), is_cut, is_none) =
       let allowed = closed.listing_is_closed.cuts_allowed l rest (Contains-got listed place l at) is_cut in
       subst (λ (claim : Claim). Allows claim (l.cost + rest)) is_none allowed
-  right_line not_dead line (l, (place, reported, at), is_dead, alive) =
-      absurd (true≢false (sym (supported_dead_end task c closed l (Contains-got listed place l at) is_dead) ∙ alive))
+  right_line not_dead line (l, basis, (place, reported, at), is_dead, alive) =
+      absurd (true≢false (sym (subst (IsSupported task c (state_of_line task c l)) is_dead (supported_line task c closed l (Contains-got c.lines place l at))) ∙ alive))
   right_line no_initial line wrong = wrong
   right_line unfair place (i, wrong) = none_unfair task c c.version closed.are_fair place i wrong
   right_line unfair_goal place wrong = goals_fair task c c.version closed.are_fair place wrong

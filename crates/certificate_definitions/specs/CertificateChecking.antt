@@ -5,7 +5,8 @@ use Rattle.std.specs.List.{list_all}
 use Rattle.model.specs.Task.{Atom, Task, Instance}
 use Rattle.model.specs.WellTyped.{is_atom}
 use Rattle.model.specs.Fluents.{is_fluent}
-use Rattle.model.specs.Claims.{none, Mark, cut}
+use Rattle.model.specs.Claims.{none}
+use Rattle.certificate_definitions.specs.Evidence.{Basis, LineMark, cut}
 use Rattle.certificate_definitions.specs.Certificates.{Certificate, StateLine, IsClosedFor}
 use Rattle.lower_bounds.specs.TableFunctions.{Row, is_among}
 use Rattle.certificate_definitions.specs.CertificateRefusals.{IsPlanWithin}
@@ -24,8 +25,8 @@ HasAtom lines name = (a : WeightedAtom) × Contains lines (atom a) × (a.atom �
 abbrev pub ListsAtoms : List TextLine → List ℕ → Type 0
 ListsAtoms lines atoms = (l : StateLine) × Contains lines (listed l) × (l.atoms ≡ atoms)
 
-abbrev pub IsCut : Mark → Type 0
-IsCut mark = (rest : ℕ) × (mark ≡ cut rest)
+abbrev pub IsCut : LineMark → Type 0
+IsCut mark = (basis : Basis) × (rest : ℕ) × (mark ≡ cut basis rest)
 
 -- the last lines are those of a table with this scope, with these rows so far
 abbrev pub EndInTable : List TextLine → List ℕ → List Row → Type 0

@@ -3,7 +3,8 @@
 use Rattle.std.specs.Prelude.{◌≡◌, ℕ, ℤ, pos, negsuc, true, false, List, [], ◌∷◌, map, None}
 use Rattle.model.specs.Task.{Atom}
 use Rattle.model.specs.Examples.{ground, tie_task}
-use Rattle.model.specs.Claims.{Claim, bound, none, opened, cut, dead}
+use Rattle.model.specs.Claims.{Claim, bound, none}
+use Rattle.certificate_definitions.specs.Evidence.{of_all, opened, cut, dead}
 use Rattle.model.specs.Fluents.{is_fluent, static_atoms}
 use Rattle.lower_bounds.specs.PotentialFunctions.{PotentialFunction}
 use Rattle.lower_bounds.specs.PotentialExamples.{token_task, token_atoms, potentials, minus}
@@ -17,10 +18,10 @@ abbrev pub open_at : ℕ → List ℕ → StateLine
 open_at cost atoms = record { cost = cost; mark = opened; atoms = atoms }
 
 abbrev pub cut_at : ℕ → ℕ → List ℕ → StateLine
-cut_at cost rest atoms = record { cost = cost; mark = cut rest; atoms = atoms }
+cut_at cost rest atoms = record { cost = cost; mark = cut of_all rest; atoms = atoms }
 
 abbrev pub dead_at : ℕ → List ℕ → StateLine
-dead_at cost atoms = record { cost = cost; mark = dead; atoms = atoms }
+dead_at cost atoms = record { cost = cost; mark = dead of_all; atoms = atoms }
 
 -- the potential function that is 0 everywhere
 abbrev pub zeros : List Atom → PotentialFunction

@@ -8,7 +8,7 @@ use Rattle.model.specs.Limits.{max_numbered_atoms}
 use Rattle.model.specs.StaticallyFalse.{kept_instances}
 use Rattle.model.specs.NumberedAtoms.{numbered_atoms}
 use Rattle.model.specs.Grounding.{exceeded_limit}
-use Rattle.model.specs.Claims.{Claim, bound, none, Allows, opened, cut, dead, Line, IsListedWithin}
+use Rattle.model.specs.Claims.{Claim, bound, none, Allows, opened, cut, Line, IsListedWithin}
 use Rattle.lower_bounds.specs.PotentialFunctions.{PotentialFunction}
 use Rattle.lower_bounds.specs.FairPotentials.{IsFairAt, IsFairAtGoals}
 use Rattle.lower_bounds.specs.TableFunctions.{TableFunction, functions_of, dead_ends_of}
@@ -16,7 +16,9 @@ use Rattle.lower_bounds.specs.FairTables as fair_tables
 use Rattle.lower_bounds.specs.FairTables.{is_asked}
 use Rattle.model.specs.Fluents.{is_fluent}
 use Rattle.symmetries_definitions.specs.Exchanges.{Exchange}
-use Rattle.certificate_definitions.specs.Certificates.{Version, one, two, three, Certificate, potentials_of, several_of, rows_of, lines_of, is_symmetry_for, AreAlikeFor, value_of, is_dead_end_of}
+use Rattle.certificate_definitions.specs.Certificates.{Version, one, two, three, StateLine, Certificate, potentials_of, several_of, rows_of, state_of_line, lines_of, is_symmetry_for, AreAlikeFor, value_by, is_dead_end_by}
+use Rattle.certificate_definitions.specs.Evidence as evidence
+use Rattle.certificate_definitions.specs.Evidence.{Basis}
 
 -- the reasons, each with the number that is reported
 pub data Reason : Type 0 where
@@ -60,6 +62,10 @@ HasAtom c line a = (place : ℕ) × (line ≡ atom_line c place) × (slice_get c
 -- this line lists this state
 abbrev pub HasState : Task → Certificate → ℕ → Line State → Type 0
 HasState task c line l = (place : ℕ) × (line ≡ state_line c place) × (slice_get (lines_of task c) place ≡ Some l)
+
+-- this line is this one, which says what its role rests on
+abbrev pub HasStateLine : Certificate → ℕ → StateLine → Type 0
+HasStateLine c line l = (place : ℕ) × (line ≡ state_line c place) × (slice_get c.lines place ≡ Some l)
 
 -- the state is listed, at any cost
 abbrev pub IsListed : {S : Type 0} → (S → S → Type 0) → List (Line S) → S → Type 0
@@ -133,13 +139,15 @@ IsWrongAt task c successor_missing line =
 IsWrongAt task c successor_dearer line =
     (l : Line State) × (i : Instance) × (next : State) × LeadsFrom task c line l i next × IsListed (AreAlikeFor task c) (lines_of task c) next
     × ¬ IsListedWithin (AreAlikeFor task c) (lines_of task c) next (l.cost + (system_of task).cost i)
--- its cut's bound exceeds the state's value, or its cost plus the bound is below the claim
+-- its cut's bound exceeds the state's value by the line's basis, or its cost plus the bound is below the claim
 IsWrongAt task c cut_weak line =
-    (l : Line State) × (rest : ℕ) × HasState task c line l × (l.mark ≡ cut rest) × ((value_of task c l.state < rest) ⊎ ¬ Allows c.claim (l.cost + rest))
+    (l : StateLine) × (basis : Basis) × (rest : ℕ) × HasStateLine c line l × (l.mark ≡ evidence.cut basis rest)
+    × ((value_by task c basis (state_of_line task c l) < rest) ⊎ ¬ Allows c.claim (l.cost + rest))
 -- it is a cut although the claim is that no list solves the task
 IsWrongAt task c cut_not_allowed line = (l : Line State) × (rest : ℕ) × HasState task c line l × (l.mark ≡ cut rest) × (c.claim ≡ none)
--- it is listed as a dead end, but its value is below 1
-IsWrongAt task c not_dead line = (l : Line State) × HasState task c line l × (l.mark ≡ dead) × (is_dead_end_of task c l.state ≡ false)
+-- it is listed as a dead end, but the line's basis does not show that it is one
+IsWrongAt task c not_dead line =
+    (l : StateLine) × (basis : Basis) × HasStateLine c line l × (l.mark ≡ evidence.dead basis) × (is_dead_end_by task c basis (state_of_line task c l) ≡ false)
 -- a kept instance may lose more than its cost by the value at this index
 IsWrongAt task c unfair place = (i : Instance) × IsUnfairIn c.version task c place i
 -- the value in goal states may exceed 0

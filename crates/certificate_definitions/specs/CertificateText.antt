@@ -3,7 +3,8 @@
 use Rattle.std.specs.Prelude.{◌≡◌, ◌≢◌, ℕ, ◌+◌, ◌<◌, ◌≤◌, ◌==◌, Bool, true, false, not, ◌&&◌, nat_le, ℤ, IsTrue, List, [], ◌∷◌, ◌++◌, codes, length, map, Contains}
 use Rattle.std.specs.Fmt.{decimal, signed_decimal}
 use Rattle.std.specs.List.{flat_map, list_all, list_any}
-use Rattle.model.specs.Claims.{Claim, bound, none, Mark, opened, cut, dead}
+use Rattle.model.specs.Claims.{Claim, bound, none}
+use Rattle.certificate_definitions.specs.Evidence.{of_all, LineMark, opened, cut, dead}
 use Rattle.certificate_definitions.specs.Certificates.{Version, one, two, three, StateLine, is_number, is_weight, is_claim, is_state_line, rise, are_weights, has_tables, has_exchanges}
 use Rattle.lower_bounds.specs.TableFunctions.{Row}
 use Rattle.model.specs.Resolution.{is_same}
@@ -68,10 +69,10 @@ abbrev pub numbers_text : List ℕ → List ℕ
 numbers_text = flat_map (λ (number : ℕ). after_blank (decimal number))
 
 -- a state's role and its cost, and for a cut the lower bound of the remaining cost
-abbrev pub mark_text : Mark → ℕ → List ℕ
+abbrev pub mark_text : LineMark → ℕ → List ℕ
 mark_text opened cost = codes "open " ++ decimal cost
-mark_text (cut rest) cost = codes "cut " ++ decimal cost ++ after_blank (decimal rest)
-mark_text dead cost = codes "dead " ++ decimal cost
+mark_text (cut of_all rest) cost = codes "cut " ++ decimal cost ++ after_blank (decimal rest)
+mark_text (dead of_all) cost = codes "dead " ++ decimal cost
 
 -- the bytes of a line, without its LF
 abbrev pub line_text : TextLine → List ℕ

@@ -7,13 +7,14 @@ use Rattle.model.specs.WellTyped.{is_atom}
 pub use Rattle.model.specs.Fluents.{is_literal_of, touches, any_touches, is_fluent, static_atoms}
 use Rattle.model.specs.Meaning.{State, system_of}
 use Rattle.model.specs.NumberedAtoms.{numbered_atoms}
-use Rattle.model.specs.Claims.{Claim, bound, none, Mark, opened, cut, dead, Line, IsClosed}
+use Rattle.model.specs.Claims.{Claim, bound, none, Line, IsClosed}
 use Rattle.lower_bounds.specs.PotentialFunctions.{PotentialFunction, value_of_state, is_dead_state}
 use Rattle.lower_bounds.specs.FairPotentials.{AreFair, AreDeadFair}
 use Rattle.lower_bounds.specs.TableFunctions as tables
 use Rattle.lower_bounds.specs.TableFunctions.{Row, Table, SeveralValues, functions_of, dead_ends_of, greatest_of_state, is_among}
 use Rattle.lower_bounds.specs.FairTables as fair_tables
 use Rattle.symmetries_definitions.specs.Exchanges.{Exchange}
+use Rattle.certificate_definitions.specs.Evidence.{Basis, of_all, LineMark, opened, cut, dead, bare}
 use Rattle.symmetries_definitions.specs.Symmetries.{is_symmetry}
 use Rattle.symmetries_definitions.specs.Orbits.{AreAlike, keeps_atoms}
 
@@ -24,10 +25,10 @@ pub data Version : Type 0 where
   two : Version
   three : Version
 
--- A state line: its cost, its role, and its atoms by number, that is, by index from 0 among the certificate's atoms.
+-- A state line: its cost, its role with what it rests on, and its atoms by number, that is, by index from 0 among the certificate's atoms.
 pub record StateLine : Type 0 where
   pub cost : ℕ
-  pub mark : Mark
+  pub mark : LineMark
   pub atoms : List ℕ
 
 -- A claim with its evidence: values that are lower bounds, whose maximum counts, one that detects dead ends, and a listing of
@@ -72,12 +73,12 @@ rise atom_count least [] = true
 rise atom_count least (n ∷ rest) = nat_le least n && nat_lt n atom_count && rise atom_count (n + 1) rest
 
 -- version 1 has no dead ends
-abbrev pub is_mark : Version → Mark → Bool
+abbrev pub is_mark : Version → LineMark → Bool
 is_mark version opened = true
-is_mark version (cut rest) = is_number rest
-is_mark one dead = false
-is_mark two dead = true
-is_mark three dead = true
+is_mark version (cut basis rest) = is_number rest
+is_mark one (dead basis) = false
+is_mark two (dead basis) = true
+is_mark three (dead basis) = true
 
 abbrev pub is_state_line : Version → ℕ → StateLine → Bool
 is_state_line version atom_count line = is_number line.cost && is_mark version line.mark && rise atom_count 0 line.atoms
@@ -152,7 +153,7 @@ state_of_line task certificate line = from_list (filter_map (slice_get certifica
 -- the certificate's listing
 abbrev pub lines_of : Task → Certificate → List (Line State)
 lines_of task certificate =
-    map (λ (l : StateLine). record { state = state_of_line task certificate l; cost = l.cost; mark = l.mark }) certificate.lines
+    map (λ (l : StateLine). record { state = state_of_line task certificate l; cost = l.cost; mark = bare l.mark }) certificate.lines
 
 -- ---- exchanges
 
@@ -186,12 +187,22 @@ is_dead_end_in three task c state = tables.is_dead_state task (numbered_atoms ta
 abbrev pub is_dead_end_of : Task → Certificate → State → Bool
 is_dead_end_of task c = is_dead_end_in c.version task c
 
--- what a mark says of a state rests on the certificate's values: what is still to pay from a cut is at most the value of the state, and
--- a dead end is shown to be one
-abbrev pub IsSupported : Task → Certificate → State → Mark → Type 0
+-- ---- what lines rest on
+
+-- the value of a state by this basis, a lower bound of the remaining cost
+abbrev pub value_by : Task → Certificate → Basis → State → ℕ
+value_by task c of_all = value_of task c
+
+-- the basis shows that the state is a dead end
+abbrev pub is_dead_end_by : Task → Certificate → Basis → State → Bool
+is_dead_end_by task c of_all = is_dead_end_of task c
+
+-- what the mark says of the state rests on its basis: what is told to be still to pay from a cut is at most the value of the state, and a
+-- dead end is shown to be one
+abbrev pub IsSupported : Task → Certificate → State → LineMark → Type 0
 IsSupported task c state opened = Unit {0}
-IsSupported task c state (cut rest) = rest ≤ value_of task c state
-IsSupported task c state dead = IsTrue (is_dead_end_of task c state)
+IsSupported task c state (cut basis rest) = rest ≤ value_by task c basis state
+IsSupported task c state (dead basis) = IsTrue (is_dead_end_by task c basis state)
 
 -- ---- closed certificates
 
@@ -211,7 +222,7 @@ abbrev pub AreFairFor : Task → Certificate → Type 0
 AreFairFor task c = AreFairIn c.version task c
 
 -- Its exchanges are symmetries of the task, its values, which have a weight for each of its atoms, are fair, the one for dead
--- ends is dead-fair, its listing is closed up to the exchanges, and what its lines say rests on the values.
+-- ends is dead-fair, its listing is closed up to the exchanges, and what its lines say rests on their bases.
 pub record IsClosedFor (task : Task) (certificate : Certificate) : Type 0 where
   pub as_many_values : IsTrue (is_value_count certificate.version (length certificate.values))
   pub one_weight_an_atom : All (λ (p : PotentialFunction). length p.weights ≡ length certificate.atoms) certificate.values

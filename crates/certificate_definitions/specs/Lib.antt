@@ -1,4 +1,5 @@
 -- docs/definitions.md names each definition, in the order in which a reader needs them.
+pub mod Evidence
 pub mod Certificates
 pub mod CertificateRefusals
 pub mod CertificateExamples

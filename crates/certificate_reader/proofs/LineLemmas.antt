@@ -10,7 +10,8 @@ use Rattle.std.proofs.lemmas.Fmt.{decimal_is_IsNumeral}
 use Rattle.std.proofs.lemmas.Str.Parse.{tells_digits}
 use Rattle.model.specs.Words.{is_name, is_name_byte}
 use Rattle.model.specs.PlanWriting.{is_lower_name}
-use Rattle.model.specs.Claims.{bound, none, Mark, opened, cut, dead}
+use Rattle.model.specs.Claims.{bound, none}
+use Rattle.certificate_definitions.specs.Evidence.{of_all, LineMark, opened, cut, dead}
 use Rattle.certificate_definitions.specs.Certificates.{is_number, is_weight}
 use Rattle.certificate_definitions.specs.CertificateText.{scope, row, TextLine, version, claims, constant, swapped, atom, tabled, listed, last, after_blank, line_text, weights_text, numbers_text}
 use Rattle.certificate_reader.specs.Words.{is_blank, is_word, atom_rest, line_head, line_rest, mark_head, then_numbers, then_words, with_rest}
@@ -63,12 +64,12 @@ abbrev pub bytes_of : Option (List ℕ) → List ℕ
 bytes_of None = []
 bytes_of (Some rest) = after_blank rest
 
-listed_splits : (cost : ℕ) (mark : Mark) (atoms : List ℕ)
+listed_splits : (cost : ℕ) (mark : LineMark) (atoms : List ℕ)
     → line_text (listed (record { cost = cost; mark = mark; atoms = atoms }))
     ≡ mark_head mark ++ bytes_of (line_rest (listed (record { cost = cost; mark = mark; atoms = atoms })))
 listed_splits cost opened atoms = refl
-listed_splits cost (cut rest) atoms = refl
-listed_splits cost dead atoms = refl
+listed_splits cost (cut of_all rest) atoms = refl
+listed_splits cost (dead of_all) atoms = refl
 
 with_bytes : (word : List ℕ) (rest : Option (List ℕ)) → with_rest word rest ≡ word ++ bytes_of rest
 with_bytes word None = sym (append-nil word)
@@ -119,10 +120,10 @@ line_bytes (last count) = refl
 pub line_splits : (line : TextLine) → line_text line ≡ with_rest (line_head line) (line_rest line)
 line_splits line = line_bytes line ∙ sym (with_bytes (line_head line) (line_rest line))
 
-mark_is_word : (mark : Mark) → IsTrue (is_word (mark_head mark))
+mark_is_word : (mark : LineMark) → IsTrue (is_word (mark_head mark))
 mark_is_word opened = refl
-mark_is_word (cut rest) = refl
-mark_is_word dead = refl
+mark_is_word (cut of_all rest) = refl
+mark_is_word (dead of_all) = refl
 
 pub head_is_word : (line : TextLine) → IsTrue (is_word (line_head line))
 head_is_word (version v) = refl

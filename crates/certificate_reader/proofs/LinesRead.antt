@@ -9,7 +9,7 @@ use Rattle.std.proofs.lemmas.Bool.{and_parts, eqb-true, leb-true, le-leb, ltb-tr
 use Rattle.std.proofs.lemmas.Bool.Decides.{nat_tests}
 use Rattle.std.proofs.lemmas.List.{append_cancel_left, append_cancel_right}
 use Rattle.model.specs.PlanWriting.{is_lower_name}
-use Rattle.model.specs.Claims.{Mark, opened, cut, dead}
+use Rattle.certificate_definitions.specs.Evidence.{of_all, LineMark, opened, cut, dead}
 use Rattle.certificate_definitions.specs.Certificates.{Version, one, two, three, is_number, is_mark, is_weight, are_weights, has_exchanges, has_tables, rise}
 use Rattle.lower_bounds.specs.TableFunctions.{Row}
 use Rattle.certificate_definitions.specs.CertificateText.{NamedAtom, WeightedAtom, scope, row, Format, TextLine, version, claims, constant, swapped, atom, tabled, listed, last, after_blank, are_exchanged, is_weight_count, is_line, line_text, longest_line}
@@ -47,10 +47,10 @@ unlike text other differ same = absurd (cc (sym differ ∙ (bytes_eq-Decides tex
 
 -- no state line begins with the word
 pub is_no_mark : (word : List ℕ) → bytes_eq (codes "open") word ≡ false → bytes_eq (codes "cut") word ≡ false → bytes_eq (codes "dead") word ≡ false
-    → (mark : Mark) → mark_head mark ≡ word → ⊥
+    → (mark : LineMark) → mark_head mark ≡ word → ⊥
 is_no_mark word no_open no_cut no_dead opened = unlike (codes "open") word no_open
-is_no_mark word no_open no_cut no_dead (cut rest) = unlike (codes "cut") word no_cut
-is_no_mark word no_open no_cut no_dead dead = unlike (codes "dead") word no_dead
+is_no_mark word no_open no_cut no_dead (cut of_all rest) = unlike (codes "cut") word no_cut
+is_no_mark word no_open no_cut no_dead (dead of_all) = unlike (codes "dead") word no_dead
 
 and_all : (a b c : Bool) → a ≡ true → b ≡ true → c ≡ true → a && b && c ≡ true
 and_all a b c x y z = λ i. x i && y i && z i
@@ -60,7 +60,7 @@ module _ (word : List ℕ) (no_version : bytes_eq (codes "pddl-cert") word ≡ f
     (no_constant : bytes_eq (codes "constant") word ≡ false) (no_atom : bytes_eq (codes "atom") word ≡ false) (no_end : bytes_eq (codes "end") word ≡ false)
     (no_scope : bytes_eq (codes "table") word ≡ false) (no_row : bytes_eq (codes "row") word ≡ false) (no_swap : bytes_eq (codes "swap") word ≡ false)
     (rest : List ℕ) (f : Format) where
-  only_listed : ((cost : ℕ) (mark : Mark) (atoms : List ℕ) → IsReadAs word rest f (listed (record { cost = cost; mark = mark; atoms = atoms })) → ⊥)
+  only_listed : ((cost : ℕ) (mark : LineMark) (atoms : List ℕ) → IsReadAs word rest f (listed (record { cost = cost; mark = mark; atoms = atoms })) → ⊥)
       → (line : TextLine) → IsReadAs word rest f line → ⊥
   only_listed never (version w) read = unlike (codes "pddl-cert") word no_version read.head
   only_listed never (claims claim) read = unlike (codes "claim") word no_claim read.head
@@ -83,7 +83,7 @@ module _ (rest : List ℕ) (f : Format) where
     within = and_all (is_number cost) true (rise f.atoms 0 atoms) is.is_number refl is.rising;
   }
 
-  pub open_parts : (cost : ℕ) (mark : Mark) (atoms : List ℕ) → IsReadAs (codes "open") rest f (listed (record { cost = cost; mark = mark; atoms = atoms }))
+  pub open_parts : (cost : ℕ) (mark : LineMark) (atoms : List ℕ) → IsReadAs (codes "open") rest f (listed (record { cost = cost; mark = mark; atoms = atoms }))
       → IsNumbered rest f.atoms cost atoms
   open_parts cost opened atoms read =
       let parts = and_parts (is_number cost && true) (rise f.atoms 0 atoms) read.within in
@@ -92,30 +92,30 @@ module _ (rest : List ℕ) (f : Format) where
         rising = parts.1;
         splits = sym (some_same _ _ read.following) ∙ sym (words_after decimal (decimal cost) atoms);
       }
-  open_parts cost (cut least) atoms read = absurd (unlike (codes "cut") (codes "open") refl read.head)
-  open_parts cost dead atoms read = absurd (unlike (codes "dead") (codes "open") refl read.head)
+  open_parts cost (cut of_all least) atoms read = absurd (unlike (codes "cut") (codes "open") refl read.head)
+  open_parts cost (dead of_all) atoms read = absurd (unlike (codes "dead") (codes "open") refl read.head)
 
   pub no_open : ((n : ℕ) (atoms : List ℕ) → IsNumbered rest f.atoms n atoms → ⊥) → (line : TextLine) → IsReadAs (codes "open") rest f line → ⊥
   no_open never = only_listed (codes "open") refl refl refl refl refl refl refl refl rest f (λ cost mark atoms read. never cost atoms (open_parts cost mark atoms read))
 
-  pub dead_is_read : IsTrue (is_mark f.version dead) → (cost : ℕ) (atoms : List ℕ) → IsNumbered rest f.atoms cost atoms
-      → IsReadAs (codes "dead") rest f (listed (record { cost = cost; mark = dead; atoms = atoms }))
+  pub dead_is_read : IsTrue (is_mark f.version (dead of_all)) → (cost : ℕ) (atoms : List ℕ) → IsNumbered rest f.atoms cost atoms
+      → IsReadAs (codes "dead") rest f (listed (record { cost = cost; mark = dead of_all; atoms = atoms }))
   dead_is_read allowed cost atoms is = record {
     head = refl;
     following = ap Some (sym (words_after decimal (decimal cost) atoms) ∙ sym is.splits);
-    within = and_all (is_number cost) (is_mark f.version dead) (rise f.atoms 0 atoms) is.is_number allowed is.rising;
+    within = and_all (is_number cost) (is_mark f.version (dead of_all)) (rise f.atoms 0 atoms) is.is_number allowed is.rising;
   }
 
-  pub dead_parts : (cost : ℕ) (mark : Mark) (atoms : List ℕ) → IsReadAs (codes "dead") rest f (listed (record { cost = cost; mark = mark; atoms = atoms }))
+  pub dead_parts : (cost : ℕ) (mark : LineMark) (atoms : List ℕ) → IsReadAs (codes "dead") rest f (listed (record { cost = cost; mark = mark; atoms = atoms }))
       → IsNumbered rest f.atoms cost atoms
-  dead_parts cost dead atoms read =
-      let parts = and_parts (is_number cost && is_mark f.version dead) (rise f.atoms 0 atoms) read.within in
+  dead_parts cost (dead of_all) atoms read =
+      let parts = and_parts (is_number cost && is_mark f.version (dead of_all)) (rise f.atoms 0 atoms) read.within in
       record {
-        is_number = (and_parts (is_number cost) (is_mark f.version dead) parts.0).0;
+        is_number = (and_parts (is_number cost) (is_mark f.version (dead of_all)) parts.0).0;
         rising = parts.1;
         splits = sym (some_same _ _ read.following) ∙ sym (words_after decimal (decimal cost) atoms);
       }
-  dead_parts cost (cut least) atoms read = absurd (unlike (codes "cut") (codes "dead") refl read.head)
+  dead_parts cost (cut of_all least) atoms read = absurd (unlike (codes "cut") (codes "dead") refl read.head)
   dead_parts cost opened atoms read = absurd (unlike (codes "open") (codes "dead") refl read.head)
 
   pub no_dead : ((n : ℕ) (atoms : List ℕ) → IsNumbered rest f.atoms n atoms → ⊥) → (line : TextLine) → IsReadAs (codes "dead") rest f line → ⊥
@@ -140,14 +140,14 @@ cut_text cost least atoms =
 
 module _ (rest : List ℕ) (f : Format) where
   pub cut_is_read : (cost least : ℕ) (atoms : List ℕ) → IsCut rest f.atoms cost least atoms
-      → IsReadAs (codes "cut") rest f (listed (record { cost = cost; mark = cut least; atoms = atoms }))
+      → IsReadAs (codes "cut") rest f (listed (record { cost = cost; mark = cut of_all least; atoms = atoms }))
   cut_is_read cost least atoms is = record {
     head = refl;
     following = ap Some (sym (cut_text cost least atoms) ∙ ap (λ bytes. with_rest (decimal cost) (Some bytes)) (sym is.numbered.splits) ∙ sym is.splits);
     within = and_all (is_number cost) (is_number least) (rise f.atoms 0 atoms) is.is_number is.numbered.is_number is.numbered.rising;
   }
 
-  pub cut_of : (cost least : ℕ) (atoms : List ℕ) → IsReadAs (codes "cut") rest f (listed (record { cost = cost; mark = cut least; atoms = atoms }))
+  pub cut_of : (cost least : ℕ) (atoms : List ℕ) → IsReadAs (codes "cut") rest f (listed (record { cost = cost; mark = cut of_all least; atoms = atoms }))
       → IsCut rest f.atoms cost least atoms
   cut_of cost least atoms read =
       let parts = and_parts (is_number cost && is_number least) (rise f.atoms 0 atoms) read.within in
@@ -159,11 +159,11 @@ module _ (rest : List ℕ) (f : Format) where
         splits = sym (some_same _ _ read.following) ∙ sym (cut_text cost least atoms);
       }
 
-  cut_parts : (cost : ℕ) (mark : Mark) (atoms : List ℕ) → IsReadAs (codes "cut") rest f (listed (record { cost = cost; mark = mark; atoms = atoms }))
+  cut_parts : (cost : ℕ) (mark : LineMark) (atoms : List ℕ) → IsReadAs (codes "cut") rest f (listed (record { cost = cost; mark = mark; atoms = atoms }))
       → (least : ℕ) × IsCut rest f.atoms cost least atoms
   cut_parts cost opened atoms read = absurd (unlike (codes "open") (codes "cut") refl read.head)
-  cut_parts cost dead atoms read = absurd (unlike (codes "dead") (codes "cut") refl read.head)
-  cut_parts cost (cut least) atoms read = (least, cut_of cost least atoms read)
+  cut_parts cost (dead of_all) atoms read = absurd (unlike (codes "dead") (codes "cut") refl read.head)
+  cut_parts cost (cut of_all least) atoms read = (least, cut_of cost least atoms read)
 
   pub no_cut : ((cost least : ℕ) (atoms : List ℕ) → IsCut rest f.atoms cost least atoms → ⊥) → (line : TextLine) → IsReadAs (codes "cut") rest f line → ⊥
   no_cut never = only_listed (codes "cut") refl refl refl refl refl refl refl refl rest f

@@ -5,7 +5,8 @@ use Rattle.std.specs.Fmt.{decimal}
 use Rattle.std.specs.List.{list_all}
 use Rattle.std.proofs.lemmas.Bool.{and_parts}
 use Rattle.std.proofs.lemmas.List.{append_cancel_left}
-use Rattle.model.specs.Claims.{Claim, bound, none, Mark, opened, cut, dead}
+use Rattle.model.specs.Claims.{Claim, bound, none}
+use Rattle.certificate_definitions.specs.Evidence.{of_all, LineMark, opened, cut, dead}
 use Rattle.model.specs.PlanWriting.{is_lower_name}
 use Rattle.certificate_definitions.specs.Certificates.{Version, one, two, three, StateLine, is_claim, is_number, is_weight, are_weights, has_exchanges, has_tables, rise}
 use Rattle.lower_bounds.specs.TableFunctions.{Row}
@@ -63,13 +64,13 @@ one_numbered bytes count few m n a b h g =
 
 -- ---- states and atoms
 
-marked_same : (mark : Mark) (c d : ℕ) (a b : List ℕ) → (c ≡ d) × (a ≡ b)
+marked_same : (mark : LineMark) (c d : ℕ) (a b : List ℕ) → (c ≡ d) × (a ≡ b)
     → ◌≡◌ {A = TextLine} (listed (record { cost = c; mark = mark; atoms = a })) (listed (record { cost = d; mark = mark; atoms = b }))
 marked_same mark c d a b (costs, lists) = λ i. listed (record { cost = costs i; mark = mark; atoms = lists i })
 
 cut_same : (c d k l : ℕ) (a b : List ℕ) → c ≡ d → (k ≡ l) × (a ≡ b)
-    → ◌≡◌ {A = TextLine} (listed (record { cost = c; mark = cut k; atoms = a })) (listed (record { cost = d; mark = cut l; atoms = b }))
-cut_same c d k l a b costs (leasts, lists) = λ i. listed (record { cost = costs i; mark = cut (leasts i); atoms = lists i })
+    → ◌≡◌ {A = TextLine} (listed (record { cost = c; mark = cut of_all k; atoms = a })) (listed (record { cost = d; mark = cut of_all l; atoms = b }))
+cut_same c d k l a b costs (leasts, lists) = λ i. listed (record { cost = costs i; mark = cut of_all (leasts i); atoms = lists i })
 
 one_cut : (rest : List ℕ) (count : ℕ) → count ≤ most_atoms → (c d k l : ℕ) (a b : List ℕ) → IsCut rest count c k a → IsCut rest count d l b → (c ≡ d) × ((k ≡ l) × (a ≡ b))
 one_cut rest count few c d k l a b h g =
@@ -81,30 +82,30 @@ one_cut rest count few c d k l a b h g =
 
 module _ (f : Format) (few : f.atoms ≤ most_atoms) (rest : List ℕ) where
   -- a state line that begins with this word
-  abbrev IsState : List ℕ → ℕ → Mark → List ℕ → Type 0
+  abbrev IsState : List ℕ → ℕ → LineMark → List ℕ → Type 0
   IsState head cost mark atoms = IsReadAs head rest f (listed (record { cost = cost; mark = mark; atoms = atoms }))
 
-  by_marks : (head : List ℕ) (c d : ℕ) (k l : Mark) (a b : List ℕ) → IsState head c k a → IsState head d l b → mark_head k ≡ head → mark_head l ≡ head
+  by_marks : (head : List ℕ) (c d : ℕ) (k l : LineMark) (a b : List ℕ) → IsState head c k a → IsState head d l b → mark_head k ≡ head → mark_head l ≡ head
       → ◌≡◌ {A = TextLine} (listed (record { cost = c; mark = k; atoms = a })) (listed (record { cost = d; mark = l; atoms = b }))
   by_marks head c d opened opened a b h g k_is l_is =
       marked_same opened c d a b (one_numbered rest f.atoms few c d a b
       (open_parts rest f c opened a (subst (λ head. IsState head c opened a) (sym k_is) h)) (open_parts rest f d opened b (subst (λ head. IsState head d opened b) (sym l_is) g)))
-  by_marks head c d dead dead a b h g k_is l_is =
-      marked_same dead c d a b (one_numbered rest f.atoms few c d a b
-      (dead_parts rest f c dead a (subst (λ head. IsState head c dead a) (sym k_is) h)) (dead_parts rest f d dead b (subst (λ head. IsState head d dead b) (sym l_is) g)))
-  by_marks head c d (cut k) (cut l) a b h g k_is l_is =
-      let first = cut_of rest f c k a (subst (λ head. IsState head c (cut k) a) (sym k_is) h) in
-      let second = cut_of rest f d l b (subst (λ head. IsState head d (cut l) b) (sym l_is) g) in
+  by_marks head c d (dead of_all) (dead of_all) a b h g k_is l_is =
+      marked_same (dead of_all) c d a b (one_numbered rest f.atoms few c d a b
+      (dead_parts rest f c (dead of_all) a (subst (λ head. IsState head c (dead of_all) a) (sym k_is) h)) (dead_parts rest f d (dead of_all) b (subst (λ head. IsState head d (dead of_all) b) (sym l_is) g)))
+  by_marks head c d (cut of_all k) (cut of_all l) a b h g k_is l_is =
+      let first = cut_of rest f c k a (subst (λ head. IsState head c (cut of_all k) a) (sym k_is) h) in
+      let second = cut_of rest f d l b (subst (λ head. IsState head d (cut of_all l) b) (sym l_is) g) in
       let (costs, others) = one_cut rest f.atoms few c d k l a b first second in
       cut_same c d k l a b costs others
-  by_marks head c d opened dead a b h g k_is l_is = absurd (unlike (codes "open") (codes "dead") refl (k_is ∙ sym l_is))
-  by_marks head c d opened (cut l) a b h g k_is l_is = absurd (unlike (codes "open") (codes "cut") refl (k_is ∙ sym l_is))
-  by_marks head c d dead opened a b h g k_is l_is = absurd (unlike (codes "dead") (codes "open") refl (k_is ∙ sym l_is))
-  by_marks head c d dead (cut l) a b h g k_is l_is = absurd (unlike (codes "dead") (codes "cut") refl (k_is ∙ sym l_is))
-  by_marks head c d (cut k) opened a b h g k_is l_is = absurd (unlike (codes "cut") (codes "open") refl (k_is ∙ sym l_is))
-  by_marks head c d (cut k) dead a b h g k_is l_is = absurd (unlike (codes "cut") (codes "dead") refl (k_is ∙ sym l_is))
+  by_marks head c d opened (dead of_all) a b h g k_is l_is = absurd (unlike (codes "open") (codes "dead") refl (k_is ∙ sym l_is))
+  by_marks head c d opened (cut of_all l) a b h g k_is l_is = absurd (unlike (codes "open") (codes "cut") refl (k_is ∙ sym l_is))
+  by_marks head c d (dead of_all) opened a b h g k_is l_is = absurd (unlike (codes "dead") (codes "open") refl (k_is ∙ sym l_is))
+  by_marks head c d (dead of_all) (cut of_all l) a b h g k_is l_is = absurd (unlike (codes "dead") (codes "cut") refl (k_is ∙ sym l_is))
+  by_marks head c d (cut of_all k) opened a b h g k_is l_is = absurd (unlike (codes "cut") (codes "open") refl (k_is ∙ sym l_is))
+  by_marks head c d (cut of_all k) (dead of_all) a b h g k_is l_is = absurd (unlike (codes "cut") (codes "dead") refl (k_is ∙ sym l_is))
 
-  one_state : (head : List ℕ) (c d : ℕ) (k l : Mark) (a b : List ℕ) → IsState head c k a → IsState head d l b
+  one_state : (head : List ℕ) (c d : ℕ) (k l : LineMark) (a b : List ℕ) → IsState head c k a → IsState head d l b
       → ◌≡◌ {A = TextLine} (listed (record { cost = c; mark = k; atoms = a })) (listed (record { cost = d; mark = l; atoms = b }))
   one_state head c d k l a b h g = by_marks head c d k l a b h g h.head g.head
 

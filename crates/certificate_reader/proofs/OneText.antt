@@ -12,7 +12,8 @@ use Rattle.std.proofs.lemmas.List.Folds.{list_all-append}
 use Rattle.std.proofs.lemmas.Str.Parse.{tells_digits}
 use Rattle.model.specs.Words.{is_name, is_name_byte}
 use Rattle.model.specs.PlanWriting.{is_lower_name}
-use Rattle.model.specs.Claims.{bound, none, Mark, opened, cut, dead}
+use Rattle.model.specs.Claims.{bound, none}
+use Rattle.certificate_definitions.specs.Evidence.{of_all, LineMark, opened, cut, dead}
 use Rattle.certificate_definitions.specs.Certificates.{Version, one, two, three, is_mark, is_number, is_weight, are_weights, has_exchanges, has_tables, rise}
 use Rattle.certificate_definitions.specs.CertificateText.{scope, row, Format, NamedCertificate, TextLine, version, claims, constant, swapped, atom, tabled, listed, last, after_blank, are_exchanged, are_paired, differ, is_weight_count, is_line, line_text, mark_text, weights_text, numbers_text, text_of, text_lines, IsCertificateText, longest_line, most_atoms}
 use Rattle.certificate_definitions.specs.CertificateMachine.{CertificatePlace, at_version, ended, format_at, next_place, place_from}
@@ -88,17 +89,17 @@ numbers_in_one count least (n ∷ numbers) few all =
     both (after_blank (decimal n)) (flat_map (λ (number : ℕ). after_blank (decimal number)) numbers)
     (both (codes " ") (decimal n) refl (number_in_one n (few_are_numbers count n few below))) (numbers_in_one count (n + 1) numbers few more)
 
-state_in_one : (f : Format) → f.atoms ≤ most_atoms → (cost : ℕ) (mark : Mark) (numbers : List ℕ)
+state_in_one : (f : Format) → f.atoms ≤ most_atoms → (cost : ℕ) (mark : LineMark) (numbers : List ℕ)
     → IsTrue (is_line f (listed (record { cost = cost; mark = mark; atoms = numbers }))) → is_one_line (line_text (listed (record { cost = cost; mark = mark; atoms = numbers }))) ≡ true
 state_in_one f few cost mark numbers is =
     let (first, rising) = and_parts (is_number cost && is_mark f.version mark) (rise f.atoms 0 numbers) is in
     let (cost_is, mark_is) = and_parts (is_number cost) (is_mark f.version mark) first in
     both (mark_text mark cost) (flat_map (λ (number : ℕ). after_blank (decimal number)) numbers) (by_mark mark cost_is mark_is) (numbers_in_one f.atoms 0 numbers few rising)
   where
-    by_mark : (mark : Mark) → IsTrue (is_number cost) → IsTrue (is_mark f.version mark) → is_one_line (mark_text mark cost) ≡ true
+    by_mark : (mark : LineMark) → IsTrue (is_number cost) → IsTrue (is_mark f.version mark) → is_one_line (mark_text mark cost) ≡ true
     by_mark opened cost_is mark_is = both (codes "open ") (decimal cost) refl (number_in_one cost cost_is)
-    by_mark dead cost_is mark_is = both (codes "dead ") (decimal cost) refl (number_in_one cost cost_is)
-    by_mark (cut least) cost_is least_is =
+    by_mark (dead of_all) cost_is mark_is = both (codes "dead ") (decimal cost) refl (number_in_one cost cost_is)
+    by_mark (cut of_all least) cost_is least_is =
         both (codes "cut " ++ decimal cost) (after_blank (decimal least)) (both (codes "cut ") (decimal cost) refl (number_in_one cost cost_is))
         (both (codes " ") (decimal least) refl (number_in_one least least_is))
 

@@ -8,7 +8,7 @@ use Rattle.std.specs.Fmt.{decimal}
 use Rattle.std.specs.Str.{bytes_eq}
 use Rattle.std.proofs.lemmas.Slice.Eq.{bytes_eq-Decides}
 use Rattle.certificate_definitions.specs.Certificates.{Version, one, two, three, is_number, is_mark, is_weight, are_weights, has_exchanges, has_tables, rise}
-use Rattle.model.specs.Claims.{dead}
+use Rattle.certificate_definitions.specs.Evidence.{of_all, dead}
 use Rattle.model.specs.PlanWriting.{is_lower_name}
 use Rattle.certificate_reader.specs.declared.line.CertLine.{CertLine}
 use Rattle.certificate_reader.specs.declared.line.Version as code
@@ -48,7 +48,7 @@ no_version rest never f (listed l) read = is_no_mark (codes "pddl-cert") refl re
 no_version rest never f (last n) read = unlike (codes "end") (codes "pddl-cert") refl read.head
 
 -- a version that is not 1 has dead ends
-pub has_dead_ends : (version : code.Version) → version ≢ One → IsTrue (is_mark (version_of version) dead)
+pub has_dead_ends : (version : code.Version) → version ≢ One → IsTrue (is_mark (version_of version) (dead of_all))
 has_dead_ends One other = absurd (other refl)
 has_dead_ends Two other = refl
 has_dead_ends Three other = refl

@@ -5,6 +5,8 @@ use Rattle.certificate_reader.specs.declared.line.Claim.{Claim}
 use Rattle.certificate_reader.specs.declared.line.Claim.TheVariants.{Bound, Unsolvable}
 use Rattle.certificate_reader.specs.declared.line.Version.{Version}
 use Rattle.certificate_reader.specs.declared.line.Version.TheVariants.{One, Two, Three}
+use Rattle.certificate_reader.specs.declared.line.Basis.{Basis}
+use Rattle.certificate_reader.specs.declared.line.Basis.TheVariants.{OfAll}
 use Rattle.certificate_reader.specs.declared.line.Mark.{Mark}
 use Rattle.certificate_reader.specs.declared.line.Mark.TheVariants.{Open, Cut, Dead}
 use Rattle.certificate_reader.specs.declared.line.StateLine.{StateLine}
@@ -13,6 +15,7 @@ use Rattle.certificate_reader.specs.declared.line.CertLine.{CertLine}
 use Rattle.certificate_reader.specs.declared.line.CertLine.TheVariants as line
 use Rattle.model.specs.Claims as claims
 use Rattle.certificate_definitions.specs.Certificates as certificates
+use Rattle.certificate_definitions.specs.Evidence as evidence
 use Rattle.certificate_definitions.specs.CertificateText as text
 
 abbrev pub claim_of : Claim → claims.Claim
@@ -24,10 +27,13 @@ version_of One = certificates.one
 version_of Two = certificates.two
 version_of Three = certificates.three
 
-abbrev pub mark_of : Mark → claims.Mark
-mark_of Open = claims.opened
-mark_of (Cut rest) = claims.cut rest
-mark_of Dead = claims.dead
+abbrev pub basis_of : Basis → evidence.Basis
+basis_of OfAll = evidence.of_all
+
+abbrev pub mark_of : Mark → evidence.LineMark
+mark_of Open = evidence.opened
+mark_of (Cut by rest) = evidence.cut (basis_of by) rest
+mark_of (Dead by) = evidence.dead (basis_of by)
 
 abbrev pub line_of : StateLine → certificates.StateLine
 line_of l = record { cost = l.cost; mark = mark_of l.mark; atoms = l.atoms.items }

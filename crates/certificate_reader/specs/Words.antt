@@ -6,7 +6,8 @@ use Rattle.std.specs.Fmt.{decimal, signed_decimal}
 use Rattle.std.specs.List.{flat_map, list_all}
 use Rattle.std.specs.Option.{option_map}
 use Rattle.model.specs.PlanWriting.{is_lower_name}
-use Rattle.model.specs.Claims.{Claim, bound, none, Mark, opened, cut, dead}
+use Rattle.model.specs.Claims.{Claim, bound, none}
+use Rattle.certificate_definitions.specs.Evidence.{of_all, LineMark, opened, cut, dead}
 use Rattle.certificate_definitions.specs.Certificates.{is_number, is_weight, rise}
 use Rattle.certificate_definitions.specs.CertificateText.{NamedAtom, scope, row, Format, TextLine, version, claims, constant, swapped, atom, tabled, listed, last, after_blank, numbers_text, is_line, version_number}
 
@@ -37,16 +38,16 @@ is_spelled [] = false
 is_spelled (first ∷ rest) = not (first == 48) || (length rest == 0)
 
 -- the first word of a state line
-abbrev pub mark_head : Mark → List ℕ
+abbrev pub mark_head : LineMark → List ℕ
 mark_head opened = codes "open"
-mark_head (cut rest) = codes "cut"
-mark_head dead = codes "dead"
+mark_head (cut of_all rest) = codes "cut"
+mark_head (dead of_all) = codes "dead"
 
 -- and the rest of it, up to the numbers of atoms
-abbrev pub mark_rest : Mark → ℕ → List ℕ
+abbrev pub mark_rest : LineMark → ℕ → List ℕ
 mark_rest opened cost = decimal cost
-mark_rest (cut rest) cost = decimal cost ++ after_blank (decimal rest)
-mark_rest dead cost = decimal cost
+mark_rest (cut of_all rest) cost = decimal cost ++ after_blank (decimal rest)
+mark_rest (dead of_all) cost = decimal cost
 
 -- the first word of a line
 abbrev pub line_head : TextLine → List ℕ

@@ -21,7 +21,7 @@ mod waiting;
 pub use fault::TextFault;
 pub use laws::{text_examples_are_judged, texts_are_certificates_one_for_one};
 pub use line::{
-    CertLine, Claim, LONGEST_LINE, MAX_ATOMS, MAX_CONSTANTS, MAX_ROWS, MAX_STATE_LINES, MAX_SWAPS,
-    MAX_TABLES, MAX_WEIGHT, Mark, NUMBER_LIMIT, NamedAtom, StateLine, Version,
+    Basis, CertLine, Claim, LONGEST_LINE, MAX_ATOMS, MAX_CONSTANTS, MAX_ROWS, MAX_STATE_LINES,
+    MAX_SWAPS, MAX_TABLES, MAX_WEIGHT, Mark, NUMBER_LIMIT, NamedAtom, StateLine, Version,
 };
 pub use reader::{CertFault, CertReader};

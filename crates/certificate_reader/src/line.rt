@@ -48,6 +48,13 @@ pub enum Version {
     Three,
 }
 
+/// What a cut or a dead end rests on.
+#[derive(Clone, Copy, Debug, PartialEq, Eq)]
+pub enum Basis {
+    /// The values of all states: for a cut the greatest of them, for a dead end the value for dead ends.
+    OfAll,
+}
+
 /// The role of a state in a listing.
 #[derive(Clone, Copy, Debug, PartialEq, Eq)]
 pub enum Mark {
@@ -55,11 +62,16 @@ pub enum Mark {
     Open,
     /// It is not expanded: a lower bound takes the place of its successors.
     Cut {
+        /// What the bound rests on.
+        by: Basis,
         /// The lower bound of the remaining cost from the state.
         rest: u64,
     },
     /// A dead end: no plan leads from it to the goal. Not in version 1.
-    Dead,
+    Dead {
+        /// What shows that it is one.
+        by: Basis,
+    },
 }
 
 /// A state of the listing.

@@ -13,7 +13,7 @@ use crate::exchanged::exchanged_names;
 use crate::fault::{NextFault, TextFault};
 use crate::first_word::{first_word, is};
 use crate::format::{Format, has_exchanges, has_tables, is_weight_count};
-use crate::line::{CertLine, MAX_CONSTANTS, Mark, NamedAtom, StateLine, Version};
+use crate::line::{Basis, CertLine, MAX_CONSTANTS, Mark, NamedAtom, StateLine, Version};
 use crate::lower_names::{copy, is_lower_name, names};
 use crate::number::number;
 use crate::parts::{claim, leading_weights, numbered, numbers};
@@ -233,7 +233,10 @@ fn cut_line(alloc: Global, rest: &[u8], format: Format) -> Result<CertLine, Next
     match numbered(alloc, following, format.atoms)? {
         Some((least, atoms)) => Ok(CertLine::Listed(StateLine {
             cost,
-            mark: Mark::Cut { rest: least },
+            mark: Mark::Cut {
+                by: Basis::OfAll,
+                rest: least,
+            },
             atoms,
         })),
         None => Err(NextFault::Text(TextFault::Form)),
@@ -251,7 +254,7 @@ fn dead_line(alloc: Global, rest: &[u8], format: Format) -> Result<CertLine, Nex
     match numbered(alloc, rest, format.atoms)? {
         Some((cost, atoms)) => Ok(CertLine::Listed(StateLine {
             cost,
-            mark: Mark::Dead,
+            mark: Mark::Dead { by: Basis::OfAll },
             atoms,
         })),
         None => Err(NextFault::Text(TextFault::Form)),

@@ -1,5 +1,5 @@
 //! Tests of the limits of certificates that are made in memory.
-use certificate::{Bounds, Cert, Claim, Header, Mark, Potential, StateLine, Version};
+use certificate::{Basis, Bounds, Cert, Claim, Header, Mark, Potential, StateLine, Version};
 use faults::NoMemory;
 use indexmap::IndexSet;
 use std::alloc::{AllocError, Global};
@@ -31,12 +31,12 @@ const START: Line = (0, Mark::Open, &[]);
 /// Claims and states; weights of values; versions, and weights of dead ends.
 #[rattlefmt::skip]
 static ROWS: [Row; 28] = [
-    (Version::One, Claim::Bound(MOST), LARGEST, ZERO, (MOST, Mark::Cut { rest: MOST }, &[0, 1]), true),
-    (Version::One, Claim::Bound(0), LARGEST, ZERO, (0, Mark::Cut { rest: 0 }, &[1]), true),
+    (Version::One, Claim::Bound(MOST), LARGEST, ZERO, (MOST, Mark::Cut { by: Basis::OfAll, rest: MOST }, &[0, 1]), true),
+    (Version::One, Claim::Bound(0), LARGEST, ZERO, (0, Mark::Cut { by: Basis::OfAll, rest: 0 }, &[1]), true),
     (Version::One, Claim::Unsolvable, LARGEST, ZERO, START, true),
     (Version::One, Claim::Bound(MOST + 1), LARGEST, ZERO, START, false),
     (Version::One, Claim::Bound(0), LARGEST, ZERO, (MOST + 1, Mark::Open, &[]), false),
-    (Version::One, Claim::Bound(0), LARGEST, ZERO, (0, Mark::Cut { rest: MOST + 1 }, &[]), false),
+    (Version::One, Claim::Bound(0), LARGEST, ZERO, (0, Mark::Cut { by: Basis::OfAll, rest: MOST + 1 }, &[]), false),
     // Numbers that descend, repeat, or name no atom.
     (Version::One, Claim::Bound(0), LARGEST, ZERO, (0, Mark::Open, &[1, 0]), false),
     (Version::One, Claim::Bound(0), LARGEST, ZERO, (0, Mark::Open, &[0, 0]), false),
@@ -52,15 +52,15 @@ static ROWS: [Row; 28] = [
     (Version::One, Claim::Bound(0), (0, &[0]), ZERO, START, false),
     (Version::One, Claim::Bound(0), (0, &[0, 0, 0]), ZERO, START, false),
     (Version::One, Claim::Unsolvable, ZERO, ZERO, START, true),
-    (Version::One, Claim::Unsolvable, ZERO, ZERO, (0, Mark::Dead, &[]), false),
+    (Version::One, Claim::Unsolvable, ZERO, ZERO, (0, Mark::Dead { by: Basis::OfAll }, &[]), false),
     (Version::One, Claim::Unsolvable, ZERO, (1, &[0, 0]), START, false),
     (Version::One, Claim::Unsolvable, ZERO, (0, &[0, -1]), START, false),
     (Version::Two, Claim::Unsolvable, ZERO, ZERO, START, true),
-    (Version::Two, Claim::Unsolvable, ZERO, (1, &[-1, 2_147_483_647]), (0, Mark::Dead, &[]), true),
-    (Version::Two, Claim::Unsolvable, ZERO, (-2_147_483_647, &[0, 1]), (0, Mark::Cut { rest: MOST }, &[]), true),
-    (Version::Two, Claim::Unsolvable, ZERO, (2_147_483_648, &[0, 0]), (0, Mark::Dead, &[]), false),
-    (Version::Two, Claim::Unsolvable, ZERO, (0, &[0, -2_147_483_648]), (0, Mark::Dead, &[]), false),
-    (Version::Two, Claim::Unsolvable, ZERO, (0, &[0]), (0, Mark::Dead, &[]), false),
+    (Version::Two, Claim::Unsolvable, ZERO, (1, &[-1, 2_147_483_647]), (0, Mark::Dead { by: Basis::OfAll }, &[]), true),
+    (Version::Two, Claim::Unsolvable, ZERO, (-2_147_483_647, &[0, 1]), (0, Mark::Cut { by: Basis::OfAll, rest: MOST }, &[]), true),
+    (Version::Two, Claim::Unsolvable, ZERO, (2_147_483_648, &[0, 0]), (0, Mark::Dead { by: Basis::OfAll }, &[]), false),
+    (Version::Two, Claim::Unsolvable, ZERO, (0, &[0, -2_147_483_648]), (0, Mark::Dead { by: Basis::OfAll }, &[]), false),
+    (Version::Two, Claim::Unsolvable, ZERO, (0, &[0]), (0, Mark::Dead { by: Basis::OfAll }, &[]), false),
 ];
 
 /// The potential function with this constant and these weights.

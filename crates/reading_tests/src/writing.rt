@@ -1,6 +1,6 @@
 //! Tests of certificates written to sinks that fail.
 use crate::certificates::{Weights, atoms, bounds};
-use certificate::{Cert, Claim, Header, Mark, StateLine, Version, write_cert};
+use certificate::{Basis, Cert, Claim, Header, Mark, StateLine, Version, write_cert};
 use devices::{IoFault, Memory};
 use faults::NoMemory;
 use std::alloc::{AllocError, Global};
@@ -32,7 +32,7 @@ fn lines(alloc: Global) -> Result<Vec<StateLine>, AllocError> {
     for state in 0..MANY {
         lines.push(StateLine {
             cost: 0,
-            mark: Mark::Dead,
+            mark: Mark::Dead { by: Basis::OfAll },
             atoms: atoms_of(alloc, state)?,
         })?;
     }

@@ -11,7 +11,9 @@ use Rattle.search.specs.Outcome as search
 use Rattle.certificate.specs.declared.states.Listed.{Listed}
 use Rattle.certificate.specs.ListedSets.{Marked, lines_with}
 use Rattle.certificate.specs.CertificateParts.{listed_of}
-use Rattle.solver.specs.Listing.{mark_of_line, state_line}
+use Rattle.solver.specs.Listing.{by_all, mark_of_line, state_line}
+use Rattle.certificate_definitions.specs.Evidence as evidence
+use Rattle.certificate_definitions.specs.Evidence.{of_all, bare}
 use Rattle.model.specs.Claims.{Mark, opened, cut, dead, Line}
 use Rattle.model.proofs.ListLemmas.{Contains-cases, Contains-none, Contains-got}
 
@@ -55,18 +57,18 @@ module _ {S : Type 0} (value : S → ℕ) (is_dead : S → Bool) where
 
   -- what is said of an expanded state, of one that is marked dead, and of one that waits
   abbrev line_by : Node → Bool → Bool → ℕ → Marked
-  line_by node is_expanded reported estimate = record { cost = node.cost; mark = mark_by is_expanded reported estimate }
+  line_by node is_expanded reported estimate = record { cost = node.cost; mark = by_all (mark_by is_expanded reported estimate) }
 
-  pub expanded_listed : (s : S) (node : Node) → node.status ≡ Expanded → record { cost = node.cost; mark = opened } ≡ mark_of_line (line_of value is_dead s node)
+  pub expanded_listed : (s : S) (node : Node) → node.status ≡ Expanded → record { cost = node.cost; mark = evidence.opened } ≡ mark_of_line (line_of value is_dead s node)
   expanded_listed s node is = sym (ap (λ (status : NodeStatus). line_by node (is_expanded_status status) (is_dead s) (value s)) is)
 
-  pub dead_listed : (s : S) (node : Node) → node.status ≡ Dead → is_marked_dead node ≡ is_dead s → record { cost = node.cost; mark = dead } ≡ mark_of_line (line_of value is_dead s node)
+  pub dead_listed : (s : S) (node : Node) → node.status ≡ Dead → is_marked_dead node ≡ is_dead s → record { cost = node.cost; mark = evidence.dead of_all } ≡ mark_of_line (line_of value is_dead s node)
   dead_listed s node is marked =
       let reported : is_dead s ≡ true = sym marked ∙ ap is_dead_status is in
       sym (λ i. line_by node (is_expanded_status (is i)) (reported i) (value s))
 
   pub waiting_listed : (s : S) (node : Node) (rest : ℕ) → (node.status ≡ Open) ⊎ (node.status ≡ Reopened) → is_marked_dead node ≡ is_dead s → (IsCut is_dead s node → rest ≡ value s)
-      → record { cost = node.cost; mark = cut rest } ≡ mark_of_line (line_of value is_dead s node)
+      → record { cost = node.cost; mark = evidence.cut of_all rest } ≡ mark_of_line (line_of value is_dead s node)
   waiting_listed s node rest waits marked is =
       let unexpanded : is_expanded node ≡ false = elim waits [
         | inl is ↦ ap is_expanded_status is
@@ -77,7 +79,7 @@ module _ {S : Type 0} (value : S → ℕ) (is_dead : S → Bool) where
         | inr is ↦ ap is_dead_status is
       ] in
       let alive : is_dead s ≡ false = sym marked ∙ unmarked in
-      ap (λ (n : ℕ). record { cost = node.cost; mark = cut n }) (is (unexpanded, alive)) ∙ sym (λ i. line_by node (unexpanded i) (alive i) (value s))
+      ap (λ (n : ℕ). record { cost = node.cost; mark = evidence.cut of_all n }) (is (unexpanded, alive)) ∙ sym (λ i. line_by node (unexpanded i) (alive i) (value s))
 
   -- ---- the lines
 
@@ -129,6 +131,12 @@ node_at (node ∷ nodes) zero below = (node, refl)
 node_at (n ∷ nodes) (suc k) below = node_at nodes k (omega (arith, below))
 
 -- ---- the marks
+
+-- the role alone is that of the found state
+pub bare-by_all : (mark : Mark) → bare (by_all mark) ≡ mark
+bare-by_all opened = refl
+bare-by_all (cut rest) = refl
+bare-by_all dead = refl
 
 module _ (value : List Bool → ℕ) (is_dead : List Bool → Bool) where
   -- the lines of the marks and the states are those of the found states

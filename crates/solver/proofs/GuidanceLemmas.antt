@@ -29,7 +29,7 @@ use Rattle.lower_bounds.proofs.TableLists.{all-at}
 use Rattle.lower_bounds.proofs.TableLowerBound.{numbered-has}
 use Rattle.lower_bounds.proofs.TableRows.{row-is}
 use Rattle.solver.specs.Guidance.{Guidance, by_potentials, by_tables, estimate_by, reports_dead, version_by, values_by, CanBeWritten, AreFairBy}
-use Rattle.solver.specs.Listing.{found_certificate}
+use Rattle.solver.specs.Listing.{by_all, found_certificate}
 use Rattle.solver.proofs.PotentialLemmas.{value-packed, potentials-pass}
 
 -- ---- the limits of what bounds costs, one by one
@@ -169,7 +169,7 @@ estimate-most count (by_tables s) are bits short =
     greatest-most count (length s.values + 1) s.tables limits.tables (leb-true (length s.tables) 4194304 limits.few_tables) bits short 0 s.values limits.values
 
 -- a mark of a certificate that has it
-pub mark-passes : (guidance : Guidance) (is_expanded is_dead : Bool) (rest : ℕ) → rest ≤ most_value → is_mark (version_by guidance) (if is_expanded then opened else (if is_dead then dead else cut rest)) ≡ true
+pub mark-passes : (guidance : Guidance) (is_expanded is_dead : Bool) (rest : ℕ) → rest ≤ most_value → is_mark (version_by guidance) (by_all (if is_expanded then opened else (if is_dead then dead else cut rest))) ≡ true
 mark-passes (by_potentials p dead_ends) true is_dead rest most = refl
 mark-passes (by_potentials p dead_ends) false true rest most = refl
 mark-passes (by_potentials p dead_ends) false false rest most = lt-ltb rest 1152921504606846976 (omega (arith, most))

@@ -17,12 +17,12 @@ use Rattle.search.proofs.Closed.{cut_told, dead_told}
 use Rattle.search.specs.Outcome.{AreFound, AreExpandedWithin, AreOfOneClass, IsReachableAt}
 use Rattle.lower_bounds.specs.Settled.{initial_value}
 use Rattle.solver.specs.Improved.{AreSettledOrHigh, AreDeadSettledOrHigh, HasSettledOrHigh}
-use Rattle.solver.specs.Listing.{numbers_in, state_line, found_certificate, IsShownBy, AreOpenWithin}
+use Rattle.solver.specs.Listing.{numbers_in, by_all, state_line, found_certificate, IsShownBy, AreOpenWithin}
 use Rattle.solver.proofs.TypedLemmas.{numbered_typed}
 use Rattle.ground_listings.proofs.GroundLemmas.{distinct_states}
 use Rattle.solver.specs.Guidance.{Guidance, by_potentials, by_tables, CanBeWritten, AreFairBy, estimate_by, reports_dead, version_by, values_by, first_value}
 use Rattle.solver.proofs.GuidanceLemmas.{AreLimits, limits_of, one_weight_each, weights_of_each, most_value, estimate-most, mark-passes, value-found, value-at-start, dead-found, fair-found}
-use Rattle.solver.proofs.FoundLines.{expanded_of_open, dead_of_reported, found_line, length-lines, node_at}
+use Rattle.solver.proofs.FoundLines.{bare-by_all, expanded_of_open, dead_of_reported, found_line, length-lines, node_at}
 use Rattle.model.specs.Task.{Task, Atom}
 use Rattle.model.specs.WellTyped.{is_task, is_atom}
 use Rattle.model.specs.Runs.{System}
@@ -32,6 +32,7 @@ use Rattle.model.specs.Fluents.{is_fluent, static_atoms}
 use Rattle.model.specs.NumberedAtoms.{occurs_in, are_distinct, numbered_atoms}
 use Rattle.model.specs.Grounding.{chosen, state_of_bits, ground_system, NamesKept}
 use Rattle.certificate_definitions.specs.Certificates.{two, three, Certificate, StateLine, is_number, is_claim, is_mark, is_dead_end_weight, is_state_line, keeps_limits, rise, state_of_line, lines_of, AreAlikeFor, are_exchanges, value_of, is_dead_end_of, IsSupported}
+use Rattle.certificate_definitions.specs.Evidence.{bare}
 use Rattle.symmetries_definitions.specs.Exchanges.{Exchange}
 use Rattle.symmetries_definitions.specs.Symmetries.{is_symmetry}
 use Rattle.symmetries_definitions.specs.Orbits.{AreAlike, keeps_atoms}
@@ -171,14 +172,14 @@ module _ (task : Task) (claim : Claim) (most : ℕ) (exchanges : List Exchange) 
   made = found_certificate claim exchanges atoms guidance states nodes
 
   abbrev entry : StateLine → Line State
-  entry l = record { state = state_of_line task made l; cost = l.cost; mark = l.mark }
+  entry l = record { state = state_of_line task made l; cost = l.cost; mark = bare l.mark }
 
   pub listing : lines_of task made ≡ map view lines
   listing = map-map entry state_line lines ∙ each lines
     where
       each : (ls : List (Line (List Bool))) → map (λ l. entry (state_line l)) ls ≡ map view ls
       each [] = refl
-      each (l ∷ ls) = λ i. record { state = from_list (named_chosen atoms l.state i ++ static_atoms task); cost = l.cost; mark = l.mark } ∷ each ls i
+      each (l ∷ ls) = λ i. record { state = from_list (named_chosen atoms l.state i ++ static_atoms task); cost = l.cost; mark = bare-by_all l.mark i } ∷ each ls i
 
   -- the states of the listing, in their order
   listed_states : (ss : List (List Bool)) (ns : List Node) → length ns ≡ length ss
@@ -217,13 +218,13 @@ module _ (task : Task) (claim : Claim) (most : ℕ) (exchanges : List Exchange) 
     same_dead k bits at = dead-found task claim exchanges states nodes bits (found_width k bits at) guidance
 
     -- so what its lines say rests on its values
-    supported : (line : Line (List Bool)) → Contains lines line → IsSupported task made (state_of_line task made (state_line line)) line.mark
+    supported : (line : Line (List Bool)) → Contains lines line → IsSupported task made (state_of_line task made (state_line line)) (by_all line.mark)
     supported line among =
         let (k, s, n, there, here, is) = found_line (estimate_by guidance) (reports_dead guidance) states nodes line among in
         let at : slice_get states k ≡ Some line.state = there ∙ ap (λ (l : Line (List Bool)). Some l.state) (sym is) in
         let same : state_of_line task made (state_line line) ≡ state_of_bits task atoms line.state = λ i. from_list (named_chosen atoms line.state i ++ static_atoms task) in
-        subst (λ (s : State). IsSupported task made s line.mark) (sym same) (
-        elim line.mark as (λ m. line.mark ≡ m → IsSupported task made (state_of_bits task atoms line.state) m) [
+        subst (λ (s : State). IsSupported task made s (by_all line.mark)) (sym same) (
+        elim line.mark as (λ m. line.mark ≡ m → IsSupported task made (state_of_bits task atoms line.state) (by_all m)) [
           | opened ↦ λ is_open. tt
           | cut rest ↦ λ is_cut. omega (arith, cut_told (estimate_by guidance) (reports_dead guidance) states nodes line rest among is_cut, same_value k line.state at)
           | dead ↦ λ is_dead. same_dead k line.state at ∙ dead_told (estimate_by guidance) (reports_dead guidance) states nodes line among is_dead
@@ -314,7 +315,7 @@ module _ (task : Task) (claim : Claim) (most : ℕ) (exchanges : List Exchange) 
           all_pass [] ns long low cheap = refl
           all_pass (s ∷ ss) [] long low cheap = refl
           all_pass (s ∷ ss) (n ∷ ns) long low cheap =
-              let mark = search.mark_of (estimate_by guidance) (reports_dead guidance) s n in
+              let mark = by_all (search.mark_of (estimate_by guidance) (reports_dead guidance) s n) in
               and_from (is_state_line (version_by guidance) (length atoms) (state_line (search.line_of (estimate_by guidance) (reports_dead guidance) s n)))
               (list_all (is_state_line (version_by guidance) (length atoms)) (map state_line (search.lines_of (estimate_by guidance) (reports_dead guidance) ss ns)))
               (and_from (is_number n.cost && is_mark (version_by guidance) mark) (rise (length atoms) 0 (numbers_in s))

@@ -7,7 +7,9 @@ use Rattle.search.specs.Outcome as search
 use Rattle.search.specs.Outcome.{IsReachableAt}
 use Rattle.model.specs.Task.{Task, Atom}
 use Rattle.model.specs.Meaning.{State, system_of}
-use Rattle.model.specs.Claims.{Claim, opened, dead, Line}
+use Rattle.model.specs.Claims.{Claim, Mark, opened, cut, dead, Line}
+use Rattle.certificate_definitions.specs.Evidence as evidence
+use Rattle.certificate_definitions.specs.Evidence.{of_all, LineMark}
 use Rattle.symmetries_definitions.specs.Exchanges.{Exchange}
 use Rattle.certificate_definitions.specs.Certificates.{two, three, Certificate, StateLine, IsClosedFor, keeps_limits, lines_of, value_of, is_dead_end_of}
 use Rattle.certificate.specs.ListedSets.{Marked}
@@ -19,13 +21,19 @@ use Rattle.solver.specs.Guidance.{Guidance, version_by, values_by, estimate_by, 
 abbrev pub numbers_in : List Bool → List ℕ
 numbers_in bits = filter (has bits) (range_with_len 0 (length bits))
 
+-- what is found of a state rests on the values of all states
+abbrev pub by_all : Mark → LineMark
+by_all opened = evidence.opened
+by_all (cut rest) = evidence.cut of_all rest
+by_all dead = evidence.dead of_all
+
 -- the certificate's line for a listed packed state
 abbrev pub state_line : Line (List Bool) → StateLine
-state_line line = record { cost = line.cost; mark = line.mark; atoms = numbers_in line.state }
+state_line line = record { cost = line.cost; mark = by_all line.mark; atoms = numbers_in line.state }
 
 -- its cost and its mark
 abbrev pub mark_of_line : {S : Type 0} → Line S → Marked
-mark_of_line line = record { cost = line.cost; mark = line.mark }
+mark_of_line line = record { cost = line.cost; mark = by_all line.mark }
 
 -- the certificate that lists these states, which were found by this guidance, each expanded one as open, each other as a dead end
 -- where it is reported one, and else as a cut with its estimate; by these exchanges some are alike

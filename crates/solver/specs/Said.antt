@@ -13,7 +13,7 @@ use Rattle.model.specs.Meaning.{system_of}
 use Rattle.model.specs.NumberedAtoms.{numbered_atoms}
 use Rattle.model.specs.StaticallyFalse.{kept_instances}
 use Rattle.certificate_definitions.specs.Certificates.{Certificate, IsClosedFor}
-use Rattle.model.specs.Claims.{Mark, opened, cut, dead}
+use Rattle.certificate_definitions.specs.Evidence.{LineMark, opened, cut, dead}
 use Rattle.certificate.specs.Certificate.{certificate_of}
 use Rattle.certificate.specs.ListedSets.{Marked, marked}
 use Rattle.solver.specs.declared.answer.Answer.{Answer}
@@ -32,10 +32,10 @@ line_of (End listed expanded) =
     codes "progress=end listed=" ++ (decimal listed ++ (codes " expanded=" ++ (decimal expanded ++ codes "\n")))
 
 -- what is said of a certificate at the end: how many states it lists, and how many of them are open
-abbrev pub is_opened : Mark → Bool
+abbrev pub is_opened : LineMark → Bool
 is_opened opened = true
-is_opened (cut rest) = false
-is_opened dead = false
+is_opened (cut basis rest) = false
+is_opened (dead basis) = false
 
 abbrev pub is_open : Marked → Bool
 is_open line = is_opened line.mark

@@ -15,7 +15,7 @@ ghost use Rattle.solver.specs.Stretches.{IsBetweenTurns, IsStretch, IsUnderWay};
 use crate::pauses::{Milestone, is_news, next_pause};
 use crate::reports::{Report, say};
 use crate::setting::{Session, Setting};
-use certificate::{Listed, Mark};
+use certificate::{Basis, Listed, Mark};
 use devices::Sink;
 use faults::NoMemory;
 use ground_listings::{GroundListing, GroundSystem};
@@ -241,11 +241,14 @@ fn listed(node: Node, estimate: u64) -> Listed
         },
         NodeStatus::Dead => Listed {
             cost,
-            mark: Mark::Dead,
+            mark: Mark::Dead { by: Basis::OfAll },
         },
         NodeStatus::Open | NodeStatus::Reopened => Listed {
             cost,
-            mark: Mark::Cut { rest: estimate },
+            mark: Mark::Cut {
+                by: Basis::OfAll,
+                rest: estimate,
+            },
         },
     }
 }

@@ -5,7 +5,7 @@ ghost use Rattle.std.specs.Prelude.{◌≡◌};
 ghost use Rattle.potentials_improved.specs.FairPotentials.{ground_in};
 
 use crate::plain_tasks::TASKS;
-use certificate::{Cert, Claim, Listed, Mark};
+use certificate::{Basis, Cert, Claim, Listed, Mark};
 use faults::NoMemory;
 use ground_listings::GroundSystem;
 use grounding::{Ground, GroundFault};
@@ -82,9 +82,10 @@ fn listed(
     let mark = if node.is_expanded() {
         Mark::Open
     } else if dead_ends.dead(state) {
-        Mark::Dead
+        Mark::Dead { by: Basis::OfAll }
     } else {
         Mark::Cut {
+            by: Basis::OfAll,
             rest: fair.estimate(state),
         }
     };

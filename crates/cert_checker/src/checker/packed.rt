@@ -11,7 +11,7 @@ ghost use Rattle.tables.specs.Several as values_in_memory;
 ghost use Rattle.certificate_definitions.specs.Certificates as certificates;
 
 use crate::checker::classes::{Classes, cost_at};
-use certificate::Cert;
+use certificate::{Basis, Cert};
 use faults::NoMemory;
 use grounding::Ground;
 use packed_state::{Packed, StateStore};
@@ -34,13 +34,14 @@ pub(super) struct PackedListing<'a, 't> {
 
 impl<'a, 't> PackedListing<'a, 't> {
     ghost use Rattle.std.specs.Prelude.{◌≡◌, ℕ, ◌<◌, ◌≤◌, ◌↔◌, IsTrue, IfOk, MatchOption};
-    ghost use Rattle.model.specs.Claims.{Mark};
+    ghost use Rattle.certificate_definitions.specs.Evidence.{LineMark};
+    ghost use Rattle.certificate_reader.specs.Lines.{basis_of};
     ghost use Rattle.packed_state.specs.PooledView.{pooled_width};
     ghost use Rattle.cert_checker.specs.FluentAtoms.{AreFluent};
-    ghost use Rattle.cert_checker.specs.CheckedLines.{HasCost, IsCheapestAt, IsLeastCost, IsListedAs};
+    ghost use Rattle.cert_checker.specs.CheckedLines.{HasCost, IsCheapestAt, IsLeastCost, IsListedBy};
     ghost use Rattle.cert_checker.specs.PackedListing.{task_at, certificate_at, state_at, IsPacked, IsKnownIn};
     ghost use Rattle.model.specs.NumberedAtoms.{numbered_atoms};
-    ghost use Rattle.certificate_definitions.specs.Certificates.{is_dead_end_of, lines_of, value_of, AreAlikeFor};
+    ghost use Rattle.certificate_definitions.specs.Certificates.{is_dead_end_by, lines_of, value_by, AreAlikeFor};
     ghost use Rattle.certificate_definitions.specs.CertificateRefusals.{IsListed};
 
     /// The listing of the certificate.
@@ -71,8 +72,8 @@ impl<'a, 't> PackedListing<'a, 't> {
         requires within { place < length (certificate_at self.now).lines }
         requires packed { IsPacked self.now into.old }
         ensures packed { IsPacked self.now into.new }
-        ensures state { (cost : ℕ) (mark : Mark) → HasCost (certificate_at self.now) place cost mark
-            → IsListedAs (task_at self.now) (certificate_at self.now) place (state_at self.now into.new) cost mark }
+        ensures state { (cost : ℕ) (mark : LineMark) → HasCost (certificate_at self.now) place cost mark
+            → IsListedBy (task_at self.now) (certificate_at self.now) place (state_at self.now into.new) cost mark }
     {
         self.cert.sets().get(place as u32, into);
     }
@@ -112,23 +113,33 @@ impl<'a, 't> PackedListing<'a, 't> {
         self.values.known_state(alloc)
     }
 
-    /// Whether the state's value, a lower bound on the remaining cost, is at least this.
-    pub(super) fn is_worth(&self, least: u64, state: &Packed, known: &mut KnownState) -> bool
+    /// Whether the state's value by this basis, a lower bound on the remaining cost, is at least this.
+    pub(super) fn is_worth(
+        &self,
+        by: Basis,
+        least: u64,
+        state: &Packed,
+        known: &mut KnownState,
+    ) -> bool
         requires state { IsPacked self.now state.now }
         requires known { IsKnownIn self.now known.old }
-        ensures worth { IsTrue result ↔ (least ≤ value_of (task_at self.now) (certificate_at self.now) (state_at self.now state.now)) }
+        ensures worth { IsTrue result ↔ (least ≤ value_by (task_at self.now) (certificate_at self.now) (basis_of by) (state_at self.now state.now)) }
         ensures known { IsKnownIn self.now known.new }
     {
-        self.values.is_worth(least, state, known)
+        match by {
+            Basis::OfAll => self.values.is_worth(least, state, known),
+        }
     }
 
-    /// Whether the state is a dead end by the certificate's value for dead ends.
-    pub(super) fn is_dead_end(&self, state: &Packed, known: &mut KnownState) -> bool
+    /// Whether this basis shows that the state is a dead end.
+    pub(super) fn is_dead_end(&self, by: Basis, state: &Packed, known: &mut KnownState) -> bool
         requires state { IsPacked self.now state.now }
         requires known { IsKnownIn self.now known.old }
-        ensures dead { result ≡ is_dead_end_of (task_at self.now) (certificate_at self.now) (state_at self.now state.now) }
+        ensures dead { result ≡ is_dead_end_by (task_at self.now) (certificate_at self.now) (basis_of by) (state_at self.now state.now) }
         ensures known { IsKnownIn self.now known.new }
     {
-        self.values.is_dead_end(state, known)
+        match by {
+            Basis::OfAll => self.values.is_dead_end(state, known),
+        }
     }
 }

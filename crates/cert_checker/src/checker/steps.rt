@@ -4,22 +4,23 @@ ghost use Rattle.std.specs.List.{list_all};
 ghost use Rattle.task.specs.Task.{task_of};
 ghost use Rattle.packed_state.specs.Packed.{bits_of};
 ghost use Rattle.grounding.specs.Ground.{task_in, atoms_in, IsGroundOf};
-ghost use Rattle.certificate_reader.specs.Lines.{claim_of};
+ghost use Rattle.certificate_reader.specs.Lines.{basis_of, claim_of};
 ghost use Rattle.symmetries.specs.Exchange.{exchange_of};
 ghost use Rattle.packed_state.specs.PooledView.{pooled_width};
 ghost use Rattle.certificate.specs.Certificate.{certificate_of, store_in};
 ghost use Rattle.cert_checker.specs.CertChecker.{IsFirstRefusal, IsTrueRefusal};
 ghost use Rattle.cert_checker.specs.FluentAtoms.{AreFluent};
-ghost use Rattle.cert_checker.specs.CheckedLines.{AreSymmetries, CutsAreAllowed, IsCutClosed, IsFirstGrounded, IsLineClosed, IsOpenClosed, IsRightGrounded, IsRightUpTo, IsTrueAnyway, IsListedAs};
+ghost use Rattle.cert_checker.specs.CheckedLines.{AreSymmetries, CutsAreAllowed, IsCutClosed, IsFirstGrounded, IsLineClosed, IsOpenClosed, IsRightGrounded, IsRightUpTo, IsTrueAnyway, IsListedAs, IsListedBy};
 ghost use Rattle.cert_checker.specs.Exchanged.{is_said};
 ghost use Rattle.cert_checker.specs.PackedListing.{task_at, atoms_at, certificate_at, state_at, IsPacked, IsKnownIn};
 ghost use Rattle.model.specs.Task as model_task;
 ghost use Rattle.model.specs.Meaning as meaning;
 ghost use Rattle.model.specs.Claims as claims;
-ghost use Rattle.model.specs.Claims.{opened, cut, dead, Allows, IsListedWithin};
+ghost use Rattle.model.specs.Claims.{opened, Allows, IsListedWithin};
+ghost use Rattle.certificate_definitions.specs.Evidence.{cut, dead};
 ghost use Rattle.model.specs.NumberedAtoms.{numbered_atoms};
 ghost use Rattle.model.specs.Grounding.{applicable_numbers};
-ghost use Rattle.certificate_definitions.specs.Certificates.{is_dead_end_of, lines_of, AreAlikeFor, AreFairFor};
+ghost use Rattle.certificate_definitions.specs.Certificates.{is_dead_end_by, lines_of, AreAlikeFor, AreFairFor, StateLine};
 ghost use Rattle.cert_checker.specs.Weights.{AreCounted};
 ghost use Rattle.certificate_definitions.specs.CertificateRefusals.{state_line};
 ghost use Rattle.cert_checker.specs.declared.refusal.Refusal.TheVariants as Refusal;
@@ -29,7 +30,7 @@ use crate::checker::packed::PackedListing;
 use crate::checker::symmetry::symmetric_exchanges;
 use crate::checker::values::fair_values;
 use crate::refusal::{Refusal, RefusalCode};
-use certificate::{Cert, Claim, Mark};
+use certificate::{Basis, Cert, Claim, Mark};
 use grounding::{Ground, GroundFault};
 use packed_state::Packed;
 use std::alloc::Global;
@@ -146,7 +147,7 @@ fn check_initial(alloc: Global, listing: &PackedListing) -> Result<(), Refusal>
 
 /// Checks the state lines in order.
 fn check_lines(alloc: Global, listing: &PackedListing) -> Result<(), Refusal>
-    ensures right { OnOk result ((place : ℕ) (line : claims.Line meaning.State) → slice_get (lines_of (task_at listing.now) (certificate_at listing.now)) place ≡ Some line
+    ensures right { OnOk result ((place : ℕ) (line : StateLine) → slice_get (certificate_at listing.now).lines place ≡ Some line
         → IsLineClosed (task_at listing.now) (certificate_at listing.now) line) }
     ensures wrong { IfErr result (IsTrueAnyway (task_at listing.now) (certificate_at listing.now)) }
     ensures first { IfErr result (λ e. (plan : Option (List model_task.Instance)) (most : ℕ) → IsRightUpTo (task_at listing.now) (certificate_at listing.now) most 0
@@ -186,7 +187,7 @@ fn check_line(
     ensures state { IsPacked listing.now state.new }
     ensures next { IsPacked listing.now next.new }
     ensures known { IsKnownIn listing.now known.new }
-    ensures right { OnOk result ((line : claims.Line meaning.State) → slice_get (lines_of (task_at listing.now) (certificate_at listing.now)) place ≡ Some line
+    ensures right { OnOk result ((line : StateLine) → slice_get (certificate_at listing.now).lines place ≡ Some line
         → IsLineClosed (task_at listing.now) (certificate_at listing.now) line) }
     ensures wrong { IfErr result (IsTrueAnyway (task_at listing.now) (certificate_at listing.now)) }
     ensures first { IfErr result (λ e. (plan : Option (List model_task.Instance)) (most : ℕ) → IsRightUpTo (task_at listing.now) (certificate_at listing.now) most place
@@ -196,8 +197,16 @@ fn check_line(
     listing.get(place, state);
     match listed.mark {
         Mark::Open => check_open(listing, place, listed.cost, state, next, numbers),
-        Mark::Cut { rest } => check_cut(listing, place, listed.cost, rest, state, known),
-        Mark::Dead => check_dead(listing, place, state, known),
+        Mark::Cut { by, rest } => {
+            let line = CutLine {
+                place,
+                cost: listed.cost,
+                by,
+                rest,
+            };
+            check_cut(listing, line, state, known)
+        }
+        Mark::Dead { by } => check_dead(listing, DeadLine { place, by }, state, known),
     }
 }
 
@@ -283,54 +292,70 @@ fn check_successors(
     Ok(())
 }
 
-/// Checks a cut: the state's value is at least `rest`, and `cost` and `rest` together are no less than claimed.
-fn check_cut(
-    listing: &PackedListing,
+/// A cut: where it is listed, at which cost, and by which basis at least how much is still to pay.
+#[derive(Clone, Copy)]
+struct CutLine {
     place: usize,
     cost: u64,
+    by: Basis,
     rest: u64,
+}
+
+/// Checks a cut: the state's value by its basis is at least what it tells, and that and its cost together are no less than claimed.
+fn check_cut(
+    listing: &PackedListing,
+    line: CutLine,
     state: &Packed,
     known: &mut KnownState,
 ) -> Result<(), Refusal>
-    requires within { place < length (certificate_at listing.now).lines }
+    requires within { line.place < length (certificate_at listing.now).lines }
     requires state { IsPacked listing.now state.now }
     requires known { IsKnownIn listing.now known.old }
-    requires listed { IsListedAs (task_at listing.now) (certificate_at listing.now) place (state_at listing.now state.now) cost (cut rest) }
-    requires small { (cost < 1152921504606846976) × (rest < 1152921504606846976) }
+    requires listed { IsListedBy (task_at listing.now) (certificate_at listing.now) line.place (state_at listing.now state.now) line.cost (cut (basis_of line.by) line.rest) }
+    requires small { (line.cost < 1152921504606846976) × (line.rest < 1152921504606846976) }
     ensures known { IsKnownIn listing.now known.new }
-    ensures right { OnOk result (IsCutClosed (task_at listing.now) (certificate_at listing.now) (state_at listing.now state.now) cost rest) }
+    ensures right { OnOk result (IsCutClosed (task_at listing.now) (certificate_at listing.now) (state_at listing.now state.now) line.cost (basis_of line.by) line.rest) }
     ensures wrong { IfErr result (IsTrueAnyway (task_at listing.now) (certificate_at listing.now)) }
-    ensures first { IfErr result (λ e. (plan : Option (List model_task.Instance)) (most : ℕ) → IsRightUpTo (task_at listing.now) (certificate_at listing.now) most place
+    ensures first { IfErr result (λ e. (plan : Option (List model_task.Instance)) (most : ℕ) → IsRightUpTo (task_at listing.now) (certificate_at listing.now) most line.place
         → IsFirstRefusal (task_at listing.now) (certificate_at listing.now) plan most e) }
 {
-    if listing.is_worth(rest, state, known) && allows(listing.cert.claim(), cost + rest) {
+    if listing.is_worth(line.by, line.rest, state, known)
+        && allows(listing.cert.claim(), line.cost + line.rest)
+    {
         Ok(())
     } else {
-        Err(state_line(RefusalCode::CutWeak, listing.cert, place))
+        Err(state_line(RefusalCode::CutWeak, listing.cert, line.place))
     }
 }
 
-/// Checks that the state, listed at this place as a dead end, is one by its value.
+/// A dead end: where it is listed, and by which basis it is one.
+#[derive(Clone, Copy)]
+struct DeadLine {
+    place: usize,
+    by: Basis,
+}
+
+/// Checks that a state that is listed as a dead end is one by its basis.
 fn check_dead(
     listing: &PackedListing,
-    place: usize,
+    line: DeadLine,
     state: &Packed,
     known: &mut KnownState,
 ) -> Result<(), Refusal>
-    requires within { place < length (certificate_at listing.now).lines }
+    requires within { line.place < length (certificate_at listing.now).lines }
     requires state { IsPacked listing.now state.now }
     requires known { IsKnownIn listing.now known.old }
-    requires listed { (cost : ℕ) × IsListedAs (task_at listing.now) (certificate_at listing.now) place (state_at listing.now state.now) cost dead }
+    requires listed { (cost : ℕ) × IsListedBy (task_at listing.now) (certificate_at listing.now) line.place (state_at listing.now state.now) cost (dead (basis_of line.by)) }
     ensures known { IsKnownIn listing.now known.new }
-    ensures right { OnOk result (IsTrue (is_dead_end_of (task_at listing.now) (certificate_at listing.now) (state_at listing.now state.now))) }
+    ensures right { OnOk result (IsTrue (is_dead_end_by (task_at listing.now) (certificate_at listing.now) (basis_of line.by) (state_at listing.now state.now))) }
     ensures wrong { IfErr result (IsTrueAnyway (task_at listing.now) (certificate_at listing.now)) }
-    ensures first { IfErr result (λ e. (plan : Option (List model_task.Instance)) (most : ℕ) → IsRightUpTo (task_at listing.now) (certificate_at listing.now) most place
+    ensures first { IfErr result (λ e. (plan : Option (List model_task.Instance)) (most : ℕ) → IsRightUpTo (task_at listing.now) (certificate_at listing.now) most line.place
         → IsFirstRefusal (task_at listing.now) (certificate_at listing.now) plan most e) }
 {
-    if listing.is_dead_end(state, known) {
+    if listing.is_dead_end(line.by, state, known) {
         Ok(())
     } else {
-        Err(state_line(RefusalCode::NotDead, listing.cert, place))
+        Err(state_line(RefusalCode::NotDead, listing.cert, line.place))
     }
 }
 

@@ -1,8 +1,8 @@
 use Rattle.std.proofs.Common.{◌≡◌, ◌∙◌, ◌+◌, ◌<◌, ◌≤◌, ℕ, Bool, false, true≢false, inl, inr, refl, sym, arith}
 use Rattle.std.specs.Prelude.{◌↔◌, IsTrue}
 use Rattle.std.proofs.lemmas.Bool.{cases_lt}
-use Rattle.certificate_definitions.specs.Certificates.{value_of}
-use Rattle.certificate_reader.specs.Lines.{claim_of}
+use Rattle.certificate_definitions.specs.Certificates.{value_by}
+use Rattle.certificate_reader.specs.Lines.{basis_of, claim_of}
 use Rattle.cert_checker.specs.PackedListing.{task_at, certificate_at, state_at}
 use Rattle.cert_checker.specs.declared.refusal.RefusalCode.TheVariants.{CutWeak}
 use Rattle.certificate_definitions.specs.CertificateRefusals.{cut_weak, state_line}
@@ -23,12 +23,12 @@ pub returns-else-is_worth-clause-wrong : goal.returns-else-is_worth-clause-wrong
 returns-else-is_worth-clause-wrong c =
     let listing = c.args.listing.now in
     let cert = certificate_at listing in
-    reported (task_at listing) cert c.state_line.result CutWeak (state_line cert c.args.place) c.state_line.ensures
-    (wrong_cut (task_at listing) cert c.args.place (state_at listing c.args.state.now) c.args.cost c.args.rest c.requires.listed
+    reported (task_at listing) cert c.state_line.result CutWeak (state_line cert c.args.line.place) c.state_line.ensures
+    (wrong_cut (task_at listing) cert c.args.line.place (state_at listing c.args.state.now) c.args.line.cost (basis_of c.args.line.by) c.args.line.rest c.requires.listed
     (elim c.else-is_worth.branch [
       | else-is_worth-via-then-is_worth+else-allows w ↦
-          inr (not_allowed (claim_of w.claim.result) cert.claim (c.args.cost + c.args.rest) w.allows.result w.claim.ensures w.allows.ensures w.if-allows.false)
-      | else-is_worth-via-else-is_worth w ↦ inl (not-worth c.args.rest (value_of (task_at listing) cert (state_at listing c.args.state.now)) c.is_worth.result c.is_worth.ensures.worth w.if-is_worth.false)
+          inr (not_allowed (claim_of w.claim.result) cert.claim (c.args.line.cost + c.args.line.rest) w.allows.result w.claim.ensures w.allows.ensures w.if-allows.false)
+      | else-is_worth-via-else-is_worth w ↦ inl (not-worth c.args.line.rest (value_by (task_at listing) cert (basis_of c.args.line.by) (state_at listing c.args.state.now)) c.is_worth.result c.is_worth.ensures.worth w.if-is_worth.false)
     ]))
 
 pub returns-else-is_worth-clause-first : goal.returns-else-is_worth-clause-first
@@ -36,5 +36,5 @@ returns-else-is_worth-clause-first c =
     λ plan most right.
     let listing = c.args.listing.now in
     let cert = certificate_at listing in
-    reported_first (task_at listing) cert plan most c.state_line.result CutWeak (state_line cert c.args.place) c.state_line.ensures
-    (first_in_line (task_at listing) cert plan most c.args.place cut_weak right refl (λ r stage rank wrong. omega arith)) tt
+    reported_first (task_at listing) cert plan most c.state_line.result CutWeak (state_line cert c.args.line.place) c.state_line.ensures
+    (first_in_line (task_at listing) cert plan most c.args.line.place cut_weak right refl (λ r stage rank wrong. omega arith)) tt

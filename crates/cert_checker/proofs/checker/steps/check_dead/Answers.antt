@@ -1,4 +1,5 @@
 use Rattle.std.proofs.Common.{◌∙◌, refl, sym, arith}
+use Rattle.certificate_reader.specs.Lines.{basis_of}
 use Rattle.cert_checker.specs.PackedListing.{task_at, certificate_at, state_at}
 use Rattle.cert_checker.specs.declared.refusal.RefusalCode.TheVariants.{NotDead}
 use Rattle.certificate_definitions.specs.CertificateRefusals.{not_dead, state_line}
@@ -14,13 +15,13 @@ pub returns-else-is_dead_end-clause-wrong : goal.returns-else-is_dead_end-clause
 returns-else-is_dead_end-clause-wrong c =
     let listing = c.args.listing.now in
     let cert = certificate_at listing in
-    reported (task_at listing) cert c.state_line.result NotDead (state_line cert c.args.place) c.state_line.ensures
-    (wrong_dead (task_at listing) cert c.args.place (state_at listing c.args.state.now) c.requires.listed.0 c.requires.listed.1 (sym c.is_dead_end.ensures.dead ∙ c.if-is_dead_end.false))
+    reported (task_at listing) cert c.state_line.result NotDead (state_line cert c.args.line.place) c.state_line.ensures
+    (wrong_dead (task_at listing) cert c.args.line.place (state_at listing c.args.state.now) c.requires.listed.0 (basis_of c.args.line.by) c.requires.listed.1 (sym c.is_dead_end.ensures.dead ∙ c.if-is_dead_end.false))
 
 pub returns-else-is_dead_end-clause-first : goal.returns-else-is_dead_end-clause-first
 returns-else-is_dead_end-clause-first c =
     λ plan most right.
     let listing = c.args.listing.now in
     let cert = certificate_at listing in
-    reported_first (task_at listing) cert plan most c.state_line.result NotDead (state_line cert c.args.place) c.state_line.ensures
-    (first_in_line (task_at listing) cert plan most c.args.place not_dead right refl (λ r stage rank wrong. omega arith)) tt
+    reported_first (task_at listing) cert plan most c.state_line.result NotDead (state_line cert c.args.line.place) c.state_line.ensures
+    (first_in_line (task_at listing) cert plan most c.args.line.place not_dead right refl (λ r stage rank wrong. omega arith)) tt

@@ -1,14 +1,13 @@
 use Rattle.std.proofs.Common.{◌≡◌, ◌<◌, get_or, length, subst, arith}
 use Rattle.std.proofs.lemmas.Option.{slice_get-get_or}
-use Rattle.std.proofs.lemmas.Result.{on_ok_weaker}
-use Rattle.model.specs.Claims.{opened, cut, dead}
-use Rattle.certificate_reader.specs.Lines.{mark_of}
+use Rattle.certificate_definitions.specs.Evidence.{opened, cut, dead}
+use Rattle.certificate_reader.specs.Lines.{basis_of, mark_of}
 use Rattle.certificate_reader.specs.declared.line.Mark.{Mark}
 use Rattle.certificate_reader.specs.declared.line.Mark.TheVariants.{Open, Cut, Dead}
 use Rattle.certificate.specs.declared.states.Listed.{Listed}
 use Rattle.cert_checker.specs.CheckedLines.{HasCost}
 use Rattle.cert_checker.specs.PackedListing.{task_at, certificate_at, state_at}
-use Rattle.cert_checker.proofs.CertCheckerLemmas.{small_cost, small_cut, line_open, line_cut, line_dead, line_if_ok}
+use Rattle.cert_checker.proofs.CertCheckerLemmas.{as_listed, small_cost, small_cut, line_if_ok}
 use Rattle.cert_checker.proofs.RefusalsLemmas.{as_many_marks, has_cost}
 use Rattle.cert_checker.proofs.checker.steps.check_line.Goals as goal
 use Rattle.cert_checker.proofs.checker.steps.check_line.Goals.{After-get}
@@ -43,53 +42,50 @@ check_open-requires-clause-small c =
 pub check_open-requires-clause-listed : goal.check_open-requires-clause-listed
 check_open-requires-clause-listed c =
     let here = (goal.at.check_open-requires-clause-listed c).After-get in
-    c.get.ensures.state (listed_at here).cost opened (marked here Open c.in-Open.is)
+    as_listed (task_at c.args.listing.now) (certificate_at c.args.listing.now) c.args.place (state_at c.args.listing.now c.get.new.into) (listed_at here).cost opened
+    (c.get.ensures.state (listed_at here).cost opened (marked here Open c.in-Open.is))
 
 pub check_cut-requires-clause-small : goal.check_cut-requires-clause-small
 check_cut-requires-clause-small c =
     let here = (goal.at.check_cut-requires-clause-small c).After-get in
     let cert = certificate_at c.args.listing.now in
     let keeps = c.args.listing.now.cert.now.within_limits in
-    let there = marked here (Cut c.in-Cut.rest) c.in-Cut.is in
-    (small_cost cert c.args.place (listed_at here).cost (cut c.in-Cut.rest) keeps there, small_cut cert c.args.place (listed_at here).cost c.in-Cut.rest keeps there)
+    let there = marked here (Cut c.in-Cut.by c.in-Cut.rest) c.in-Cut.is in
+    let basis = basis_of c.in-Cut.by in
+    (small_cost cert c.args.place (listed_at here).cost (cut basis c.in-Cut.rest) keeps there, small_cut cert c.args.place (listed_at here).cost basis c.in-Cut.rest keeps there)
 
 pub check_cut-requires-clause-listed : goal.check_cut-requires-clause-listed
 check_cut-requires-clause-listed c =
     let here = (goal.at.check_cut-requires-clause-listed c).After-get in
-    c.get.ensures.state (listed_at here).cost (cut c.in-Cut.rest) (marked here (Cut c.in-Cut.rest) c.in-Cut.is)
+    c.get.ensures.state (listed_at here).cost (cut (basis_of c.in-Cut.by) c.in-Cut.rest) (marked here (Cut c.in-Cut.by c.in-Cut.rest) c.in-Cut.is)
 
 pub check_dead-requires-clause-listed : goal.check_dead-requires-clause-listed
 check_dead-requires-clause-listed c =
     let here = (goal.at.check_dead-requires-clause-listed c).After-get in
-    ((listed_at here).cost, c.get.ensures.state (listed_at here).cost dead (marked here Dead c.in-Dead.is))
+    ((listed_at here).cost, c.get.ensures.state (listed_at here).cost (dead (basis_of c.in-Dead.by)) (marked here (Dead c.in-Dead.by) c.in-Dead.is))
 
 pub returns-in-Open-clause-right : goal.returns-in-Open-clause-right
 returns-in-Open-clause-right c =
     let here = (goal.at.returns-in-Open-clause-right c).After-get in
     let listing = c.args.listing.now in
-    let cert = certificate_at listing in
     let cost = (listed_at here).cost in
-    let state = state_at listing c.get.new.into in
-    line_if_ok (task_at listing) cert c.args.place (record { state = state; cost = cost; mark = opened }) c.check_open.result (c.get.ensures.state cost opened (marked here Open c.in-Open.is))
-    (on_ok_weaker c.check_open.result (line_open (task_at listing) cert state cost) c.check_open.ensures.right)
+    line_if_ok (task_at listing) (certificate_at listing) c.args.place (state_at listing c.get.new.into) cost opened c.check_open.result (c.get.ensures.state cost opened (marked here Open c.in-Open.is))
+    c.check_open.ensures.right
 
 pub returns-in-Cut-clause-right : goal.returns-in-Cut-clause-right
 returns-in-Cut-clause-right c =
     let here = (goal.at.returns-in-Cut-clause-right c).After-get in
     let listing = c.args.listing.now in
-    let cert = certificate_at listing in
     let cost = (listed_at here).cost in
-    let state = state_at listing c.get.new.into in
-    line_if_ok (task_at listing) cert c.args.place (record { state = state; cost = cost; mark = cut c.in-Cut.rest }) c.check_cut.result
-    (c.get.ensures.state cost (cut c.in-Cut.rest) (marked here (Cut c.in-Cut.rest) c.in-Cut.is))
-    (on_ok_weaker c.check_cut.result (line_cut (task_at listing) cert state cost c.in-Cut.rest) c.check_cut.ensures.right)
+    let mark = cut (basis_of c.in-Cut.by) c.in-Cut.rest in
+    line_if_ok (task_at listing) (certificate_at listing) c.args.place (state_at listing c.get.new.into) cost mark c.check_cut.result
+    (c.get.ensures.state cost mark (marked here (Cut c.in-Cut.by c.in-Cut.rest) c.in-Cut.is)) c.check_cut.ensures.right
 
 pub returns-in-Dead-clause-right : goal.returns-in-Dead-clause-right
 returns-in-Dead-clause-right c =
     let here = (goal.at.returns-in-Dead-clause-right c).After-get in
     let listing = c.args.listing.now in
-    let cert = certificate_at listing in
     let cost = (listed_at here).cost in
-    let state = state_at listing c.get.new.into in
-    line_if_ok (task_at listing) cert c.args.place (record { state = state; cost = cost; mark = dead }) c.check_dead.result (c.get.ensures.state cost dead (marked here Dead c.in-Dead.is))
-    (on_ok_weaker c.check_dead.result (line_dead (task_at listing) cert state cost) c.check_dead.ensures.right)
+    let mark = dead (basis_of c.in-Dead.by) in
+    line_if_ok (task_at listing) (certificate_at listing) c.args.place (state_at listing c.get.new.into) cost mark c.check_dead.result
+    (c.get.ensures.state cost mark (marked here (Dead c.in-Dead.by) c.in-Dead.is)) c.check_dead.ensures.right

@@ -4,11 +4,10 @@ use Rattle.std.proofs.lemmas.Bool.{cases_eq}
 use Rattle.cert_checker.specs.CertChecker.{IsFirstRefusal}
 use Rattle.cert_checker.specs.CheckedLines.{IsRightUpTo}
 use Rattle.cert_checker.specs.PackedListing.{task_at, certificate_at}
-use Rattle.certificate_definitions.specs.Certificates.{lines_of}
 use Rattle.model.specs.Task.{Instance}
 use Rattle.faults.proofs.Results.{passed_on}
 use Rattle.cert_checker.proofs.FirstLemmas.{right_to_line}
-use Rattle.cert_checker.proofs.CertCheckerLemmas.{lines_within}
+use Rattle.std.proofs.lemmas.Option.{slice_get_within}
 use Rattle.cert_checker.proofs.PackedLinesLemmas.{length-set_of}
 use Rattle.cert_checker.proofs.RefusalsLemmas.{as_many_marks}
 use Rattle.cert_checker.proofs.checker.steps.check_lines.Goals as goal
@@ -33,7 +32,7 @@ loop-place-preserved c = record {
   known = c.in_ok-check_line.ensures.known;
   closed = λ k line lt at.
       elim (cases_eq k c.loop-place.place) [
-        | inl is ↦ c.in_ok-check_line.ensures.right line (subst (λ j. slice_get (lines_of (task_at c.args.listing.now) (certificate_at c.args.listing.now)) j ≡ Some line) is at)
+        | inl is ↦ c.in_ok-check_line.ensures.right line (subst (λ j. slice_get (certificate_at c.args.listing.now).lines j ≡ Some line) is at)
         | inr other ↦ c.loop-place.invariant.closed k line (omega arith) at
       ];
 }
@@ -41,7 +40,7 @@ loop-place-preserved c = record {
 pub returns-clause-right : goal.returns-clause-right
 returns-clause-right c = λ k line at.
     let cert = certificate_at c.args.listing.now in
-    c.loop-place.invariant.closed k line (omega (arith, c.loop-place-test.false, lines_within (task_at c.args.listing.now) cert k line at, as_many_marks cert c.marks-place-end.result.now c.marks-place-end.ensures.marks)) at
+    c.loop-place.invariant.closed k line (omega (arith, c.loop-place-test.false, slice_get_within cert.lines k line at, as_many_marks cert c.marks-place-end.result.now c.marks-place-end.ensures.marks)) at
 
 pub returns-in_err-check_line-clause-first : goal.returns-in_err-check_line-clause-first
 returns-in_err-check_line-clause-first c =
