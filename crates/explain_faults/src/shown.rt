@@ -95,17 +95,40 @@ impl fmt::Display for FilePlace<'_> {
     }
 }
 
+/// Which names may occur at a place.
+#[derive(Clone, Copy)]
+enum NamesAllowed {
+    /// All.
+    Any,
+    /// All but the reserved ones.
+    Unreserved,
+    /// Those told one by one.
+    Told,
+}
+
+impl NamesAllowed {
+    /// Which names are among these words.
+    fn among(words: &[Word<'_>]) -> NamesAllowed {
+        if has(words, b"preference") {
+            NamesAllowed::Any
+        } else if has(words, b"name") {
+            NamesAllowed::Unreserved
+        } else {
+            NamesAllowed::Told
+        }
+    }
+}
+
 /// Appends the words that may occur at a place, except those that another one stands for.
 pub(crate) fn add_words(
     alloc: Global,
     words: &[Word<'_>],
     out: &mut String,
 ) -> Result<(), AllocError> {
-    let any_name = has(words, b"preference");
-    let free_name = has(words, b"name");
+    let names = NamesAllowed::among(words);
     let mut reported = Vec::new(alloc);
     for word in words {
-        if is_reported(word, any_name, free_name) {
+        if is_reported(word, names) {
             reported.push(*word)?;
         }
     }
@@ -121,12 +144,14 @@ fn has(words: &[Word<'_>], text: &[u8]) -> bool {
 }
 
 /// Whether a word that may occur at a place is reported: a name is not if any name may occur, or any unreserved one.
-fn is_reported(word: &Word<'_>, any_name: bool, free_name: bool) -> bool {
+fn is_reported(word: &Word<'_>, names: NamesAllowed) -> bool {
     match word.text() {
         b"name" => true,
         b"preference" => false,
-        b"define" | b"domain" | b"problem" | b"number" | b"minimize" => !free_name,
-        _ => word.kind() != Kind::Name || !any_name,
+        b"define" | b"domain" | b"problem" | b"number" | b"minimize" => {
+            matches!(names, NamesAllowed::Told)
+        }
+        _ => word.kind() != Kind::Name || !matches!(names, NamesAllowed::Any),
     }
 }
 

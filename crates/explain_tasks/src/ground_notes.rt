@@ -26,6 +26,8 @@ pub struct GroundNotes {
     pub lacking: Vec<Instance>,
     /// The actions, by number, with too many instances to be checked for this.
     pub passed_over: Vec<usize>,
+    /// The number of instances that are not too many.
+    pub most: u32,
     /// Atoms that are sure literals of the goal, are initially false, and that no action can add: at most [`MOST_FOUND`].
     pub missing_goals: Vec<Atom>,
     /// The actions, by number, that are never applicable.
@@ -52,6 +54,7 @@ impl GroundNotes {
         Ok(GroundNotes {
             lacking,
             passed_over,
+            most,
             missing_goals,
             idle_actions,
         })

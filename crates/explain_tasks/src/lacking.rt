@@ -55,8 +55,11 @@ impl LackingSearch<'_, '_> {
         }
         match valued(task, number) {
             Some(schema) => {
-                let parameters = schema.parameters.as_slice();
-                self.add(SchemaId(number), parameters, &Binding::new(), found)
+                let start = Instance {
+                    schema: SchemaId(number),
+                    objects: Binding::new(),
+                };
+                self.add(&start, schema.parameters.as_slice(), found)
             }
             None => Ok(()),
         }
@@ -65,49 +68,46 @@ impl LackingSearch<'_, '_> {
     /// Adds those that begin with these objects and have one more for each of the remaining types.
     fn add(
         &self,
-        schema: SchemaId,
+        start: &Instance,
         left: &[TypeUnion],
-        objects: &Binding,
         found: &mut Vec<Instance>,
     ) -> Result<(), NoMemory>
-        requires { length objects.now.items + length left.now ≤ 16 }
+        requires { length start.now.objects.items + length left.now ≤ 16 }
         ensures { OnOk result (map instance_of found.new.items
             ≡ defined.lacking_among (task_in self.now.numbering.now) self.now.limit (map instance_of found.old.items)
-            (begun schema.0 (map object_of objects.now.items) (map (meaning.objects_of (task_in self.now.numbering.now)) (map union_of left.now)))) }
+            (begun start.now.schema.0 (map object_of start.now.objects.items) (map (meaning.objects_of (task_in self.now.numbering.now)) (map union_of left.now)))) }
     {
         let Some((types, rest)) = left.split_first() else {
-            return self.add_one(schema, objects, found);
+            return self.add_one(start, found);
         };
         for object in objects_of(self.numbering.task(), types) {
-            self.add(schema, rest, &with_object(objects, object), found)?;
+            let longer = Instance {
+                schema: start.schema,
+                objects: with_object(&start.objects, object),
+            };
+            self.add(&longer, rest, found)?;
         }
         Ok(())
     }
 
-    /// Adds the instance with these objects, if it lacks a value that no instance found so far lacks, and there is room.
-    fn add_one(
-        &self,
-        schema: SchemaId,
-        objects: &Binding,
-        found: &mut Vec<Instance>,
-    ) -> Result<(), NoMemory>
+    /// Adds the instance, if it lacks a value that no instance found so far lacks, and there is room.
+    fn add_one(&self, instance: &Instance, found: &mut Vec<Instance>) -> Result<(), NoMemory>
         ensures { OnOk result (map instance_of found.new.items
-            ≡ defined.with_lacking (task_in self.now.numbering.now) self.now.limit (map instance_of found.old.items) (record { schema = schema.0; objects = map object_of objects.now.items })) }
+            ≡ defined.with_lacking (task_in self.now.numbering.now) self.now.limit (map instance_of found.old.items) (instance_of instance.now)) }
     {
         if found.len() >= self.limit {
             return Ok(());
         }
-        let instance = Instance {
-            schema,
-            objects: copied(objects),
-        };
-        if !self.lacks_value(&instance) {
+        if !self.lacks_value(instance) {
             return Ok(());
         }
-        if some_lacks_the_same(self.numbering.task(), &instance, found.as_slice()) {
+        if some_lacks_the_same(self.numbering.task(), instance, found.as_slice()) {
             return Ok(());
         }
-        found.push(instance)?;
+        found.push(Instance {
+            schema: instance.schema,
+            objects: copied(&instance.objects),
+        })?;
         Ok(())
     }
 
@@ -245,27 +245,36 @@ fn is_product_within(
 pub(crate) fn passed_over(alloc: Global, task: &Task, most: u32) -> Result<Vec<usize>, NoMemory>
     ensures { IfOk result (λ found. found.items ≡ defined.passed_over (task_of task.now) most) }
 {
+    let checked = Checked { task, most };
     let mut found = Vec::new(alloc);
     for number in 0..task.schema_count() {
-        add_if_many(alloc, task, number, most, &mut found)?;
+        checked.add_if_many(alloc, number, &mut found)?;
     }
     Ok(found)
 }
 
-/// Adds the number of the action if it has too many instances.
-fn add_if_many(
-    alloc: Global,
-    task: &Task,
-    number: usize,
+/// A task whose actions with more instances than this are not checked.
+#[derive(Clone, Copy)]
+struct Checked<'t> {
+    task: &'t Task,
     most: u32,
-    found: &mut Vec<usize>,
-) -> Result<(), NoMemory>
-    ensures { OnOk result (found.new.items ≡ found.old.items ++ filter (λ n. not (defined.are_few (task_of task.now) most n)) (number ∷ [])) }
-{
-    let few = are_few(alloc, task, number, most)?;
-    if few {
-        return Ok(());
+}
+
+impl Checked<'_> {
+    /// Adds the number of the action if it has too many instances.
+    fn add_if_many(
+        &self,
+        alloc: Global,
+        number: usize,
+        found: &mut Vec<usize>,
+    ) -> Result<(), NoMemory>
+        ensures { OnOk result (found.new.items ≡ found.old.items ++ filter (λ n. not (defined.are_few (task_of self.now.task.now) self.now.most n)) (number ∷ [])) }
+    {
+        let few = are_few(alloc, self.task, number, self.most)?;
+        if few {
+            return Ok(());
+        }
+        found.push(number)?;
+        Ok(())
     }
-    found.push(number)?;
-    Ok(())
 }

@@ -30,24 +30,18 @@ impl TaskNotes {
                 "Actions increase the total cost, but the problem has no `:metric`, so each step costs 1.";
             lines.push(String::from_str(alloc, line)?)?;
         }
-        let opening = "Predicates that no precondition, no condition and no goal asks for: ";
-        add_names(
-            alloc,
-            task,
-            opening,
-            Kind::Predicate,
-            &self.unasked_predicates,
-            lines,
-        )?;
-        let opening = "Objects that no atom of `:init`, no action and no goal names: ";
-        add_names(
-            alloc,
-            task,
-            opening,
-            Kind::Object,
-            &self.unnamed_objects,
-            lines,
-        )
+        let unasked = NameList {
+            opening: "Predicates that no precondition, no condition and no goal asks for: ",
+            kind: Kind::Predicate,
+            numbers: &self.unasked_predicates,
+        };
+        unasked.add(alloc, task, lines)?;
+        let unnamed = NameList {
+            opening: "Objects that no atom of `:init`, no action and no goal names: ",
+            kind: Kind::Object,
+            numbers: &self.unnamed_objects,
+        };
+        unnamed.add(alloc, task, lines)
     }
 }
 
@@ -67,21 +61,35 @@ impl GroundNotes {
         &self,
         alloc: Global,
         task: &Task,
-        most: u32,
         lines: &mut Vec<String>,
     ) -> Result<(), NoMemory> {
         add_lacking(alloc, task, &self.lacking, lines)?;
-        add_passed_over(alloc, task, &self.passed_over, most, lines)?;
+        self.add_passed_over(alloc, task, lines)?;
         add_missing_goals(alloc, task, &self.missing_goals, lines)?;
-        let opening = "Actions that can never be applied: ";
-        add_names(
-            alloc,
-            task,
-            opening,
-            Kind::Action,
-            &self.idle_actions,
-            lines,
-        )
+        let idle = NameList {
+            opening: "Actions that can never be applied: ",
+            kind: Kind::Action,
+            numbers: &self.idle_actions,
+        };
+        idle.add(alloc, task, lines)
+    }
+
+    /// Adds a line for each action whose instances were not checked.
+    fn add_passed_over(
+        &self,
+        alloc: Global,
+        task: &Task,
+        lines: &mut Vec<String>,
+    ) -> Result<(), NoMemory> {
+        for number in &self.passed_over {
+            let mut line = String::from_str(alloc, "Whether costs of `")?;
+            add_name(task, Kind::Action, *number, &mut line)?;
+            line.push_str("` have no value was not looked at, as it has more than ")?;
+            let most = self.most;
+            write!(line, "{most} instances.")?;
+            lines.push(line)?;
+        }
+        Ok(())
     }
 }
 
@@ -124,24 +132,6 @@ fn add_lacking_line(
     Ok(())
 }
 
-/// Adds a line for each action whose instances were not checked.
-fn add_passed_over(
-    alloc: Global,
-    task: &Task,
-    passed_over: &[usize],
-    most: u32,
-    lines: &mut Vec<String>,
-) -> Result<(), NoMemory> {
-    for number in passed_over {
-        let mut line = String::from_str(alloc, "Whether costs of `")?;
-        add_name(task, Kind::Action, *number, &mut line)?;
-        line.push_str("` have no value was not looked at, as it has more than ")?;
-        write!(line, "{most} instances.")?;
-        lines.push(line)?;
-    }
-    Ok(())
-}
-
 /// Adds a line for each unreachable atom of the goal.
 fn add_missing_goals(
     alloc: Global,
@@ -171,31 +161,35 @@ enum Kind {
     Action,
 }
 
-/// Adds a line with the names of these numbers, if there are any: the first few, and how many more there are.
-fn add_names(
-    alloc: Global,
-    task: &Task,
-    opening: &str,
+/// What some named entities have in common.
+#[derive(Clone, Copy)]
+struct NameList<'n> {
+    /// The beginning of their line.
+    opening: &'static str,
     kind: Kind,
-    numbers: &[usize],
-    lines: &mut Vec<String>,
-) -> Result<(), NoMemory> {
-    let Some((first, rest)) = numbers.split_first() else {
-        return Ok(());
-    };
-    let mut line = String::from_str(alloc, opening)?;
-    add_name(task, kind, *first, &mut line)?;
-    for number in rest.iter().take(MOST_TOLD - 1) {
-        line.push_str(", ")?;
-        add_name(task, kind, *number, &mut line)?;
+    numbers: &'n [usize],
+}
+
+impl NameList<'_> {
+    /// Adds a line with the names, if there are any: the first few, and how many more there are.
+    fn add(&self, alloc: Global, task: &Task, lines: &mut Vec<String>) -> Result<(), NoMemory> {
+        let Some((first, rest)) = self.numbers.split_first() else {
+            return Ok(());
+        };
+        let mut line = String::from_str(alloc, self.opening)?;
+        add_name(task, self.kind, *first, &mut line)?;
+        for number in rest.iter().take(MOST_TOLD - 1) {
+            line.push_str(", ")?;
+            add_name(task, self.kind, *number, &mut line)?;
+        }
+        let others = self.numbers.len().saturating_sub(MOST_TOLD);
+        if others > 0 {
+            write!(line, " and {others} more")?;
+        }
+        line.push_str(".")?;
+        lines.push(line)?;
+        Ok(())
     }
-    let others = numbers.len().saturating_sub(MOST_TOLD);
-    if others > 0 {
-        write!(line, " and {others} more")?;
-    }
-    line.push_str(".")?;
-    lines.push(line)?;
-    Ok(())
 }
 
 /// Adds the name for this number.

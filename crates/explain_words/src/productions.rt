@@ -1,29 +1,26 @@
 //! The productions of the grammar, from a nonterminal and a word to what must follow the word.
 ghost use Rattle.std.specs.Prelude.{◌≡◌};
 ghost use Rattle.pddl_tree_parts.specs.Token.{seen};
-ghost use Rattle.model.specs.Trees.{domain_file, problem_file};
 ghost use Rattle.model.specs.Grammar as grammar;
 ghost use Rattle.explain_words.specs.Frames.{Follow, list_step, many_step, sort_of, wanted_by};
 
 use crate::frames::Follows::{Nothing, One, Three, Two};
 use crate::frames::Frame::{Listed, ManyListed};
 use crate::frames::{Follows, Frame, Nonterminal};
-use pddl_tree_parts::{FreeName, Keyword, ListElement, ReservedName, TaskFile, Token};
-
-/// The `)` of a list.
-const CLOSE: Frame = Frame::One(Nonterminal::Close);
+use crate::single_words::{
+    CLOSE, NAMES, TERMS, after_action_name, after_amount, after_atom, after_close,
+    after_conditional_atom, after_define, after_domain, after_either, after_ground_atom,
+    after_increase_amount, after_key, after_keys, after_kind_list, after_minimize, after_name,
+    after_names, after_number, after_predicate, after_problem, after_term, after_terms,
+    after_total_cost, after_type, after_types,
+};
+use pddl_tree_parts::{ListElement, ReservedName, TaskFile, Token};
 
 /// The list of a quantifier's variables.
 const VARIABLES: Frame = Listed(Nonterminal::Typed(ListElement::Variables));
 
 /// A formula in its list.
 const FORMULA: Frame = Listed(Nonterminal::Formula);
-
-/// The words of a predicate's terms, and `)`.
-const TERMS: Follows = One(Frame::One(Nonterminal::Terms));
-
-/// The names of a predicate's objects, and `)`.
-const NAMES: Follows = One(Frame::One(Nonterminal::Names));
 
 /// The atom that an effect deletes.
 const DELETES: Follows = Two(Listed(Nonterminal::Atom), CLOSE);
@@ -263,264 +260,6 @@ fn after_group_variables(token: Token<'_>) -> Option<Follows>
             Frame::One(Nonterminal::Typed(ListElement::Variables)),
         )),
         Token::Variable(_) => Some(One(Frame::One(Nonterminal::Group(ListElement::Variables)))),
-        _ => None,
-    }
-}
-
-/// After the first word of the type of a name.
-fn after_type(token: Token<'_>) -> Option<Follows>
-    ensures { Follow (grammar.type grammar.names) (seen token.entry) result }
-{
-    match token {
-        Token::Free(_, _) => Some(Nothing),
-        Token::Reserved(_, _) => Some(Nothing),
-        _ => None,
-    }
-}
-
-/// After the first word of the type of a variable.
-fn after_types(token: Token<'_>) -> Option<Follows>
-    ensures { Follow (grammar.type grammar.variables) (seen token.entry) result }
-{
-    match token {
-        Token::Open => Some(Three(
-            Frame::One(Nonterminal::Either),
-            Frame::One(Nonterminal::Name),
-            Frame::One(Nonterminal::Names),
-        )),
-        Token::Free(_, _) => Some(Nothing),
-        Token::Reserved(_, _) => Some(Nothing),
-        _ => None,
-    }
-}
-
-/// After a name.
-fn after_name(token: Token<'_>) -> Option<Follows>
-    ensures { Follow grammar.a_name (seen token.entry) result }
-{
-    match token {
-        Token::Free(_, _) => Some(Nothing),
-        Token::Reserved(_, _) => Some(Nothing),
-        _ => None,
-    }
-}
-
-/// After the name of an action.
-fn after_action_name(token: Token<'_>) -> Option<Follows>
-    ensures { Follow grammar.action_name (seen token.entry) result }
-{
-    match token {
-        Token::Free(_, _) => Some(Nothing),
-        Token::Reserved(_, _) => Some(Nothing),
-        _ => None,
-    }
-}
-
-/// After a term.
-fn after_term(token: Token<'_>) -> Option<Follows>
-    ensures { Follow grammar.term (seen token.entry) result }
-{
-    match token {
-        Token::Free(_, _) => Some(Nothing),
-        Token::Reserved(_, _) => Some(Nothing),
-        Token::Variable(_) => Some(Nothing),
-        _ => None,
-    }
-}
-
-/// After the first word of an atom.
-fn after_atom(token: Token<'_>) -> Option<Follows>
-    ensures { Follow grammar.atom (seen token.entry) result }
-{
-    match token {
-        Token::Free(_, _) => Some(TERMS),
-        _ => None,
-    }
-}
-
-/// After the first word of an atom under a `when`.
-fn after_conditional_atom(token: Token<'_>) -> Option<Follows>
-    ensures { Follow grammar.conditional_atom (seen token.entry) result }
-{
-    match token {
-        Token::Free(_, _) => Some(TERMS),
-        _ => None,
-    }
-}
-
-/// After the first word of an atom of objects.
-fn after_ground_atom(token: Token<'_>) -> Option<Follows>
-    ensures { Follow grammar.ground_atom (seen token.entry) result }
-{
-    match token {
-        Token::Free(_, _) => Some(NAMES),
-        _ => None,
-    }
-}
-
-/// After the first word of a predicate's declaration.
-fn after_predicate(token: Token<'_>) -> Option<Follows>
-    ensures { Follow grammar.declaration (seen token.entry) result }
-{
-    match token {
-        Token::Free(_, _) => Some(One(Frame::One(Nonterminal::Typed(ListElement::Variables)))),
-        _ => None,
-    }
-}
-
-/// After `total-cost`.
-fn after_total_cost(token: Token<'_>) -> Option<Follows>
-    ensures { Follow grammar.total_cost (seen token.entry) result }
-{
-    match token {
-        Token::Reserved(ReservedName::TotalCost, _) => Some(One(CLOSE)),
-        _ => None,
-    }
-}
-
-/// After the first word of the amount of an increase.
-fn after_increase_amount(token: Token<'_>) -> Option<Follows>
-    ensures { Follow grammar.increase_amount (seen token.entry) result }
-{
-    match token {
-        Token::Number(_, _) => Some(Nothing),
-        Token::Open => Some(One(Frame::One(Nonterminal::Atom))),
-        _ => None,
-    }
-}
-
-/// After `)`.
-fn after_close(token: Token<'_>) -> Option<Follows>
-    ensures { Follow grammar.close (seen token.entry) result }
-{
-    match token {
-        Token::Close => Some(Nothing),
-        _ => None,
-    }
-}
-
-/// After a key of `:requirements`.
-fn after_key(token: Token<'_>) -> Option<Follows>
-    ensures { Follow grammar.key (seen token.entry) result }
-{
-    match token {
-        Token::Keyword(Keyword::Requirement) => Some(Nothing),
-        _ => None,
-    }
-}
-
-/// After `either`.
-fn after_either(token: Token<'_>) -> Option<Follows>
-    ensures { Follow grammar.either_word (seen token.entry) result }
-{
-    match token {
-        Token::Reserved(ReservedName::Either, _) => Some(Nothing),
-        _ => None,
-    }
-}
-
-/// After a number.
-fn after_amount(token: Token<'_>) -> Option<Follows>
-    ensures { Follow grammar.amount (seen token.entry) result }
-{
-    match token {
-        Token::Number(_, _) => Some(Nothing),
-        _ => None,
-    }
-}
-
-/// After `number`.
-fn after_number(token: Token<'_>) -> Option<Follows>
-    ensures { Follow grammar.number_type (seen token.entry) result }
-{
-    match token {
-        Token::Free(FreeName::NumberWord, _) => Some(Nothing),
-        _ => None,
-    }
-}
-
-/// After `minimize`.
-fn after_minimize(token: Token<'_>) -> Option<Follows>
-    ensures { Follow grammar.minimize_word (seen token.entry) result }
-{
-    match token {
-        Token::Free(FreeName::Minimize, _) => Some(Nothing),
-        _ => None,
-    }
-}
-
-/// After `define`.
-fn after_define(token: Token<'_>) -> Option<Follows>
-    ensures { Follow grammar.define_word (seen token.entry) result }
-{
-    match token {
-        Token::Free(FreeName::Define, _) => Some(Nothing),
-        _ => None,
-    }
-}
-
-/// After the `(` of the list that says which file it is.
-fn after_kind_list(token: Token<'_>) -> Option<Follows>
-    ensures { Follow grammar.kind_list (seen token.entry) result }
-{
-    match token {
-        Token::Open => Some(Nothing),
-        _ => None,
-    }
-}
-
-/// After `domain`.
-fn after_domain(token: Token<'_>) -> Option<Follows>
-    ensures { Follow (grammar.kind_word domain_file) (seen token.entry) result }
-{
-    match token {
-        Token::Free(FreeName::Domain, _) => Some(Nothing),
-        _ => None,
-    }
-}
-
-/// After `problem`.
-fn after_problem(token: Token<'_>) -> Option<Follows>
-    ensures { Follow (grammar.kind_word problem_file) (seen token.entry) result }
-{
-    match token {
-        Token::Free(FreeName::Problem, _) => Some(Nothing),
-        _ => None,
-    }
-}
-
-/// After the first word of names.
-fn after_names(token: Token<'_>) -> Option<Follows>
-    ensures { Follow (grammar.many grammar.a_name) (seen token.entry) result }
-{
-    match token {
-        Token::Close => Some(Nothing),
-        Token::Free(_, _) => Some(NAMES),
-        Token::Reserved(_, _) => Some(NAMES),
-        _ => None,
-    }
-}
-
-/// After the first word of terms.
-fn after_terms(token: Token<'_>) -> Option<Follows>
-    ensures { Follow (grammar.many grammar.term) (seen token.entry) result }
-{
-    match token {
-        Token::Close => Some(Nothing),
-        Token::Free(_, _) => Some(TERMS),
-        Token::Reserved(_, _) => Some(TERMS),
-        Token::Variable(_) => Some(TERMS),
-        _ => None,
-    }
-}
-
-/// After the first word of keys of `:requirements`.
-fn after_keys(token: Token<'_>) -> Option<Follows>
-    ensures { Follow (grammar.many grammar.key) (seen token.entry) result }
-{
-    match token {
-        Token::Close => Some(Nothing),
-        Token::Keyword(Keyword::Requirement) => Some(One(Frame::One(Nonterminal::Keys))),
         _ => None,
     }
 }

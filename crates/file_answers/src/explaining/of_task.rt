@@ -106,7 +106,7 @@ fn ground(alloc: Global, task: &Task, max_instances: u32) -> Result<Grounding, N
 fn notes_of(alloc: Global, numbering: &Numbering<'_>, most: u32) -> Result<Vec<String>, NoMemory> {
     let notes = GroundNotes::of(alloc, numbering, most)?;
     let mut lines = Vec::new(alloc);
-    notes.add_lines(alloc, numbering.task(), most, &mut lines)?;
+    notes.add_lines(alloc, numbering.task(), &mut lines)?;
     add_goal_notes(alloc, numbering.task(), most, &mut lines)?;
     Ok(lines)
 }

@@ -16,22 +16,22 @@ pub loop-object-preserved : goal.loop-object-preserved
 loop-object-preserved t c =
     let task = task_in c.args.self.now.numbering.now in
     let limit = c.args.self.now.limit in
-    let objects = c.args.objects.now.items in
+    let objects = c.args.start.now.objects.items in
     let ranges = map (objects_of task) (map union_of c.in-Some.rest.now) in
     let one = c.in-Some-object.object in
     let now = map instance_of c.loop-object.found.items in
-    let gives : ℕ → List Instance = λ n. begun c.args.schema.0 (map object_of objects ++ n ∷ []) ranges in
+    let gives : ℕ → List Instance = λ n. begun c.args.start.now.schema.0 (map object_of objects ++ n ∷ []) ranges in
     folded_left (with_lacking task limit) gives (objects_left c.loop-object.object-iterator) (objects_left c.next.new.self) one.0 now (map instance_of c.add.new.found.items)
     (lacking_among task limit (map instance_of c.args.found.now.items) (flat_map gives (objects_left c.into_iter-object-iterator.result))) c.in-Some-object.ensures.steps
-    (c.in_ok-add.ensures ∙ ap (λ os. lacking_among task limit now (begun c.args.schema.0 os ranges)) (one_more objects c.with_object.result.items one objects refl c.with_object.ensures))
+    (c.in_ok-add.ensures ∙ ap (λ os. lacking_among task limit now (begun c.args.start.now.schema.0 os ranges)) (one_more objects c.with_object.result.items one objects refl c.with_object.ensures))
     c.loop-object.invariant
 
 pub returns : goal.returns
 returns t c =
     let task = task_in c.args.self.now.numbering.now in
     let limit = c.args.self.now.limit in
-    let schema = c.args.schema.0 in
-    let objects = map object_of c.args.objects.now.items in
+    let schema = c.args.start.now.schema.0 in
+    let objects = map object_of c.args.start.now.objects.items in
     let types = union_of c.in-Some.types.now in
     let ranges = map (objects_of task) (map union_of c.in-Some.rest.now) in
     let gives : ℕ → List Instance = λ n. begun schema (objects ++ n ∷ []) ranges in

@@ -17,6 +17,6 @@ decreases-add l = length l.left.now
 abbrev pub invariant-loop-object : goal.invariant-loop-object
 invariant-loop-object l =
     let t = task_in l.self.numbering.now in
-    let gives : ℕ → List Instance = λ one. begun l.schema.0 (map object_of l.objects.items ++ one ∷ []) (map (meaning.objects_of t) (map union_of l.rest)) in
+    let gives : ℕ → List Instance = λ one. begun l.start.schema.0 (map object_of l.start.objects.items ++ one ∷ []) (map (meaning.objects_of t) (map union_of l.rest)) in
     lacking_among t l.self.limit (map instance_of l.found.items) (flat_map gives (objects_left l.object-iterator))
     ≡ lacking_among t l.self.limit (map instance_of l.initial.found.items) (flat_map gives (objects_left l.initial.object-iterator))
