@@ -5,11 +5,12 @@ ghost use Rattle.potentials.specs.Potentials.{potentials_of};
 ghost use Rattle.cost_partitioning.specs.ValuePotentials.{potentials_in_value};
 
 use crate::costs::Costs;
-use crate::divider::{Divider, StateRows};
+use crate::divider::Divider;
 use crate::division::Division;
 use crate::draft::Effort;
 use crate::orders::Order;
 use crate::rests::{left_by, potentials_of_rest, score};
+use crate::states::Sampled;
 use abstractions::RowGraph;
 use faults::NoMemory;
 use potentials::Potentials;
@@ -27,7 +28,10 @@ const TRIALS: u32 = 400;
 
 const TRIALS_OF_STATE: u32 = 12;
 
-/// Work limits, in arcs: for the initial state's order, and for those of all other states.
+/// Work limits, in arcs: for dropping tables from the initial state's order, for improving it, and for the orders of all other
+/// states.
+const MAX_WORK_OF_PRUNING: u64 = 20_000_000;
+
 const MAX_WORK: u64 = 20_000_000;
 
 const MAX_WORK_OF_STATES: u64 = 20_000_000;
@@ -47,9 +51,10 @@ struct Candidate {
     given: Vec<i64>,
 }
 
-/// The candidates, and the greatest value of each state: by all parts, and by tables alone.
+/// The search for orders, the candidates, and the greatest value of each state: by all parts, and by tables alone.
 #[derive(Drop)]
-struct Candidates {
+struct Candidates<'a> {
+    divider: Divider<'a>,
     all: Vec<Candidate>,
     most: Vec<i64>,
     most_by_tables: Vec<i64>,
@@ -60,63 +65,77 @@ struct Candidates {
 /// The inputs of the choice.
 #[derive(Drop)]
 pub(crate) struct Choosing<'a> {
+    pub(crate) alloc: Global,
     pub(crate) graphs: &'a [RowGraph],
     pub(crate) costs: &'a Costs,
-    pub(crate) rows: &'a [StateRows],
-    /// The true atoms of the same states.
-    pub(crate) atoms: &'a [Vec<u32>],
+    pub(crate) sampled: Sampled<'a>,
     pub(crate) potentials: &'a Potentials,
     pub(crate) effort: Effort,
 }
 
 impl Choosing<'_> {
     /// The values: the potentials alone, and others that raise the value of some state.
-    pub(crate) fn values(&self, alloc: Global, tables: &mut Tables) -> Result<Vec<Value>, NoMemory>
+    pub(crate) fn values(&self, tables: &mut Tables) -> Result<Vec<Value>, NoMemory>
         ensures { IfOk result (λ values. slice_get (map potentials_in_value values.items) 0 ≡ Some (potentials_of self.now.potentials.now)) }
     {
-        let mut divider = Divider::new(alloc, self.graphs, self.costs, self.rows)?;
-        divider.allow(self.effort.part_of(MAX_WORK));
+        let candidates = self.candidates(tables)?;
+        self.chosen(candidates)
+    }
+
+    /// The candidates: by an order for the initial state, and by orders for other states.
+    fn candidates(&self, tables: &mut Tables) -> Result<Vec<Candidate>, NoMemory> {
+        let states = self.sampled.rows.len();
         let mut candidates = Candidates {
-            all: Vec::new(alloc),
-            most: vec![in alloc; 0; self.rows.len()]?,
-            most_by_tables: vec![in alloc; 0; self.rows.len()]?,
+            divider: Divider::new(self.alloc, self.graphs, self.costs, self.sampled.rows)?,
+            all: Vec::new(self.alloc),
+            most: vec![in self.alloc; 0; states]?,
+            most_by_tables: vec![in self.alloc; 0; states]?,
             rests: 0,
         };
-        let order = divider.best_order(alloc, TRIALS)?;
-        self.add(alloc, tables, &mut divider, &order, &mut candidates)?;
-        self.add_after_potentials(alloc, tables, &order, &mut candidates)?;
-        divider.allow(self.effort.part_of(MAX_WORK_OF_STATES));
-        for state in 1..self.rows.len() {
-            if divider.is_done() {
+        candidates.divider.allow(MAX_WORK_OF_PRUNING);
+        let order = candidates.divider.best_order()?;
+        candidates.divider.allow(self.effort.part_of(MAX_WORK));
+        let order = candidates.divider.improved(order, TRIALS)?;
+        self.add(tables, &order, &mut candidates)?;
+        self.add_after_potentials(tables, &order, &mut candidates)?;
+        candidates
+            .divider
+            .allow(self.effort.part_of(MAX_WORK_OF_STATES));
+        for state in 1..states {
+            if candidates.divider.is_done() {
                 break;
             }
-            let order = divider.order_for(alloc, state, TRIALS_OF_STATE)?;
-            self.add(alloc, tables, &mut divider, &order, &mut candidates)?;
+            let order = candidates.divider.order_for(state, TRIALS_OF_STATE)?;
+            self.add(tables, &order, &mut candidates)?;
         }
         let Candidates { all, .. } = candidates;
-        self.chosen(alloc, all)
+        Ok(all)
     }
 
     /// Adds the partition by this order, with potentials for the remaining costs, if its tables alone raise the value of some
     /// state.
     fn add(
         &self,
-        alloc: Global,
         tables: &mut Tables,
-        divider: &mut Divider<'_>,
         order: &Order,
-        candidates: &mut Candidates,
+        candidates: &mut Candidates<'_>,
     ) -> Result<(), NoMemory> {
-        let division = divider.divide(alloc, order)?;
-        let given = divider.values(alloc, &division)?;
+        let division = candidates.divider.divide(order)?;
+        let given = candidates.divider.values(&division)?;
         if !raise(&mut candidates.most_by_tables, &given)
             || candidates.rests >= self.effort.part_of(MAX_CANDIDATES)
         {
             return Ok(());
         }
         candidates.rests = candidates.rests.saturating_add(1);
-        match potentials_of_rest(alloc, tables, &division.left)? {
-            Some(potentials) => self.push(alloc, division, potentials, candidates),
+        match potentials_of_rest(self.alloc, tables, &division.left)? {
+            Some(potentials) => self.push(
+                Value {
+                    division: Some(division),
+                    potentials,
+                },
+                candidates,
+            ),
             None => Ok(()),
         }
     }
@@ -124,32 +143,27 @@ impl Choosing<'_> {
     /// Adds the partition by this order of the costs that potentials leave.
     fn add_after_potentials(
         &self,
-        alloc: Global,
         tables: &mut Tables,
         order: &Order,
-        candidates: &mut Candidates,
+        candidates: &mut Candidates<'_>,
     ) -> Result<(), NoMemory> {
-        let Some(potentials) = potentials_of_rest(alloc, tables, self.costs)? else {
+        let Some(potentials) = potentials_of_rest(self.alloc, tables, self.costs)? else {
             return Ok(());
         };
-        let left = left_by(alloc, tables, self.costs, potentials.weights())?;
-        let division = Division::new(alloc, self.graphs, order, &left)?;
-        self.push(alloc, division, potentials, candidates)
+        let left = left_by(self.alloc, tables, self.costs, potentials.weights())?;
+        let division = Division::new(self.alloc, self.graphs, order, &left)?;
+        self.push(
+            Value {
+                division: Some(division),
+                potentials,
+            },
+            candidates,
+        )
     }
 
     /// Adds the value if it raises the value of some state.
-    fn push(
-        &self,
-        alloc: Global,
-        division: Division,
-        potentials: Potentials,
-        candidates: &mut Candidates,
-    ) -> Result<(), NoMemory> {
-        let value = Value {
-            division: Some(division),
-            potentials,
-        };
-        let given = self.given(alloc, &value)?;
+    fn push(&self, value: Value, candidates: &mut Candidates<'_>) -> Result<(), NoMemory> {
+        let given = self.given(&value)?;
         if raise(&mut candidates.most, &given) {
             candidates.all.push(Candidate { value, given })?;
         }
@@ -157,9 +171,9 @@ impl Choosing<'_> {
     }
 
     /// The value in each state, at least 0.
-    fn given(&self, alloc: Global, value: &Value) -> Result<Vec<i64>, NoMemory> {
-        let mut given = Vec::with_capacity(alloc, self.rows.len())?;
-        for (rows, atoms) in self.rows.iter().zip(self.atoms) {
+    fn given(&self, value: &Value) -> Result<Vec<i64>, NoMemory> {
+        let mut given = Vec::with_capacity(self.alloc, self.sampled.rows.len())?;
+        for (rows, atoms) in self.sampled.rows.iter().zip(self.sampled.atoms) {
             let by_tables = match &value.division {
                 Some(division) => division.value(rows).unwrap_or(0),
                 None => 0,
@@ -173,15 +187,15 @@ impl Choosing<'_> {
     /// The potentials alone, then repeatedly the candidate by which the initial state, and next all states, gain most, as long as
     /// there is a gain.
     #[tactic(auto, using(crate::proofs::ValueLemmas::first_kept))]
-    fn chosen(&self, alloc: Global, mut candidates: Vec<Candidate>) -> Result<Vec<Value>, NoMemory>
+    fn chosen(&self, mut candidates: Vec<Candidate>) -> Result<Vec<Value>, NoMemory>
         ensures { IfOk result (λ values. slice_get (map potentials_in_value values.items) 0 ≡ Some (potentials_of self.now.potentials.now)) }
     {
-        let mut values = Vec::new(alloc);
+        let mut values = Vec::new(self.alloc);
         let alone = Value {
             division: None,
-            potentials: self.potentials.copied(alloc)?,
+            potentials: self.potentials.copied(self.alloc)?,
         };
-        let mut most = self.given(alloc, &alone)?;
+        let mut most = self.given(&alone)?;
         values.push(alone)?;
         for _ in 1..MAX_VALUES {
             let Some(place) = best(&candidates, &most) else {

@@ -8,12 +8,16 @@ use faults::NoMemory;
 use potentials_drafted::Chance;
 use std::alloc::Global;
 
+/// The part, in thousandths, of the states' sum of values that is left without tables that add little.
+const NEARLY_ALL: i64 = 998;
+
 /// The rows of a state, by table index.
 pub(crate) type StateRows = Vec<u32>;
 
 /// The search for orders: tables, costs of instances, and the states whose values are to be raised.
 #[derive(Drop)]
 pub(crate) struct Divider<'a> {
+    alloc: Global,
     graphs: &'a [RowGraph],
     costs: &'a Costs,
     /// The first is the initial state.
@@ -35,6 +39,21 @@ struct Merit {
     all: i64,
 }
 
+/// An order, with its quality.
+#[derive(Drop)]
+struct Ranked {
+    order: Order,
+    merit: Merit,
+}
+
+impl Merit {
+    /// Whether the given state has no lower value than by the other, and all states have nearly as much.
+    fn is_nearly(self, other: Merit) -> bool {
+        self.first >= other.first
+            && self.all.saturating_mul(1000) >= other.all.saturating_mul(NEARLY_ALL)
+    }
+}
+
 impl<'a> Divider<'a> {
     /// A search for these tables, costs and states.
     pub(crate) fn new(
@@ -44,6 +63,7 @@ impl<'a> Divider<'a> {
         states: &'a [StateRows],
     ) -> Result<Divider<'a>, NoMemory> {
         let mut divider = Divider {
+            alloc,
             graphs,
             costs,
             states,
@@ -54,13 +74,14 @@ impl<'a> Divider<'a> {
             max_work: 0,
         };
         for (table, graph) in graphs.iter().enumerate() {
-            divider.add(alloc, table, graph)?;
+            divider.add(table, graph)?;
         }
         Ok(divider)
     }
 
     /// Records the values and the saturated costs of the table if it comes first.
-    fn add(&mut self, alloc: Global, table: usize, graph: &RowGraph) -> Result<(), NoMemory> {
+    fn add(&mut self, table: usize, graph: &RowGraph) -> Result<(), NoMemory> {
+        let alloc = self.alloc;
         let distances = distances(alloc, graph, self.costs)?;
         let mut given = Vec::with_capacity(alloc, self.states.len())?;
         for rows in self.states {
@@ -96,8 +117,8 @@ impl<'a> Divider<'a> {
     }
 
     /// The worth of each table for the state at this index, for the tables with a positive value in some state.
-    fn worths(&self, alloc: Global, state: usize) -> Result<Vec<Worth>, NoMemory> {
-        let mut worths = Vec::new(alloc);
+    fn worths(&self, state: usize) -> Result<Vec<Worth>, NoMemory> {
+        let mut worths = Vec::new(self.alloc);
         for (table, (given, taken)) in self.alone.iter().zip(&self.taken).enumerate() {
             if given.iter().any(|value| *value > 0) {
                 worths.push(Worth {
@@ -114,23 +135,23 @@ impl<'a> Divider<'a> {
     }
 
     /// The greedy order for the state at this index.
-    pub(crate) fn greedy(&self, alloc: Global, state: usize) -> Result<Order, NoMemory> {
-        Order::by_worth(alloc, self.worths(alloc, state)?)
+    fn greedy(&self, state: usize) -> Result<Order, NoMemory> {
+        Order::by_worth(self.alloc, self.worths(state)?)
     }
 
     /// The partition by this order.
-    pub(crate) fn divide(&mut self, alloc: Global, order: &Order) -> Result<Division, NoMemory> {
+    pub(crate) fn divide(&mut self, order: &Order) -> Result<Division, NoMemory> {
         for table in order.tables() {
             if let Some(graph) = self.graphs.get(*table) {
                 self.count(graph);
             }
         }
-        Division::new(alloc, self.graphs, order, self.costs)
+        Division::new(self.alloc, self.graphs, order, self.costs)
     }
 
     /// The value of each state by the partition; 0 if the state is a known dead end.
-    pub(crate) fn values(&self, alloc: Global, division: &Division) -> Result<Vec<i64>, NoMemory> {
-        let mut values = Vec::with_capacity(alloc, self.states.len())?;
+    pub(crate) fn values(&self, division: &Division) -> Result<Vec<i64>, NoMemory> {
+        let mut values = Vec::with_capacity(self.alloc, self.states.len())?;
         for rows in self.states {
             values.push(division.value(rows).unwrap_or(0))?;
         }
@@ -138,61 +159,94 @@ impl<'a> Divider<'a> {
     }
 
     /// An order that gives the initial state a great value, and among equals one with a great sum over all states: the better of
-    /// two orders, improved by hill climbing within this many trials.
-    pub(crate) fn best_order(&mut self, alloc: Global, trials: u32) -> Result<Order, NoMemory> {
-        let mut order = self.greedy(alloc, 0)?;
-        let mut merit = self.merit(alloc, &order, 0)?;
-        let other = Order::by_given(alloc, self.worths(alloc, 0)?)?;
-        let others = self.merit(alloc, &other, 0)?;
-        if others > merit {
-            order = other;
-            merit = others;
+    /// two orders, without tables that add little.
+    pub(crate) fn best_order(&mut self) -> Result<Order, NoMemory> {
+        let mut best = self.ranked(self.greedy(0)?, 0)?;
+        let other = Order::by_given(self.alloc, self.worths(0)?)?;
+        let other = self.ranked(other, 0)?;
+        if other.merit > best.merit {
+            best = other;
         }
-        self.climb(alloc, order, merit, 0, trials)
-    }
-
-    /// An order with a great value of the state at this index.
-    pub(crate) fn order_for(
-        &mut self,
-        alloc: Global,
-        state: usize,
-        trials: u32,
-    ) -> Result<Order, NoMemory> {
-        let order = self.greedy(alloc, state)?;
-        let merit = self.merit(alloc, &order, state)?;
-        self.climb(alloc, order, merit, state, trials)
-    }
-
-    /// Hill climbing: moves tables within the order as long as that is no worse, within this many trials.
-    fn climb(
-        &mut self,
-        alloc: Global,
-        mut order: Order,
-        mut merit: Merit,
-        state: usize,
-        trials: u32,
-    ) -> Result<Order, NoMemory> {
-        for _ in 0..trials {
-            if self.work > self.max_work {
-                return Ok(order);
-            }
-            let from = self.chance.below(order.tables().len());
-            let to = self.chance.below(order.tables().len());
-            if from != to {
-                let moved = order.moved(alloc, from, to)?;
-                let merit_moved = self.merit(alloc, &moved, state)?;
-                if merit_moved >= merit {
-                    order = moved;
-                    merit = merit_moved;
-                }
-            }
-        }
+        let Ranked { order, .. } = self.pruned(&best.order, 0)?;
         Ok(order)
     }
 
-    /// The quality of the order for the state at this index and for all states.
-    fn merit(&mut self, alloc: Global, order: &Order, state: usize) -> Result<Merit, NoMemory> {
-        let division = self.divide(alloc, order)?;
+    /// The order, improved for the initial state by hill climbing within this many trials.
+    pub(crate) fn improved(&mut self, order: Order, trials: u32) -> Result<Order, NoMemory> {
+        let ranked = self.ranked(order, 0)?;
+        self.climb(ranked, 0, trials)
+    }
+
+    /// An order with a great value of the state at this index.
+    pub(crate) fn order_for(&mut self, state: usize, trials: u32) -> Result<Order, NoMemory> {
+        let order = self.greedy(state)?;
+        let pruned = self.pruned(&order, state)?;
+        self.climb(pruned, state, trials)
+    }
+
+    /// The order without tables that add little: after them the state at this index has no lower value, and all states have
+    /// nearly as much. It drops halves, then quarters, and at last single tables, those from the end first.
+    fn pruned(&mut self, order: &Order, state: usize) -> Result<Ranked, NoMemory> {
+        let division = self.divide(order)?;
+        let order = division.order(self.alloc)?;
+        let mut best = self.ranked(order, state)?;
+        let mut size = best.order.tables().len();
+        for _ in 0..usize::BITS {
+            if size == 0 {
+                break;
+            }
+            best = self.pruned_by(best, state, size)?;
+            size /= 2;
+        }
+        Ok(best)
+    }
+
+    /// The same, dropping this many tables at a time.
+    fn pruned_by(&mut self, ranked: Ranked, state: usize, size: usize) -> Result<Ranked, NoMemory> {
+        let mut best = ranked;
+        let mut end = best.order.tables().len();
+        for _ in 0..best.order.tables().len() {
+            if end == 0 || self.is_done() {
+                break;
+            }
+            let start = end.saturating_sub(size);
+            let fewer = best.order.without(self.alloc, start..end)?;
+            let fewer = self.ranked(fewer, state)?;
+            if fewer.merit.is_nearly(best.merit) {
+                best = Ranked {
+                    order: fewer.order,
+                    merit: fewer.merit.max(best.merit),
+                };
+            }
+            end = start;
+        }
+        Ok(best)
+    }
+
+    /// Hill climbing: moves tables within the order as long as that is no worse, within this many trials.
+    fn climb(&mut self, best: Ranked, state: usize, trials: u32) -> Result<Order, NoMemory> {
+        let mut best = best;
+        for _ in 0..trials {
+            if self.is_done() {
+                break;
+            }
+            let from = self.chance.below(best.order.tables().len());
+            let to = self.chance.below(best.order.tables().len());
+            if from != to {
+                let moved = best.order.moved(self.alloc, from, to)?;
+                let moved = self.ranked(moved, state)?;
+                if moved.merit >= best.merit {
+                    best = moved;
+                }
+            }
+        }
+        let Ranked { order, .. } = best;
+        Ok(order)
+    }
+
+    /// The order with its quality for the state at this index and for all states.
+    fn ranked(&mut self, order: Order, state: usize) -> Result<Ranked, NoMemory> {
+        let division = self.divide(&order)?;
         let mut merit = Merit { first: 0, all: 0 };
         for (place, rows) in self.states.iter().enumerate() {
             let value = division.value(rows).unwrap_or(0);
@@ -201,7 +255,7 @@ impl<'a> Divider<'a> {
                 merit.first = value;
             }
         }
-        Ok(merit)
+        Ok(Ranked { order, merit })
     }
 }
 

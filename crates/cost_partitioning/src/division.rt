@@ -51,6 +51,15 @@ impl Division {
         Ok(division)
     }
 
+    /// The order of the tables that have a part.
+    pub(crate) fn order(&self, alloc: Global) -> Result<Order, NoMemory> {
+        let mut tables = Vec::with_capacity(alloc, self.parts.len())?;
+        for part in &self.parts {
+            tables.push(part.table)?;
+        }
+        Ok(Order::new(tables))
+    }
+
     /// The value of a state with these rows, indexed by table; `None` if one of the rows has no path to the goal.
     pub(crate) fn value(&self, rows: &[u32]) -> Option<i64> {
         let mut value = 0i64;

@@ -6,10 +6,13 @@ ghost use Rattle.cost_partitioning.specs.ValuePotentials.{potentials_in_value};
 use crate::chosen::{Choosing, Value};
 use crate::collected::{Collected, Collecting, costs_of};
 use crate::costs::Costs;
-use crate::goal_distances::{NO_WAY, distances};
-use crate::states::{rows_of_all, samples, starts, values_of_all};
+use crate::dead_ends::DeadEnds;
+use crate::goal_distances::distances;
+use crate::states::{Sampled, first_of, rows_of_all, samples, values_of_all};
 use crate::written::{Writing, part_of, weight_of_dead};
-use abstractions::{GoalValues, Reaching, RowLimits, Shutters, Steps, Variables, found_groups};
+use abstractions::{
+    GoalValues, Reaching, RowLimits, Shutters, Steps, VariableTask, Variables, found_groups,
+};
 use faults::NoMemory;
 use grounding::Ground;
 use potentials::Potentials;
@@ -27,9 +30,6 @@ const LIMITS: RowLimits = RowLimits {
 const MAX_ATOMS: u32 = 20_000;
 
 const MAX_INSTANCES: usize = 200_000;
-
-/// The maximum total number of rows examined in tables that may be useful only for dead ends.
-const MAX_ROWS_FOR_DEAD_ENDS: usize = 50_000;
 
 /// Several values over tables, whose maximum counts, and one for dead ends. The weights of a row are in this order, the one for
 /// dead ends last.
@@ -53,7 +53,7 @@ struct Known {
 /// How much effort is put into a draft.
 #[derive(Clone, Copy, Debug, PartialEq, Eq)]
 pub enum Effort {
-    /// A tenth of the limits.
+    /// A quarter of the limits.
     Quick,
     /// The full limits.
     Thorough,
@@ -63,7 +63,7 @@ impl Effort {
     /// The limit at this effort.
     pub(crate) fn part_of(self, count: u64) -> u64 {
         match self {
-            Effort::Quick => count / 10,
+            Effort::Quick => count / 4,
             Effort::Thorough => count,
         }
     }
@@ -83,6 +83,15 @@ pub struct Wanted<'a> {
     pub starts: &'a [Vec<u32>],
     /// The effort.
     pub effort: Effort,
+}
+
+/// A ground task over variables, for which tables are wanted.
+#[derive(Clone, Copy)]
+struct Subject<'a, 't> {
+    alloc: Global,
+    ground: &'a Ground<'t>,
+    variables: &'a Variables,
+    wanted: &'a Wanted<'a>,
 }
 
 /// Values over tables that may exceed those of potentials. `None` if no table is useful, or the task is too large.
@@ -106,159 +115,145 @@ pub fn drafted_tables(
     drop(groups);
     let mut tables = Tables::new(alloc, ground, &initial)?;
     drop(initial);
-    let draft = draft_over(alloc, ground, &variables, &mut tables, wanted)?;
-    Ok(draft)
-}
-
-/// The same, over these variables.
-fn draft_over(
-    alloc: Global,
-    ground: &Ground<'_>,
-    variables: &Variables,
-    tables: &mut Tables,
-    wanted: &Wanted<'_>,
-) -> Result<Option<DraftedTables>, NoMemory>
-    ensures first { IfOk result (λ o. IfSome o (λ draft. slice_get (map potentials_of draft.values.items) 0 ≡ Some (potentials_of wanted.now.potentials.now))) }
-    ensures dead_ends { IfOk result (λ o. IfSome o (λ draft. potentials_of draft.dead_ends ≡ potentials_of wanted.now.dead_ends.now)) }
-{
-    let atoms = samples(alloc, tables.states(), wanted.states)?;
-    let states = values_of_all(alloc, variables, &atoms)?;
-    let Some(steps) = Steps::new(alloc, ground, variables)? else {
-        return Ok(None);
-    };
-    let starts = starts(alloc, variables, tables.states(), wanted.starts)?;
-    let known = known_over(
+    let subject = Subject {
         alloc,
         ground,
-        variables,
-        &steps,
-        &starts,
-        &states,
-        wanted.effort,
-    )?;
-    drop(steps);
-    let draft = draft_by(alloc, variables, &known, &atoms, &states, tables, wanted)?;
+        variables: &variables,
+        wanted,
+    };
+    let draft = subject.draft(&mut tables)?;
     Ok(draft)
 }
 
-/// What is known about tables over these variables.
-fn known_over<'a, 't>(
-    alloc: Global,
-    ground: &'a Ground<'t>,
-    variables: &'a Variables,
-    steps: &'a Steps,
-    starts: &'a [Vec<u32>],
-    states: &'a [Vec<u32>],
-    effort: Effort,
-) -> Result<Known, NoMemory> {
-    let goals = GoalValues::new(alloc, variables, ground.goal_literals())?;
-    let reaching = Reaching::new(alloc, variables, steps, &goals, starts, LIMITS)?;
-    let known = collected(alloc, ground, variables, &goals, reaching, states, effort)?;
-    Ok(known)
-}
-
-/// Tables over these variables, and the costs of the instances that they do not shut out.
-fn collected<'a, 't>(
-    alloc: Global,
-    ground: &'a Ground<'t>,
-    variables: &'a Variables,
-    goals: &'a GoalValues,
-    reaching: Reaching<'a>,
-    states: &'a [Vec<u32>],
-    effort: Effort,
-) -> Result<Known, NoMemory> {
-    let shutters = Shutters::new(alloc, ground)?;
-    let costs = costs_of(alloc, ground, &shutters)?;
-    let mut collecting = Collecting {
-        ground,
-        variables,
-        goals,
-        reaching,
-        costs,
-        shutters,
-        states,
-        effort,
-        collected: Collected::new(alloc),
-        tests: 0,
-        room: 0,
-    };
-    collecting.collect(alloc)?;
-    let Collecting {
-        collected,
-        costs,
-        ..
-    } = collecting;
-    Ok(Known { collected, costs })
-}
-
-/// The draft from known tables, for states given by these true atoms and these values of variables.
-fn draft_by<'a>(
-    alloc: Global,
-    variables: &Variables,
-    known: &'a Known,
-    atoms: &'a [Vec<u32>],
-    states: &[Vec<u32>],
-    tables: &mut Tables,
-    wanted: &Wanted<'a>,
-) -> Result<Option<DraftedTables>, NoMemory>
-    ensures first { IfOk result (λ o. IfSome o (λ draft. slice_get (map potentials_of draft.values.items) 0 ≡ Some (potentials_of wanted.now.potentials.now))) }
-    ensures dead_ends { IfOk result (λ o. IfSome o (λ draft. potentials_of draft.dead_ends ≡ potentials_of wanted.now.dead_ends.now)) }
-{
-    let graphs = known.collected.graphs.as_slice();
-    let rows = rows_of_all(alloc, graphs, states)?;
-    let choosing = Choosing {
-        graphs,
-        costs: &known.costs,
-        rows: &rows,
-        atoms,
-        potentials: wanted.potentials,
-        effort: wanted.effort,
-    };
-    let values = choosing.values(alloc, tables)?;
-    let Some(written) = tables_of_use(alloc, variables, known, &values, wanted.dead_ends)? else {
-        return Ok(None);
-    };
-    Ok(Some(DraftedTables {
-        tables: written,
-        values: potentials_in(alloc, &values)?,
-        dead_ends: wanted.dead_ends.copied(alloc)?,
-    }))
-}
-
-/// The useful tables, with the weights of these values; `None` if there are none.
-fn tables_of_use<'a>(
-    alloc: Global,
-    variables: &'a Variables,
-    known: &Known,
-    values: &'a [Value],
-    dead_ends: &Potentials,
-) -> Result<Option<Vec<Table>>, NoMemory> {
-    let writing = Writing {
-        variables,
-        values,
-        weight_of_dead: weight_of_dead(dead_ends),
-    };
-    let mut tables = Vec::new(alloc);
-    let mut rows_for_dead_ends = 0usize;
-    for (place, graph) in known.collected.graphs.iter().enumerate() {
-        let reach = distances(alloc, graph, &known.costs)?;
-        let mut is_of_use = known.is_used(place, values);
-        if !is_of_use && rows_for_dead_ends < MAX_ROWS_FOR_DEAD_ENDS {
-            is_of_use = reach.iter().any(|distance| *distance == NO_WAY);
-            rows_for_dead_ends = rows_for_dead_ends.saturating_add(reach.len());
-        }
-        if is_of_use {
-            let Some(table) = writing.table(alloc, place, graph, &reach)? else {
-                return Ok(None);
-            };
-            tables.push(table)?;
-        }
+impl Subject<'_, '_> {
+    /// The draft, whose potentials are made by these tables of potentials.
+    fn draft(&self, tables: &mut Tables) -> Result<Option<DraftedTables>, NoMemory>
+        ensures first { IfOk result (λ o. IfSome o (λ draft. slice_get (map potentials_of draft.values.items) 0 ≡ Some (potentials_of self.now.wanted.now.potentials.now))) }
+        ensures dead_ends { IfOk result (λ o. IfSome o (λ draft. potentials_of draft.dead_ends ≡ potentials_of self.now.wanted.now.dead_ends.now)) }
+    {
+        let atoms = samples(self.alloc, tables.states(), self.wanted.states)?;
+        let values = values_of_all(self.alloc, self.variables, &atoms)?;
+        let starts = samples(self.alloc, first_of(tables.states()), self.wanted.starts)?;
+        let starts = values_of_all(self.alloc, self.variables, &starts)?;
+        let Some(steps) = Steps::new(self.alloc, self.ground, self.variables)? else {
+            return Ok(None);
+        };
+        let known = self.known(&steps, &starts, &values)?;
+        drop(steps);
+        let rows = rows_of_all(self.alloc, &known.collected.graphs, &values)?;
+        let sampled = Sampled {
+            atoms: &atoms,
+            rows: &rows,
+        };
+        let draft = self.draft_by(&known, sampled, tables)?;
+        Ok(draft)
     }
-    Ok(if tables.is_empty() {
-        None
-    } else {
-        Some(tables)
-    })
+
+    /// Tables over the variables, and the costs of the instances that they do not shut out, for the values of variables in the
+    /// start states and in the sampled states.
+    fn known(
+        &self,
+        steps: &Steps,
+        starts: &[Vec<u32>],
+        states: &[Vec<u32>],
+    ) -> Result<Known, NoMemory> {
+        let goals = GoalValues::new(self.alloc, self.variables, self.ground.goal_literals())?;
+        let task = VariableTask {
+            variables: self.variables,
+            steps,
+            goals: &goals,
+            starts,
+        };
+        let known = self.collected(task, states)?;
+        Ok(known)
+    }
+
+    /// The same for the task over the variables.
+    fn collected(&self, task: VariableTask<'_>, states: &[Vec<u32>]) -> Result<Known, NoMemory> {
+        let shutters = Shutters::new(self.alloc, self.ground)?;
+        let mut collecting = Collecting {
+            alloc: self.alloc,
+            ground: self.ground,
+            task,
+            reaching: Reaching::new(self.alloc, task, LIMITS)?,
+            costs: costs_of(self.alloc, self.ground, &shutters)?,
+            shutters,
+            states,
+            effort: self.wanted.effort,
+            collected: Collected::new(self.alloc),
+            room: 0,
+        };
+        collecting.collect()?;
+        let Collecting {
+            collected,
+            costs,
+            ..
+        } = collecting;
+        Ok(Known { collected, costs })
+    }
+
+    /// The draft from known tables.
+    fn draft_by<'k>(
+        &self,
+        known: &'k Known,
+        sampled: Sampled<'k>,
+        tables: &mut Tables,
+    ) -> Result<Option<DraftedTables>, NoMemory>
+        ensures first { IfOk result (λ o. IfSome o (λ draft. slice_get (map potentials_of draft.values.items) 0 ≡ Some (potentials_of self.now.wanted.now.potentials.now))) }
+        ensures dead_ends { IfOk result (λ o. IfSome o (λ draft. potentials_of draft.dead_ends ≡ potentials_of self.now.wanted.now.dead_ends.now)) }
+    {
+        let wanted = self.wanted;
+        let choosing = Choosing {
+            alloc: self.alloc,
+            graphs: &known.collected.graphs,
+            costs: &known.costs,
+            sampled,
+            potentials: wanted.potentials,
+            effort: wanted.effort,
+        };
+        let values = choosing.values(tables)?;
+        let Some(written) = self.tables_of_use(known, &values, sampled)? else {
+            return Ok(None);
+        };
+        Ok(Some(DraftedTables {
+            tables: written,
+            values: potentials_in(self.alloc, &values)?,
+            dead_ends: wanted.dead_ends.copied(self.alloc)?,
+        }))
+    }
+
+    /// The useful tables, with the weights of these values; `None` if there are none. Of use is a table that shuts out instances,
+    /// has a part in a value, or shows that some sampled state is a dead end where none before does.
+    fn tables_of_use(
+        &self,
+        known: &Known,
+        values: &[Value],
+        sampled: Sampled<'_>,
+    ) -> Result<Option<Vec<Table>>, NoMemory> {
+        let writing = Writing {
+            alloc: self.alloc,
+            variables: self.variables,
+            values,
+            weight_of_dead: weight_of_dead(self.wanted.dead_ends),
+        };
+        let mut dead_ends = DeadEnds::new(self.alloc, sampled.rows)?;
+        let mut tables = Vec::new(self.alloc);
+        for (place, graph) in known.collected.graphs.iter().enumerate() {
+            let reach = distances(self.alloc, graph, &known.costs)?;
+            let shows_more = dead_ends.show(place, &reach);
+            if shows_more || known.is_used(place, values) {
+                let Some(table) = writing.table(place, graph, &reach)? else {
+                    return Ok(None);
+                };
+                tables.push(table)?;
+            }
+        }
+        Ok(if tables.is_empty() {
+            None
+        } else {
+            Some(tables)
+        })
+    }
 }
 
 impl Known {

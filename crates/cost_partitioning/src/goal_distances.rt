@@ -9,8 +9,14 @@ use std::collections::BinaryHeap;
 /// The distance of a row without a path to the goal.
 pub(crate) const NO_WAY: i64 = i64::MAX;
 
-/// The open list: rows ordered by goal distance.
-type Waiting = BinaryHeap<Reverse<(i64, u32)>>;
+/// Dijkstra's algorithm: the distances so far, and the rows to go on from, by distance.
+#[derive(Drop)]
+struct Dijkstra {
+    /// The remaining cost of each class.
+    costs: Vec<Option<i64>>,
+    distances: Vec<i64>,
+    waiting: BinaryHeap<Reverse<(i64, u32)>>,
+}
 
 /// The goal distance of each row under the remaining costs, by Dijkstra's algorithm backwards from the goal.
 pub(crate) fn distances(
@@ -18,49 +24,53 @@ pub(crate) fn distances(
     graph: &RowGraph,
     costs: &Costs,
 ) -> Result<Vec<i64>, NoMemory> {
-    let costs = class_costs(alloc, graph, costs)?;
-    let mut distances = vec![in alloc; NO_WAY; graph.row_count()]?;
-    let mut waiting: Waiting = BinaryHeap::new(alloc);
-    for (place, distance) in distances.iter_mut().enumerate() {
-        if let Ok(row) = u32::try_from(place) {
-            if graph.is_goal(row) {
-                *distance = 0;
-                waiting.push(Reverse((0, row)))?;
-            }
-        }
-    }
+    let mut dijkstra = Dijkstra {
+        costs: class_costs(alloc, graph, costs)?,
+        distances: vec![in alloc; NO_WAY; graph.row_count()]?,
+        waiting: BinaryHeap::new(alloc),
+    };
+    dijkstra.begin(graph)?;
     for _ in 0..u64::MAX {
-        let Some(Reverse((distance, row))) = waiting.pop() else {
+        let Some(Reverse((distance, row))) = dijkstra.waiting.pop() else {
             break;
         };
-        if distance_of(&distances, row) == distance {
-            relax(graph, &costs, row, distance, &mut distances, &mut waiting)?;
+        if distance_of(&dijkstra.distances, row) == distance {
+            dijkstra.relax(graph, row, distance)?;
         }
     }
+    let Dijkstra { distances, .. } = dijkstra;
     Ok(distances)
 }
 
-/// Relaxes the arcs that lead to this row, which has this goal distance.
-fn relax(
-    graph: &RowGraph,
-    costs: &[Option<i64>],
-    row: u32,
-    distance: i64,
-    distances: &mut [i64],
-    waiting: &mut Waiting,
-) -> Result<(), NoMemory> {
-    for arc in graph.arcs_to(row) {
-        if let Some(Some(cost)) = costs.get(place_of(arc.class)) {
-            let next = distance.saturating_add(*cost);
-            if let Some(before) = distances.get_mut(place_of(arc.from)) {
-                if next < *before {
-                    *before = next;
-                    waiting.push(Reverse((next, arc.from)))?;
+impl Dijkstra {
+    /// Begins at the rows that the goal allows.
+    fn begin(&mut self, graph: &RowGraph) -> Result<(), NoMemory> {
+        for (place, distance) in self.distances.iter_mut().enumerate() {
+            if let Ok(row) = u32::try_from(place) {
+                if graph.is_goal(row) {
+                    *distance = 0;
+                    self.waiting.push(Reverse((0, row)))?;
                 }
             }
         }
+        Ok(())
     }
-    Ok(())
+
+    /// Relaxes the arcs that lead to this row, which has this goal distance.
+    fn relax(&mut self, graph: &RowGraph, row: u32, distance: i64) -> Result<(), NoMemory> {
+        for arc in graph.arcs_to(row) {
+            if let Some(Some(cost)) = self.costs.get(place_of(arc.class)) {
+                let next = distance.saturating_add(*cost);
+                if let Some(before) = self.distances.get_mut(place_of(arc.from)) {
+                    if next < *before {
+                        *before = next;
+                        self.waiting.push(Reverse((next, arc.from)))?;
+                    }
+                }
+            }
+        }
+        Ok(())
+    }
 }
 
 /// The distance of the row with this number.

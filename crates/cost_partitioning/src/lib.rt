@@ -10,6 +10,7 @@
 mod chosen;
 mod collected;
 mod costs;
+mod dead_ends;
 mod divider;
 mod division;
 mod draft;

@@ -2,6 +2,7 @@
 //! Helmert 2020, "Saturated Cost Partitioning for Optimal Classical Planning").
 use faults::NoMemory;
 use std::alloc::Global;
+use std::ops::Range;
 
 /// An order of tables, by index.
 #[derive(Drop)]
@@ -56,6 +57,17 @@ impl Order {
         let mut tables = Vec::with_capacity(alloc, worths.len())?;
         for worth in worths {
             tables.push(worth.table)?;
+        }
+        Ok(Order { tables })
+    }
+
+    /// The order without the tables at these indices.
+    pub(crate) fn without(&self, alloc: Global, dropped: Range<usize>) -> Result<Order, NoMemory> {
+        let mut tables = Vec::with_capacity(alloc, self.tables.len())?;
+        for (place, table) in self.tables.iter().enumerate() {
+            if place < dropped.start || place >= dropped.end {
+                tables.push(*table)?;
+            }
         }
         Ok(Order { tables })
     }

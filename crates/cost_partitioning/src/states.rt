@@ -4,6 +4,13 @@ use abstractions::{RowGraph, Variables, place_of};
 use faults::NoMemory;
 use std::alloc::Global;
 
+/// Sampled states, the initial state first: their true atoms, and their rows by table index.
+#[derive(Clone, Copy)]
+pub(crate) struct Sampled<'a> {
+    pub(crate) atoms: &'a [Vec<u32>],
+    pub(crate) rows: &'a [StateRows],
+}
+
 /// The values of all variables in each of the states, which are given by their true atoms.
 pub(crate) fn values_of_all(
     alloc: Global,
@@ -42,15 +49,12 @@ pub(crate) fn rows_of_all(
     Ok(all)
 }
 
-/// The values of variables in the start states: the first of these states, and then the others.
-pub(crate) fn starts(
-    alloc: Global,
-    variables: &Variables,
-    states: &[Vec<u32>],
-    others: &[Vec<u32>],
-) -> Result<Vec<Vec<u32>>, NoMemory> {
-    let first = samples(alloc, states.get(..1).unwrap_or(&[]), others)?;
-    values_of_all(alloc, variables, &first)
+/// The first of the states, if there is one.
+pub(crate) fn first_of(states: &[Vec<u32>]) -> &[Vec<u32>] {
+    match states.get(..1) {
+        Some(first) => first,
+        None => &[],
+    }
 }
 
 /// The true atoms of the first of these states, then of the states that a search found, and then of the rest.

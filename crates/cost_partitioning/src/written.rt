@@ -19,6 +19,7 @@ const WEIGHT_OF_DEAD: i64 = 1_073_741_824;
 /// What the rows of a table are written from.
 #[derive(Clone, Copy)]
 pub(crate) struct Writing<'a> {
+    pub(crate) alloc: Global,
     pub(crate) variables: &'a Variables,
     pub(crate) values: &'a [Value],
     /// The weight, for dead ends, of a row without a path to the goal.
@@ -40,11 +41,11 @@ impl Writing<'_> {
     /// rows are not valid table rows.
     pub(crate) fn table(
         &self,
-        alloc: Global,
         place: usize,
         graph: &RowGraph,
         reach: &[i64],
     ) -> Result<Option<Table>, NoMemory> {
+        let alloc = self.alloc;
         let scope = graph.scope(alloc, self.variables)?;
         let count = number_of(self.values.len()).saturating_add(1);
         if !is_rising(&scope) || scope.len() > place_of(u32::MAX) {
@@ -52,7 +53,7 @@ impl Writing<'_> {
         }
         let mut table = Table::new(alloc, scope, count)?;
         for (row, distance) in reach.iter().enumerate() {
-            let Some(weights) = self.weights(alloc, place, row, *distance)? else {
+            let Some(weights) = self.weights(place, row, *distance)? else {
                 return Ok(None);
             };
             let atoms = graph.atoms_of(alloc, self.variables, number_of(row))?;
@@ -65,12 +66,11 @@ impl Writing<'_> {
     /// range.
     fn weights(
         &self,
-        alloc: Global,
         table: usize,
         row: usize,
         distance: i64,
     ) -> Result<Option<Vec<i64>>, NoMemory> {
-        let mut weights = Vec::new(alloc);
+        let mut weights = Vec::new(self.alloc);
         for value in self.values {
             let weight = match part_of(value, table) {
                 Some(part) => weight_of(part, row),

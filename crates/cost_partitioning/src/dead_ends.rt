@@ -1,0 +1,47 @@
+//! Sampled states that tables show to be dead ends.
+use crate::divider::StateRows;
+use crate::goal_distances::NO_WAY;
+use abstractions::place_of;
+use faults::NoMemory;
+use std::alloc::Global;
+
+/// Sampled states, and which of them are shown to be dead ends.
+#[derive(Drop)]
+pub(crate) struct DeadEnds<'a> {
+    states: &'a [StateRows],
+    are_shown: Vec<bool>,
+}
+
+impl<'a> DeadEnds<'a> {
+    /// The states, of which none is shown.
+    pub(crate) fn new(alloc: Global, states: &'a [StateRows]) -> Result<DeadEnds<'a>, NoMemory> {
+        Ok(DeadEnds {
+            states,
+            are_shown: vec![in alloc; false; states.len()]?,
+        })
+    }
+
+    /// Records what the table at this index shows by these goal distances. Returns whether that is more than before.
+    pub(crate) fn show(&mut self, table: usize, distances: &[i64]) -> bool {
+        let mut shows_more = false;
+        for (rows, is_shown) in self.states.iter().zip(self.are_shown.iter_mut()) {
+            let row = rows.get(table);
+            if !*is_shown && is_dead(distances, row) {
+                *is_shown = true;
+                shows_more = true;
+            }
+        }
+        shows_more
+    }
+}
+
+/// Whether no way leads to the goal from this row, if there is one.
+fn is_dead(distances: &[i64], row: Option<&u32>) -> bool {
+    let Some(row) = row else {
+        return false;
+    };
+    match distances.get(place_of(*row)) {
+        Some(distance) => *distance == NO_WAY,
+        None => false,
+    }
+}
