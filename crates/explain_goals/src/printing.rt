@@ -9,8 +9,8 @@ use task::{ObjectId, PredicateId, Task};
 const MOST_NAMED: usize = 3;
 
 impl GoalNotes {
-    /// Adds a line for each atom of the goal that is never true although some action adds it, and one for an
-    /// atom that the goal requires to be true and to be false.
+    /// Adds a line for each atom of the goal that is never true, unless it is among those that are told already, and one for an atom
+    /// that the goal requires to be true and to be false.
     ///
     /// # Errors
     /// An allocation failed.
@@ -23,11 +23,14 @@ impl GoalNotes {
         &self,
         alloc: Global,
         task: &Task,
+        told: &[Atom],
         lines: &mut Vec<String>,
     ) -> Result<(), NoMemory> {
         let before = lines.len();
         for one in self.unreachable.iter().take(MOST_TOLD) {
-            add_unreachable(alloc, task, one, lines)?;
+            if !is_among(&one.atom, told) {
+                add_unreachable(alloc, task, one, lines)?;
+            }
         }
         if self.unreachable.len() > MOST_TOLD && lines.len() > before {
             let line = "The goal asks for more atoms that can never become true.";
@@ -53,7 +56,12 @@ fn add_contradictory(
     Ok(())
 }
 
-/// Adds the line for an atom, unless no action adds it, which is told elsewhere.
+/// Whether the atom is among these.
+fn is_among(atom: &Atom, atoms: &[Atom]) -> bool {
+    atoms.iter().any(|other| other == atom)
+}
+
+/// Adds the line for an atom that is never true.
 fn add_unreachable(
     alloc: Global,
     task: &Task,
@@ -64,9 +72,6 @@ fn add_unreachable(
         Some((_, needed)) => needed,
         None => return Ok(()),
     };
-    if needed.first().is_some_and(|link| link.atoms().len() == 0) {
-        return Ok(());
-    }
     let mut line = String::from_str(alloc, "The goal asks for ")?;
     add_pattern(task, &Pattern::of(alloc, &one.atom)?, &mut line)?;
     line.push_str(", which can never become true")?;

@@ -107,20 +107,18 @@ fn notes_of(alloc: Global, numbering: &Numbering<'_>, most: u32) -> Result<Vec<S
     let notes = GroundNotes::of(alloc, numbering, most)?;
     let mut lines = Vec::new(alloc);
     notes.add_lines(alloc, numbering.task(), &mut lines)?;
-    add_goal_notes(alloc, numbering.task(), most, &mut lines)?;
+    if let Some(goal_notes) = goal_notes(alloc, numbering.task(), most)? {
+        let told = notes.missing_goals.as_slice();
+        goal_notes.add_lines(alloc, numbering.task(), told, &mut lines)?;
+    }
     Ok(lines)
 }
 
-/// Adds the notes on the goal, if the ground task is within its limits.
-fn add_goal_notes(
-    alloc: Global,
-    task: &Task,
-    most: u32,
-    lines: &mut Vec<String>,
-) -> Result<(), NoMemory> {
+/// The notes on the goal, if the ground task is within its limits.
+fn goal_notes(alloc: Global, task: &Task, most: u32) -> Result<Option<GoalNotes>, NoMemory> {
     match Ground::new(alloc, task, &[], most) {
-        Ok(ground) => GoalNotes::of(alloc, &ground)?.add_lines(alloc, task, lines),
-        Err(Refused::At(_)) => Ok(()),
+        Ok(ground) => Ok(Some(GoalNotes::of(alloc, &ground)?)),
+        Err(Refused::At(_)) => Ok(None),
         Err(Refused::NoMemory) => Err(NoMemory),
     }
 }
