@@ -4,3 +4,4 @@ pub mod AmongLemmas
 pub mod MakerLemmas
 pub mod ChargeLemmas
 pub mod CutLemmas
+pub mod Kept

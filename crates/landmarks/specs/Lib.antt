@@ -5,3 +5,4 @@ pub mod Makers
 pub mod Counters
 pub mod CutIndex
 pub mod Fairness
+pub mod Laws
