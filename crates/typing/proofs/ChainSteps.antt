@@ -1,5 +1,5 @@
 -- How a chain of parents grows step by step, and how the types and the faults of their chains continue by number.
-use Rattle.std.proofs.Common.{◌≡◌, ℕ, ◌+◌, ◌-◌, ◌<◌, ◌≤◌, Bool, true, false, not, List, [], ◌∷◌, ◌++◌, map, length, get_or, drop, take, slice_index, refl, ap, sym, ◌∙◌, arith, zero, suc, if◌then◌else◌}
+use Rattle.std.proofs.Common.{◌≡◌, ℕ, ◌+◌, ◌-◌, ◌<◌, ◌≤◌, List, [], ◌∷◌, ◌++◌, map, length, get_or, drop, take, slice_index, refl, ap, sym, ◌∙◌, arith, zero, suc, if◌then◌else◌}
 use Rattle.std.specs.Map.{keys_of}
 use Rattle.std.proofs.lemmas.List.{append_assoc, append-nil, drop_more, drop_all, length-map}
 use Rattle.std.specs.Global.{Vec}
@@ -35,11 +35,6 @@ pub steps_end : (parents : List ℕ) (n i next : ℕ) (so_far whole : List ℕ) 
 steps_end parents n i next so_far whole l h =
     let none : n - i ≡ 0 = omega (arith, l) in
     sym (append-nil so_far) ∙ sym (ap (λ m. so_far ++ chain parents m next) none) ∙ h
-
--- the fault of a type whose chain is cyclic
-pub back_fault : (b : Bool) (faults : List TypingFault) → (if not b then [] else faults) ≡ (if b then faults else [])
-back_fault true faults = refl
-back_fault false faults = refl
 
 -- one more type is examined
 pub cycle_step : {X : Type 0} (parents : List ℕ) (seen : X → Declared) (xs : List X) (i : ℕ) (d : X) → i < length xs
