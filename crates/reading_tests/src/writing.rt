@@ -69,11 +69,18 @@ fn cert(alloc: Global) -> Result<Option<Cert>, NoMemory> {
     Cert::new(alloc, header(alloc)?, &lines)
 }
 
+/// A certificate, and the task that has the names of its text.
+#[derive(Clone, Copy)]
+struct NamedCert<'a> {
+    task: &'a Task,
+    cert: &'a Cert,
+}
+
 /// The result of writing, and the bytes taken, if the sink takes a thousand bytes per write and the write after this many fails.
-fn taken(alloc: Global, task: &Task, cert: &Cert, writes: u64) -> (Result<(), IoFault>, Vec<u8>) {
+fn taken(alloc: Global, named: NamedCert<'_>, writes: u64) -> (Result<(), IoFault>, Vec<u8>) {
     let pieces = InPieces::new(Memory::empty(alloc), 1_000);
     let mut sink = FailsAt::sink(pieces, Some(writes));
-    let written = write_cert(alloc, task, cert, &mut sink);
+    let written = write_cert(alloc, named.task, named.cert, &mut sink);
     (written, sink.inner.inner.into_vec())
 }
 
@@ -84,8 +91,8 @@ const MOST_WRITES: u64 = 90;
 const HELD: usize = 65_536;
 
 /// Whether a sink that fails at the write after this many has a beginning of the text; one piece may have been shorter.
-fn has_beginning(alloc: Global, task: &Task, cert: &Cert, text: &[u8], writes: u64) -> bool {
-    let (written, taken) = taken(alloc, task, cert, writes);
+fn has_beginning(alloc: Global, named: NamedCert<'_>, text: &[u8], writes: u64) -> bool {
+    let (written, taken) = taken(alloc, named, writes);
     let most = writes.saturating_mul(1_000);
     let count = taken.len() as u64;
     match written {
@@ -95,11 +102,11 @@ fn has_beginning(alloc: Global, task: &Task, cert: &Cert, text: &[u8], writes: u
 }
 
 /// A sink that would fail only after the end of the text does not fail, and one that fails earlier has a beginning of it.
-fn begins_where_a_write_fails(rt: &impl Abort, alloc: Global, task: &Task, cert: &Cert) {
-    let (written, text) = taken(alloc, task, cert, MOST_WRITES);
+fn begins_where_a_write_fails(rt: &impl Abort, alloc: Global, named: NamedCert<'_>) {
+    let (written, text) = taken(alloc, named, MOST_WRITES);
     assert!(rt; written.is_ok() && text.len() > HELD && text.ends_with(b"\nend 4000\n"));
     for writes in 0..MOST_WRITES {
-        assert!(rt; has_beginning(alloc, task, cert, &text, writes), "{writes}");
+        assert!(rt; has_beginning(alloc, named, &text, writes), "{writes}");
     }
 }
 
@@ -107,7 +114,8 @@ fn begins_where_a_write_fails(rt: &impl Abort, alloc: Global, task: &Task, cert:
 fn a_certificate_is_begun_where_a_write_fails(rt: HostRuntime) -> Result<(), Fail> {
     let cert = cert(rt.alloc())?.ok_or("beyond the limits")?;
     on_task(&rt, rt.alloc(), &GO, |rt, alloc, task| {
-        begins_where_a_write_fails(rt, alloc, task, &cert);
+        let cert = &cert;
+        begins_where_a_write_fails(rt, alloc, NamedCert { task, cert });
         Ok(())
     })
 }
