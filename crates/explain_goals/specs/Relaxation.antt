@@ -28,10 +28,6 @@ pub record IsClosed (t : Task) (set : Atom → Bool) : Type 0 where
   pub initial : (a : Atom) → contains (initial_state t) a ≡ true → set a ≡ true
   pub added : (i : Instance) (c : Change) (a : Atom) → Adds t i c a → ((b : Atom) → Needs t i c b → set b ≡ true) → set a ≡ true
 
--- the atom may become true in the relaxation: each closed set has it
-abbrev pub MayBecomeTrue : Task → Atom → Type 0
-MayBecomeTrue t a = (set : Atom → Bool) → IsClosed t set → set a ≡ true
-
 -- no list of actions, of whatever length, leads to a state in which the atom is true
 abbrev pub IsNeverTrue : Task → Atom → Type 0
 IsNeverTrue t a = (s : State) → IsReachable (system_of t) s → contains s a ≡ false

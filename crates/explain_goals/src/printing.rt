@@ -94,7 +94,7 @@ fn add_needed(
         match link.atoms().len() {
             0 => {
                 line.push_str(ending)?;
-                ending = ", and no action adds one";
+                ending = ", and which no action can make true";
             }
             count => {
                 line.push_str(opening)?;
