@@ -82,6 +82,11 @@ impl Choosing<'_> {
         self.chosen(candidates)
     }
 
+    /// The limit at this effort.
+    fn part_of(&self, count: u64) -> u64 {
+        self.effort.part_of(count, self.costs.left().len())
+    }
+
     /// The candidates: by an order for the initial state, and by orders for other states.
     fn candidates(&self, tables: &mut Tables) -> Result<Vec<Candidate>, NoMemory> {
         let states = self.sampled.rows.len();
@@ -94,13 +99,11 @@ impl Choosing<'_> {
         };
         candidates.divider.allow(MAX_WORK_OF_PRUNING);
         let order = candidates.divider.best_order()?;
-        candidates.divider.allow(self.effort.part_of(MAX_WORK));
+        candidates.divider.allow(self.part_of(MAX_WORK));
         let order = candidates.divider.improved(order, TRIALS)?;
         self.add(tables, &order, &mut candidates)?;
         self.add_after_potentials(tables, &order, &mut candidates)?;
-        candidates
-            .divider
-            .allow(self.effort.part_of(MAX_WORK_OF_STATES));
+        candidates.divider.allow(self.part_of(MAX_WORK_OF_STATES));
         for state in 1..states {
             if candidates.divider.is_done() {
                 break;
@@ -123,7 +126,7 @@ impl Choosing<'_> {
         let division = candidates.divider.divide(order)?;
         let given = candidates.divider.values(&division)?;
         if !raise(&mut candidates.most_by_tables, &given)
-            || candidates.rests >= self.effort.part_of(MAX_CANDIDATES)
+            || candidates.rests >= self.part_of(MAX_CANDIDATES)
         {
             return Ok(());
         }

@@ -187,7 +187,7 @@ impl Collecting<'_, '_> {
         if !shut_out.is_empty() {
             return self.push(graph, Use::ShutsOut);
         }
-        if graph.test_count() <= self.effort.part_of(MAX_TESTS) && self.gives(&graph)? {
+        if graph.test_count() <= self.part_of(MAX_TESTS) && self.gives(&graph)? {
             return self.push(graph, Use::Values);
         }
         Ok(())
@@ -204,9 +204,14 @@ impl Collecting<'_, '_> {
         Ok(())
     }
 
+    /// The limit at this effort.
+    fn part_of(&self, count: u64) -> u64 {
+        self.effort.part_of(count, self.costs.left().len())
+    }
+
     /// Whether a limit is reached.
     fn is_done(&self) -> bool {
-        self.reaching.looks() > self.effort.part_of(MAX_LOOKS)
+        self.reaching.looks() > self.part_of(MAX_LOOKS)
             || self.room > MAX_ROOM
             || self.collected.graphs.len() >= MAX_TABLES
     }

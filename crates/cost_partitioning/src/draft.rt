@@ -53,19 +53,20 @@ struct Known {
 /// How much effort is put into a draft.
 #[derive(Clone, Copy, Debug, PartialEq, Eq)]
 pub enum Effort {
-    /// A quarter of the limits.
+    /// A tenth to a quarter of the limits, by the number of instances: with few of them, states take little time.
     Quick,
     /// The full limits.
     Thorough,
 }
 
 impl Effort {
-    /// The limit at this effort.
-    pub(crate) fn part_of(self, count: u64) -> u64 {
-        match self {
-            Effort::Quick => count / 4,
-            Effort::Thorough => count,
-        }
+    /// The limit at this effort, for a task with this many instances.
+    pub(crate) fn part_of(self, count: u64, instances: usize) -> u64 {
+        let thousandths = match self {
+            Effort::Quick => (instances as u64).max(100).min(250),
+            Effort::Thorough => 1000,
+        };
+        count.saturating_mul(thousandths) / 1000
     }
 }
 
