@@ -89,7 +89,7 @@ impl<'a> Case<'a> {
         }
     }
 
-    /// Takes the sections of a text. Anything before the first is a title or a comment.
+    /// Takes the sections of a text, in which `\\@` stands for this byte. Anything before the first is a title or a comment.
     pub fn take(
         &mut self,
         alloc: Global,
@@ -97,29 +97,24 @@ impl<'a> Case<'a> {
         byte: Option<u8>,
     ) -> Result<(), CaseFault> {
         for text in text.split("\n--- ").skip(1) {
-            self.take_section(alloc, Section::of(text), Escapes { number: 0, byte })?;
+            self.take_section(alloc, Section::of(text, Escapes { number: 0, byte }))?;
         }
         Ok(())
     }
 
-    fn take_section(
-        &mut self,
-        alloc: Global,
-        section: Section<'a>,
-        turn: Escapes,
-    ) -> Result<(), CaseFault> {
+    fn take_section(&mut self, alloc: Global, section: Section<'a>) -> Result<(), CaseFault> {
         match section.name {
             // The section `each` was read before.
             "each" => Ok(()),
             "run" => self.take_words(alloc, section.words),
             "status" => read_number(section.words, &mut self.status),
-            "then" => self.take_follow_up(alloc, section, turn),
+            "then" => self.take_follow_up(alloc, section),
             "reads" => read_number(section.words, &mut self.files.piece),
-            "file" => want_file(alloc, &mut self.holdings, section, turn),
-            "no" => want_no_file(&mut self.holdings, section),
-            "stdout" => self.out.take(alloc, section, turn),
-            "stderr" => self.err.take(alloc, section, turn),
-            _ => take_file(alloc, &mut self.files.table, section, turn),
+            "file" => expect_file(alloc, &mut self.holdings, section),
+            "no" => expect_no_file(&mut self.holdings, section),
+            "stdout" => self.out.take(alloc, section),
+            "stderr" => self.err.take(alloc, section),
+            _ => take_file(alloc, &mut self.files.table, section),
         }
     }
 
@@ -128,77 +123,56 @@ impl<'a> Case<'a> {
         Ok(())
     }
 
-    fn take_follow_up(
-        &mut self,
-        alloc: Global,
-        section: Section<'a>,
-        turn: Escapes,
-    ) -> Result<(), CaseFault> {
-        self.then = Some(FollowUp::of(alloc, section, turn)?);
+    fn take_follow_up(&mut self, alloc: Global, section: Section<'a>) -> Result<(), CaseFault> {
+        self.then = Some(FollowUp::of(alloc, section)?);
         Ok(())
     }
 }
 
 /// Expects the section's file to have these bytes after the run.
-fn want_file<'a>(
+fn expect_file<'a>(
     alloc: Global,
     holdings: &mut Holdings<'a>,
     section: Section<'a>,
-    turn: Escapes,
 ) -> Result<(), CaseFault> {
-    let bytes = section.bytes(alloc, turn)?;
-    Ok(holdings.want(section.words, Some(bytes))?)
+    let bytes = section.bytes(alloc)?;
+    Ok(holdings.require(section.words, Some(bytes))?)
 }
 
 /// Expects the section's file not to exist after the run.
-fn want_no_file<'a>(holdings: &mut Holdings<'a>, section: Section<'a>) -> Result<(), CaseFault> {
+fn expect_no_file<'a>(holdings: &mut Holdings<'a>, section: Section<'a>) -> Result<(), CaseFault> {
     match section.verb() {
-        ("file", name) => Ok(holdings.want(name, None)?),
+        ("file", name) => Ok(holdings.require(name, None)?),
         _ => Err(CaseFault::Words),
     }
 }
 
 /// Takes a section about a file.
-fn take_file(
-    alloc: Global,
-    files: &mut Table,
-    section: Section<'_>,
-    turn: Escapes,
-) -> Result<(), CaseFault> {
+fn take_file(alloc: Global, files: &mut Table, section: Section<'_>) -> Result<(), CaseFault> {
     let (verb, count) = section.verb();
     match verb {
-        "" => put_file(alloc, files, section, turn),
-        "more" => add_to(alloc, files, section, turn, count),
+        "" => put_file(alloc, files, section),
+        "more" => add_to(alloc, files, section),
         "fails" => fail_at(alloc, files, section.name, count),
         _ => Err(CaseFault::Words),
     }
 }
 
 /// Gives the section's file its bytes.
-fn put_file(
-    alloc: Global,
-    files: &mut Table,
-    section: Section<'_>,
-    turn: Escapes,
-) -> Result<(), CaseFault> {
-    let bytes = section.bytes(alloc, turn)?;
+fn put_file(alloc: Global, files: &mut Table, section: Section<'_>) -> Result<(), CaseFault> {
+    let bytes = section.bytes(alloc)?;
     Ok(files.put(section.name, &bytes)?)
 }
 
 /// Appends the section's bytes to the file as often as the word says; once if there is no word.
-fn add_to(
-    alloc: Global,
-    files: &mut Table,
-    section: Section<'_>,
-    turn: Escapes,
-    count: &str,
-) -> Result<(), CaseFault> {
+fn add_to(alloc: Global, files: &mut Table, section: Section<'_>) -> Result<(), CaseFault> {
+    let (_, count) = section.verb();
     let mut times = 1;
     if !count.is_empty() {
         read_number(count, &mut times)?;
     }
     let mut bytes = contents(alloc, files, section.name)?;
-    add_section(alloc, section, turn, times, &mut bytes)?;
+    add_section(alloc, section, times, &mut bytes)?;
     Ok(files.put(section.name, &bytes)?)
 }
 
@@ -206,14 +180,13 @@ fn add_to(
 fn add_section(
     alloc: Global,
     section: Section<'_>,
-    turn: Escapes,
     count: u32,
     bytes: &mut Vec<u8>,
 ) -> Result<(), AllocError> {
     if section.is_numbered() {
-        return add_numbered(alloc, section, turn, count, bytes);
+        return add_numbered(alloc, section, count, bytes);
     }
-    let unit = section.bytes(alloc, turn)?;
+    let unit = section.bytes(alloc)?;
     add_blocks(alloc, &unit, count, bytes)
 }
 
@@ -221,12 +194,11 @@ fn add_section(
 fn add_numbered(
     alloc: Global,
     section: Section<'_>,
-    turn: Escapes,
     count: u32,
     bytes: &mut Vec<u8>,
 ) -> Result<(), AllocError> {
     for number in 0..count {
-        section.add_bytes(alloc, Escapes { number, ..turn }, bytes)?;
+        section.repeated(number).add_bytes(alloc, bytes)?;
     }
     Ok(())
 }

@@ -5,7 +5,7 @@ use std::alloc::{AllocError, Global};
 /// The section `each` of a case, if it has one.
 fn each_section(text: &str) -> Option<Section<'_>> {
     for text in text.split("\n--- ").skip(1) {
-        let section = Section::of(text);
+        let section = Section::of(text, Escapes::default());
         if section.name == "each" {
             return Some(section);
         }
@@ -16,7 +16,7 @@ fn each_section(text: &str) -> Option<Section<'_>> {
 /// The bytes listed in the case's section `each`; `None` if it has no such section.
 pub fn listed_bytes(alloc: Global, text: &str) -> Result<Option<Vec<u8>>, AllocError> {
     match each_section(text) {
-        Some(section) => Ok(Some(section.bytes(alloc, Escapes::default())?)),
+        Some(section) => Ok(Some(section.bytes(alloc)?)),
         None => Ok(None),
     }
 }

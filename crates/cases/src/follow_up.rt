@@ -1,7 +1,7 @@
 //! A further run over the files that a case leaves.
 use crate::case::CaseFault;
 use crate::files::CaseFiles;
-use crate::section::{Escapes, Section};
+use crate::section::Section;
 use devices::Memory;
 use std::alloc::{AllocError, Global};
 
@@ -9,19 +9,15 @@ use std::alloc::{AllocError, Global};
 #[derive(Drop)]
 pub struct FollowUp<'a> {
     words: Vec<&'a str>,
-    wanted: Vec<u8>,
+    expected: Vec<u8>,
 }
 
 impl<'a> FollowUp<'a> {
     /// The further run that a section describes: its words, and below them the expected output.
-    pub fn of(
-        alloc: Global,
-        section: Section<'a>,
-        turn: Escapes,
-    ) -> Result<FollowUp<'a>, CaseFault> {
+    pub fn of(alloc: Global, section: Section<'a>) -> Result<FollowUp<'a>, CaseFault> {
         Ok(FollowUp {
             words: section.words.split_whitespace().collect(alloc)?,
-            wanted: section.bytes(alloc, turn)?,
+            expected: section.bytes(alloc)?,
         })
     }
 
@@ -38,12 +34,12 @@ impl<'a> FollowUp<'a> {
 
     /// How these bytes differ from the expected ones; `None` if they do not.
     fn reported(&self, alloc: Global, status: u8, is: &[u8]) -> Result<Option<String>, AllocError> {
-        if is == self.wanted.as_slice() {
+        if is == self.expected.as_slice() {
             return Ok(None);
         }
-        let (is, wanted) = (is.escape_ascii(), self.wanted.escape_ascii());
+        let (is, expected) = (is.escape_ascii(), self.expected.escape_ascii());
         Ok(Some(format!(in alloc;
-            "then stdout is \"{is}\" with status {status}, and not \"{wanted}\""
+            "then stdout is \"{is}\" with status {status}, and not \"{expected}\""
         )?))
     }
 }

@@ -15,7 +15,7 @@ impl Holding<'_> {
     /// Whether the file is as expected; `None` stands for no file.
     fn is_met(&self, found: Option<&[u8]>) -> bool {
         match (found, &self.bytes) {
-            (Some(found), Some(wanted)) => found == wanted.as_slice(),
+            (Some(found), Some(expected)) => found == expected.as_slice(),
             (None, None) => true,
             _ => false,
         }
@@ -23,8 +23,8 @@ impl Holding<'_> {
 
     /// How the file differs from the expectation.
     fn text(&self, alloc: Global, found: Option<&[u8]>) -> Result<String, AllocError> {
-        let (name, is, wanted) = (self.name, Shown(found), Shown(self.bytes.as_deref()));
-        format!(in alloc; "the file {name} is {is}, and not {wanted}")
+        let (name, is, expected) = (self.name, Shown(found), Shown(self.bytes.as_deref()));
+        format!(in alloc; "the file {name} is {is}, and not {expected}")
     }
 }
 
@@ -44,27 +44,27 @@ impl fmt::Display for Shown<'_> {
 /// The expected contents of files after the run. Files that are not listed may have any contents.
 #[derive(Drop)]
 pub struct Holdings<'a> {
-    wanted: Vec<Holding<'a>>,
+    expected: Vec<Holding<'a>>,
 }
 
 impl<'a> Holdings<'a> {
     /// No expectations.
     pub fn new(alloc: Global) -> Holdings<'a> {
         Holdings {
-            wanted: Vec::new(alloc),
+            expected: Vec::new(alloc),
         }
     }
 
     /// Expects the file with this name to have these bytes, or not to exist. Replaces earlier expectations.
-    pub fn want(&mut self, name: &'a str, bytes: Option<Vec<u8>>) -> Result<(), AllocError> {
-        self.wanted.retain(|other| other.name != name);
-        self.wanted.push(Holding { name, bytes })?;
+    pub fn require(&mut self, name: &'a str, bytes: Option<Vec<u8>>) -> Result<(), AllocError> {
+        self.expected.retain(|other| other.name != name);
+        self.expected.push(Holding { name, bytes })?;
         Ok(())
     }
 
     /// How the first file that is not as expected differs; `None` if there is none.
     pub fn difference(&self, alloc: Global, files: &Table) -> Result<Option<String>, AllocError> {
-        for holding in &self.wanted {
+        for holding in &self.expected {
             let found = files.get(holding.name);
             if !holding.is_met(found) {
                 return Ok(Some(holding.text(alloc, found)?));

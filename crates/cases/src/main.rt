@@ -12,6 +12,7 @@ mod section;
 mod stream;
 mod text;
 
+use outcome::CaseText;
 use std::process::ExitCode;
 use std::{fs, io};
 
@@ -64,16 +65,26 @@ fn run_file(rt: &HostRuntime, name: &str) -> io::Result<u64> {
 fn run_text(rt: &HostRuntime, name: &str, text: &str) -> io::Result<u64> {
     let mut cases = text.split("\n=== ");
     let shared = cases.next().unwrap_or("");
+    let file = CaseFile { rt, name, shared };
     let mut tally = Tally::default();
     for text in cases {
-        run_each(rt, name, shared, text, &mut tally)?;
+        file.run_each(text, &mut tally)?;
     }
     let Tally { cases, differing } = tally;
     println!(rt; "{name}: {cases} cases, {differing} differ")?;
     Ok(differing)
 }
 
-/// The number of cases run, and the number of failing ones.
+/// The result of one comparison.
+#[derive(Clone, Copy)]
+enum Compared {
+    /// What is expected.
+    Same,
+    /// Something else.
+    Different,
+}
+
+/// The number of comparisons, and the number of those that differ.
 #[derive(Clone, Copy, Default)]
 struct Tally {
     cases: u64,
@@ -81,69 +92,65 @@ struct Tally {
 }
 
 impl Tally {
-    fn count(&mut self, is_same: bool) {
+    /// Counts a comparison.
+    fn count(&mut self, compared: Compared) {
         self.cases = self.cases.saturating_add(1);
-        self.differing = self.differing.saturating_add(u64::from(!is_same));
+        match compared {
+            Compared::Same => {}
+            Compared::Different => self.differing = self.differing.saturating_add(1),
+        }
     }
 }
 
-/// Runs a case for each byte that it lists, or once if it has no such list.
-fn run_each(
-    rt: &HostRuntime,
-    file: &str,
-    shared: &str,
-    text: &str,
-    tally: &mut Tally,
-) -> io::Result<()> {
-    match each::listed_bytes(rt.alloc(), text)? {
-        None => tally.count(run_case(rt, file, shared, text, None)?),
-        Some(bytes) => run_listed(rt, file, shared, text, &bytes, tally)?,
-    }
-    Ok(())
+/// A file of cases, which it runs and reports.
+#[derive(Clone, Copy)]
+struct CaseFile<'a> {
+    rt: &'a HostRuntime,
+    name: &'a str,
+    /// The sections that all cases share.
+    shared: &'a str,
 }
 
-/// Runs a case for each of these bytes.
-fn run_listed(
-    rt: &HostRuntime,
-    file: &str,
-    shared: &str,
-    text: &str,
-    bytes: &[u8],
-    tally: &mut Tally,
-) -> io::Result<()> {
-    for &byte in bytes {
-        tally.count(run_case(rt, file, shared, text, Some(byte))?);
+impl CaseFile<'_> {
+    /// Runs a case for each byte that it lists, or once if it has no such list.
+    fn run_each(&self, text: &str, tally: &mut Tally) -> io::Result<()> {
+        match each::listed_bytes(self.rt.alloc(), text)? {
+            None => tally.count(self.run_case(text, None)?),
+            Some(bytes) => self.run_listed(text, &bytes, tally)?,
+        }
+        Ok(())
     }
-    Ok(())
-}
 
-/// Runs one case and reports how it fails. Returns whether it passes.
-fn run_case(
-    rt: &HostRuntime,
-    file: &str,
-    shared: &str,
-    text: &str,
-    byte: Option<u8>,
-) -> io::Result<bool> {
-    let title = text.lines().next().unwrap_or("");
-    match outcome::difference(rt.alloc(), shared, text, byte) {
-        Ok(None) => return Ok(true),
-        Ok(Some(found)) => print_result(rt, file, title, byte, found.as_str())?,
-        Err(fault) => print_result(rt, file, title, byte, fault.text())?,
+    /// Runs a case for each of these bytes.
+    fn run_listed(&self, text: &str, bytes: &[u8], tally: &mut Tally) -> io::Result<()> {
+        for &byte in bytes {
+            tally.count(self.run_case(text, Some(byte))?);
+        }
+        Ok(())
     }
-    Ok(false)
-}
 
-/// Prints the result of a case.
-fn print_result(
-    rt: &HostRuntime,
-    file: &str,
-    title: &str,
-    byte: Option<u8>,
-    found: &str,
-) -> io::Result<()> {
-    match byte {
-        Some(byte) => println!(rt; "{file}: {title}: for the byte {byte}, {found}"),
-        None => println!(rt; "{file}: {title}: {found}"),
+    /// Runs one case and reports how it fails.
+    fn run_case(&self, text: &str, byte: Option<u8>) -> io::Result<Compared> {
+        let title = text.lines().next().unwrap_or("");
+        let case = CaseText {
+            shared: self.shared,
+            own: text,
+            byte,
+        };
+        match outcome::difference(self.rt.alloc(), case) {
+            Ok(None) => return Ok(Compared::Same),
+            Ok(Some(found)) => self.print_result(title, byte, found.as_str())?,
+            Err(fault) => self.print_result(title, byte, fault.text())?,
+        }
+        Ok(Compared::Different)
+    }
+
+    /// Prints the result of a case.
+    fn print_result(&self, title: &str, byte: Option<u8>, found: &str) -> io::Result<()> {
+        let (rt, file) = (self.rt, self.name);
+        match byte {
+            Some(byte) => println!(rt; "{file}: {title}: for the byte {byte}, {found}"),
+            None => println!(rt; "{file}: {title}: {found}"),
+        }
     }
 }

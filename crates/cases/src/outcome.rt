@@ -1,29 +1,41 @@
 //! The actual results of a case, compared with the expected ones.
 use crate::case::{Case, CaseFault};
-use crate::stream::Device;
+use crate::stream::StreamDevice;
 use std::alloc::{AllocError, Global};
 
+/// The texts of a case, and the byte that it is run for, if it lists some.
+#[derive(Clone, Copy)]
+pub struct CaseText<'a> {
+    /// The sections that all cases of its file share.
+    pub shared: &'a str,
+    /// Its own sections, below its title.
+    pub own: &'a str,
+    /// The byte.
+    pub byte: Option<u8>,
+}
+
+/// How a run ended.
+#[derive(Drop)]
+struct Ended {
+    status: u8,
+    out: StreamDevice,
+    err: StreamDevice,
+}
+
 /// How a case fails; `None` if it passes.
-pub fn difference(
-    alloc: Global,
-    shared: &str,
-    text: &str,
-    byte: Option<u8>,
-) -> Result<Option<String>, CaseFault> {
+pub fn difference(alloc: Global, text: CaseText<'_>) -> Result<Option<String>, CaseFault> {
     let mut case = Case::new(alloc);
-    filled_difference(alloc, &mut case, shared, text, byte)
+    filled_difference(alloc, &mut case, text)
 }
 
 /// The same, for a case filled from these texts.
 fn filled_difference<'a>(
     alloc: Global,
     case: &mut Case<'a>,
-    shared: &'a str,
-    text: &'a str,
-    byte: Option<u8>,
+    text: CaseText<'a>,
 ) -> Result<Option<String>, CaseFault> {
-    case.take(alloc, shared, byte)?;
-    case.take(alloc, text, byte)?;
+    case.take(alloc, text.shared, text.byte)?;
+    case.take(alloc, text.own, text.byte)?;
     run(alloc, case)
 }
 
@@ -35,21 +47,20 @@ fn run(alloc: Global, case: &mut Case<'_>) -> Result<Option<String>, CaseFault> 
     let mut out = case.out.device(alloc);
     let mut err = case.err.device(alloc);
     let status = planner_main::run(alloc, words, &mut case.files, &mut out, &mut err);
-    Ok(reported_difference(alloc, case, status, &out, &err)?)
+    let ended = Ended { status, out, err };
+    Ok(reported_difference(alloc, case, &ended)?)
 }
 
 /// How the exit status, the output or the files differ; `None` if nothing does.
 fn reported_difference(
     alloc: Global,
     case: &mut Case<'_>,
-    status: u8,
-    out: &Device,
-    err: &Device,
+    ended: &Ended,
 ) -> Result<Option<String>, AllocError> {
-    if u32::from(status) != case.status {
-        return Ok(Some(status_text(alloc, status, case.status)?));
+    if u32::from(ended.status) != case.status {
+        return Ok(Some(status_text(alloc, ended.status, case.status)?));
     }
-    match stream_difference(alloc, case, out, err)? {
+    match stream_difference(alloc, case, ended)? {
         None => left_difference(alloc, case),
         found => Ok(found),
     }
@@ -75,15 +86,14 @@ fn then_difference(alloc: Global, case: &mut Case<'_>) -> Result<Option<String>,
 fn stream_difference(
     alloc: Global,
     case: &Case<'_>,
-    out: &Device,
-    err: &Device,
+    ended: &Ended,
 ) -> Result<Option<String>, AllocError> {
-    match case.err.difference(alloc, "stderr", err)? {
-        None => case.out.difference(alloc, "stdout", out),
+    match case.err.difference(alloc, "stderr", &ended.err)? {
+        None => case.out.difference(alloc, "stdout", &ended.out),
         found => Ok(found),
     }
 }
 
-fn status_text(alloc: Global, status: u8, wanted: u32) -> Result<String, AllocError> {
-    format!(in alloc; "status is {status}, and not {wanted}")
+fn status_text(alloc: Global, status: u8, expected: u32) -> Result<String, AllocError> {
+    format!(in alloc; "status is {status}, and not {expected}")
 }

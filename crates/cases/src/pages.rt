@@ -1,6 +1,6 @@
 //! Compares the completions and the manual page with the program's help: each must mention every command and option that the help
 //! lists.
-use crate::Tally;
+use crate::{Compared, Tally};
 use devices::Memory;
 use std::alloc::{AllocError, Global};
 use std::{fs, io};
@@ -61,106 +61,113 @@ pub fn compare_pages(rt: &HostRuntime) -> io::Result<u64> {
     Ok(differing)
 }
 
+/// What the program's help lists.
+#[derive(Drop)]
+struct Listed<'a> {
+    options: Vec<&'a str>,
+    commands: Vec<&'a str>,
+}
+
 /// Checks each page for what the program's help lists.
 fn look_in_pages(rt: &HostRuntime, program: &str, tally: &mut Tally) -> io::Result<()> {
-    let shared = options(rt.alloc(), program)?;
-    let commands = commands(rt.alloc(), program)?;
+    let listed = Listed {
+        options: options(rt.alloc(), program)?,
+        commands: commands(rt.alloc(), program)?,
+    };
     for page in [BASH, ZSH, FISH, MANUAL] {
-        look_in_page(rt, page, &shared, &commands, tally)?;
+        look_in_page(rt, page, &listed, tally)?;
     }
     Ok(())
 }
 
-/// Checks a page for these options of the program, and for its commands.
+/// Checks a page for the options and commands of the program.
 fn look_in_page(
     rt: &HostRuntime,
     page: Page,
-    shared: &[&str],
-    commands: &[&str],
+    listed: &Listed<'_>,
     tally: &mut Tally,
 ) -> io::Result<()> {
     let text = fs::read_to_string(rt, page.name)?;
-    compare(rt, page, text.as_str(), shared, commands, tally)
+    let look = Look {
+        rt,
+        page,
+        shared: listed.options.as_slice(),
+    };
+    look.compare(text.as_str(), listed.commands.as_slice(), tally)
 }
 
-/// Checks the text of a page for these options of the program, and for its commands.
-fn compare(
-    rt: &HostRuntime,
-    page: Page,
-    text: &str,
-    shared: &[&str],
-    commands: &[&str],
-    tally: &mut Tally,
-) -> io::Result<()> {
-    for option in shared {
-        look(rt, page, text, "optplan", option, tally)?;
-    }
-    for command in commands {
-        compare_command(rt, page, text, command, shared, tally)?;
-    }
-    Ok(())
+/// A passage of a page: what it says about one command, or the whole page about the program.
+#[derive(Clone, Copy)]
+struct Passage<'a> {
+    command: &'a str,
+    text: &'a str,
 }
 
-/// Checks for the part of a command, and in it for the options in the command's help. The program's own options are searched in
-/// the whole text.
-fn compare_command(
-    rt: &HostRuntime,
+/// A look at one page.
+#[derive(Clone, Copy)]
+struct Look<'a> {
+    rt: &'a HostRuntime,
     page: Page,
-    text: &str,
-    command: &str,
-    shared: &[&str],
-    tally: &mut Tally,
-) -> io::Result<()> {
-    let part = part_of(rt.alloc(), page, text, command)?;
-    count_part(rt, page, command, part.is_some(), tally)?;
-    let own = help_of(rt.alloc(), command)?;
-    let part = part.unwrap_or("");
-    for option in &options(rt.alloc(), own.as_str())? {
-        if !is_among(option, shared) {
-            look(rt, page, part, command, option, tally)?;
+    /// The options of the program, which every command has.
+    shared: &'a [&'a str],
+}
+
+impl Look<'_> {
+    /// Checks the text of the page for the program's options, and for these commands.
+    fn compare(&self, text: &str, commands: &[&str], tally: &mut Tally) -> io::Result<()> {
+        let command = "optplan";
+        for option in self.shared {
+            self.find(Passage { command, text }, option, tally)?;
         }
+        for command in commands {
+            self.compare_command(text, command, tally)?;
+        }
+        Ok(())
     }
-    Ok(())
+
+    /// Checks for the part of a command, and in it for the options in the command's help. The program's own options are searched
+    /// in the whole text.
+    fn compare_command(&self, text: &str, command: &str, tally: &mut Tally) -> io::Result<()> {
+        let alloc = self.rt.alloc();
+        let part = part_of(alloc, self.page, text, command)?;
+        self.count_part(command, part, tally)?;
+        let own = help_of(alloc, command)?;
+        let text = part.unwrap_or("");
+        for option in &options(alloc, own.as_str())? {
+            if !is_among(option, self.shared) {
+                self.find(Passage { command, text }, option, tally)?;
+            }
+        }
+        Ok(())
+    }
+
+    /// Counts the part of a command, and reports if it is missing.
+    fn count_part(&self, command: &str, part: Option<&str>, tally: &mut Tally) -> io::Result<()> {
+        if part.is_some() {
+            tally.count(Compared::Same);
+            return Ok(());
+        }
+        tally.count(Compared::Different);
+        let (rt, page) = (self.rt, self.page.name);
+        println!(rt; "{page}: no part for {command}")
+    }
+
+    /// Checks for an option in a passage, and reports if it is missing.
+    fn find(&self, passage: Passage<'_>, option: &str, tally: &mut Tally) -> io::Result<()> {
+        let (rt, page, command) = (self.rt, self.page.name, passage.command);
+        let word = format!(in rt.alloc(); "{}{option}", self.page.dashes)?;
+        if has_word(passage.text, word.as_str()) {
+            tally.count(Compared::Same);
+            return Ok(());
+        }
+        tally.count(Compared::Different);
+        println!(rt; "{page}: --{option} of {command} is missing")
+    }
 }
 
 /// Whether the name is one of these.
 fn is_among(name: &str, names: &[&str]) -> bool {
     names.iter().any(|&other| other == name)
-}
-
-/// Counts the part of a command, and reports if it is missing.
-fn count_part(
-    rt: &HostRuntime,
-    page: Page,
-    command: &str,
-    is_there: bool,
-    tally: &mut Tally,
-) -> io::Result<()> {
-    tally.count(is_there);
-    if !is_there {
-        println!(rt; "{}: no part for {command}", page.name)?;
-    }
-    Ok(())
-}
-
-/// Checks for an option in a text, and reports if it is missing.
-fn look(
-    rt: &HostRuntime,
-    page: Page,
-    text: &str,
-    command: &str,
-    option: &str,
-    tally: &mut Tally,
-) -> io::Result<()> {
-    let is_there = has_word(
-        text,
-        format!(in rt.alloc(); "{}{option}", page.dashes)?.as_str(),
-    );
-    tally.count(is_there);
-    if !is_there {
-        println!(rt; "{}: --{option} of {command} is missing", page.name)?;
-    }
-    Ok(())
 }
 
 /// The part of a text about the command, if there is one.

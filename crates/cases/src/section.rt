@@ -28,24 +28,37 @@ pub struct Section<'a> {
     /// The further words, up to a colon or the end of the line.
     pub words: &'a str,
     content: Content<'a>,
+    escapes: Escapes,
 }
 
 impl<'a> Section<'a> {
-    /// Parses a section: the text between two lines of dashes.
-    pub fn of(text: &'a str) -> Section<'a> {
+    /// Parses a section, the text between two lines of dashes, in which the variable escapes have these values.
+    pub fn of(text: &'a str, escapes: Escapes) -> Section<'a> {
         let (first, below) = text.split_once('\n').unwrap_or((text, ""));
         match first.split_once(": ") {
-            Some((head, line)) => Section::with(head, Content::Line(line)),
-            None => Section::with(first, Content::Lines(below)),
+            Some((head, line)) => Section::with(head, Content::Line(line), escapes),
+            None => Section::with(first, Content::Lines(below), escapes),
         }
     }
 
-    fn with(head: &'a str, content: Content<'a>) -> Section<'a> {
+    fn with(head: &'a str, content: Content<'a>, escapes: Escapes) -> Section<'a> {
         let (name, words) = head.split_once(' ').unwrap_or((head, ""));
         Section {
             name,
             words,
             content,
+            escapes,
+        }
+    }
+
+    /// The same section after this number of earlier repetitions.
+    pub fn repeated(&self, number: u32) -> Section<'a> {
+        let byte = self.escapes.byte;
+        Section {
+            name: self.name,
+            words: self.words,
+            content: self.content,
+            escapes: Escapes { number, byte },
         }
     }
 
@@ -63,22 +76,17 @@ impl<'a> Section<'a> {
     }
 
     /// The bytes of the section's content.
-    pub fn bytes(&self, alloc: Global, turn: Escapes) -> Result<Vec<u8>, AllocError> {
+    pub fn bytes(&self, alloc: Global) -> Result<Vec<u8>, AllocError> {
         let mut bytes = Vec::new(alloc);
-        self.add_bytes(alloc, turn, &mut bytes)?;
+        self.add_bytes(alloc, &mut bytes)?;
         Ok(bytes)
     }
 
     /// Appends the bytes of the section's content.
-    pub fn add_bytes(
-        &self,
-        alloc: Global,
-        turn: Escapes,
-        bytes: &mut Vec<u8>,
-    ) -> Result<(), AllocError> {
+    pub fn add_bytes(&self, alloc: Global, bytes: &mut Vec<u8>) -> Result<(), AllocError> {
         match self.content {
             Content::Lines(lines) => add_lines(lines, bytes),
-            Content::Line(line) => add_unescaped(alloc, line, turn, bytes),
+            Content::Line(line) => add_unescaped(alloc, line, self.escapes, bytes),
         }
     }
 }

@@ -1,12 +1,12 @@
 //! Standard output and standard error of a case.
 use crate::case::{CaseFault, number_of, read_number};
-use crate::section::{Escapes, Section};
+use crate::section::Section;
 use devices::Memory;
 use std::alloc::{AllocError, Global};
 use test_support::{FailsAt, InPieces};
 
 /// A stream that may take its bytes in pieces, and fail.
-pub type Device = FailsAt<InPieces<Memory>>;
+pub type StreamDevice = FailsAt<InPieces<Memory>>;
 
 /// The part of a stream's output that is compared.
 #[derive(Clone, Copy)]
@@ -29,7 +29,7 @@ fn part_of(verb: &str) -> Result<Part, CaseFault> {
 /// A stream: the expected output, and how the device behaves.
 #[derive(Drop)]
 pub struct Stream {
-    wanted: Vec<u8>,
+    expected: Vec<u8>,
     // The part that the expected bytes are.
     part: Part,
     // The maximum number of bytes per write.
@@ -42,7 +42,7 @@ impl Stream {
     /// A stream without expected output.
     pub fn new(alloc: Global) -> Stream {
         Stream {
-            wanted: Vec::new(alloc),
+            expected: Vec::new(alloc),
             part: Part::Whole,
             piece: u32::MAX,
             writes_before: None,
@@ -50,17 +50,12 @@ impl Stream {
     }
 
     /// Takes a section about the stream.
-    pub fn take(
-        &mut self,
-        alloc: Global,
-        section: Section<'_>,
-        turn: Escapes,
-    ) -> Result<(), CaseFault> {
+    pub fn take(&mut self, alloc: Global, section: Section<'_>) -> Result<(), CaseFault> {
         let (verb, number) = section.verb();
         match verb {
             "pieces" => read_number(number, &mut self.piece),
             "fails" => self.fail_after(number),
-            _ => self.want(alloc, section, turn, part_of(verb)?),
+            _ => self.require(alloc, section, part_of(verb)?),
         }
     }
 
@@ -69,20 +64,19 @@ impl Stream {
         Ok(())
     }
 
-    fn want(
+    fn require(
         &mut self,
         alloc: Global,
         section: Section<'_>,
-        turn: Escapes,
         part: Part,
     ) -> Result<(), CaseFault> {
-        self.wanted = section.bytes(alloc, turn)?;
+        self.expected = section.bytes(alloc)?;
         self.part = part;
         Ok(())
     }
 
     /// The stream's device, empty.
-    pub fn device(&self, alloc: Global) -> Device {
+    pub fn device(&self, alloc: Global) -> StreamDevice {
         // A piece has at least one byte.
         let length = self.piece.max(1) as usize;
         FailsAt::new(
@@ -96,21 +90,21 @@ impl Stream {
         &self,
         alloc: Global,
         name: &str,
-        device: &Device,
+        device: &StreamDevice,
     ) -> Result<Option<String>, AllocError> {
         let taken = device.inner.inner.as_slice();
-        if self.is_wanted(taken) {
+        if self.is_expected(taken) {
             return Ok(None);
         }
-        let (is, wanted) = (taken.escape_ascii(), self.wanted.escape_ascii());
-        Ok(Some(format!(in alloc; "{name} is \"{is}\", and not \"{wanted}\"")?))
+        let (is, expected) = (taken.escape_ascii(), self.expected.escape_ascii());
+        Ok(Some(format!(in alloc; "{name} is \"{is}\", and not \"{expected}\"")?))
     }
 
-    fn is_wanted(&self, taken: &[u8]) -> bool {
+    fn is_expected(&self, taken: &[u8]) -> bool {
         match self.part {
-            Part::Whole => taken == self.wanted.as_slice(),
-            Part::Beginning => taken.starts_with(&self.wanted),
-            Part::End => taken.ends_with(&self.wanted),
+            Part::Whole => taken == self.expected.as_slice(),
+            Part::Beginning => taken.starts_with(&self.expected),
+            Part::End => taken.ends_with(&self.expected),
         }
     }
 }

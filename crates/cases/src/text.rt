@@ -17,14 +17,14 @@ pub fn add_lines(lines: &str, bytes: &mut Vec<u8>) -> Result<(), AllocError> {
 pub fn add_unescaped(
     alloc: Global,
     line: &str,
-    turn: Escapes,
+    escapes: Escapes,
     bytes: &mut Vec<u8>,
 ) -> Result<(), AllocError> {
     let mut state = State::Plain;
     for &byte in line.as_bytes() {
-        let (next, made) = step(state, byte, turn.byte);
+        let (next, made) = step(state, byte, escapes.byte);
         state = next;
-        add_made(alloc, made, turn.number, bytes)?;
+        add_made(alloc, made, escapes.number, bytes)?;
     }
     Ok(())
 }
@@ -44,7 +44,7 @@ enum State {
 
 /// The output of a byte of a line.
 #[derive(Clone, Copy)]
-enum Made {
+enum Output {
     /// Nothing yet.
     Nothing,
     /// A byte.
@@ -54,40 +54,45 @@ enum Made {
 }
 
 /// The next state after a byte of a line, and the output of the byte.
-fn step(state: State, byte: u8, each: Option<u8>) -> (State, Made) {
+fn step(state: State, byte: u8, each: Option<u8>) -> (State, Output) {
     match state {
-        State::Plain if byte == b'\\' => (State::Escape, Made::Nothing),
-        State::Plain => (State::Plain, Made::Byte(byte)),
-        State::Escape if byte == b'x' => (State::High, Made::Nothing),
+        State::Plain if byte == b'\\' => (State::Escape, Output::Nothing),
+        State::Plain => (State::Plain, Output::Byte(byte)),
+        State::Escape if byte == b'x' => (State::High, Output::Nothing),
         State::Escape => (State::Plain, escaped(byte, each)),
-        State::High => (State::Low(digit(byte)), Made::Nothing),
+        State::High => (State::Low(digit(byte)), Output::Nothing),
         State::Low(high) => (
             State::Plain,
-            Made::Byte(high.wrapping_mul(16) | digit(byte)),
+            Output::Byte(high.wrapping_mul(16) | digit(byte)),
         ),
     }
 }
 
 /// The output of a letter after a backslash.
-fn escaped(letter: u8, each: Option<u8>) -> Made {
+fn escaped(letter: u8, each: Option<u8>) -> Output {
     match letter {
-        b'n' => Made::Byte(b'\n'),
-        b'r' => Made::Byte(b'\r'),
-        b't' => Made::Byte(b'\t'),
-        b'#' => Made::Number,
+        b'n' => Output::Byte(b'\n'),
+        b'r' => Output::Byte(b'\r'),
+        b't' => Output::Byte(b'\t'),
+        b'#' => Output::Number,
         b'@' => match each {
-            Some(byte) => Made::Byte(byte),
-            None => Made::Nothing,
+            Some(byte) => Output::Byte(byte),
+            None => Output::Nothing,
         },
-        other => Made::Byte(other),
+        other => Output::Byte(other),
     }
 }
 
-fn add_made(alloc: Global, made: Made, number: u32, bytes: &mut Vec<u8>) -> Result<(), AllocError> {
+fn add_made(
+    alloc: Global,
+    made: Output,
+    number: u32,
+    bytes: &mut Vec<u8>,
+) -> Result<(), AllocError> {
     match made {
-        Made::Nothing => {}
-        Made::Byte(byte) => bytes.push(byte)?,
-        Made::Number => bytes.extend_from_slice(format!(in alloc; "{number}")?.as_bytes())?,
+        Output::Nothing => {}
+        Output::Byte(byte) => bytes.push(byte)?,
+        Output::Number => bytes.extend_from_slice(format!(in alloc; "{number}")?.as_bytes())?,
     }
     Ok(())
 }
