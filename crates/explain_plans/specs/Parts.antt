@@ -1,14 +1,16 @@
 -- The code's parts of formulas and their histories, in the model's terms.
 use Rattle.std.specs.Prelude.{◌≡◌, ℕ, Bool, false, nat_lt, List, length, map, take, get_or, slice_get, Some, All, ◌++◌, if◌then◌else◌}
 use Rattle.explain_plans.specs.declared.false_parts.Part as part
+use Rattle.explain_plans.specs.declared.false_parts.Context.{Context}
 use Rattle.explain_plans.specs.declared.false_parts.Found.{Found}
 use Rattle.explain_plans.specs.declared.histories.History as history
 use Rattle.explain_plans.specs.declared.histories.History.TheVariants.{Always, ByStep}
-use Rattle.explain_plans.specs.FalseParts.{Part, part_holds}
+use Rattle.explain_plans.specs.FalseParts.{Part, false_parts, part_holds}
 use Rattle.explain_plans.specs.Histories.{History, always, by_step, IsHistory}
 use Rattle.explain_plans.specs.NamesView.{names_in}
+use Rattle.task.specs.Task.{task_of}
 use Rattle.task.specs.TaskParts.{object_of, formula_of}
-use Rattle.formulas.specs.State.{FitsFormula}
+use Rattle.formulas.specs.State.{FitsFormula, state_of}
 use Rattle.model.specs.Task as task
 use Rattle.model.specs.Meaning.{State}
 
@@ -53,6 +55,17 @@ pub record AreFound (t : task.Task) (state : State) (all : List Part) (found : F
 -- if `old` was found in the parts before these, `new` is found in all of them
 abbrev pub Finds : task.Task → State → List Part → Found → Found → Type 0
 Finds t state parts old new = (before : List Part) → AreFound t state before old → AreFound t state (before ++ parts) new
+
+-- the objects of the context fit the variables in the formula
+abbrev pub FitsIn : Context → task.Formula → Type 0
+FitsIn c formula = FitsFormula (task_of c.task.now) formula (map object_of c.objects.now.items)
+
+-- the minimal false parts of the formula in the context
+abbrev pub false_parts_in : Context → task.Formula → List Part
+false_parts_in c formula = false_parts (task_of c.task.now) formula (map object_of c.objects.now.items) (names_in c.names.now) (state_of c.state.now)
+
+abbrev pub FindsIn : Context → List Part → Found → Found → Type 0
+FindsIn c = Finds (task_of c.task.now) (state_of c.state.now)
 
 -- The histories are updated by the state before the step with this number: a part that holds there may be made false by this
 -- step; the others are unchanged.

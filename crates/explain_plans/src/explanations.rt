@@ -3,13 +3,14 @@ ghost use Rattle.std.specs.Prelude.{◌≡◌, ◌-◌, IsTrue, IfOk, Some, map,
 ghost use Rattle.std.specs.List.{list_all};
 ghost use Rattle.task.specs.Task.{task_of};
 ghost use Rattle.task.specs.TaskParts.{object_of, formula_of};
-ghost use Rattle.formulas.specs.State.{instance_of, plan_of, state_of, FitsFormula};
+ghost use Rattle.formulas.specs.State.{instance_of, plan_of, state_of};
 ghost use Rattle.explain_plans.specs.Explanations.{verdict_of, AreReasons, IsExplained};
 ghost use Rattle.explain_plans.specs.NamesView.{names_in, names_of};
+ghost use Rattle.explain_plans.specs.Parts.{FitsIn};
 ghost use Rattle.model.specs.Runs.{IsVerdict, StopsAt, run, valid, goal_missed};
 ghost use Rattle.model.specs.Meaning.{is_instance, initial_state, system_of, cost_of};
 
-use crate::false_parts::{Found, Part, first_false_parts};
+use crate::false_parts::{Context, Found, Part};
 use crate::histories::{History, histories};
 use crate::variable_names::VariableNames;
 use faults::NoMemory;
@@ -70,30 +71,87 @@ pub fn explain_plan<'t>(
     ensures explained { IfOk result (IsExplained (task_of task.now) (names_of names.now) (plan_of plan.now)) }
 {
     let Run { verdict, state } = run_plan(alloc, task, plan)?;
+    let explainer = Explainer {
+        alloc,
+        task,
+        names,
+        plan,
+    };
     match verdict {
-        Verdict::Valid { cost } => why_valid(alloc, task, names, plan, cost),
-        Verdict::NotApplicable { step } => why_not_applicable(
-            alloc, task, names, plan, step, &state,
-        ),
-        Verdict::GoalMissed => why_missed(alloc, task, names, plan, &state),
+        Verdict::Valid { cost } => explainer.why_valid(cost),
+        Verdict::NotApplicable { step } => explainer.why_not_applicable(step, &state),
+        Verdict::GoalMissed => explainer.why_missed(&state),
     }
 }
 
-/// The costs of the steps of a plan that solves the task.
-fn why_valid<'t>(
+/// Explains the verdict on a plan for a task.
+#[derive(Clone, Copy)]
+struct Explainer<'t, 'p> {
     alloc: Global,
-    task: &Task,
-    names: &VariableNames<'_>,
-    plan: &Plan,
-    total: u64,
-) -> Result<PlanExplanation<'t>, NoMemory>
-    requires { IsVerdict (system_of (task_of task.now)) (plan_of plan.now) (valid total) }
-    ensures verdict { IfOk result (λ e. IsVerdict (system_of (task_of task.now)) (plan_of plan.now) (verdict_of e)) }
-    ensures explained { IfOk result (IsExplained (task_of task.now) (names_of names.now) (plan_of plan.now)) }
-{
-    let steps = plan.steps();
-    let costs = costs_of(alloc, task, steps)?;
-    Ok(PlanExplanation::Solves { costs, total })
+    task: &'t Task,
+    names: &'t VariableNames<'t>,
+    plan: &'p Plan,
+}
+
+impl<'t> Explainer<'t, '_> {
+    /// The costs of the steps of a plan that solves the task.
+    fn why_valid(self, total: u64) -> Result<PlanExplanation<'t>, NoMemory>
+        requires { IsVerdict (system_of (task_of self.task.now)) (plan_of self.plan.now) (valid total) }
+        ensures verdict { IfOk result (λ e. IsVerdict (system_of (task_of self.entry.task.now)) (plan_of self.entry.plan.now) (verdict_of e)) }
+        ensures explained { IfOk result (IsExplained (task_of self.entry.task.now) (names_of self.entry.names.now) (plan_of self.entry.plan.now)) }
+    {
+        let steps = self.plan.steps();
+        let costs = costs_of(self.alloc, self.task, steps)?;
+        Ok(PlanExplanation::Solves { costs, total })
+    }
+
+    /// Why the step with this number is not applicable in the state that the steps before it lead to.
+    fn why_not_applicable(self, step: usize, state: &State) -> Result<PlanExplanation<'t>, NoMemory>
+        requires instances { IsTrue (list_all (is_instance (task_of self.task.now)) (plan_of self.plan.now)) }
+        requires stops { StopsAt (system_of (task_of self.task.now)) (plan_of self.plan.now) step }
+        requires state { run (system_of (task_of self.task.now)) (initial_state (task_of self.task.now)) (take (step - 1) (plan_of self.plan.now)) ≡ Some (state_of state.now) }
+        ensures verdict { IfOk result (λ e. IsVerdict (system_of (task_of self.entry.task.now)) (plan_of self.entry.plan.now) (verdict_of e)) }
+        ensures explained { IfOk result (IsExplained (task_of self.entry.task.now) (names_of self.entry.names.now) (plan_of self.entry.plan.now)) }
+    {
+        let steps = self.plan.steps();
+        let before = &steps[..step - 1];
+        let instance = &steps[step - 1];
+        let schema = self.task.schema(instance.schema).unwrap();
+        let lacks_cost = amount(self.task, instance).is_none();
+        let context = Context {
+            task: self.task,
+            state,
+            objects: &instance.objects,
+            names: self.names.of_action(instance.schema),
+        };
+        let reasons = why_false(self.alloc, before, &schema.precondition, context)?;
+        Ok(PlanExplanation::NotApplicable {
+            step,
+            lacks_cost,
+            reasons,
+        })
+    }
+
+    /// Why the goal does not hold in the state that the plan leads to.
+    fn why_missed(self, state: &State) -> Result<PlanExplanation<'t>, NoMemory>
+        requires instances { IsTrue (list_all (is_instance (task_of self.task.now)) (plan_of self.plan.now)) }
+        requires missed { IsVerdict (system_of (task_of self.task.now)) (plan_of self.plan.now) goal_missed }
+        requires state { run (system_of (task_of self.task.now)) (initial_state (task_of self.task.now)) (plan_of self.plan.now) ≡ Some (state_of state.now) }
+        ensures verdict { IfOk result (λ e. IsVerdict (system_of (task_of self.entry.task.now)) (plan_of self.entry.plan.now) (verdict_of e)) }
+        ensures explained { IfOk result (IsExplained (task_of self.entry.task.now) (names_of self.entry.names.now) (plan_of self.entry.plan.now)) }
+    {
+        let steps = self.plan.steps();
+        let goal = self.task.goal();
+        let nothing = Binding::new();
+        let context = Context {
+            task: self.task,
+            state,
+            objects: &nothing,
+            names: &self.names.goal,
+        };
+        let reasons = why_false(self.alloc, steps, goal, context)?;
+        Ok(PlanExplanation::GoalMissed { reasons })
+    }
 }
 
 /// The cost of each step.
@@ -107,81 +165,20 @@ fn costs_of(alloc: Global, task: &Task, steps: &[Instance]) -> Result<Vec<u32>, 
     Ok(costs)
 }
 
-/// Why the step with this number is not applicable in the state that the steps before it lead to.
-fn why_not_applicable<'t>(
-    alloc: Global,
-    task: &'t Task,
-    names: &'t VariableNames<'t>,
-    plan: &Plan,
-    step: usize,
-    state: &State,
-) -> Result<PlanExplanation<'t>, NoMemory>
-    requires instances { IsTrue (list_all (is_instance (task_of task.now)) (plan_of plan.now)) }
-    requires stops { StopsAt (system_of (task_of task.now)) (plan_of plan.now) step }
-    requires state { run (system_of (task_of task.now)) (initial_state (task_of task.now)) (take (step - 1) (plan_of plan.now)) ≡ Some (state_of state.now) }
-    ensures verdict { IfOk result (λ e. IsVerdict (system_of (task_of task.now)) (plan_of plan.now) (verdict_of e)) }
-    ensures explained { IfOk result (IsExplained (task_of task.now) (names_of names.now) (plan_of plan.now)) }
-{
-    let steps = plan.steps();
-    let before = &steps[..step - 1];
-    let instance = &steps[step - 1];
-    let schema = task.schema(instance.schema).unwrap();
-    let lacks_cost = amount(task, instance).is_none();
-    let reasons = why_false(
-        alloc,
-        task,
-        before,
-        state,
-        &schema.precondition,
-        &instance.objects,
-        names.of_action(instance.schema),
-    )?;
-    Ok(PlanExplanation::NotApplicable {
-        step,
-        lacks_cost,
-        reasons,
-    })
-}
-
-/// Why the goal does not hold in the state that the plan leads to.
-fn why_missed<'t>(
-    alloc: Global,
-    task: &'t Task,
-    names: &'t VariableNames<'t>,
-    plan: &Plan,
-    state: &State,
-) -> Result<PlanExplanation<'t>, NoMemory>
-    requires instances { IsTrue (list_all (is_instance (task_of task.now)) (plan_of plan.now)) }
-    requires missed { IsVerdict (system_of (task_of task.now)) (plan_of plan.now) goal_missed }
-    requires state { run (system_of (task_of task.now)) (initial_state (task_of task.now)) (plan_of plan.now) ≡ Some (state_of state.now) }
-    ensures verdict { IfOk result (λ e. IsVerdict (system_of (task_of task.now)) (plan_of plan.now) (verdict_of e)) }
-    ensures explained { IfOk result (IsExplained (task_of task.now) (names_of names.now) (plan_of plan.now)) }
-{
-    let steps = plan.steps();
-    let goal = task.goal();
-    let nothing = Binding::new();
-    let reasons = why_false(alloc, task, steps, state, goal, &nothing, &names.goal)?;
-    Ok(PlanExplanation::GoalMissed { reasons })
-}
-
-/// Why the formula does not hold in the state that the steps lead to, under this binding of its variables and with these names
-/// for the variables of quantifiers.
+/// Why the formula does not hold in the state of the context, which the steps lead to.
 fn why_false<'t>(
     alloc: Global,
-    task: &Task,
     steps: &[Instance],
-    state: &State,
     formula: &'t Formula,
-    objects: &Binding,
-    names: &'t [&'t [u8]],
+    context: Context<'_, 't>,
 ) -> Result<Reasons<'t>, NoMemory>
-    requires fits { FitsFormula (task_of task.now) (formula_of formula.now) (map object_of objects.now.items) }
-    requires instances { IsTrue (list_all (is_instance (task_of task.now)) (map instance_of steps.now)) }
-    requires leads { run (system_of (task_of task.now)) (initial_state (task_of task.now)) (map instance_of steps.now) ≡ Some (state_of state.now) }
-    ensures { IfOk result (AreReasons (task_of task.now) (map instance_of steps.now) (formula_of formula.now) (map object_of objects.now.items) (names_in names.now)) }
+    requires fits { FitsIn context (formula_of formula.now) }
+    requires instances { IsTrue (list_all (is_instance (task_of context.task.now)) (map instance_of steps.now)) }
+    requires leads { run (system_of (task_of context.task.now)) (initial_state (task_of context.task.now)) (map instance_of steps.now) ≡ Some (state_of context.state.now) }
+    ensures { IfOk result (AreReasons (task_of context.entry.task.now) (map instance_of steps.now) (formula_of formula.now) (map object_of context.entry.objects.now.items) (names_in context.entry.names.now)) }
 {
-    let Found { parts, more } = first_false_parts(alloc, task, formula, objects, names, state)?;
-    let histories = histories(alloc, task, steps, parts.as_slice())?;
+    let Found { parts, more } = context.first_false_parts(alloc, formula)?;
+    let histories = histories(alloc, context.task, steps, parts.as_slice())?;
     Ok(Reasons {
         parts,
         histories,

@@ -2,10 +2,10 @@
 ghost use Rattle.std.specs.Prelude.{map, IfOk, OnOk};
 ghost use Rattle.task.specs.Task.{task_of};
 ghost use Rattle.task.specs.TaskParts.{object_of, formula_of, union_of};
-ghost use Rattle.formulas.specs.State.{state_of, FitsFormula, FitsFormulas};
-ghost use Rattle.explain_plans.specs.FalseParts.{FalsePartsReport, false_parts, false_parts_of_all, itself_if_false};
+ghost use Rattle.formulas.specs.State.{state_of, FitsFormulas};
+ghost use Rattle.explain_plans.specs.FalseParts.{FalsePartsReport, false_parts_of_all, itself_if_false};
 ghost use Rattle.explain_plans.specs.NamesView.{names_in};
-ghost use Rattle.explain_plans.specs.Parts.{AreFound, Finds};
+ghost use Rattle.explain_plans.specs.Parts.{AreFound, FindsIn, FitsIn, false_parts_in};
 ghost use Rattle.explain_plans.specs.VariableNames.{formulas};
 ghost use Rattle.model.specs.Task.{forall};
 
@@ -38,122 +38,118 @@ pub(crate) struct Found<'t> {
     pub more: bool,
 }
 
-/// The first of the minimal parts that are false in the state, under this binding and with these names for the variables of
-/// quantifiers. The formula is well-typed for variables of some types that the objects are of.
-pub(crate) fn first_false_parts<'t>(
-    alloc: Global,
-    task: &Task,
-    formula: &'t Formula,
-    objects: &Binding,
-    names: &'t [&'t [u8]],
-    state: &State,
-) -> Result<Found<'t>, NoMemory>
-    requires { FitsFormula (task_of task.now) (formula_of formula.now) (map object_of objects.now.items) }
-    ensures { IfOk result (AreFound (task_of task.now) (state_of state.now) (false_parts (task_of task.now) (formula_of formula.now) (map object_of objects.now.items) (names_in names.now) (state_of state.now))) }
-{
-    let mut found = Found {
-        parts: Vec::new(alloc),
-        more: false,
-    };
-    find(task, formula, objects, names, state, &mut found)?;
-    Ok(found)
+/// Where a formula is judged: a state, and the variables in the formula's scope.
+#[derive(Clone, Copy)]
+pub(crate) struct Context<'c, 't> {
+    /// The task.
+    pub task: &'c Task,
+    /// The state.
+    pub state: &'c State,
+    /// The objects of the variables in the formula's scope, in order.
+    pub objects: &'c Binding,
+    /// The names of the variables of quantifiers, in the order of the text, those in the formula first.
+    pub names: &'t [&'t [u8]],
 }
 
-/// Appends the false parts of the formula to those found before. The search ends once there are more than are reported.
-#[cycle(find)]
-fn find<'t>(
-    task: &Task,
-    formula: &'t Formula,
-    objects: &Binding,
-    names: &'t [&'t [u8]],
-    state: &State,
-    found: &mut Found<'t>,
-) -> Result<(), NoMemory>
-    requires { FitsFormula (task_of task.now) (formula_of formula.now) (map object_of objects.now.items) }
-    ensures { OnOk result (Finds (task_of task.now) (state_of state.now) (false_parts (task_of task.now) (formula_of formula.now) (map object_of objects.now.items) (names_in names.now) (state_of state.now)) found.old found.new) }
-{
-    if found.more {
-        return Ok(());
+impl<'t> Context<'_, 't> {
+    /// The first of the minimal false parts of the formula, which is well-typed for variables of some types that the objects are
+    /// of.
+    pub(crate) fn first_false_parts(
+        self,
+        alloc: Global,
+        formula: &'t Formula,
+    ) -> Result<Found<'t>, NoMemory>
+        requires { FitsIn self (formula_of formula.now) }
+        ensures { IfOk result (AreFound (task_of self.entry.task.now) (state_of self.entry.state.now) (false_parts_in self.entry (formula_of formula.now))) }
+    {
+        let mut found = Found {
+            parts: Vec::new(alloc),
+            more: false,
+        };
+        self.find(formula, &mut found)?;
+        Ok(found)
     }
-    match formula {
-        Formula::And(parts) => find_in_each(task, parts, objects, names, state, found),
-        Formula::Imply(premise, conclusion) => {
-            if holds(task, premise, objects, state) {
-                let left = names_behind(premise, names);
-                find(task, conclusion, objects, left, state, found)
-            } else {
-                Ok(())
-            }
+
+    /// Appends the false parts of the formula to those found before. The search ends once there are more than are reported.
+    #[cycle(find)]
+    fn find(self, formula: &'t Formula, found: &mut Found<'t>) -> Result<(), NoMemory>
+        requires { FitsIn self (formula_of formula.now) }
+        ensures { OnOk result (FindsIn self.entry (false_parts_in self.entry (formula_of formula.now)) found.old found.new) }
+    {
+        if found.more {
+            return Ok(());
         }
-        Formula::Forall(types, part) => find_for_each(
-            task, types, part, objects, names, state, found,
-        ),
-        _ => found.add_if_false(task, formula, objects, names, state),
+        match formula {
+            Formula::And(parts) => self.find_in_each(parts, found),
+            Formula::Imply(premise, conclusion) => {
+                if holds(self.task, premise, self.objects, self.state) {
+                    let names = names_behind(premise, self.names);
+                    Context { names, ..self }.find(conclusion, found)
+                } else {
+                    Ok(())
+                }
+            }
+            Formula::Forall(types, part) => self.find_for_each(types, part, found),
+            _ => found.add_if_false(formula, self),
+        }
     }
-}
 
-/// The same for each of the formulas.
-#[cycle(find)]
-fn find_in_each<'t>(
-    task: &Task,
-    parts: &'t [Formula],
-    objects: &Binding,
-    names: &'t [&'t [u8]],
-    state: &State,
-    found: &mut Found<'t>,
-) -> Result<(), NoMemory>
-    requires { FitsFormulas (task_of task.now) (map formula_of parts.now) (map object_of objects.now.items) }
-    ensures { OnOk result (Finds (task_of task.now) (state_of state.now) (false_parts_of_all (task_of task.now) (formulas (map formula_of parts.now)) (map object_of objects.now.items) (names_in names.now) (state_of state.now)) found.old found.new) }
-{
-    let mut left = names;
-    for part in parts {
-        find(task, part, objects, left, state, found)?;
-        left = names_behind(part, left);
+    /// The same for each of the formulas.
+    #[cycle(find)]
+    fn find_in_each(self, parts: &'t [Formula], found: &mut Found<'t>) -> Result<(), NoMemory>
+        requires { FitsFormulas (task_of self.task.now) (map formula_of parts.now) (map object_of self.objects.now.items) }
+        ensures { OnOk result (FindsIn self.entry (false_parts_of_all (task_of self.entry.task.now) (formulas (map formula_of parts.now)) (map object_of self.entry.objects.now.items) (names_in self.entry.names.now) (state_of self.entry.state.now)) found.old found.new) }
+    {
+        let mut names = self.names;
+        for part in parts {
+            Context { names, ..self }.find(part, found)?;
+            names = names_behind(part, names);
+        }
+        Ok(())
     }
-    Ok(())
-}
 
-/// The same for each object of these types as the next variable.
-#[cycle(find)]
-fn find_for_each<'t>(
-    task: &Task,
-    types: &TypeUnion,
-    part: &'t Formula,
-    objects: &Binding,
-    names: &'t [&'t [u8]],
-    state: &State,
-    found: &mut Found<'t>,
-) -> Result<(), NoMemory>
-    requires { FitsFormula (task_of task.now) (forall (union_of types.now) (formula_of part.now)) (map object_of objects.now.items) }
-    ensures { OnOk result (Finds (task_of task.now) (state_of state.now) (false_parts (task_of task.now) (forall (union_of types.now) (formula_of part.now)) (map object_of objects.now.items) (names_in names.now) (state_of state.now)) found.old found.new) }
-{
-    let inner = without_first(names);
-    for object in objects_of(task, types) {
-        find(
-            task,
-            part,
-            &with_object(objects, object),
-            inner,
-            state,
-            found,
-        )?;
+    /// The same for each object of these types as the next variable.
+    #[cycle(find)]
+    fn find_for_each(
+        self,
+        types: &TypeUnion,
+        part: &'t Formula,
+        found: &mut Found<'t>,
+    ) -> Result<(), NoMemory>
+        requires { FitsIn self (forall (union_of types.now) (formula_of part.now)) }
+        ensures { OnOk result (FindsIn self.entry (false_parts_in self.entry (forall (union_of types.now) (formula_of part.now))) found.old found.new) }
+    {
+        let names = without_first(self.names);
+        for object in objects_of(self.task, types) {
+            let objects = with_object(self.objects, object);
+            let inner = Context {
+                task: self.task,
+                state: self.state,
+                objects: &objects,
+                names,
+            };
+            inner.find(part, found)?;
+        }
+        Ok(())
     }
-    Ok(())
 }
 
 impl<'t> Found<'t> {
-    /// Adds the formula itself, if it is false in the state and there is room.
+    /// Adds the formula itself, if it is false and there is room.
     fn add_if_false(
         &mut self,
-        task: &Task,
         formula: &'t Formula,
-        objects: &Binding,
-        names: &'t [&'t [u8]],
-        state: &State,
+        context: Context<'_, 't>,
     ) -> Result<(), NoMemory>
-        requires { FitsFormula (task_of task.now) (formula_of formula.now) (map object_of objects.now.items) }
-        ensures { OnOk result (Finds (task_of task.now) (state_of state.now) (itself_if_false (task_of task.now) (formula_of formula.now) (map object_of objects.now.items) (names_in names.now) (state_of state.now)) self.old self.new) }
+        requires { FitsIn context (formula_of formula.now) }
+        ensures { OnOk result (FindsIn context.entry (itself_if_false (task_of context.entry.task.now) (formula_of formula.now) (map object_of context.entry.objects.now.items) (names_in context.entry.names.now) (state_of context.entry.state.now)) self.old self.new) }
     {
+        let Context {
+            task,
+            state,
+            objects,
+            names,
+        } = context;
         if holds(task, formula, objects, state) {
             return Ok(());
         }

@@ -51,136 +51,177 @@ impl<'a> Scope<'a> {
             coming: names_behind(formula, self.coming),
         }
     }
+
+    /// The name of the next variable, in lower case like all names of a task.
+    fn next_name(self, alloc: Global) -> Result<Vec<u8>, AllocError>
+        ensures { IfOk result (λ name. name.items ≡ next_name (scope_of self.entry)) }
+    {
+        match self.coming.first() {
+            Some(name) => name.to_ascii_lowercase(alloc),
+            None => {
+                let name = numbered_name(alloc, self.names.len() + 1)?;
+                Ok(name.into_bytes())
+            }
+        }
+    }
+
+    /// The name of the object bound to the variable with this number, or of the variable itself if it is unbound.
+    fn variable_name(self, task: &'a Task, number: usize) -> &'a [u8]
+        ensures { codes " " ++ result.now ≡ variable_text (task_of task.now) (scope_of self.entry) number }
+    {
+        match self.objects.get(number) {
+            Some(object) => object_name(task, *object),
+            None => inner_name(self.names, number.saturating_sub(self.objects.len())),
+        }
+    }
 }
 
-/// Adds the text of the formula. A quantified variable in it gets the first unused name; when none is left it is printed as `?1`,
-/// `?2` and so on, by its place in scope after the variables that have objects.
-#[cycle(formula)]
-pub(crate) fn add_formula(
-    alloc: Global,
-    task: &Task,
-    formula: &Formula,
-    scope: Scope<'_>,
-    text: &mut Vec<u8>,
-) -> Result<(), AllocError>
-    ensures { OnOk result (text.new.items ≡ text.old.items ++ formula_text (task_of task.now) (scope_of scope.entry) (formula_of formula.now)) }
-{
-    match formula {
-        Formula::Atom(atom) => {
-            let name = predicate_name(task, atom.predicate);
-            add_atom(task, name, atom, scope, text)
+/// Prints formulas of a task in lower-case PDDL.
+#[derive(Clone, Copy)]
+pub(crate) struct FormulaPrinter<'a> {
+    /// Supplies memory.
+    pub alloc: Global,
+    /// The task, which has the names.
+    pub task: &'a Task,
+    /// The variables in scope.
+    pub scope: Scope<'a>,
+}
+
+impl<'a> FormulaPrinter<'a> {
+    /// Adds the text of the formula. A quantified variable in it gets the first unused name; when none is left it is printed as
+    /// `?1`, `?2` and so on, by its place in scope after the variables that have objects.
+    #[cycle(formula)]
+    pub(crate) fn add_formula(self, formula: &Formula, text: &mut Vec<u8>) -> Result<(), AllocError>
+        ensures { OnOk result (text.new.items ≡ text.old.items ++ formula_text (task_of self.entry.task.now) (scope_of self.entry.scope) (formula_of formula.now)) }
+    {
+        match formula {
+            Formula::Atom(atom) => {
+                let name = predicate_name(self.task, atom.predicate);
+                self.add_atom(name, atom, text)
+            }
+            Formula::Equal(left, right) => self.add_equality(left, right, text),
+            Formula::And(parts) => self.add_parts(b"(and", parts, text),
+            Formula::Or(parts) => self.add_parts(b"(or", parts, text),
+            Formula::Not(part) => self.add_negation(part, text),
+            Formula::Imply(premise, conclusion) => {
+                text.extend_from_slice(b"(imply ")?;
+                self.add_formula(premise, text)?;
+                text.extend_from_slice(b" ")?;
+                let scope = self.scope.behind(premise);
+                FormulaPrinter { scope, ..self }.add_formula(conclusion, text)?;
+                text.extend_from_slice(b")")
+            }
+            Formula::Exists(types, part) => {
+                text.extend_from_slice(b"(exists (")?;
+                self.add_quantified(types, part, text)
+            }
+            Formula::Forall(types, part) => {
+                text.extend_from_slice(b"(forall (")?;
+                self.add_quantified(types, part, text)
+            }
         }
-        Formula::Equal(left, right) => add_equality(task, left, right, scope, text),
-        Formula::And(parts) => add_parts(alloc, task, b"(and", parts, scope, text),
-        Formula::Or(parts) => add_parts(alloc, task, b"(or", parts, scope, text),
-        Formula::Not(part) => add_negation(alloc, task, part, scope, text),
-        Formula::Imply(premise, conclusion) => {
-            text.extend_from_slice(b"(imply ")?;
-            add_formula(alloc, task, premise, scope, text)?;
+    }
+
+    /// Adds an equality.
+    fn add_equality(self, left: &Term, right: &Term, text: &mut Vec<u8>) -> Result<(), AllocError>
+        ensures { OnOk result (text.new.items ≡ text.old.items ++ (codes "(=" ++ (term_text (task_of self.entry.task.now) (scope_of self.entry.scope) (term_of left.now)
+            ++ (term_text (task_of self.entry.task.now) (scope_of self.entry.scope) (term_of right.now) ++ codes ")")))) }
+    {
+        text.extend_from_slice(b"(=")?;
+        self.add_term(left, text)?;
+        self.add_term(right, text)?;
+        text.extend_from_slice(b")")
+    }
+
+    /// Adds a negation.
+    #[cycle(formula)]
+    fn add_negation(self, part: &Formula, text: &mut Vec<u8>) -> Result<(), AllocError>
+        ensures { OnOk result (text.new.items ≡ text.old.items ++ (codes "(not " ++ (formula_text (task_of self.entry.task.now) (scope_of self.entry.scope) (formula_of part.now) ++ codes ")"))) }
+    {
+        text.extend_from_slice(b"(not ")?;
+        self.add_formula(part, text)?;
+        text.extend_from_slice(b")")
+    }
+
+    /// Adds the keyword of a conjunction or a disjunction, and its parts.
+    #[cycle(formula)]
+    fn add_parts(
+        self,
+        opening: &[u8],
+        parts: &[Formula],
+        text: &mut Vec<u8>,
+    ) -> Result<(), AllocError>
+        ensures { OnOk result (text.new.items ≡ text.old.items ++ (opening.now ++ (parts_text (task_of self.entry.task.now) (scope_of self.entry.scope) (formulas (map formula_of parts.now)) ++ codes ")"))) }
+    {
+        text.extend_from_slice(opening)?;
+        let mut scope = self.scope;
+        for part in parts {
             text.extend_from_slice(b" ")?;
-            add_formula(alloc, task, conclusion, scope.behind(premise), text)?;
-            text.extend_from_slice(b")")
+            FormulaPrinter { scope, ..self }.add_formula(part, text)?;
+            scope = scope.behind(part);
         }
-        Formula::Exists(types, part) => {
-            add_quantified(alloc, task, b"(exists (", types, part, scope, text)
-        }
-        Formula::Forall(types, part) => {
-            add_quantified(alloc, task, b"(forall (", types, part, scope, text)
-        }
+        text.extend_from_slice(b")")
     }
-}
 
-/// Adds an equality.
-fn add_equality(
-    task: &Task,
-    left: &Term,
-    right: &Term,
-    scope: Scope<'_>,
-    text: &mut Vec<u8>,
-) -> Result<(), AllocError>
-    ensures { OnOk result (text.new.items ≡ text.old.items ++ (codes "(=" ++ (term_text (task_of task.now) (scope_of scope.entry) (term_of left.now)
-        ++ (term_text (task_of task.now) (scope_of scope.entry) (term_of right.now) ++ codes ")")))) }
-{
-    text.extend_from_slice(b"(=")?;
-    add_term(task, left, scope, text)?;
-    add_term(task, right, scope, text)?;
-    text.extend_from_slice(b")")
-}
+    /// Adds what follows the keyword of a quantifier: its variable, the variable's types, and its part.
+    #[cycle(formula)]
+    fn add_quantified(
+        self,
+        types: &TypeUnion,
+        part: &Formula,
+        text: &mut Vec<u8>,
+    ) -> Result<(), AllocError>
+        ensures { OnOk result (text.new.items ≡ text.old.items ++ (variable_declared (task_of self.entry.task.now) (scope_of self.entry.scope) (union_of types.now)
+            ++ (formula_text (task_of self.entry.task.now) (with_next (scope_of self.entry.scope)) (formula_of part.now) ++ codes ")"))) }
+    {
+        let name = self.scope.next_name(self.alloc)?;
+        let names = with_name(self.alloc, self.scope.names, name.as_slice())?;
+        add_declared(self.task, name.as_slice(), types, text)?;
+        let inner = FormulaPrinter {
+            alloc: self.alloc,
+            task: self.task,
+            scope: Scope {
+                objects: self.scope.objects,
+                names: names.as_slice(),
+                coming: without_first(self.scope.coming),
+            },
+        };
+        inner.add_formula(part, text)?;
+        text.extend_from_slice(b")")
+    }
 
-/// Adds a negation.
-#[cycle(formula)]
-fn add_negation(
-    alloc: Global,
-    task: &Task,
-    part: &Formula,
-    scope: Scope<'_>,
-    text: &mut Vec<u8>,
-) -> Result<(), AllocError>
-    ensures { OnOk result (text.new.items ≡ text.old.items ++ (codes "(not " ++ (formula_text (task_of task.now) (scope_of scope.entry) (formula_of part.now) ++ codes ")"))) }
-{
-    text.extend_from_slice(b"(not ")?;
-    add_formula(alloc, task, part, scope, text)?;
-    text.extend_from_slice(b")")
-}
+    /// Adds an atom with this name, or a function of terms.
+    pub(crate) fn add_atom(
+        self,
+        name: &[u8],
+        atom: &LiftedAtom,
+        text: &mut Vec<u8>,
+    ) -> Result<(), AllocError>
+        ensures { OnOk result (text.new.items ≡ text.old.items ++ atom_text (task_of self.entry.task.now) (scope_of self.entry.scope) name.now (lifted_atom_of atom.now).terms) }
+    {
+        text.extend_from_slice(b"(")?;
+        text.extend_from_slice(name)?;
+        for term in &atom.terms {
+            self.add_term(term, text)?;
+        }
+        text.extend_from_slice(b")")
+    }
 
-/// Adds the keyword of a conjunction or a disjunction, and its parts.
-#[cycle(formula)]
-fn add_parts(
-    alloc: Global,
-    task: &Task,
-    opening: &[u8],
-    parts: &[Formula],
-    scope: Scope<'_>,
-    text: &mut Vec<u8>,
-) -> Result<(), AllocError>
-    ensures { OnOk result (text.new.items ≡ text.old.items ++ (opening.now ++ (parts_text (task_of task.now) (scope_of scope.entry) (formulas (map formula_of parts.now)) ++ codes ")"))) }
-{
-    text.extend_from_slice(opening)?;
-    let mut current = scope;
-    for part in parts {
+    /// Adds a blank and the term.
+    fn add_term(self, term: &Term, text: &mut Vec<u8>) -> Result<(), AllocError>
+        ensures { OnOk result (text.new.items ≡ text.old.items ++ term_text (task_of self.entry.task.now) (scope_of self.entry.scope) (term_of term.now)) }
+    {
         text.extend_from_slice(b" ")?;
-        add_formula(alloc, task, part, current, text)?;
-        current = current.behind(part);
+        text.extend_from_slice(self.term_name(term))
     }
-    text.extend_from_slice(b")")
-}
 
-/// Adds a quantifier with this keyword: its variable, the variable's types, and its part.
-#[cycle(formula)]
-fn add_quantified(
-    alloc: Global,
-    task: &Task,
-    opening: &[u8],
-    types: &TypeUnion,
-    part: &Formula,
-    scope: Scope<'_>,
-    text: &mut Vec<u8>,
-) -> Result<(), AllocError>
-    ensures { OnOk result (text.new.items ≡ text.old.items ++ (opening.now ++ (variable_declared (task_of task.now) (scope_of scope.entry) (union_of types.now)
-        ++ (formula_text (task_of task.now) (with_next (scope_of scope.entry)) (formula_of part.now) ++ codes ")")))) }
-{
-    let name = next_name(alloc, scope)?;
-    let names = with_name(alloc, scope.names, name.as_slice())?;
-    text.extend_from_slice(opening)?;
-    add_declared(task, name.as_slice(), types, text)?;
-    let inner = Scope {
-        objects: scope.objects,
-        names: names.as_slice(),
-        coming: without_first(scope.coming),
-    };
-    add_formula(alloc, task, part, inner, text)?;
-    text.extend_from_slice(b")")
-}
-
-/// The name of the next variable, in lower case like all names of a task.
-fn next_name(alloc: Global, scope: Scope<'_>) -> Result<Vec<u8>, AllocError>
-    ensures { IfOk result (λ name. name.items ≡ next_name (scope_of scope.entry)) }
-{
-    match scope.coming.first() {
-        Some(name) => name.to_ascii_lowercase(alloc),
-        None => {
-            let name = numbered_name(alloc, scope.names.len() + 1)?;
-            Ok(name.into_bytes())
+    /// The name of an object, of a bound variable's object, or of a variable without one.
+    fn term_name(self, term: &Term) -> &'a [u8]
+        ensures { codes " " ++ result.now ≡ term_text (task_of self.entry.task.now) (scope_of self.entry.scope) (term_of term.now) }
+    {
+        match term {
+            Term::Object(object) => object_name(self.task, *object),
+            Term::Variable(variable) => self.scope.variable_name(self.task, variable.0),
         }
     }
 }
@@ -242,57 +283,6 @@ fn add_either(task: &Task, types: &[TypeId], text: &mut Vec<u8>) -> Result<(), A
         text.extend_from_slice(type_name(task, *one))?;
     }
     text.extend_from_slice(b")")
-}
-
-/// Adds an atom with this name, or a function of terms.
-pub(crate) fn add_atom(
-    task: &Task,
-    name: &[u8],
-    atom: &LiftedAtom,
-    scope: Scope<'_>,
-    text: &mut Vec<u8>,
-) -> Result<(), AllocError>
-    ensures { OnOk result (text.new.items ≡ text.old.items ++ atom_text (task_of task.now) (scope_of scope.entry) name.now (lifted_atom_of atom.now).terms) }
-{
-    text.extend_from_slice(b"(")?;
-    text.extend_from_slice(name)?;
-    for term in &atom.terms {
-        add_term(task, term, scope, text)?;
-    }
-    text.extend_from_slice(b")")
-}
-
-/// Adds a blank and the term.
-fn add_term(
-    task: &Task,
-    term: &Term,
-    scope: Scope<'_>,
-    text: &mut Vec<u8>,
-) -> Result<(), AllocError>
-    ensures { OnOk result (text.new.items ≡ text.old.items ++ term_text (task_of task.now) (scope_of scope.entry) (term_of term.now)) }
-{
-    text.extend_from_slice(b" ")?;
-    text.extend_from_slice(term_name(task, term, scope))
-}
-
-/// The name of an object, of a bound variable's object, or of a variable without one.
-fn term_name<'a>(task: &'a Task, term: &Term, scope: Scope<'a>) -> &'a [u8]
-    ensures { codes " " ++ result.now ≡ term_text (task_of task.now) (scope_of scope.entry) (term_of term.now) }
-{
-    match term {
-        Term::Object(object) => object_name(task, *object),
-        Term::Variable(variable) => variable_name(task, variable.0, scope),
-    }
-}
-
-/// The name of the object bound to the variable with this number, or of the variable itself if it is unbound.
-fn variable_name<'a>(task: &'a Task, number: usize, scope: Scope<'a>) -> &'a [u8]
-    ensures { codes " " ++ result.now ≡ variable_text (task_of task.now) (scope_of scope.entry) number }
-{
-    match scope.objects.get(number) {
-        Some(object) => object_name(task, *object),
-        None => inner_name(scope.names, number.saturating_sub(scope.objects.len())),
-    }
 }
 
 /// The name at this index; empty if there is none.

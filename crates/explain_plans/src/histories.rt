@@ -23,13 +23,11 @@ pub enum History {
     ByStep(usize),
 }
 
-impl History {
-    /// The history after one more state, the one before the step with this number, given whether the part holds there.
-    fn after(self, holds: bool, step: usize) -> History
-        ensures { history_of result ≡ (if holds then by_step step else history_of self) }
-    {
-        if holds { History::ByStep(step) } else { self }
-    }
+/// The state before the step with this number, counted from 1.
+#[derive(Clone, Copy)]
+struct Before<'s> {
+    step: usize,
+    state: &'s State,
 }
 
 /// Since when each of the parts, all false after the steps, has been false.
@@ -50,21 +48,26 @@ pub(crate) fn histories(
     let mut histories = vec![in alloc; History::Always; parts.len()]?;
     let mut state = State::initial(alloc, task)?;
     for (index, step) in steps.iter().enumerate() {
-        look(task, &state, index + 1, parts, &mut histories);
+        let before = Before {
+            step: index + 1,
+            state: &state,
+        };
+        look(task, before, parts, &mut histories);
         state = apply(alloc, task, step, &state)?.unwrap();
     }
     Ok(histories)
 }
 
-/// Updates the histories by the state before the step with this number.
-fn look(task: &Task, state: &State, step: usize, parts: &[Part<'_>], histories: &mut Vec<History>)
+/// Updates the histories by the state before a step.
+fn look(task: &Task, before: Before<'_>, parts: &[Part<'_>], histories: &mut Vec<History>)
     requires fit { All (FitsPart (task_of task.now)) parts.now }
     requires one_each { length histories.old.items ≡ length parts.now }
     ensures one_each { length histories.new.items ≡ length parts.now }
-    ensures looked { Looked (task_of task.now) (state_of state.now) step parts.now histories.old.items histories.new.items }
+    ensures looked { Looked (task_of task.now) (state_of before.entry.state.now) before.entry.step parts.now histories.old.items histories.new.items }
 {
     for (place, part) in parts.iter().enumerate() {
-        let is_true = holds(task, part.formula, &part.objects, state);
-        histories[place] = histories[place].after(is_true, step);
+        if holds(task, part.formula, &part.objects, before.state) {
+            histories[place] = History::ByStep(before.step);
+        }
     }
 }

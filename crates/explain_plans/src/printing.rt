@@ -10,14 +10,16 @@ ghost use Rattle.formulas.specs.State.{instance_of, plan_of};
 ghost use Rattle.formulas.specs.declared.instance.Instance.{Instance};
 ghost use Rattle.explain_plans.specs.Explanations.{verdict_of};
 ghost use Rattle.explain_plans.specs.FormulaText.{formula_text, scope_at};
+ghost use Rattle.explain_plans.specs.NamesView.{names_in};
 ghost use Rattle.explain_plans.specs.Parts.{history_of, part_of};
-ghost use Rattle.explain_plans.specs.PlanLines.{added_text, cause_text, deleted_text, increase_text, instance_increase_text, lacking_text, made_text, negation_text, reason_line, reason_lines, reasons_text, step_name, step_reasons_text, verdict_line, why_text};
+ghost use Rattle.explain_plans.specs.PlanLines.{added_text, cause_text, deleted_text, increase_text, instance_increase_text, lacking_text, made_text, negation_text, reason_line, reason_lines, reasons_text, step_name, verdict_line, why_text};
 ghost use Rattle.explain_plans.specs.Said.{AddsDetails, HasDetails};
+ghost use Rattle.explain_plans.specs.ScopeView.{scope_of};
 ghost use Rattle.model.specs.Runs.{not_applicable};
 
 use crate::explanations::{PlanExplanation, Reasons};
 use crate::false_parts::Part;
-use crate::formula_text::{Scope, add_atom, add_formula, function_name};
+use crate::formula_text::{FormulaPrinter, Scope, function_name};
 use crate::histories::History;
 use faults::NoMemory;
 use formulas::{Instance, Plan};
@@ -44,9 +46,10 @@ pub fn report_verdict(
 ) -> Result<String, NoMemory>
     ensures { IfOk result (λ line. string_bytes line ≡ verdict_line (task_of task.now) (plan_of plan.now) (verdict_of explanation.now)) }
 {
+    let printer = PlanPrinter { alloc, task, plan };
     match explanation {
         PlanExplanation::Solves { total, .. } => cost_line(alloc, *total),
-        PlanExplanation::NotApplicable { step, .. } => step_line(alloc, task, plan, *step),
+        PlanExplanation::NotApplicable { step, .. } => printer.step_line(*step),
         PlanExplanation::GoalMissed { .. } => missed_line(alloc),
     }
 }
@@ -66,14 +69,6 @@ fn missed_line(alloc: Global) -> Result<String, NoMemory>
         alloc,
         "every step is applicable, but the goal is not reached\n",
     )?)
-}
-
-/// The line for the inapplicable step with this number.
-fn step_line(alloc: Global, task: &Task, plan: &Plan, step: usize) -> Result<String, NoMemory>
-    ensures { IfOk result (λ line. string_bytes line ≡ verdict_line (task_of task.now) (plan_of plan.now) (not_applicable step)) }
-{
-    let words = step_name(alloc, task, plan, step)?;
-    numbered_line(alloc, step, words.as_str())
 }
 
 /// The same for a step given in these words.
@@ -106,104 +101,280 @@ pub fn report_details(
     ensures { IfOk result (λ text. HasDetails (task_of task.now) (plan_of plan.now) explanation.now (string_bytes text)) }
 {
     let mut text = Vec::new(alloc);
-    add_details(alloc, task, plan, explanation, &mut text)?;
+    PlanPrinter { alloc, task, plan }.add_details(explanation, &mut text)?;
     Ok(String::from_utf8_lossy(alloc, text.as_slice())?)
 }
 
-/// Adds the lines that give the reasons.
-fn add_details(
+/// Prints what is said of a plan for a task.
+#[derive(Clone, Copy)]
+struct PlanPrinter<'p> {
     alloc: Global,
-    task: &Task,
-    plan: &Plan,
-    explanation: &PlanExplanation<'_>,
-    text: &mut Vec<u8>,
-) -> Result<(), NoMemory>
-    ensures { OnOk result (AddsDetails (task_of task.now) (plan_of plan.now) explanation.now text.old.items text.new.items) }
-{
-    match explanation {
-        PlanExplanation::Solves { costs, .. } => add_steps(alloc, task, plan, costs, text),
-        PlanExplanation::NotApplicable {
-            step,
-            lacks_cost,
-            reasons,
-        } => add_step_reasons(alloc, task, plan, *step, *lacks_cost, reasons, text),
-        PlanExplanation::GoalMissed { reasons } => add_reasons(alloc, task, plan, reasons, text),
-    }
+    task: &'p Task,
+    plan: &'p Plan,
 }
 
-/// Adds a line for each step: its number, its text, its cost and the accumulated cost.
-fn add_steps(
-    alloc: Global,
-    task: &Task,
-    plan: &Plan,
-    costs: &[u32],
-    text: &mut Vec<u8>,
-) -> Result<(), NoMemory> {
-    let mut total = 0u64;
-    for (index, (step, cost)) in plan.steps().iter().zip(costs).enumerate() {
-        total = total.saturating_add(u64::from(*cost));
-        let step = step_text(alloc, task, step)?;
-        let number = index.saturating_add(1);
-        let line = format!(in alloc; "{number}  {step}  cost {cost}, {total} so far\n")?;
-        text.extend_from_slice(line.as_bytes())?;
-    }
-    Ok(())
+/// How a formula became false, with the objects of the variables in its scope.
+#[derive(Clone, Copy)]
+struct BecameFalse<'p> {
+    objects: &'p [ObjectId],
+    history: History,
 }
 
-/// Adds why the step with this number is not applicable.
-fn add_step_reasons(
-    alloc: Global,
-    task: &Task,
-    plan: &Plan,
-    step: usize,
-    lacks_cost: bool,
-    reasons: &Reasons<'_>,
-    text: &mut Vec<u8>,
-) -> Result<(), NoMemory>
-    ensures { OnOk result (text.new.items ≡ text.old.items ++ step_reasons_text (task_of task.now) (plan_of plan.now) step lacks_cost reasons.now) }
-{
-    add_reasons(alloc, task, plan, reasons, text)?;
-    if lacks_cost {
-        add_lacking_cost(task, plan, step, text)?;
+impl PlanPrinter<'_> {
+    /// The line for the inapplicable step with this number.
+    fn step_line(&self, step: usize) -> Result<String, NoMemory>
+        ensures { IfOk result (λ line. string_bytes line ≡ verdict_line (task_of self.now.task.now) (plan_of self.now.plan.now) (not_applicable step)) }
+    {
+        let words = self.step_name(step)?;
+        numbered_line(self.alloc, step, words.as_str())
     }
-    Ok(())
-}
 
-/// Adds a line for each reason, and one if there are more.
-fn add_reasons(
-    alloc: Global,
-    task: &Task,
-    plan: &Plan,
-    reasons: &Reasons<'_>,
-    text: &mut Vec<u8>,
-) -> Result<(), NoMemory>
-    ensures { OnOk result (text.new.items ≡ text.old.items ++ reasons_text (task_of task.now) (plan_of plan.now) reasons.now) }
-{
-    add_each(alloc, task, plan, &reasons.parts, &reasons.histories, text)?;
-    if reasons.more {
-        text.extend_from_slice(b"More conditions are false.\n")?;
-    }
-    Ok(())
-}
-
-/// Adds a line for each part, with the history at its index.
-fn add_each(
-    alloc: Global,
-    task: &Task,
-    plan: &Plan,
-    parts: &[Part<'_>],
-    histories: &[History],
-    text: &mut Vec<u8>,
-) -> Result<(), NoMemory>
-    ensures { OnOk result (text.new.items ≡ text.old.items ++ reason_lines (task_of task.now) (plan_of plan.now) (map part_of parts.now) (map history_of histories.now)) }
-{
-    for (index, part) in parts.iter().enumerate() {
-        match history_at(histories, index) {
-            Some(history) => add_reason(alloc, task, plan, part, history, text)?,
-            None => return Ok(()),
+    /// Adds the lines that give the reasons.
+    fn add_details(
+        &self,
+        explanation: &PlanExplanation<'_>,
+        text: &mut Vec<u8>,
+    ) -> Result<(), NoMemory>
+        ensures { OnOk result (AddsDetails (task_of self.now.task.now) (plan_of self.now.plan.now) explanation.now text.old.items text.new.items) }
+    {
+        match explanation {
+            PlanExplanation::Solves { costs, .. } => self.add_steps(costs, text),
+            PlanExplanation::NotApplicable {
+                step,
+                lacks_cost,
+                reasons,
+            } => {
+                self.add_reasons(reasons, text)?;
+                if *lacks_cost {
+                    self.add_lacking_cost(*step, text)?;
+                }
+                Ok(())
+            }
+            PlanExplanation::GoalMissed { reasons } => self.add_reasons(reasons, text),
         }
     }
-    Ok(())
+
+    /// Adds a line for each step: its number, its text, its cost and the accumulated cost.
+    fn add_steps(&self, costs: &[u32], text: &mut Vec<u8>) -> Result<(), NoMemory> {
+        let mut total = 0u64;
+        for (index, (step, cost)) in self.plan.steps().iter().zip(costs).enumerate() {
+            total = total.saturating_add(u64::from(*cost));
+            let step = step_text(self.alloc, self.task, step)?;
+            let number = index.saturating_add(1);
+            let line = format!(in self.alloc; "{number}  {step}  cost {cost}, {total} so far\n")?;
+            text.extend_from_slice(line.as_bytes())?;
+        }
+        Ok(())
+    }
+
+    /// Adds a line for each reason, and one if there are more.
+    fn add_reasons(&self, reasons: &Reasons<'_>, text: &mut Vec<u8>) -> Result<(), NoMemory>
+        ensures { OnOk result (text.new.items ≡ text.old.items ++ reasons_text (task_of self.now.task.now) (plan_of self.now.plan.now) reasons.now) }
+    {
+        self.add_each(&reasons.parts, &reasons.histories, text)?;
+        if reasons.more {
+            text.extend_from_slice(b"More conditions are false.\n")?;
+        }
+        Ok(())
+    }
+
+    /// Adds a line for each part, with the history at its index.
+    fn add_each(
+        &self,
+        parts: &[Part<'_>],
+        histories: &[History],
+        text: &mut Vec<u8>,
+    ) -> Result<(), NoMemory>
+        ensures { OnOk result (text.new.items ≡ text.old.items ++ reason_lines (task_of self.now.task.now) (plan_of self.now.plan.now) (map part_of parts.now) (map history_of histories.now)) }
+    {
+        for (index, part) in parts.iter().enumerate() {
+            match history_at(histories, index) {
+                Some(history) => self.add_reason(part, history, text)?,
+                None => return Ok(()),
+            }
+        }
+        Ok(())
+    }
+
+    /// Adds the line of a false part, with its history.
+    fn add_reason(
+        &self,
+        part: &Part<'_>,
+        history: History,
+        text: &mut Vec<u8>,
+    ) -> Result<(), NoMemory>
+        ensures { OnOk result (text.new.items ≡ text.old.items ++ reason_line (task_of self.now.task.now) (plan_of self.now.plan.now) (part_of part.now) (history_of history)) }
+    {
+        let objects = part.objects.as_slice();
+        self.formula_printer(objects, part.names)
+            .add_formula(part.formula, text)?;
+        text.extend_from_slice(b" is false")?;
+        self.add_why(part.formula, BecameFalse { objects, history }, text)?;
+        text.extend_from_slice(b".\n")?;
+        Ok(())
+    }
+
+    /// Adds how the formula became false.
+    fn add_why(
+        &self,
+        formula: &Formula,
+        how: BecameFalse<'_>,
+        text: &mut Vec<u8>,
+    ) -> Result<(), NoMemory>
+        ensures { OnOk result (text.new.items ≡ text.old.items ++ why_text (task_of self.now.task.now) (plan_of self.now.plan.now) (map object_of how.entry.objects.now) (formula_of formula.now) (history_of how.entry.history)) }
+    {
+        match formula {
+            Formula::Atom(_) => self.add_deleted(how.history, text),
+            Formula::Not(part) => self.add_negation(part, how, text),
+            _ => self.add_made(how.history, text),
+        }
+    }
+
+    /// Adds how the negation of this part became false.
+    fn add_negation(
+        &self,
+        part: &Formula,
+        how: BecameFalse<'_>,
+        text: &mut Vec<u8>,
+    ) -> Result<(), NoMemory>
+        ensures { OnOk result (text.new.items ≡ text.old.items ++ negation_text (task_of self.now.task.now) (plan_of self.now.plan.now) (map object_of how.entry.objects.now) (formula_of part.now) (history_of how.entry.history)) }
+    {
+        match part {
+            Formula::Atom(_) => self.add_added(part, how, text),
+            _ => self.add_made(how.history, text),
+        }
+    }
+
+    /// Adds how an atom that should be true became false.
+    fn add_deleted(&self, history: History, text: &mut Vec<u8>) -> Result<(), NoMemory>
+        ensures { OnOk result (text.new.items ≡ text.old.items ++ deleted_text (task_of self.now.task.now) (plan_of self.now.plan.now) (history_of history)) }
+    {
+        match history {
+            History::Always => Ok(text.extend_from_slice(b": it was never true")?),
+            History::ByStep(step) => self.add_cause(step, b" deleted it", text),
+        }
+    }
+
+    /// Adds how an atom that should be false became true.
+    fn add_added(
+        &self,
+        atom: &Formula,
+        how: BecameFalse<'_>,
+        text: &mut Vec<u8>,
+    ) -> Result<(), NoMemory>
+        ensures { OnOk result (text.new.items ≡ text.old.items ++ added_text (task_of self.now.task.now) (plan_of self.now.plan.now) (formula_text (task_of self.now.task.now) (scope_at (map object_of how.entry.objects.now) []) (formula_of atom.now)) (history_of how.entry.history)) }
+    {
+        let printer = self.formula_printer(how.objects, &[]);
+        match how.history {
+            History::Always => {
+                text.extend_from_slice(b": ")?;
+                printer.add_formula(atom, text)?;
+                text.extend_from_slice(b" was true from the start")?;
+                Ok(())
+            }
+            History::ByStep(step) => {
+                self.add_cause(step, b" added ", text)?;
+                printer.add_formula(atom, text)?;
+                Ok(())
+            }
+        }
+    }
+
+    /// Adds which step made another kind of formula false.
+    fn add_made(&self, history: History, text: &mut Vec<u8>) -> Result<(), NoMemory>
+        ensures { OnOk result (text.new.items ≡ text.old.items ++ made_text (task_of self.now.task.now) (plan_of self.now.plan.now) (history_of history)) }
+    {
+        match history {
+            History::Always => Ok(()),
+            History::ByStep(step) => self.add_cause(step, b" made it so", text),
+        }
+    }
+
+    /// Adds that the step with this number is the cause.
+    fn add_cause(&self, step: usize, deed: &[u8], text: &mut Vec<u8>) -> Result<(), NoMemory>
+        ensures { OnOk result (text.new.items ≡ text.old.items ++ cause_text (task_of self.now.task.now) (plan_of self.now.plan.now) step deed.now) }
+    {
+        let words = self.step_words(step)?;
+        text.extend_from_slice(b": ")?;
+        text.extend_from_slice(words.as_bytes())?;
+        text.extend_from_slice(deed)?;
+        Ok(())
+    }
+
+    /// The words `step 3, (hop a b),`; steps are counted from 1.
+    fn step_words(&self, step: usize) -> Result<String, NoMemory>
+        ensures { IfOk result (λ words. string_bytes words ≡ codes "step " ++ (decimal step ++ (codes ", " ++ (step_name (task_of self.now.task.now) (plan_of self.now.plan.now) step ++ codes ",")))) }
+    {
+        let words = self.step_name(step)?;
+        numbered_words(self.alloc, step, words.as_str())
+    }
+
+    /// The step with this number in plan syntax; empty if there is none.
+    fn step_name(&self, step: usize) -> Result<String, NoMemory>
+        ensures { IfOk result (λ name. string_bytes name ≡ step_name (task_of self.now.task.now) (plan_of self.now.plan.now) step) }
+    {
+        match step_at(self.plan, step) {
+            Some(instance) => step_text(self.alloc, self.task, instance),
+            None => Ok(String::new(self.alloc)),
+        }
+    }
+
+    /// Adds the line that says that the action's cost increase has no value for this step.
+    fn add_lacking_cost(&self, step: usize, text: &mut Vec<u8>) -> Result<(), NoMemory>
+        ensures { OnOk result (text.new.items ≡ text.old.items ++ lacking_text (task_of self.now.task.now) (plan_of self.now.plan.now) step) }
+    {
+        match step_at(self.plan, step) {
+            Some(instance) => self.add_lacking_value(instance, text),
+            None => Ok(()),
+        }
+    }
+
+    /// The same for this instance.
+    fn add_lacking_value(&self, instance: &Instance, text: &mut Vec<u8>) -> Result<(), NoMemory>
+        ensures { OnOk result (text.new.items ≡ text.old.items ++ instance_increase_text (task_of self.now.task.now) (instance_of instance.now)) }
+    {
+        match self.task.schema(instance.schema) {
+            Some(schema) => self.add_increase(&schema.increase, instance.objects.as_slice(), text),
+            None => Ok(()),
+        }
+    }
+
+    /// Adds the line about a function without a value for these objects.
+    fn add_increase(
+        &self,
+        increase: &Increase,
+        objects: &[ObjectId],
+        text: &mut Vec<u8>,
+    ) -> Result<(), NoMemory>
+        ensures { OnOk result (text.new.items ≡ text.old.items ++ increase_text (task_of self.now.task.now) (map object_of objects.now) (increase_of increase.now)) }
+    {
+        match increase {
+            Increase::Function(function) => {
+                let name = function_name(self.task, function.predicate);
+                self.formula_printer(objects, &[])
+                    .add_atom(name, function, text)?;
+                text.extend_from_slice(b" has no value.\n")?;
+                Ok(())
+            }
+            Increase::Number(_) => Ok(()),
+        }
+    }
+
+    /// Prints formulas in which all variables have these objects, and quantified variables get these names.
+    fn formula_printer<'a>(
+        &'a self,
+        objects: &'a [ObjectId],
+        names: &'a [&'a [u8]],
+    ) -> FormulaPrinter<'a>
+        ensures task { result.task.now ≡ self.now.task.now }
+        ensures scope { scope_of result.scope ≡ scope_at (map object_of objects.now) (names_in names.now) }
+    {
+        FormulaPrinter {
+            alloc: self.alloc,
+            task: self.task,
+            scope: Scope::of(objects, names),
+        }
+    }
 }
 
 /// The history at this index.
@@ -216,168 +387,11 @@ fn history_at(histories: &[History], place: usize) -> Option<History>
     }
 }
 
-/// Adds the line of a false part, with its history.
-fn add_reason(
-    alloc: Global,
-    task: &Task,
-    plan: &Plan,
-    part: &Part<'_>,
-    history: History,
-    text: &mut Vec<u8>,
-) -> Result<(), NoMemory>
-    ensures { OnOk result (text.new.items ≡ text.old.items ++ reason_line (task_of task.now) (plan_of plan.now) (part_of part.now) (history_of history)) }
-{
-    let objects = part.objects.as_slice();
-    add_formula(
-        alloc,
-        task,
-        part.formula,
-        Scope::of(objects, part.names),
-        text,
-    )?;
-    text.extend_from_slice(b" is false")?;
-    add_why(alloc, task, plan, part.formula, objects, history, text)?;
-    text.extend_from_slice(b".\n")?;
-    Ok(())
-}
-
-/// Adds how the formula became false.
-fn add_why(
-    alloc: Global,
-    task: &Task,
-    plan: &Plan,
-    formula: &Formula,
-    objects: &[ObjectId],
-    history: History,
-    text: &mut Vec<u8>,
-) -> Result<(), NoMemory>
-    ensures { OnOk result (text.new.items ≡ text.old.items ++ why_text (task_of task.now) (plan_of plan.now) (map object_of objects.now) (formula_of formula.now) (history_of history)) }
-{
-    match formula {
-        Formula::Atom(_) => add_deleted(alloc, task, plan, history, text),
-        Formula::Not(part) => add_negation(alloc, task, plan, part, objects, history, text),
-        _ => add_made(alloc, task, plan, history, text),
-    }
-}
-
-/// Adds how the negation of this part became false.
-fn add_negation(
-    alloc: Global,
-    task: &Task,
-    plan: &Plan,
-    part: &Formula,
-    objects: &[ObjectId],
-    history: History,
-    text: &mut Vec<u8>,
-) -> Result<(), NoMemory>
-    ensures { OnOk result (text.new.items ≡ text.old.items ++ negation_text (task_of task.now) (plan_of plan.now) (map object_of objects.now) (formula_of part.now) (history_of history)) }
-{
-    match part {
-        Formula::Atom(_) => add_added(alloc, task, plan, part, objects, history, text),
-        _ => add_made(alloc, task, plan, history, text),
-    }
-}
-
-/// Adds how an atom that should be true became false.
-fn add_deleted(
-    alloc: Global,
-    task: &Task,
-    plan: &Plan,
-    history: History,
-    text: &mut Vec<u8>,
-) -> Result<(), NoMemory>
-    ensures { OnOk result (text.new.items ≡ text.old.items ++ deleted_text (task_of task.now) (plan_of plan.now) (history_of history)) }
-{
-    match history {
-        History::Always => Ok(text.extend_from_slice(b": it was never true")?),
-        History::ByStep(step) => add_cause(alloc, task, plan, step, b" deleted it", text),
-    }
-}
-
-/// Adds how an atom that should be false became true.
-fn add_added(
-    alloc: Global,
-    task: &Task,
-    plan: &Plan,
-    atom: &Formula,
-    objects: &[ObjectId],
-    history: History,
-    text: &mut Vec<u8>,
-) -> Result<(), NoMemory>
-    ensures { OnOk result (text.new.items ≡ text.old.items ++ added_text (task_of task.now) (plan_of plan.now) (formula_text (task_of task.now) (scope_at (map object_of objects.now) []) (formula_of atom.now)) (history_of history)) }
-{
-    match history {
-        History::Always => {
-            text.extend_from_slice(b": ")?;
-            add_formula(alloc, task, atom, Scope::of(objects, &[]), text)?;
-            text.extend_from_slice(b" was true from the start")?;
-            Ok(())
-        }
-        History::ByStep(step) => {
-            add_cause(alloc, task, plan, step, b" added ", text)?;
-            add_formula(alloc, task, atom, Scope::of(objects, &[]), text)?;
-            Ok(())
-        }
-    }
-}
-
-/// Adds which step made another kind of formula false.
-fn add_made(
-    alloc: Global,
-    task: &Task,
-    plan: &Plan,
-    history: History,
-    text: &mut Vec<u8>,
-) -> Result<(), NoMemory>
-    ensures { OnOk result (text.new.items ≡ text.old.items ++ made_text (task_of task.now) (plan_of plan.now) (history_of history)) }
-{
-    match history {
-        History::Always => Ok(()),
-        History::ByStep(step) => add_cause(alloc, task, plan, step, b" made it so", text),
-    }
-}
-
-/// Adds that the step with this number is the cause.
-fn add_cause(
-    alloc: Global,
-    task: &Task,
-    plan: &Plan,
-    step: usize,
-    deed: &[u8],
-    text: &mut Vec<u8>,
-) -> Result<(), NoMemory>
-    ensures { OnOk result (text.new.items ≡ text.old.items ++ cause_text (task_of task.now) (plan_of plan.now) step deed.now) }
-{
-    let words = step_words(alloc, task, plan, step)?;
-    text.extend_from_slice(b": ")?;
-    text.extend_from_slice(words.as_bytes())?;
-    text.extend_from_slice(deed)?;
-    Ok(())
-}
-
-/// The words `step 3, (hop a b),`; steps are counted from 1.
-fn step_words(alloc: Global, task: &Task, plan: &Plan, step: usize) -> Result<String, NoMemory>
-    ensures { IfOk result (λ words. string_bytes words ≡ codes "step " ++ (decimal step ++ (codes ", " ++ (step_name (task_of task.now) (plan_of plan.now) step ++ codes ",")))) }
-{
-    let words = step_name(alloc, task, plan, step)?;
-    numbered_words(alloc, step, words.as_str())
-}
-
 /// The same for a step given in these words.
 fn numbered_words(alloc: Global, step: usize, words: &str) -> Result<String, NoMemory>
     ensures { IfOk result (λ text. string_bytes text ≡ codes "step " ++ (decimal step ++ (codes ", " ++ (words.now ++ codes ",")))) }
 {
     Ok(format!(in alloc; "step {step}, {words},")?)
-}
-
-/// The step with this number in plan syntax; empty if there is none.
-fn step_name(alloc: Global, task: &Task, plan: &Plan, step: usize) -> Result<String, NoMemory>
-    ensures { IfOk result (λ name. string_bytes name ≡ step_name (task_of task.now) (plan_of plan.now) step) }
-{
-    match step_at(plan, step) {
-        Some(instance) => step_text(alloc, task, instance),
-        None => Ok(String::new(alloc)),
-    }
 }
 
 /// The step with this number, counted from 1.
@@ -388,49 +402,4 @@ fn step_at(plan: &Plan, step: usize) -> Option<&Instance>
         return None;
     }
     plan.steps().get(step - 1)
-}
-
-/// Adds the line that says that the action's cost increase has no value for this step.
-fn add_lacking_cost(
-    task: &Task,
-    plan: &Plan,
-    step: usize,
-    text: &mut Vec<u8>,
-) -> Result<(), NoMemory>
-    ensures { OnOk result (text.new.items ≡ text.old.items ++ lacking_text (task_of task.now) (plan_of plan.now) step) }
-{
-    match step_at(plan, step) {
-        Some(instance) => add_lacking_value(task, instance, text),
-        None => Ok(()),
-    }
-}
-
-/// The same for this instance.
-fn add_lacking_value(task: &Task, instance: &Instance, text: &mut Vec<u8>) -> Result<(), NoMemory>
-    ensures { OnOk result (text.new.items ≡ text.old.items ++ instance_increase_text (task_of task.now) (instance_of instance.now)) }
-{
-    match task.schema(instance.schema) {
-        Some(schema) => add_increase(task, &schema.increase, instance.objects.as_slice(), text),
-        None => Ok(()),
-    }
-}
-
-/// Adds the line about a function without a value for these objects.
-fn add_increase(
-    task: &Task,
-    increase: &Increase,
-    objects: &[ObjectId],
-    text: &mut Vec<u8>,
-) -> Result<(), NoMemory>
-    ensures { OnOk result (text.new.items ≡ text.old.items ++ increase_text (task_of task.now) (map object_of objects.now) (increase_of increase.now)) }
-{
-    match increase {
-        Increase::Function(function) => {
-            let name = function_name(task, function.predicate);
-            add_atom(task, name, function, Scope::of(objects, &[]), text)?;
-            text.extend_from_slice(b" has no value.\n")?;
-            Ok(())
-        }
-        Increase::Number(_) => Ok(()),
-    }
 }

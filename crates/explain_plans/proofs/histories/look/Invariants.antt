@@ -6,4 +6,4 @@ use Rattle.explain_plans.proofs.histories.look.Given as goal
 -- the parts so far are updated
 abbrev pub invariant-loop-place : goal.invariant-loop-place
 invariant-loop-place l =
-    IsLookedSoFar (task_of l.task) (state_of l.state) l.step l.parts l.place l.initial.histories.items l.histories.items
+    IsLookedSoFar (task_of l.task) (state_of l.before.state.now) l.before.step l.parts l.place l.initial.histories.items l.histories.items

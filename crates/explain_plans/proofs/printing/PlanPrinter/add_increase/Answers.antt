@@ -4,12 +4,13 @@ use Rattle.task.specs.Task.{task_of}
 use Rattle.task.specs.TaskParts.{increase_of, lifted_atom_of, object_of}
 use Rattle.explain_plans.specs.FormulaText.{atom_text, function_name, scope_at}
 use Rattle.explain_plans.specs.PlanLines.{increase_text}
+use Rattle.explain_plans.specs.ScopeView.{scope_of}
 use Rattle.explain_plans.proofs.PlanLinesLemmas.{two_added}
-use Rattle.explain_plans.proofs.printing.add_increase.Goals as goal
+use Rattle.explain_plans.proofs.printing.PlanPrinter.add_increase.Goals as goal
 
 pub returns-in_ok-extend_from_slice-in-Function : goal.returns-in_ok-extend_from_slice-in-Function
 returns-in_ok-extend_from_slice-in-Function c =
-    let task = task_of c.args.task.now in
+    let task = task_of c.args.self.now.task.now in
     let old = c.args.text.now.items in
     let objects = map object_of c.args.objects.now in
     let f = lifted_atom_of c.in-Function.function in
@@ -18,6 +19,7 @@ returns-in_ok-extend_from_slice-in-Function c =
     subst (λ i. last ≡ old ++ increase_text task objects (increase_of i)) (sym c.in-Function.is)
     (two_added old (atom_text task (scope_at objects []) (function_name task f.predicate) f.terms) (codes " has no value.\n") c.add_atom.new.text.items last
     (c.in_ok-add_atom-in-Function.ensures
-    ∙ ap (λ s. old ++ atom_text task s c.function_name-name.result.now f.terms) c.of.ensures
+    ∙ ap (λ t. old ++ atom_text (task_of t) (scope_of c.formula_printer.result.scope) c.function_name-name.result.now f.terms) c.formula_printer.ensures.task
+    ∙ ap (λ s. old ++ atom_text task s c.function_name-name.result.now f.terms) c.formula_printer.ensures.scope
     ∙ ap (λ n. old ++ atom_text task (scope_at objects []) n f.terms) name)
     c.in_ok-extend_from_slice-in-Function.ensures.items)

@@ -7,12 +7,12 @@ use Rattle.formulas.specs.State.{plan_of}
 use Rattle.explain_plans.specs.Parts.{history_of, part_of}
 use Rattle.explain_plans.specs.PlanLines.{reason_line, reason_lines}
 use Rattle.explain_plans.proofs.PlanLinesLemmas.{lines_end, lines_more}
-use Rattle.explain_plans.proofs.printing.add_each.Goals as goal
+use Rattle.explain_plans.proofs.printing.PlanPrinter.add_each.Goals as goal
 
 pub loop-index-preserved : goal.loop-index-preserved
 loop-index-preserved c =
-    let task = task_of c.args.task.now in
-    let plan = plan_of c.args.plan.now in
+    let task = task_of c.args.self.now.task.now in
+    let plan = plan_of c.args.self.now.plan.now in
     let parts = c.args.parts.now in
     let part = c.index-parts-index.result in
     let all = map part_of parts in
@@ -32,4 +32,4 @@ returns-in-None c =
     let told = map history_of c.args.histories.now in
     let none : slice_get told c.loop-index.index ≡ None = sym c.history_at.ensures ∙ ap (option_map history_of) c.in-None.is in
     c.loop-index.invariant
-    ∙ ap (λ l. c.args.text.now.items ++ l) (lines_end (task_of c.args.task.now) (plan_of c.args.plan.now) c.loop-index.index (map part_of c.args.parts.now) told none)
+    ∙ ap (λ l. c.args.text.now.items ++ l) (lines_end (task_of c.args.self.now.task.now) (plan_of c.args.self.now.plan.now) c.loop-index.index (map part_of c.args.parts.now) told none)
