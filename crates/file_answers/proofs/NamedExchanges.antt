@@ -1,12 +1,12 @@
 -- The exchanges that a certificate can name belong to the task, and none of their lines is too long.
-use Rattle.std.proofs.Common.{◌≡◌, ◌+◌, ◌*◌, ◌≤◌, ◌&&◌, ℕ, Bool, true, List, [], ◌∷◌, length, map, Option, None, Some, refl, ap, ◌∙◌, arith, le-leb, leb-true, length-append, codes}
+use Rattle.std.proofs.Common.{◌≡◌, ◌*◌, ◌≤◌, ◌&&◌, ℕ, true, List, [], ◌∷◌, length, map, Option, None, Some, refl, ap, ◌∙◌, arith, le-leb, leb-true, length-append, codes}
 use Rattle.std.specs.Prelude.{IsTrue, nat_le, slice_get}
 use Rattle.std.specs.List.{list_all, flat_map}
 use Rattle.std.specs.Option.{option_map, option_map_or}
 use Rattle.std.proofs.lemmas.Bool.{and_parts, and_from}
 use Rattle.std.proofs.lemmas.Option.{slice_get-map}
 use Rattle.std.specs.Char.{to_ascii_lowercase}
-use Rattle.model.specs.Task.{Name, Object, Task}
+use Rattle.model.specs.Task.{Object, Task}
 use Rattle.model.specs.Resolution.{is_same}
 use Rattle.model.specs.Words.{is_name, longest_run}
 use Rattle.model.specs.PlanText.{object_names}

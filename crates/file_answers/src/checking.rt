@@ -13,12 +13,23 @@ ghost use Rattle.model.specs.Task as model;
 ghost use Rattle.model.specs.Files.{IsTaskOf};
 ghost use Rattle.model.specs.PlanWriting.{has_names};
 
-use crate::files::{FileFault, plan_of_file, task_of_files};
+use crate::files::{FileFault, TaskFiles, plan_of_file, task_of_files};
 use cert_checker::{Accepted, Refusal, check_and_say};
 use certificate::CertReader;
 use devices::{Sink, Source, Unheard};
 use std::alloc::Global;
 use task::Task;
+
+/// What a certificate is checked against.
+#[derive(Clone, Copy)]
+pub struct CheckInputs<'a> {
+    /// The files of the task.
+    pub task: TaskFiles<'a>,
+    /// The text of the plan file, if one is given.
+    pub plan: Option<&'a [u8]>,
+    /// The maximum number of instances that may be kept.
+    pub max_instances: u32,
+}
 
 /// A task read from files, with the checker's answer to a certificate for it.
 #[derive(Drop)]
@@ -37,8 +48,9 @@ pub struct Checked {
 /// the call, and the certificate is not read at all. Otherwise its lines are checked as they are read.
 ///
 /// ```
+/// let inputs = CheckInputs { task: TaskFiles { domain, problem }, plan: None, max_instances: 1_000_000 };
 /// let mut cert = CertReader::new(alloc, Memory::new(text));
-/// match check_files(alloc, domain, problem, &mut cert, None, 1_000_000)?.answer {
+/// match check_files(alloc, inputs, &mut cert)?.answer {
 ///     Ok(Accepted::AtLeast { cost }) => println!(rt; "no plan costs less than {cost}")?,
 ///     Ok(Accepted::Unsolvable) => println!(rt; "there is no plan")?,
 ///     Ok(Accepted::Optimal { .. }) => println!(rt; "only where a plan is given")?,
@@ -47,114 +59,106 @@ pub struct Checked {
 /// ```
 pub fn check_files<R: Source>(
     alloc: Global,
-    domain: &[u8],
-    problem: &[u8],
+    inputs: CheckInputs<'_>,
     cert: &mut CertReader<R>,
-    plan: Option<&[u8]>,
-    max_instances: u32,
 ) -> Result<Checked, FileFault>
     requires { IsFresh cert.old }
 
     // The task is that of the two texts, and the answer is correct for it and for what was read of the certificate.
-    ensures task { IfOk result (λ c. IsTaskOf domain.now problem.now (task_of c.task)) }
-    ensures answer { IfOk result (λ c. IsChecked R.remaining (task_of c.task) cert.old cert.new (text_in plan.entry) max_instances c.answer) }
+    ensures task { IfOk result (λ c. IsTaskOf inputs.entry.task.domain.now inputs.entry.task.problem.now (task_of c.task)) }
+    ensures answer { IfOk result (λ c. IsChecked R.remaining (task_of c.task) cert.old cert.new (text_in inputs.entry.plan) inputs.entry.max_instances c.answer) }
     ensures names { IfOk result (λ c. IsTrue (has_names (task_of c.task))) }
     ensures failures { IfOk result (λ c. CountsRefusal (R.failures (source_of cert.old)) (R.failures (source_of cert.new)) c.answer) }
-    ensures refused { IfErr result (λ fault. IfSome (reported_in fault) (IsInputFault domain.now problem.now (text_in plan.entry))) }
+    ensures refused { IfErr result (λ fault. IfSome (reported_in fault) (IsInputFault inputs.entry.task.domain.now inputs.entry.task.problem.now (text_in inputs.entry.plan))) }
     ensures unread { IsErr result → cert.new ≡ cert.old }
 
     // If the texts are a task, and a plan for it if one is given, there is an answer: the only error is running out of memory.
-    ensures taken { (task : model.Task) (steps : Option (List model.Instance)) → IsTaskOf domain.now problem.now task
-        → IsGiven task (text_in plan.entry) steps → IfErr result (λ fault. reported_in fault ≡ None) }
+    ensures taken { (task : model.Task) (steps : Option (List model.Instance)) → IsTaskOf inputs.entry.task.domain.now inputs.entry.task.problem.now task
+        → IsGiven task (text_in inputs.entry.plan) steps → IfErr result (λ fault. reported_in fault ≡ None) }
 {
-    check_files_and_say(
-        alloc,
-        domain,
-        problem,
-        cert,
-        plan,
-        max_instances,
-        &mut Unheard,
-    )
+    check_files_and_say(alloc, inputs, cert, &mut Unheard)
 }
 
 /// The same, with progress reports of how much of the certificate has been read, as by `check_and_say`.
 pub fn check_files_and_say<R: Source, E: Sink>(
     alloc: Global,
-    domain: &[u8],
-    problem: &[u8],
+    inputs: CheckInputs<'_>,
     cert: &mut CertReader<R>,
-    plan: Option<&[u8]>,
-    max_instances: u32,
     err: &mut E,
 ) -> Result<Checked, FileFault>
     requires { IsFresh cert.old }
 
     // The task is that of the two texts, and the answer is correct for it and for what was read of the certificate.
-    ensures task { IfOk result (λ c. IsTaskOf domain.now problem.now (task_of c.task)) }
-    ensures answer { IfOk result (λ c. IsChecked R.remaining (task_of c.task) cert.old cert.new (text_in plan.entry) max_instances c.answer) }
+    ensures task { IfOk result (λ c. IsTaskOf inputs.entry.task.domain.now inputs.entry.task.problem.now (task_of c.task)) }
+    ensures answer { IfOk result (λ c. IsChecked R.remaining (task_of c.task) cert.old cert.new (text_in inputs.entry.plan) inputs.entry.max_instances c.answer) }
     ensures names { IfOk result (λ c. IsTrue (has_names (task_of c.task))) }
     ensures failures { IfOk result (λ c. CountsRefusal (R.failures (source_of cert.old)) (R.failures (source_of cert.new)) c.answer) }
-    ensures refused { IfErr result (λ fault. IfSome (reported_in fault) (IsInputFault domain.now problem.now (text_in plan.entry))) }
+    ensures refused { IfErr result (λ fault. IfSome (reported_in fault) (IsInputFault inputs.entry.task.domain.now inputs.entry.task.problem.now (text_in inputs.entry.plan))) }
     ensures unread { IsErr result → cert.new ≡ cert.old }
 
     // If the texts are a task, and a plan for it if one is given, there is an answer: the only error is running out of memory.
-    ensures taken { (task : model.Task) (steps : Option (List model.Instance)) → IsTaskOf domain.now problem.now task
-        → IsGiven task (text_in plan.entry) steps → IfErr result (λ fault. reported_in fault ≡ None) }
+    ensures taken { (task : model.Task) (steps : Option (List model.Instance)) → IsTaskOf inputs.entry.task.domain.now inputs.entry.task.problem.now task
+        → IsGiven task (text_in inputs.entry.plan) steps → IfErr result (λ fault. reported_in fault ≡ None) }
 
     // Every progress line is true of the task of the two texts.
-    ensures said { AreSaid (IsCheckLineOf domain.now problem.now (R.remaining (source_of cert.old))) E.wants_memory (stream (E.failures err.old) (E.taken err.old)) (stream (E.failures err.new) (E.taken err.new)) }
+    ensures said { AreSaid (IsCheckLineOf inputs.entry.task.domain.now inputs.entry.task.problem.now (R.remaining (source_of cert.old))) E.wants_memory (stream (E.failures err.old) (E.taken err.old)) (stream (E.failures err.new) (E.taken err.new)) }
 {
-    let task = task_of_files(alloc, domain, problem)?;
-    check_task(alloc, task, cert, plan, max_instances, err)
+    let task = task_of_files(alloc, inputs.task.domain, inputs.task.problem)?;
+    Checker { alloc, inputs }.check_task(task, cert, err)
 }
 
-/// The task with the checker's answer to the certificate.
-fn check_task<R: Source, E: Sink>(
+/// Checks a certificate for a task, and for the plan that the inputs give.
+#[derive(Clone, Copy)]
+struct Checker<'a> {
     alloc: Global,
-    task: Task,
-    cert: &mut CertReader<R>,
-    plan: Option<&[u8]>,
-    max_instances: u32,
-    err: &mut E,
-) -> Result<Checked, FileFault>
-    requires fresh { IsFresh cert.old }
-    requires names { IsTrue (has_names (task_of task)) }
-    ensures task { (domain problem : List ℕ) → IsTaskOf domain problem (task_of task) → IfOk result (λ c. IsTaskOf domain problem (task_of c.task)) }
-    ensures answer { IfOk result (λ c. IsChecked R.remaining (task_of c.task) cert.old cert.new (text_in plan.entry) max_instances c.answer) }
-    ensures failures { IfOk result (λ c. CountsRefusal (R.failures (source_of cert.old)) (R.failures (source_of cert.new)) c.answer) }
-    ensures refused { (domain problem : List ℕ) → IsTaskOf domain problem (task_of task)
-        → IfErr result (λ fault. IfSome (reported_in fault) (IsInputFault domain problem (text_in plan.entry))) }
-    ensures unread { IsErr result → cert.new ≡ cert.old }
-    ensures said { (domain problem : List ℕ) → IsTaskOf domain problem (task_of task)
-        → AreSaid (IsCheckLineOf domain problem (R.remaining (source_of cert.old))) E.wants_memory (stream (E.failures err.old) (E.taken err.old)) (stream (E.failures err.new) (E.taken err.new)) }
-{
-    match answer_on(alloc, &task, cert, plan, max_instances, err) {
-        Ok(answer) => Ok(Checked { task, answer }),
-        Err(fault) => Err(fault),
+    inputs: CheckInputs<'a>,
+}
+
+impl Checker<'_> {
+    /// The task with the checker's answer to the certificate.
+    fn check_task<R: Source, E: Sink>(
+        self,
+        task: Task,
+        cert: &mut CertReader<R>,
+        err: &mut E,
+    ) -> Result<Checked, FileFault>
+        requires fresh { IsFresh cert.old }
+        requires names { IsTrue (has_names (task_of task)) }
+        ensures task { (domain problem : List ℕ) → IsTaskOf domain problem (task_of task) → IfOk result (λ c. IsTaskOf domain problem (task_of c.task)) }
+        ensures answer { IfOk result (λ c. IsChecked R.remaining (task_of c.task) cert.old cert.new (text_in self.entry.inputs.plan) self.entry.inputs.max_instances c.answer) }
+        ensures failures { IfOk result (λ c. CountsRefusal (R.failures (source_of cert.old)) (R.failures (source_of cert.new)) c.answer) }
+        ensures refused { (domain problem : List ℕ) → IsTaskOf domain problem (task_of task)
+            → IfErr result (λ fault. IfSome (reported_in fault) (IsInputFault domain problem (text_in self.entry.inputs.plan))) }
+        ensures unread { IsErr result → cert.new ≡ cert.old }
+        ensures said { (domain problem : List ℕ) → IsTaskOf domain problem (task_of task)
+            → AreSaid (IsCheckLineOf domain problem (R.remaining (source_of cert.old))) E.wants_memory (stream (E.failures err.old) (E.taken err.old)) (stream (E.failures err.new) (E.taken err.new)) }
+    {
+        match self.answer_on(&task, cert, err) {
+            Ok(answer) => Ok(Checked { task, answer }),
+            Err(fault) => Err(fault),
+        }
     }
-}
 
-/// The checker's answer to the certificate for this task, and for the plan in this text, if one is given.
-fn answer_on<R: Source, E: Sink>(
-    alloc: Global,
-    task: &Task,
-    cert: &mut CertReader<R>,
-    plan: Option<&[u8]>,
-    max_instances: u32,
-    err: &mut E,
-) -> Result<Result<Accepted, Refusal>, FileFault>
-    requires { IsFresh cert.old }
-    ensures answer { IfOk result (IsChecked R.remaining (task_of task.now) cert.old cert.new (text_in plan.entry) max_instances) }
-    ensures failures { IfOk result (CountsRefusal (R.failures (source_of cert.old)) (R.failures (source_of cert.new))) }
-    ensures refused { (domain problem : List ℕ) → IsTaskOf domain problem (task_of task.now)
-        → IfErr result (λ fault. IfSome (reported_in fault) (IsInputFault domain problem (text_in plan.entry))) }
-    ensures unread { IsErr result → cert.new ≡ cert.old }
-    ensures said { AreSaid (IsCheckLine (task_of task.now) (R.remaining (source_of cert.old))) E.wants_memory (stream (E.failures err.old) (E.taken err.old)) (stream (E.failures err.new) (E.taken err.new)) }
-{
-    let Some(text) = plan else {
-        return Ok(check_and_say(alloc, task, cert, None, max_instances, err));
-    };
-    let plan = plan_of_file(alloc, task, text)?;
-    Ok(check_and_say(alloc, task, cert, Some(&plan), max_instances, err))
+    /// The checker's answer to the certificate for this task, and for the plan that the inputs give, if any.
+    fn answer_on<R: Source, E: Sink>(
+        self,
+        task: &Task,
+        cert: &mut CertReader<R>,
+        err: &mut E,
+    ) -> Result<Result<Accepted, Refusal>, FileFault>
+        requires { IsFresh cert.old }
+        ensures answer { IfOk result (IsChecked R.remaining (task_of task.now) cert.old cert.new (text_in self.entry.inputs.plan) self.entry.inputs.max_instances) }
+        ensures failures { IfOk result (CountsRefusal (R.failures (source_of cert.old)) (R.failures (source_of cert.new))) }
+        ensures refused { (domain problem : List ℕ) → IsTaskOf domain problem (task_of task.now)
+            → IfErr result (λ fault. IfSome (reported_in fault) (IsInputFault domain problem (text_in self.entry.inputs.plan))) }
+        ensures unread { IsErr result → cert.new ≡ cert.old }
+        ensures said { AreSaid (IsCheckLine (task_of task.now) (R.remaining (source_of cert.old))) E.wants_memory (stream (E.failures err.old) (E.taken err.old)) (stream (E.failures err.new) (E.taken err.new)) }
+    {
+        let (alloc, most) = (self.alloc, self.inputs.max_instances);
+        let Some(text) = self.inputs.plan else {
+            return Ok(check_and_say(alloc, task, cert, None, most, err));
+        };
+        let plan = plan_of_file(alloc, task, text)?;
+        Ok(check_and_say(alloc, task, cert, Some(&plan), most, err))
+    }
 }

@@ -17,6 +17,17 @@ use of_plan::explain_plan_file;
 use of_task::explain_task;
 use std::alloc::Global;
 
+/// The files that are explained.
+#[derive(Clone, Copy)]
+pub struct ExplainedFiles<'a> {
+    /// The domain file.
+    pub domain: NamedText<'a>,
+    /// The problem file.
+    pub problem: NamedText<'a>,
+    /// The plan file, if one is given.
+    pub plan: Option<NamedText<'a>>,
+}
+
 /// Explains a domain file and a problem file, and a plan file if one is given.
 ///
 /// The domain is scanned and parsed, then the problem; then both are typed together, and the plan is read. The first fault is
@@ -35,43 +46,37 @@ use std::alloc::Global;
 /// ```
 pub fn explain_files(
     alloc: Global,
-    domain: NamedText<'_>,
-    problem: NamedText<'_>,
-    plan: Option<NamedText<'_>>,
+    files: ExplainedFiles<'_>,
     max_instances: u32,
 ) -> Result<Explanation, NoMemory>
-    ensures subject { IfOk result (λ e. IsTrueOf domain.entry.text.now problem.entry.text.now (text_in plan.entry) max_instances e.subject) }
+    ensures subject { IfOk result (λ e. IsTrueOf files.entry.domain.text.now files.entry.problem.text.now (text_in files.entry.plan) max_instances e.subject) }
     // The lines give the explanation, and the location is that of the fault or the step.
-    ensures said { IfOk result (IsSaidOf (files_of domain.entry problem.entry plan.entry)) }
+    ensures said { IfOk result (IsSaidOf (files_of files.entry.domain files.entry.problem files.entry.plan)) }
 {
-    let texts = texts_of(domain, problem, plan);
-    let named = match named_task_of_files(alloc, domain.text, problem.text) {
+    let texts = texts_of(files);
+    let named = match named_task_of_files(alloc, files.domain.text, files.problem.text) {
         Ok(named) => named,
         Err(fault) => return explain_refused(alloc, &texts, fault),
     };
-    match plan {
+    match files.plan {
         Some(_) => explain_plan_file(alloc, &named, &texts),
         None => explain_task(alloc, &named.task, max_instances),
     }
 }
 
 /// The texts in which a fault is looked up. The plan's text is empty if no plan is given.
-fn texts_of<'a>(
-    domain: NamedText<'a>,
-    problem: NamedText<'a>,
-    plan: Option<NamedText<'a>>,
-) -> NamedTexts<'a>
-    ensures domain { result.domain ≡ domain.entry }
-    ensures problem { result.problem ≡ problem.entry }
-    ensures plan { IfSome plan.entry (λ named. result.plan ≡ named) }
+fn texts_of<'a>(files: ExplainedFiles<'a>) -> NamedTexts<'a>
+    ensures domain { result.domain ≡ files.entry.domain }
+    ensures problem { result.problem ≡ files.entry.problem }
+    ensures plan { IfSome files.entry.plan (λ named. result.plan ≡ named) }
 {
     let nothing = NamedText {
         name: "",
         text: b"",
     };
     NamedTexts {
-        domain,
-        problem,
-        plan: plan.unwrap_or(nothing),
+        domain: files.domain,
+        problem: files.problem,
+        plan: files.plan.unwrap_or(nothing),
     }
 }

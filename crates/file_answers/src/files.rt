@@ -94,6 +94,15 @@ impl From<NoMemory> for FileFault {
     }
 }
 
+/// The texts of a domain file and a problem file.
+#[derive(Clone, Copy)]
+pub struct TaskFiles<'a> {
+    /// The text of the domain.
+    pub domain: &'a [u8],
+    /// The text of the problem.
+    pub problem: &'a [u8],
+}
+
 /// Reads the task of a domain file and a problem file.
 ///
 /// The domain is scanned and parsed, then the problem; then both are typed together. The first fault ends the call.

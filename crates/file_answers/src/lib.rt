@@ -10,13 +10,13 @@ mod quantifiers;
 mod solving;
 mod validating;
 
-pub use checking::{Checked, check_files, check_files_and_say};
+pub use checking::{CheckInputs, Checked, check_files, check_files_and_say};
 pub use explain_faults::FileRefusal;
 pub use explain_hints::{File, NamedText};
 pub use explain_tasks::Summary;
-pub use explaining::explain_files;
+pub use explaining::{ExplainedFiles, explain_files};
 pub use explanation::{Explanation, FurtherFault, Grounded, Location, Subject};
-pub use files::{FileFault, one_task, plan_of_file, task_of_files};
+pub use files::{FileFault, TaskFiles, one_task, plan_of_file, task_of_files};
 pub use laws::{solved_certificates_are_accepted, tasks_of_files_are_well_typed};
 pub use solving::{Solved, solve_files, solve_files_and_say};
 pub use validating::validate_files;

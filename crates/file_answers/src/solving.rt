@@ -10,7 +10,7 @@ ghost use Rattle.model.specs.Task as model;
 ghost use Rattle.model.specs.Files.{IsTaskOf, IsTaskFault};
 ghost use Rattle.model.specs.PlanWriting.{has_names};
 
-use crate::files::{FileFault, task_of_files};
+use crate::files::{FileFault, TaskFiles, task_of_files};
 use devices::{Sink, Unheard};
 use faults::NoMemory;
 use solver::{Answer, Limits, solve_and_say};
@@ -35,51 +35,45 @@ pub struct Solved {
 ///
 /// ```
 /// let Some(limits) = Limits::new(1_000_000, 1_000_000) else { return Ok(()) };
-/// match solve_files(alloc, domain, problem, limits)?.answer {
+/// match solve_files(alloc, TaskFiles { domain, problem }, limits)?.answer {
 ///     Answer::Plan { cost, .. } => println!(rt; "no plan costs less than {cost}")?,
 ///     Answer::Unsolvable { .. } => println!(rt; "there is no plan")?,
 ///     Answer::Unknown(Exceeded::States { bound, .. }) => println!(rt; "each plan costs {bound} or more")?,
 ///     Answer::Unknown(Exceeded::Instances | Exceeded::Atoms) => println!(rt; "the task is too large")?,
 /// }
 /// ```
-pub fn solve_files(
-    alloc: Global,
-    domain: &[u8],
-    problem: &[u8],
-    limits: Limits,
-) -> Result<Solved, FileFault>
+pub fn solve_files(alloc: Global, files: TaskFiles<'_>, limits: Limits) -> Result<Solved, FileFault>
     // The task is that of the two texts, and the answer is correct for it.
-    ensures task { IfOk result (λ s. IsTaskOf domain.now problem.now (task_of s.task)) }
+    ensures task { IfOk result (λ s. IsTaskOf files.entry.domain.now files.entry.problem.now (task_of s.task)) }
     ensures answer { IfOk result (λ s. IsTrueAnswer (task_of s.task) limits.states limits.instances s.answer) }
     ensures names { IfOk result (λ s. IsTrue (has_names (task_of s.task))) }
-    ensures refused { IfErr result (λ fault. IfSome (reported_in fault) (IsTaskFault domain.now problem.now)) }
+    ensures refused { IfErr result (λ fault. IfSome (reported_in fault) (IsTaskFault files.entry.domain.now files.entry.problem.now)) }
 
     // If the two texts are a task, there is an answer: the only error is running out of memory.
-    ensures taken { (task : model.Task) → IsTaskOf domain.now problem.now task → IfErr result (λ fault. reported_in fault ≡ None) }
+    ensures taken { (task : model.Task) → IsTaskOf files.entry.domain.now files.entry.problem.now task → IfErr result (λ fault. reported_in fault ≡ None) }
 {
-    solve_files_and_say(alloc, domain, problem, limits, &mut Unheard)
+    solve_files_and_say(alloc, files, limits, &mut Unheard)
 }
 
 /// The same, with progress reports as by `solve_and_say`: each line is true of the task of the two files, and if the answer has a
 /// certificate, the last line describes its listing. If a text is refused, nothing is reported.
 pub fn solve_files_and_say<E: Sink>(
     alloc: Global,
-    domain: &[u8],
-    problem: &[u8],
+    files: TaskFiles<'_>,
     limits: Limits,
     err: &mut E,
 ) -> Result<Solved, FileFault>
-    ensures task { IfOk result (λ s. IsTaskOf domain.now problem.now (task_of s.task)) }
+    ensures task { IfOk result (λ s. IsTaskOf files.entry.domain.now files.entry.problem.now (task_of s.task)) }
     ensures answer { IfOk result (λ s. IsTrueAnswer (task_of s.task) limits.states limits.instances s.answer) }
     ensures names { IfOk result (λ s. IsTrue (has_names (task_of s.task))) }
-    ensures refused { IfErr result (λ fault. IfSome (reported_in fault) (IsTaskFault domain.now problem.now)) }
-    ensures taken { (task : model.Task) → IsTaskOf domain.now problem.now task → IfErr result (λ fault. reported_in fault ≡ None) }
+    ensures refused { IfErr result (λ fault. IfSome (reported_in fault) (IsTaskFault files.entry.domain.now files.entry.problem.now)) }
+    ensures taken { (task : model.Task) → IsTaskOf files.entry.domain.now files.entry.problem.now task → IfErr result (λ fault. reported_in fault ≡ None) }
 
     // Every progress line is true of the task of the two texts.
-    ensures said { GoesOn (IsTrueLineOf domain.now problem.now) E.wants_memory (E.failures err.old) (E.taken err.old) (E.failures err.new) (E.taken err.new) }
+    ensures said { GoesOn (IsTrueLineOf files.entry.domain.now files.entry.problem.now) E.wants_memory (E.failures err.old) (E.taken err.old) (E.failures err.new) (E.taken err.new) }
     ensures ended { IfOk result (λ s. HasEnded E.wants_memory (E.failures err.new) (E.taken err.new) s.answer) }
 {
-    let task = task_of_files(alloc, domain, problem)?;
+    let task = task_of_files(alloc, files.domain, files.problem)?;
     solve_task(alloc, task, limits, err)
 }
 

@@ -29,7 +29,12 @@ pub(super) fn with_further(
     requires { IsExplainedAlone texts.now first.file first.code first.span alone }
     ensures { IfOk result (IsFaultExplained texts.now first.file first.code first.span) }
 {
-    let further = further_faults(alloc, texts, first)?;
+    let search = FurtherSearch {
+        alloc,
+        texts,
+        first,
+    };
+    let further = search.further_faults()?;
     let more = further_text(alloc, &further)?;
     let text = joined(alone.text, more.as_str())?;
     Ok(Explanation {
@@ -57,48 +62,61 @@ fn further_text(alloc: Global, further: &[FurtherFault]) -> Result<String, NoMem
     joined(text, "\nthere may be more faults: mend these first\n")
 }
 
-/// The faults of the two files other than this one, if this is a typing fault, each with its lines.
-fn further_faults(
+/// A search for the faults of two files other than the first.
+#[derive(Clone, Copy)]
+struct FurtherSearch<'a> {
     alloc: Global,
-    texts: &NamedTexts<'_>,
+    texts: &'a NamedTexts<'a>,
     first: FileRefusal,
-) -> Result<Vec<FurtherFault>, NoMemory>
-    ensures { IfOk result (λ further. AreFurther texts.now further.items) }
-{
-    let mut further = Vec::new(alloc);
-    if !is_of_typing(first.code) {
-        return Ok(further);
+}
+
+impl FurtherSearch<'_> {
+    /// The further faults, each with its lines, if the first is a typing fault.
+    fn further_faults(self) -> Result<Vec<FurtherFault>, NoMemory>
+        ensures { IfOk result (λ further. AreFurther self.entry.texts.now further.items) }
+    {
+        let mut further = Vec::new(self.alloc);
+        if !is_of_typing(self.first.code) {
+            return Ok(further);
+        }
+        let texts = self.texts;
+        let found = faults_of_files(self.alloc, texts.domain.text, texts.problem.text)?;
+        'faults: for refusal in &found {
+            self.add_fault(*refusal, &mut further)?;
+        }
+        Ok(further)
     }
-    let found = faults_of_files(alloc, texts.domain.text, texts.problem.text)?;
-    'faults: for refusal in &found {
-        add_fault(alloc, texts, first, &mut further, *refusal)?;
+
+    /// Adds a fault with its lines, unless already reported or the limit is reached.
+    fn add_fault(
+        self,
+        refusal: TaskRefusal,
+        further: &mut Vec<FurtherFault>,
+    ) -> Result<(), NoMemory>
+        requires { IsFaultOfTexts self.texts.now.domain.text.now self.texts.now.problem.text.now (refusal_of refusal) }
+        ensures { OnOk result (AreFurther self.entry.texts.now further.old.items → AreFurther self.entry.texts.now further.new.items) }
+    {
+        let fault = in_file(refusal);
+        if further.len() >= MOST || self.is_told(fault, further) {
+            return Ok(());
+        }
+        let text = text_of(self.alloc, self.texts, fault)?;
+        further.push(FurtherFault { fault, text })?;
+        Ok(())
     }
-    Ok(further)
+
+    /// Whether a fault is the first or one of those already reported, or comes from the same mistake.
+    fn is_told(self, fault: FileRefusal, further: &[FurtherFault]) -> bool {
+        comes_of(self.texts, fault, self.first)
+            || further
+                .iter()
+                .any(|other| comes_of(self.texts, fault, other.fault))
+    }
 }
 
 /// Whether typing reports this code. Other faults come alone, so the files need not be read again for them.
 fn is_of_typing(code: Code) -> bool {
     matches!(code.number(), 14..=25)
-}
-
-/// Adds a fault with its lines, unless already reported or the limit is reached.
-fn add_fault(
-    alloc: Global,
-    texts: &NamedTexts<'_>,
-    first: FileRefusal,
-    further: &mut Vec<FurtherFault>,
-    refusal: TaskRefusal,
-) -> Result<(), NoMemory>
-    requires { IsFaultOfTexts texts.now.domain.text.now texts.now.problem.text.now (refusal_of refusal) }
-    ensures { OnOk result (AreFurther texts.now further.old.items → AreFurther texts.now further.new.items) }
-{
-    let fault = in_file(refusal);
-    if further.len() >= MOST || is_told(texts, first, further, fault) {
-        return Ok(());
-    }
-    let text = text_of(alloc, texts, fault)?;
-    further.push(FurtherFault { fault, text })?;
-    Ok(())
 }
 
 /// A typing fault as a fault of a file.
@@ -128,19 +146,6 @@ fn text_of(alloc: Global, texts: &NamedTexts<'_>, fault: FileRefusal) -> Result<
 {
     let explained = explain_fault(alloc, texts, fault)?;
     explained.text(alloc, texts)
-}
-
-/// Whether a fault is this one or one of those already reported, or comes from the same mistake.
-fn is_told(
-    texts: &NamedTexts<'_>,
-    first: FileRefusal,
-    further: &[FurtherFault],
-    fault: FileRefusal,
-) -> bool {
-    comes_of(texts, fault, first)
-        || further
-            .iter()
-            .any(|other| comes_of(texts, fault, other.fault))
 }
 
 /// Whether a fault may come from the same mistake as another: they are equal, it follows from the other, or the same word is refused

@@ -6,8 +6,8 @@ use crate::explaining::further::with_further;
 use crate::explanation::{Explanation, Location, Subject};
 use crate::files::FileFault;
 use explain_faults::{FileRefusal, explain_fault};
-use explain_hints::{File, NamedTexts};
-use faults::{Code, NoMemory, Span};
+use explain_hints::NamedTexts;
+use faults::NoMemory;
 use std::alloc::Global;
 
 /// Explains the fault of a file.
@@ -21,7 +21,7 @@ pub(super) fn explain_refused(
     match fault {
         FileFault::At { file, code, span } => {
             let first = FileRefusal { file, code, span };
-            let alone = explain_at(alloc, texts, file, code, span)?;
+            let alone = explain_at(alloc, texts, first)?;
             with_further(alloc, texts, first, alone)
         }
         FileFault::NoMemory => Err(NoMemory),
@@ -32,13 +32,11 @@ pub(super) fn explain_refused(
 fn explain_at(
     alloc: Global,
     texts: &NamedTexts<'_>,
-    file: File,
-    code: Code,
-    span: Span,
+    fault: FileRefusal,
 ) -> Result<Explanation, NoMemory>
-    ensures { IfOk result (IsExplainedAlone texts.now file code span) }
+    ensures { IfOk result (IsExplainedAlone texts.now fault.file fault.code fault.span) }
 {
-    let fault = FileRefusal { file, code, span };
+    let FileRefusal { file, code, span } = fault;
     let explained = explain_fault(alloc, texts, fault)?;
     let text = explained.text(alloc, texts)?;
     let hints = explained.hints(alloc, texts)?;

@@ -54,33 +54,63 @@ fn explain_steps(
     ensures { IfOk result (IsVerdictExplained (task_of named.now.task) (names_of named.now.names) (plan_of plan.now) (named_of file.entry)) }
 {
     let explained = explain_plan(alloc, &named.task, &named.names, plan)?;
-    explain_verdict(alloc, &named.task, file, plan, &explained)
+    let explained_plan = ExplainedPlan {
+        task: &named.task,
+        plan,
+        explained: &explained,
+    };
+    explained_plan.explain_verdict(alloc, file)
 }
 
-/// Explains the verdict.
-fn explain_verdict(
-    alloc: Global,
-    task: &Task,
-    file: NamedText<'_>,
-    plan: &Plan,
-    explained: &PlanExplanation<'_>,
-) -> Result<Explanation, NoMemory>
-    requires { IsStepOf file.text.now (plans.verdict_of explained.now) }
-    ensures { IfOk result (IsPlanTold (task_of task.now) (plan_of plan.now) (named_of file.entry) explained.now) }
-{
-    let verdict = verdict_in(explained);
-    let failed = failed_step(file.text, verdict);
-    let location = location_of(alloc, file, failed)?;
-    let marks = marks_of(alloc, file.text, failed)?;
-    let text = text_of(alloc, task, plan, explained, &location, marks.as_str())?;
-    Ok(Explanation {
-        subject: Subject::Plan(verdict),
-        text,
-        location,
-        hints: Vec::new(alloc),
-        further: Vec::new(alloc),
-        notes: Vec::new(alloc),
-    })
+/// A plan for a task, with its explanation.
+#[derive(Clone, Copy)]
+struct ExplainedPlan<'a> {
+    task: &'a Task,
+    plan: &'a Plan,
+    explained: &'a PlanExplanation<'a>,
+}
+
+impl ExplainedPlan<'_> {
+    /// Explains the verdict on the plan in this file.
+    fn explain_verdict(self, alloc: Global, file: NamedText<'_>) -> Result<Explanation, NoMemory>
+        requires { IsStepOf file.text.now (plans.verdict_of self.explained.now) }
+        ensures { IfOk result (IsPlanTold (task_of self.entry.task.now) (plan_of self.entry.plan.now) (named_of file.entry) self.entry.explained.now) }
+    {
+        let verdict = verdict_in(self.explained);
+        let failed = failed_step(file.text, verdict);
+        let location = location_of(alloc, file, failed)?;
+        let marks = marks_of(alloc, file.text, failed)?;
+        let text = self.text(alloc, &location, marks.as_str())?;
+        Ok(Explanation {
+            subject: Subject::Plan(verdict),
+            text,
+            location,
+            hints: Vec::new(alloc),
+            further: Vec::new(alloc),
+            notes: Vec::new(alloc),
+        })
+    }
+
+    /// The lines of the explanation. An inapplicable step is shown with its place in the file, its line and marks.
+    fn text(
+        self,
+        alloc: Global,
+        location: &Option<Location>,
+        marks: &str,
+    ) -> Result<String, NoMemory>
+        ensures { IfOk result (λ text. SayPlan location.now (task_of self.entry.task.now) (plan_of self.entry.plan.now) self.entry.explained.now (string_bytes text)) }
+    {
+        let verdict = report_verdict(alloc, self.task, self.plan, self.explained)?;
+        let details = report_details(alloc, self.task, self.plan, self.explained)?;
+        match self.explained {
+            PlanExplanation::Solves { .. } => joined(details, verdict.as_str()),
+            PlanExplanation::NotApplicable { .. } => {
+                let after = joined(String::from_str(alloc, marks)?, details.as_str())?;
+                step_text(alloc, location, verdict.as_str(), after.as_str())
+            }
+            PlanExplanation::GoalMissed { .. } => joined(verdict, details.as_str()),
+        }
+    }
 }
 
 /// The verdict in an explanation.
@@ -127,29 +157,6 @@ fn marks_of(alloc: Global, text: &[u8], failed: Option<Span>) -> Result<String, 
     match failed {
         Some(span) => marked(alloc, text, span),
         None => Ok(String::new(alloc)),
-    }
-}
-
-/// The lines of the explanation. An inapplicable step is shown with its place in the file, its line and marks.
-fn text_of(
-    alloc: Global,
-    task: &Task,
-    plan: &Plan,
-    explained: &PlanExplanation<'_>,
-    location: &Option<Location>,
-    marks: &str,
-) -> Result<String, NoMemory>
-    ensures { IfOk result (λ text. SayPlan location.now (task_of task.now) (plan_of plan.now) explained.now (string_bytes text)) }
-{
-    let verdict = report_verdict(alloc, task, plan, explained)?;
-    let details = report_details(alloc, task, plan, explained)?;
-    match explained {
-        PlanExplanation::Solves { .. } => joined(details, verdict.as_str()),
-        PlanExplanation::NotApplicable { .. } => {
-            let after = joined(String::from_str(alloc, marks)?, details.as_str())?;
-            step_text(alloc, location, verdict.as_str(), after.as_str())
-        }
-        PlanExplanation::GoalMissed { .. } => joined(verdict, details.as_str()),
     }
 }
 

@@ -20,7 +20,7 @@ use crate::failures::Failure;
 use crate::program::inputs::{TaskTexts, read_named, read_pair};
 use certificate::CertReader;
 use devices::{Files, Sink, Source};
-use file_answers::{Checked, FileFault, check_files, check_files_and_say};
+use file_answers::{CheckInputs, Checked, FileFault, TaskFiles, check_files, check_files_and_say};
 use printed_answers::{Report, failure_of};
 use std::alloc::Global;
 
@@ -126,20 +126,18 @@ fn checked<R: Source, E: Sink>(
     ensures unread { IsErr result → cert.new ≡ cert.old }
     ensures progress { AreSaid (λ line. IsTrue texts.now.asked.progress × IsCheckLineOf texts.now.pair.domain.items texts.now.pair.problem.items (R.remaining (source_of cert.old)) line) E.wants_memory (stream (E.failures err.old) (E.taken err.old)) (stream (E.failures err.new) (E.taken err.new)) }
 {
-    let plan = slice_in(&texts.plan);
-    let (domain, problem) = (&texts.pair.domain, &texts.pair.problem);
+    let inputs = CheckInputs {
+        task: TaskFiles {
+            domain: &texts.pair.domain,
+            problem: &texts.pair.problem,
+        },
+        plan: slice_in(&texts.plan),
+        max_instances: texts.asked.instances,
+    };
     if texts.asked.progress {
-        check_files_and_say(
-            alloc,
-            domain,
-            problem,
-            cert,
-            plan,
-            texts.asked.instances,
-            err,
-        )
+        check_files_and_say(alloc, inputs, cert, err)
     } else {
-        check_files(alloc, domain, problem, cert, plan, texts.asked.instances)
+        check_files(alloc, inputs, cert)
     }
 }
 

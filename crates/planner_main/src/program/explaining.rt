@@ -10,7 +10,7 @@ ghost use Rattle.std.specs.Option.{option_map};
 use crate::failures::Failure;
 use crate::program::inputs::{PairNames, read_named, read_pair};
 use devices::Files;
-use file_answers::{NamedText, explain_files};
+use file_answers::{ExplainedFiles, NamedText, explain_files};
 use printed_answers::Report;
 use std::alloc::Global;
 
@@ -41,16 +41,18 @@ pub(super) fn report_of_explain<F: Files>(
 {
     let pair = read_pair(alloc, files, names.domain, names.problem)?;
     let text = read_named(alloc, files, asked.plan)?;
-    let domain = NamedText {
-        name: names.domain,
-        text: &pair.domain,
+    let files = ExplainedFiles {
+        domain: NamedText {
+            name: names.domain,
+            text: &pair.domain,
+        },
+        problem: NamedText {
+            name: names.problem,
+            text: &pair.problem,
+        },
+        plan: named(asked.plan, &text),
     };
-    let problem = NamedText {
-        name: names.problem,
-        text: &pair.problem,
-    };
-    let plan = named(asked.plan, &text);
-    let explanation = explain_files(alloc, domain, problem, plan, asked.instances)?;
+    let explanation = explain_files(alloc, files, asked.instances)?;
     Ok(Report::Explain(explanation))
 }
 

@@ -14,7 +14,7 @@ ghost use Rattle.solver.specs.Solver.{IsTrueAnswer};
 use crate::failures::Failure;
 use crate::program::inputs::{PairNames, TaskTexts, read_pair};
 use devices::{Files, Sink};
-use file_answers::{FileFault, Solved, solve_files, solve_files_and_say};
+use file_answers::{FileFault, Solved, TaskFiles, solve_files, solve_files_and_say};
 use printed_answers::Report;
 use solver::Limits;
 use std::alloc::Global;
@@ -67,9 +67,13 @@ fn solved<E: Sink>(
     ensures progress { AreSaid (λ line. IsTrue asked.entry.progress × IsTrueLineOf pair.now.domain.items pair.now.problem.items line) E.wants_memory (stream (E.failures err.old) (E.taken err.old)) (stream (E.failures err.new) (E.taken err.new)) }
     ensures ended { IfOk result (λ s. IsTrue asked.entry.progress → HasEnded E.wants_memory (E.failures err.new) (E.taken err.new) s.answer) }
 {
+    let files = TaskFiles {
+        domain: &pair.domain,
+        problem: &pair.problem,
+    };
     if asked.progress {
-        solve_files_and_say(alloc, &pair.domain, &pair.problem, asked.limits, err)
+        solve_files_and_say(alloc, files, asked.limits, err)
     } else {
-        solve_files(alloc, &pair.domain, &pair.problem, asked.limits)
+        solve_files(alloc, files, asked.limits)
     }
 }

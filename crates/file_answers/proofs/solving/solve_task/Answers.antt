@@ -1,5 +1,3 @@
-use Rattle.std.proofs.Common.{ℕ, List}
-use Rattle.model.specs.Files.{IsTaskOf}
 use Rattle.task.specs.Task.{task_of}
 use Rattle.solver.specs.Said.{IsTrueLine}
 use Rattle.devices.proofs.ProgressLemmas.{goes_on_of_more}

@@ -11,8 +11,8 @@ returns-then-texts-clause-progress g c =
     let came = g.R.Source.remaining (source_of c.args.cert.now) in
     said_of_more (λ line is. (
       c.if-texts.true,
-      subst (λ (problem : List ℕ). IsCheckLineOf domain problem came line) c.deref-then-texts.ensures.value
-          (subst (λ (text : List ℕ). IsCheckLineOf text c.deref-then-texts.result.now came line) c.deref.ensures.value is),
+      subst (λ (problem : List ℕ). IsCheckLineOf domain problem came line) c.deref-2.ensures.value
+          (subst (λ (text : List ℕ). IsCheckLineOf text c.deref-2.result.now came line) c.deref.ensures.value is),
     )) c.check_files_and_say.ensures.said
 
 pub returns-else-texts-clause-progress : goal.returns-else-texts-clause-progress

@@ -4,8 +4,8 @@ use Rattle.planner_main.proofs.program.explaining.report_of_explain.Goals as goa
 
 pub returns-clause-report : goal.returns-clause-report
 returns-clause-report g c =
-    let subject = rw (c.deref.ensures.value, c.deref-2.ensures.value, c.named-plan.ensures.text) at c.in_ok-explanation.ensures.subject in
-    let said = rw (c.deref.ensures.value, c.deref-2.ensures.value, c.named-plan.ensures.named) at c.in_ok-explanation.ensures.said in (
+    let subject = rw (c.deref.ensures.value, c.deref-2.ensures.value, c.named.ensures.text) at c.in_ok-explanation.ensures.subject in
+    let said = rw (c.deref.ensures.value, c.deref-2.ensures.value, c.named.ensures.named) at c.in_ok-explanation.ensures.said in (
       c.in_ok-explanation.explanation,
       refl,
       (
