@@ -14,5 +14,5 @@ returns-in_ok-say-in-States-clause-ended g c =
 
 pub returns-in_ok-say-in-Time-clause-ended : goal.returns-in_ok-say-in-Time-clause-ended
 returns-in_ok-say-in-Time-clause-ended g c =
-    subst (λ (l : Exceeded). OnOk c.say-in-Time.result (HasEnded g.E.Sink.wants_memory (g.E.Sink.failures c.say-in-Time.new.err) (g.E.Sink.taken c.say-in-Time.new.err) (Unknown l))) (sym c.in-Time.is)
-    (ends_by c.say-in-Time.result _ _ _ _ _ c.end_of-in-Time.result (certificate_of c.in-Time.cert) c.end_of-in-Time.ensures c.say-in-Time.ensures.written)
+    subst (λ (l : Exceeded). OnOk c.say-in-Time-2.result (HasEnded g.E.Sink.wants_memory (g.E.Sink.failures c.say-in-Time-2.new.err) (g.E.Sink.taken c.say-in-Time-2.new.err) (Unknown l))) (sym c.in-Time.is)
+    (ends_by c.say-in-Time-2.result _ _ _ _ _ c.end_of-in-Time.result (certificate_of c.in-Time.cert) c.end_of-in-Time.ensures c.say-in-Time-2.ensures.written)

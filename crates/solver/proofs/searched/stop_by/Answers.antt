@@ -63,18 +63,18 @@ marks-requires g c =
     subst (λ (f : FoundStates GroundListing). length f.estimates.items ≡ length f.nodes.items) (sym c.found_in.ensures)
     (can_be_marked space estimate is_dead c.args.session.now.setting.limits c.in-Ended.outcome is.0 is.1).estimates.0
 
-pub returns-in-Ended : goal.returns-in-Ended
-returns-in-Ended g c =
+pub returns-in_ok-marks-in-Ended : goal.returns-in_ok-marks-in-Ended
+returns-in_ok-marks-in-Ended g c =
     let space = c.args.session.now.setting.space in
     let guide = c.args.session.now.guide.now in
     let estimate = g.G.Guide.estimate_of guide in
     let is_dead = g.G.Guide.is_dead guide in
     let outcome = c.in-Ended.outcome in
     let is =
-    subst (IsTrueStop (system_of space) (class_in space) estimate is_dead listed_states c.args.session.now.setting.limits.states) c.in-Ended.is (shows g (goal.at.returns-in-Ended g c).In_ok-outcome) in
-    let marks = c.in_ok-marks.marks.items in
+    subst (IsTrueStop (system_of space) (class_in space) estimate is_dead listed_states c.args.session.now.setting.limits.states) c.in-Ended.is (shows g (goal.at.returns-in_ok-marks-in-Ended g c).In_ok-outcome) in
+    let marks = c.in_ok-marks-in-Ended.marks.items in
     searched space estimate is_dead c.args.session.now.setting.limits outcome is.0 (g.G.Guide.system_of guide) c.requires.system (g.met.G.Guide.is_admissible guide) (g.met.G.Guide.reports_dead_ends guide) marks
-    ((subst (λ (f : FoundStates GroundListing). CanBeMarked estimate is_dead f → AreMarksOf estimate is_dead f marks) c.found_in.ensures (c.in_ok-marks.ensures estimate is_dead))
+    ((subst (λ (f : FoundStates GroundListing). CanBeMarked estimate is_dead f → AreMarksOf estimate is_dead f marks) c.found_in.ensures (c.in_ok-marks-in-Ended.ensures estimate is_dead))
     (can_be_marked space estimate is_dead c.args.session.now.setting.limits outcome is.0 is.1))
 
 -- ---- states wait
@@ -87,14 +87,14 @@ marks-requires-in-Waiting g c =
     subst (IsTrueStop (system_of space) (class_in space) (g.G.Guide.estimate_of guide) (g.G.Guide.is_dead guide) listed_states c.args.session.now.setting.limits.states) c.in-Waiting.is (shows g (goal.at.marks-requires-in-Waiting g c).In_ok-outcome) in
     is.2.0
 
-pub returns-in-Waiting : goal.returns-in-Waiting
-returns-in-Waiting g c =
+pub returns-in_ok-marks-in-Waiting : goal.returns-in_ok-marks-in-Waiting
+returns-in_ok-marks-in-Waiting g c =
     let space = c.args.session.now.setting.space in
     let guide = c.args.session.now.guide.now in
     let estimate = g.G.Guide.estimate_of guide in
     let is_dead = g.G.Guide.is_dead guide in
     let is =
-    subst (IsTrueStop (system_of space) (class_in space) estimate is_dead listed_states c.args.session.now.setting.limits.states) c.in-Waiting.is (shows g (goal.at.returns-in-Waiting g c).In_ok-outcome) in
+    subst (IsTrueStop (system_of space) (class_in space) estimate is_dead listed_states c.args.session.now.setting.limits.states) c.in-Waiting.is (shows g (goal.at.returns-in_ok-marks-in-Waiting g c).In_ok-outcome) in
     let can : CanBeMarked estimate is_dead c.in-Waiting.states = record { one_for_each = is.1.found.one_for_each; marked = is.1.found.marked; estimates = is.2 } in (
       c.requires.limited,
       record { within_limit = is.0; at_limit = is.1; marked = c.in_ok-marks-in-Waiting.ensures estimate is_dead can },
