@@ -57,6 +57,9 @@ few_from c (p ∷ parts) few ordered =
     let (here, more) = and_parts (may_follow c p && has_room c p) (are_in_order (counted c p) parts) ordered in
     few_from (counted c p) parts (stays_few c p few (and_parts (may_follow c p) (has_room c p) here).1) more
 
--- parts that are in order are within their limits
+-- the counts of parts that are in order are within their limits
+pub in_order_few : (parts : List Part) → IsTrue (are_in_order no_parts parts) → IsTrue (are_few (counts_after no_parts parts))
+in_order_few parts ordered = few_from no_parts parts refl ordered
+
 pub ordered_are_few : (parts : List Part) → IsTrue (are_in_order no_parts parts) → length parts ≤ most_parts
-ordered_are_few parts ordered = omega (arith, all_counted no_parts parts, few_parts (counts_after no_parts parts) (few_from no_parts parts refl ordered))
+ordered_are_few parts ordered = omega (arith, all_counted no_parts parts, few_parts (counts_after no_parts parts) (in_order_few parts ordered))
