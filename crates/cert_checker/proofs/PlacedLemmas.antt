@@ -163,8 +163,7 @@ last_reports task before heading claim width marks sets (code.Claim c) other bod
 last_reports task before heading claim width marks sets (code.Constant k) other body reported have = absurd (true≢false (sym body))
 last_reports task before heading claim width marks sets (code.Swap objects) other body reported have = absurd (true≢false (sym body))
 last_reports task before heading claim width marks sets (code.Weight weights predicate objects) other body reported have = absurd (true≢false (sym body))
-last_reports task before heading claim width marks sets (code.Table atoms) other body reported have = absurd (true≢false (sym body))
-last_reports task before heading claim width marks sets (code.Row weights atoms) other body reported have = absurd (true≢false (sym body))
+last_reports task before heading claim width marks sets (code.Part p) other body reported have = absurd (true≢false (sym body))
 last_reports task before heading claim width marks sets (code.Listed l) other body reported have = absurd (other l refl)
 last_reports task before heading claim width marks sets (code.Last n) other body reported have =
     let same : states_given (before ++ last n ∷ []) ≡ states_given before = states_same before (last n) refl in (

@@ -11,6 +11,6 @@ take_scope-requires c = record { fit = subst (λ p. IsFitPart c.args.bounds.now 
 
 pub take_row-requires : goal.take_row-requires
 take_row-requires c = record {
-  fit = subst (IsFitRow c.args.bounds.now.tables.items) (λ i. record { atoms = sym c.deref-in-Row.ensures.value i; weights = sym c.deref-in-Row-2.ensures.value i })
+  fit = subst (IsFitRow c.args.bounds.now.tables.items) (λ i. record { atoms = sym c.deref.ensures.value i; weights = sym c.deref-in-Row.ensures.value i })
       (subst (λ p. IsFitPart c.args.bounds.now (part_of p)) c.in-Row.is c.requires.fit);
 }
