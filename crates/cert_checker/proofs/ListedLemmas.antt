@@ -11,7 +11,7 @@ use Rattle.model.specs.Claims.{Claim, none}
 use Rattle.certificate_definitions.specs.Certificates.{StateLine, rise}
 use Rattle.model.proofs.ListLemmas.{Contains-filter_map, filter_map-Contains, Contains-map, Contains-place, map-Contains}
 use Rattle.model.proofs.Tests.{passes_got}
-use Rattle.certificate_definitions.specs.CertificateText.{TextLine, version, claims, constant, swapped, atom, tabled, part, listed, last}
+use Rattle.certificate_definitions.specs.CertificateText.{TextLine, version, claims, constant, swapped, atom, part, listed, last}
 use Rattle.certificate_definitions.specs.CertificateChecking.{IsCut, IsWrongAfter, ListsAtoms, not_of_scope, repeated_row, not_fluent, repeated_atom, repeated_state, cut_not_allowed}
 use Rattle.certificate.specs.ListedSets.{Marked, marked}
 use Rattle.cert_checker.specs.Given.{Heading, HaveGiven, state_in, states_given}

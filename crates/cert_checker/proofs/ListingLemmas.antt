@@ -18,7 +18,7 @@ use Rattle.certificate_definitions.specs.Certificates.{Certificate, StateLine, r
 use Rattle.certificate_definitions.specs.CertificateChecking.{IsCut}
 use Rattle.certificate_reader.specs.declared.line.CertLine.{CertLine}
 use Rattle.certificate_reader.specs.Lines.{claim_of, text_line_of, version_of}
-use Rattle.certificate_definitions.specs.CertificateText.{WeightedAtom, NamedCertificate, TextLine, AreWhole, BeginCertificate, atom, claims, constant, last, listed, swapped, tabled, part, most_atoms, text_lines, text_of, version}
+use Rattle.certificate_definitions.specs.CertificateText.{WeightedAtom, NamedCertificate, TextLine, AreWhole, BeginCertificate, atom, claims, constant, last, listed, swapped, part, most_atoms, text_lines, text_of, version}
 use Rattle.certificate_definitions.specs.CertificateNames.{AllName, IsTextOf, exchange_said}
 use Rattle.certificate_reader.specs.declared.reader.CertReader.{CertReader}
 use Rattle.certificate_reader.specs.Reader.{IsAnswer, has_failed, lines_read}

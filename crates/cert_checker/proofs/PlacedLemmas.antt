@@ -8,7 +8,7 @@ use Rattle.model.specs.Task.{Atom, Task}
 use Rattle.model.specs.Claims.{Claim}
 use Rattle.certificate_definitions.specs.Certificates.{StateLine, is_mark, is_number, rise}
 use Rattle.certificate_definitions.specs.CertificateChecking.{IsCut}
-use Rattle.certificate_definitions.specs.CertificateText.{NamedAtom, scope, row, NamedCertificate, TextLine, version, claims, constant, swapped, atom, tabled, part, listed, last, is_line, most_swaps, most_atoms, most_states, text_lines, AreWhole, BeginCertificate, Beginning}
+use Rattle.certificate_definitions.specs.CertificateText.{NamedAtom, NamedCertificate, TextLine, version, claims, constant, swapped, atom, part, listed, last, is_line, most_swaps, most_atoms, most_states, text_lines, AreWhole, BeginCertificate, Beginning}
 use Rattle.certificate_definitions.specs.Parts.{has_room, how_many, may_follow}
 use Rattle.certificate_definitions.specs.CertificateNames.{AllName}
 use Rattle.certificate_definitions.specs.CertificateMachine.{Body, CertificatePlace, at_version, at_claim, at_constant, in_body, ended, swap_follows, swap_more, atom_follows, atom_more, next_place, part_follows, part_more, state_more}

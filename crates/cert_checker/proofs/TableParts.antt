@@ -1,11 +1,11 @@
 -- The parts of a text that are lines of tables.
-use Rattle.std.proofs.Common.{◌≡◌, ℕ, ◌+◌, ◌<◌, ◌≤◌, Bool, true, List, [], ◌∷◌, ◌++◌, map, length, Option, Some, refl, sym, ap, ◌∙◌, subst, length-append, arith}
+use Rattle.std.proofs.Common.{◌≡◌, ℕ, ◌+◌, ◌<◌, ◌≤◌, Bool, true, List, [], ◌∷◌, ◌++◌, map, length, refl, sym, ap, ◌∙◌, subst, length-append, arith}
 use Rattle.std.specs.Prelude.{◌&&◌, nat_le, nat_lt, IsTrue}
 use Rattle.std.specs.List.{filter_map, flat_map}
-use Rattle.std.proofs.lemmas.Bool.{and_parts, leb-true, le-leb, lt-ltb}
+use Rattle.std.proofs.lemmas.Bool.{and_parts, leb-true, lt-ltb}
 use Rattle.lower_bounds.specs.TableFunctions.{Row, Table}
 use Rattle.certificate_definitions.specs.Certificates.{rows_of}
-use Rattle.certificate_definitions.specs.CertificateText.{TableLine, scope, row, tabled, Part, TextLine, version, claims, constant, swapped, atom, part, listed, last}
+use Rattle.certificate_definitions.specs.CertificateText.{TableLine, row, tabled, Part, TextLine, version, claims, constant, swapped, atom, part, listed, last}
 use Rattle.certificate_definitions.specs.CertificateLines.{parts_given}
 use Rattle.certificate_definitions.specs.CertificateNames.{table_lines}
 use Rattle.certificate_definitions.specs.Parts.{PartCounts, no_parts, counts_after, are_few, are_in_order, most_rows, most_tables}

@@ -4,7 +4,7 @@ use Rattle.std.specs.List.{list_all}
 use Rattle.packed_state.specs.Sets.{set_of}
 use Rattle.model.specs.Claims.{Claim, none}
 use Rattle.certificate_definitions.specs.Certificates.{StateLine, rise}
-use Rattle.certificate_definitions.specs.CertificateText.{TextLine, version, claims, constant, swapped, atom, tabled, part, listed, last}
+use Rattle.certificate_definitions.specs.CertificateText.{TextLine, version, claims, constant, swapped, atom, part, listed, last}
 use Rattle.certificate_definitions.specs.CertificateChecking.{IsCut}
 use Rattle.certificate.specs.ListedSets.{Marked, marked}
 use Rattle.cert_checker.specs.Given.{states_given}

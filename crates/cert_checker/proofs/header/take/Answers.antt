@@ -5,18 +5,17 @@ use Rattle.faults.proofs.Results.{passed_on}
 use Rattle.task.specs.Task.{task_of}
 use Rattle.task.specs.TaskParts.{atom_of}
 use Rattle.certificate_reader.specs.Lines.{claim_of, name_of, named_atom_of, text_line_of, version_of}
-use Rattle.certificate_definitions.specs.CertificateText.{TextLine, BeginCertificate, atom, constant, swapped, tabled, part, scope, row}
+use Rattle.certificate_definitions.specs.CertificateText.{TextLine, BeginCertificate, atom, constant, swapped}
 use Rattle.symmetries_definitions.specs.Exchanges.{Exchange}
 use Rattle.certificate_definitions.specs.CertificateNames.{exchange_said}
 use Rattle.model.specs.Task.{Task}
-use Rattle.lower_bounds.specs.TableFunctions.{Row, SeveralValues}
-use Rattle.table_rows.specs.Tables.{table_of}
+use Rattle.lower_bounds.specs.TableFunctions.{SeveralValues}
 use Rattle.certificate.specs.declared.header.Bounds.{Bounds}
 use Rattle.certificate.specs.declared.header.Header.{Header}
 use Rattle.certificate.specs.CertificateParts.{bounds_of, exchange_in}
 use Rattle.certificate_reader.specs.Parts.{part_of}
 use Rattle.cert_checker.specs.Given.{Heading, HaveGiven, begun_with}
-use Rattle.cert_checker.specs.Tabled.{AreWeighed, IsFitHead, IsFitRow, IsRowRefused, IsRowTaken}
+use Rattle.cert_checker.specs.Tabled.{AreWeighed, IsFitHead}
 use Rattle.cert_checker.specs.Taking.{HasTaken, IsTaken, IsWrongNow, heading_of}
 use Rattle.cert_checker.proofs.GivenLemmas.{reported_version, reported_claim, reported_constant, reported_exchange}
 use Rattle.cert_checker.proofs.TabledLemmas.{weighed_early, part_is_wrong, reported_part}

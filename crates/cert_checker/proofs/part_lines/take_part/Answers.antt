@@ -1,9 +1,6 @@
-use Rattle.std.proofs.Common.{map, sym, subst, ◌+◌, ◌≡◌, length}
-use Rattle.lower_bounds.specs.TableFunctions.{Row}
-use Rattle.table_rows.specs.Tables.{table_of}
+use Rattle.std.proofs.Common.{sym, subst}
 use Rattle.certificate_reader.specs.Parts.{part_of}
-use Rattle.certificate.specs.CertificateParts.{bounds_of}
-use Rattle.cert_checker.specs.Tabled.{IsFitPart, IsFitRow, IsPartTaken}
+use Rattle.cert_checker.specs.Tabled.{IsFitPart, IsFitRow}
 use Rattle.cert_checker.proofs.part_lines.take_part.Goals as goal
 
 pub take_scope-requires : goal.take_scope-requires
