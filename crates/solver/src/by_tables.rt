@@ -120,7 +120,7 @@ fn drafted(
         dead_ends: stopped.dead_ends,
         states: &states,
         starts: &starts,
-        effort: stopped.effort,
+        effort: stopped.draft.effort,
     };
     let draft = drafted_tables(alloc, space.ground(), &wanted)?;
     Ok(draft)
@@ -214,7 +214,7 @@ fn search_by_tables<'l, 't, E: Sink>(
         return Ok(Attempt::InVain);
     }
     let saving = stopped.saving_by(alloc, &functions)?;
-    if saving.is_worth(bounds.tables.len()) {
+    if saving.is_worth(bounds.tables.len(), stopped.draft.taken) {
         return search_if_fair(setting, functions, err);
     }
     if saving.is_promising() {

@@ -18,7 +18,7 @@ use crate::attempt::Attempt;
 use crate::by_tables::solve_by_tables;
 use crate::searched::{Searched, Stretch, begin_by, finish_by, go_on_by};
 use crate::setting::{Session, Setting};
-use crate::stopped::Stopped;
+use crate::stopped::{DraftAs, Stopped, Taken};
 use cost_partitioning::Effort;
 use devices::Sink;
 use faults::NoMemory;
@@ -28,23 +28,39 @@ use search::{Guide, Search};
 
 /// A pause of a search by potentials, at which tables are drafted.
 #[derive(Clone, Copy)]
-struct Pause {
-    /// The number of listed states, at least.
-    states: u32,
-    /// The effort of the draft.
-    effort: Effort,
+enum Pause {
+    /// The first. A task that is solved by fewer states is solved without tables.
+    First,
+    /// The second, if the drafts at the first are promising.
+    Second,
 }
 
-/// The first pause. A task that is solved by fewer states is solved without tables.
-const QUICK: Pause = Pause {
-    states: 100_000,
+impl Pause {
+    /// The number of listed states, at least.
+    fn states(self) -> u32 {
+        match self {
+            Pause::First => 100_000,
+            Pause::Second => 500_000,
+        }
+    }
+}
+
+/// A quick draft that spares a thorough one.
+const AMPLE: DraftAs = DraftAs {
     effort: Effort::Quick,
+    taken: Taken::IfAmple,
 };
 
-/// The second pause, if a quick draft is promising.
-const THOROUGH: Pause = Pause {
-    states: 500_000,
+/// A thorough draft, if a quick one is promising.
+const THOROUGH: DraftAs = DraftAs {
     effort: Effort::Thorough,
+    taken: Taken::IfWorth,
+};
+
+/// A quick draft, if a thorough one is in vain.
+const QUICK: DraftAs = DraftAs {
+    effort: Effort::Quick,
+    taken: Taken::IfWorth,
 };
 
 /// The potentials that guide a search.
@@ -55,9 +71,16 @@ pub(crate) struct Given<'a> {
     pub(crate) dead_ends: &'a Potentials,
 }
 
-/// A draft of tables at a pause, which are to exceed these potentials.
+/// A draft of tables, which are to exceed these potentials.
 #[derive(Clone, Copy)]
 struct Drafting<'a> {
+    draft: DraftAs,
+    given: Given<'a>,
+}
+
+/// What is done at a pause.
+#[derive(Clone, Copy)]
+struct Pausing<'a> {
     pause: Pause,
     given: Given<'a>,
 }
@@ -98,12 +121,12 @@ pub(crate) fn search_in_parts<'l, 't, G: Guide, E: Sink>(
     ensures end { IfOk result (IsTrueEnd session.now.setting.space (G.estimate_of session.now.guide.now) (G.is_dead session.now.guide.now) session.now.setting.limits) }
     ensures said { GoesOn (IsTrueLine (task_in (ground_in session.now.setting.space))) E.wants_memory (E.failures err.old) (E.taken err.old) (E.failures err.new) (E.taken err.new) }
 {
-    let drafting = Drafting {
-        pause: QUICK,
+    let pausing = Pausing {
+        pause: Pause::First,
         given,
     };
     let search = begin_by(session)?;
-    match search_to_pause(session, search, drafting, err)? {
+    match search_to_pause(session, search, pausing, err)? {
         Part::Ended(parts) => Ok(parts),
         Part::Promising(search) => search_on(session, search, given, err),
         Part::InVain(search) => search_to_end(session, search, err),
@@ -128,11 +151,11 @@ fn search_on<'l, 't, G: Guide, E: Sink>(
     ensures end { IfOk result (IsTrueEnd session.now.setting.space (G.estimate_of session.now.guide.now) (G.is_dead session.now.guide.now) session.now.setting.limits) }
     ensures said { GoesOn (IsTrueLine (task_in (ground_in session.now.setting.space))) E.wants_memory (E.failures err.old) (E.taken err.old) (E.failures err.new) (E.taken err.new) }
 {
-    let drafting = Drafting {
-        pause: THOROUGH,
+    let pausing = Pausing {
+        pause: Pause::Second,
         given,
     };
-    match search_to_pause(session, search, drafting, err)? {
+    match search_to_pause(session, search, pausing, err)? {
         Part::Ended(parts) => Ok(parts),
         Part::Promising(search) => search_to_end(session, search, err),
         Part::InVain(search) => search_to_end(session, search, err),
@@ -160,7 +183,7 @@ fn search_to_end<'l, 't, G: Guide, E: Sink>(
 fn search_to_pause<'l, 't, G: Guide, E: Sink>(
     session: &Session<'_, 'l, 't, G>,
     search: Search<GroundListing<'l, 't>, G::Scratch>,
-    drafting: Drafting<'_>,
+    pausing: Pausing<'_>,
     err: &mut E,
 ) -> Result<Part<'l, 't, G::Scratch>, NoMemory>
     requires space { IsSearchSpace session.now.setting.space }
@@ -168,20 +191,20 @@ fn search_to_pause<'l, 't, G: Guide, E: Sink>(
     requires system { G.system_of session.now.guide.now ≡ system_of session.now.setting.space }
     requires guide_width { G.width_of session.now.guide.now ≡ length (atoms_in (ground_in session.now.setting.space)) }
     requires under_way { IsUnderWay session.now.setting.space (G.estimate_of session.now.guide.now) (G.is_dead session.now.guide.now) (G.fits session.now.guide.now) session.now.setting.limits.states search }
-    requires width { length (potentials_of drafting.given.potentials.now).weights ≡ length (atoms_in (ground_in session.now.setting.space)) }
-    requires improved { AreSettledOrHigh (task_in (ground_in session.now.setting.space)) (atoms_in (ground_in session.now.setting.space)) (potentials_of drafting.given.potentials.now) }
-    requires dead_ends_improved { AreDeadSettledOrHigh (task_in (ground_in session.now.setting.space)) (atoms_in (ground_in session.now.setting.space)) (potentials_of drafting.given.dead_ends.now) }
+    requires width { length (potentials_of pausing.given.potentials.now).weights ≡ length (atoms_in (ground_in session.now.setting.space)) }
+    requires improved { AreSettledOrHigh (task_in (ground_in session.now.setting.space)) (atoms_in (ground_in session.now.setting.space)) (potentials_of pausing.given.potentials.now) }
+    requires dead_ends_improved { AreDeadSettledOrHigh (task_in (ground_in session.now.setting.space)) (atoms_in (ground_in session.now.setting.space)) (potentials_of pausing.given.dead_ends.now) }
     ensures part { IfOk result (IsTruePart session.now.setting.space (G.estimate_of session.now.guide.now) (G.is_dead session.now.guide.now) (G.fits session.now.guide.now) session.now.setting.limits) }
     ensures said { GoesOn (IsTrueLine (task_in (ground_in session.now.setting.space))) E.wants_memory (E.failures err.old) (E.taken err.old) (E.failures err.new) (E.taken err.new) }
 {
-    let pause = drafting.pause.states;
+    let pause = pausing.pause.states();
     if pause >= session.setting.limits.states() {
         return Ok(Part::InVain(search));
     }
     match go_on_by(session, search, pause, err)? {
         Stretch::Ended(searched) => Ok(Part::Ended(Parts::ByGuide(searched))),
         Stretch::Paused(search) => {
-            match solve_at_pause(session.setting, &search, drafting, err)? {
+            match solve_at_pause(session.setting, &search, pausing, err)? {
                 Attempt::Done(answer) => Ok(Part::Ended(Parts::ByTables(answer))),
                 Attempt::Promising => Ok(Part::Promising(search)),
                 Attempt::InVain => Ok(Part::InVain(search)),
@@ -190,8 +213,88 @@ fn search_to_pause<'l, 't, G: Guide, E: Sink>(
     }
 }
 
-/// The answer by tables, if better ones than the potentials of this search are found.
+/// The answer by tables, if good ones are drafted at this pause.
 fn solve_at_pause<R, E: Sink>(
+    setting: Setting<'_, '_>,
+    search: &Search<GroundListing<'_, '_>, R>,
+    pausing: Pausing<'_>,
+    err: &mut E,
+) -> Result<Attempt<Answer>, NoMemory>
+    requires space { IsSearchSpace setting.space }
+    requires ground { IsGroundOf (task_in (ground_in setting.space)) [] setting.limits.instances (ground_in setting.space) }
+    requires stopped { IsStopped (store_in search.now) (nodes_of search.now) }
+    requires store_width { listed_width (store_in search.now) ≡ length (atoms_in (ground_in setting.space)) }
+    requires width { length (potentials_of pausing.given.potentials.now).weights ≡ length (atoms_in (ground_in setting.space)) }
+    requires improved { AreSettledOrHigh (task_in (ground_in setting.space)) (atoms_in (ground_in setting.space)) (potentials_of pausing.given.potentials.now) }
+    requires dead_ends_improved { AreDeadSettledOrHigh (task_in (ground_in setting.space)) (atoms_in (ground_in setting.space)) (potentials_of pausing.given.dead_ends.now) }
+    ensures answer { IfOk result (IfDone (IsTrueAnswer (task_in (ground_in setting.entry.space)) setting.entry.limits.states setting.entry.limits.instances)) }
+    ensures said { GoesOn (IsTrueLine (task_in (ground_in setting.entry.space))) E.wants_memory (E.failures err.old) (E.taken err.old) (E.failures err.new) (E.taken err.new) }
+{
+    let given = pausing.given;
+    let draft = match pausing.pause {
+        Pause::First => AMPLE,
+        Pause::Second => THOROUGH,
+    };
+    match solve_by_draft(setting, search, Drafting { draft, given }, err)? {
+        Attempt::Done(answer) => Ok(Attempt::Done(answer)),
+        Attempt::Promising => solve_by_more(setting, search, pausing, err),
+        Attempt::InVain => Ok(Attempt::InVain),
+    }
+}
+
+/// The answer by tables, if good ones are drafted at this pause with other effort.
+fn solve_by_more<R, E: Sink>(
+    setting: Setting<'_, '_>,
+    search: &Search<GroundListing<'_, '_>, R>,
+    pausing: Pausing<'_>,
+    err: &mut E,
+) -> Result<Attempt<Answer>, NoMemory>
+    requires space { IsSearchSpace setting.space }
+    requires ground { IsGroundOf (task_in (ground_in setting.space)) [] setting.limits.instances (ground_in setting.space) }
+    requires stopped { IsStopped (store_in search.now) (nodes_of search.now) }
+    requires store_width { listed_width (store_in search.now) ≡ length (atoms_in (ground_in setting.space)) }
+    requires width { length (potentials_of pausing.given.potentials.now).weights ≡ length (atoms_in (ground_in setting.space)) }
+    requires improved { AreSettledOrHigh (task_in (ground_in setting.space)) (atoms_in (ground_in setting.space)) (potentials_of pausing.given.potentials.now) }
+    requires dead_ends_improved { AreDeadSettledOrHigh (task_in (ground_in setting.space)) (atoms_in (ground_in setting.space)) (potentials_of pausing.given.dead_ends.now) }
+    ensures answer { IfOk result (IfDone (IsTrueAnswer (task_in (ground_in setting.entry.space)) setting.entry.limits.states setting.entry.limits.instances)) }
+    ensures said { GoesOn (IsTrueLine (task_in (ground_in setting.entry.space))) E.wants_memory (E.failures err.old) (E.taken err.old) (E.failures err.new) (E.taken err.new) }
+{
+    let given = pausing.given;
+    match pausing.pause {
+        Pause::First => solve_thoroughly(setting, search, given, err),
+        Pause::Second => Ok(Attempt::InVain),
+    }
+}
+
+/// The answer by tables of a thorough draft, or else of a quick one.
+fn solve_thoroughly<R, E: Sink>(
+    setting: Setting<'_, '_>,
+    search: &Search<GroundListing<'_, '_>, R>,
+    given: Given<'_>,
+    err: &mut E,
+) -> Result<Attempt<Answer>, NoMemory>
+    requires space { IsSearchSpace setting.space }
+    requires ground { IsGroundOf (task_in (ground_in setting.space)) [] setting.limits.instances (ground_in setting.space) }
+    requires stopped { IsStopped (store_in search.now) (nodes_of search.now) }
+    requires store_width { listed_width (store_in search.now) ≡ length (atoms_in (ground_in setting.space)) }
+    requires width { length (potentials_of given.potentials.now).weights ≡ length (atoms_in (ground_in setting.space)) }
+    requires improved { AreSettledOrHigh (task_in (ground_in setting.space)) (atoms_in (ground_in setting.space)) (potentials_of given.potentials.now) }
+    requires dead_ends_improved { AreDeadSettledOrHigh (task_in (ground_in setting.space)) (atoms_in (ground_in setting.space)) (potentials_of given.dead_ends.now) }
+    ensures answer { IfOk result (IfDone (IsTrueAnswer (task_in (ground_in setting.entry.space)) setting.entry.limits.states setting.entry.limits.instances)) }
+    ensures said { GoesOn (IsTrueLine (task_in (ground_in setting.entry.space))) E.wants_memory (E.failures err.old) (E.taken err.old) (E.failures err.new) (E.taken err.new) }
+{
+    let draft = THOROUGH;
+    match solve_by_draft(setting, search, Drafting { draft, given }, err)? {
+        Attempt::Done(answer) => Ok(Attempt::Done(answer)),
+        _ => {
+            let draft = QUICK;
+            solve_by_draft(setting, search, Drafting { draft, given }, err)
+        }
+    }
+}
+
+/// The answer by tables of this draft, if they are better than the potentials of this search.
+fn solve_by_draft<R, E: Sink>(
     setting: Setting<'_, '_>,
     search: &Search<GroundListing<'_, '_>, R>,
     drafting: Drafting<'_>,
@@ -216,7 +319,7 @@ fn solve_at_pause<R, E: Sink>(
         nodes: search.nodes(),
         potentials: drafting.given.potentials,
         dead_ends: drafting.given.dead_ends,
-        effort: drafting.pause.effort,
+        draft: drafting.draft,
     };
     solve_by_tables(setting, &stopped, err)
 }

@@ -29,8 +29,24 @@ pub(crate) struct Stopped<'a, 'l, 't> {
     /// The potentials that guide it, and those for dead ends.
     pub(crate) potentials: &'a Potentials,
     pub(crate) dead_ends: &'a Potentials,
-    /// The effort of the next draft.
+    /// The next draft.
+    pub(crate) draft: DraftAs,
+}
+
+/// How tables are drafted, and when they are taken.
+#[derive(Clone, Copy)]
+pub(crate) struct DraftAs {
     pub(crate) effort: Effort,
+    pub(crate) taken: Taken,
+}
+
+/// When drafted tables are taken.
+#[derive(Clone, Copy)]
+pub(crate) enum Taken {
+    /// If a search by them is estimated to take no more time, and expands hardly any states.
+    IfAmple,
+    /// If a search by them is estimated to take no more time.
+    IfWorth,
 }
 
 /// Counts of sampled states: those that were expanded, and those of them that other values would have saved.
@@ -42,6 +58,12 @@ pub(crate) struct Saving {
 
 /// Cost model: evaluating this many tables doubles the time for a state.
 const TABLES_AT_A_TIME: usize = 12;
+
+/// Hardly any states: one of this many.
+const HARDLY_ANY: usize = 50;
+
+/// Tables are promising if they save one state of this many.
+const PROMISING: usize = 16;
 
 impl Stopped<'_, '_, '_> {
     /// The true atoms of some states, spread evenly over the listing.
@@ -106,16 +128,33 @@ impl Saving {
         }
     }
 
-    /// Whether a search by this many tables is estimated to take no more time: it expands fewer states, and each takes longer.
-    pub(crate) fn is_worth(self, tables: usize) -> bool {
-        let left = self.expanded.saturating_sub(self.saved);
-        let slower = tables.saturating_add(TABLES_AT_A_TIME);
-        self.expanded > 0
-            && left.saturating_mul(slower) <= self.expanded.saturating_mul(TABLES_AT_A_TIME)
+    /// Whether this many tables are to be taken.
+    pub(crate) fn is_worth(self, tables: usize, taken: Taken) -> bool {
+        match taken {
+            Taken::IfAmple => self.is_ample() && self.takes_no_longer(tables),
+            Taken::IfWorth => self.takes_no_longer(tables),
+        }
     }
 
-    /// Whether other tables may save enough: these would have saved a quarter.
+    /// Whether hardly any states are left.
+    fn is_ample(self) -> bool {
+        self.left() <= self.expanded / HARDLY_ANY
+    }
+
+    /// Whether a search by this many tables is estimated to take no more time: it expands fewer states, and each takes longer.
+    fn takes_no_longer(self, tables: usize) -> bool {
+        let slower = tables.saturating_add(TABLES_AT_A_TIME);
+        self.expanded > 0
+            && self.left().saturating_mul(slower) <= self.expanded.saturating_mul(TABLES_AT_A_TIME)
+    }
+
+    /// The expanded states that are not saved.
+    fn left(self) -> usize {
+        self.expanded.saturating_sub(self.saved)
+    }
+
+    /// Whether other tables may save enough: these save some states.
     pub(crate) fn is_promising(self) -> bool {
-        self.expanded > 0 && self.saved >= self.expanded / 4
+        self.expanded > 0 && self.saved >= self.expanded / PROMISING
     }
 }
