@@ -2,6 +2,7 @@
 #![tactic(auto)]
 
 mod case;
+mod clock;
 mod each;
 mod files;
 mod follow_up;

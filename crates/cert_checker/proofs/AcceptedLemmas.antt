@@ -1,6 +1,6 @@
 -- What is so of a text that is accepted: no line of it is at fault.
-use Rattle.std.proofs.Common.{◌≡◌, ◌≢◌, ℕ, suc, ◌+◌, ◌≤◌, ◌⊎◌, inl, inr, ⊎_elim, Bool, true, List, [], ◌∷◌, ◌++◌, codes, map, length, length-append, Option, Some, refl, sym, ap, ◌∙◌, subst, append_assoc, append-nil, arith}
-use Rattle.std.specs.Prelude.{◌&&◌, ◌==◌, nat_le, nat_lt, IsTrue, AllPairs, Contains}
+use Rattle.std.proofs.Common.{◌≡◌, ◌≢◌, ℕ, suc, ◌+◌, ◌≤◌, ◌⊎◌, inl, inr, ⊎_elim, Bool, true, true≢false, List, [], ◌∷◌, ◌++◌, codes, map, length, length-append, Option, Some, refl, sym, ap, ◌∙◌, subst, append_assoc, append-nil, arith}
+use Rattle.std.specs.Prelude.{◌&&◌, nat_le, nat_lt, IsTrue, AllPairs, Contains}
 use Rattle.std.specs.Fmt.{decimal}
 use Rattle.std.specs.List.{flat_map, list_all}
 use Rattle.std.proofs.lemmas.Bool.{and_parts, false≢true, ltb-true}
@@ -16,20 +16,22 @@ use Rattle.certificate_definitions.specs.Evidence.{opened, bare}
 use Rattle.model.proofs.ListLemmas.{Contains-cases, Contains-filter_map, Contains-here, Contains-map, Contains-none, Contains-there, map-Contains}
 use Rattle.lower_bounds.specs.TableFunctions.{Row, Table, is_among}
 use Rattle.certificate_definitions.specs.Certificates.{Version, one, two, three, Certificate, IsClosedFor, StateLine, are_weights, has_tables, is_row, is_table, rise, state_of_line}
-use Rattle.certificate_definitions.specs.CertificateText.{NamedAtom, WeightedAtom, TableLine, scope, row, NamedCertificate, TextLine, version, claims, constant, swapped, atom, tabled, listed, last, AreWhole, BeginCertificate, HasLine, IsFaultAfter, IsOneTooMany, IsOtherVersion, other_version, malformed, too_long, trailing, cut_short, too_many, format_of, is_line, keeps_text_limits, line_text, longest_line, most_atoms, most_rows, most_states, most_swaps, most_tables, text_lines, text_of, version_number, whole_line}
+use Rattle.certificate_definitions.specs.CertificateText.{NamedAtom, WeightedAtom, TableLine, scope, row, NamedCertificate, TextLine, version, claims, constant, swapped, atom, tabled, part, listed, last, AreWhole, BeginCertificate, HasLine, IsFaultAfter, IsOneTooMany, IsOtherVersion, other_version, malformed, too_long, trailing, cut_short, too_many, format_of, is_line, keeps_text_limits, line_text, longest_line, most_atoms, most_states, most_swaps, text_lines, text_of, version_number, whole_line}
+use Rattle.certificate_definitions.specs.Parts.{Part, has_room}
 use Rattle.certificate_definitions.specs.CertificateNames.{AllName, IsTextOf, Names, table_lines}
 use Rattle.certificate_definitions.specs.CertificateChecking.{EndInTable, HasAtom, HasRow, IsAccepted, IsCut, IsLineFault, IsWrongAfter, IsWrongHere, is_of_scope, not_of_scope, repeated_row, not_fluent, repeated_atom, repeated_state, cut_not_allowed}
-use Rattle.certificate_definitions.specs.CertificateMachine.{CertificatePlace, at_version, at_claim, at_constant, in_body, ended, swap_follows, swap_more, atom_follows, atom_more, next_place, row_follows, row_more, scope_more, state_more}
+use Rattle.certificate_definitions.specs.CertificateMachine.{CertificatePlace, at_version, at_claim, at_constant, in_body, ended, swap_follows, swap_more, atom_follows, atom_more, next_place, part_follows, part_more, state_more}
 use Rattle.certificate_definitions.proofs.Beginnings.{body_lines}
 use Rattle.certificate_definitions.proofs.Machine.{end_of_whole, followed, never, only_where, place_of_beginning}
-use Rattle.certificate_definitions.proofs.TooMany.{IsTooManyAt, a_swap, an_atom, a_scope, a_row, a_state, too_many_at}
+use Rattle.certificate_definitions.proofs.TooMany.{IsTooManyAt, a_swap, an_atom, a_part, a_state, too_many_at}
 use Rattle.certificate_reader.specs.Stages.{IsWithin}
 use Rattle.certificate_reader.proofs.NumbersRead.{same_number}
 use Rattle.certificate_reader.proofs.OneLine.{one_line}
 use Rattle.certificate_reader.proofs.PlaceRead.{few_atoms, leads_line}
 use Rattle.cert_checker.specs.Given.{atom_in, atoms_given, names_given, state_in, states_given, table_in, tables_given}
+use Rattle.cert_checker.proofs.TableParts.{same_lines, tables_of_parts}
 use Rattle.cert_checker.proofs.NamesLemmas.{one_named}
-use Rattle.cert_checker.proofs.PlacedLemmas.{atoms_of_text, states_of_text, tables_of_text}
+use Rattle.cert_checker.proofs.PlacedLemmas.{atoms_of_text, states_of_text, parts_of_text}
 use Rattle.cert_checker.proofs.SplitLemmas.{end_within, few_atoms_kept, few_weights_kept, first_line, kept_lines, line_is_first, line_short, nothing_there, split_off, text_push, within_after}
 
 -- ---- lists
@@ -145,7 +147,7 @@ table_there (t ∷ tables) (f ∷ front) atoms rows r more same =
     let at = table_there tables left atoms rows r more splits in
     record { table = at.table; there = Contains-there t tables at.table at.there; scope_is = at.scope_is; following = at.following; rows_are = at.rows_are }
 
-tables_of_rows : (rows : List Row) → tables_given (map (λ (r : Row). tabled (row r)) rows) ≡ map row rows
+tables_of_rows : (rows : List Row) → tables_given (map (λ (r : Row). part (tabled (row r))) rows) ≡ map row rows
 tables_of_rows [] = refl
 tables_of_rows (r ∷ rows) = ap (λ lines. row r ∷ lines) (tables_of_rows rows)
 
@@ -153,7 +155,7 @@ tables_of_rows (r ∷ rows) = ap (λ lines. row r ∷ lines) (tables_of_rows row
 
 -- a line of a text is one of the first three, or comes after them
 first_three : (said : NamedCertificate) (line : TextLine) → Contains (text_lines said) line
-    → ((version said.version ≡ line) ⊎ ((claims said.claim ≡ line) ⊎ (constant said.constants ≡ line))) ⊎ Contains (body_lines said.swaps said.atoms said.tables said.lines ++ last (length said.lines) ∷ []) line
+    → ((version said.version ≡ line) ⊎ ((claims said.claim ≡ line) ⊎ (constant said.constants ≡ line))) ⊎ Contains (body_lines said.swaps said.atoms said.parts said.lines ++ last (length said.lines) ∷ []) line
 first_three said line there =
     ⊎_elim (λ same. inl (inl same))
     (λ later. ⊎_elim (λ same. inl (inr (inl same))) (λ others. ⊎_elim (λ same. inl (inr (inr same))) (λ body. inr body) (Contains-cases (constant said.constants) body line others))
@@ -161,20 +163,20 @@ first_three said line there =
     (Contains-cases (version said.version) (claims said.claim ∷ constant said.constants ∷ body) line there)
   where
     body : List TextLine
-    body = body_lines said.swaps said.atoms said.tables said.lines ++ last (length said.lines) ∷ []
+    body = body_lines said.swaps said.atoms said.parts said.lines ++ last (length said.lines) ∷ []
 
 -- and after them only exchanges, atoms, tables, states and the end come
-module _ (said : NamedCertificate) (line : TextLine) (no_swap : (names : List (List ℕ)) → swapped names ≡ line → ⊥) (no_atom : (a : WeightedAtom) → atom a ≡ line → ⊥) (no_table : (t : TableLine) → tabled t ≡ line → ⊥) (no_state : (l : StateLine) → listed l ≡ line → ⊥)
+module _ (said : NamedCertificate) (line : TextLine) (no_swap : (names : List (List ℕ)) → swapped names ≡ line → ⊥) (no_atom : (a : WeightedAtom) → atom a ≡ line → ⊥) (no_part : (p : Part) → part p ≡ line → ⊥) (no_state : (l : StateLine) → listed l ≡ line → ⊥)
     (no_end : (count : ℕ) → last count ≡ line → ⊥) where
-  not_after : Contains (body_lines said.swaps said.atoms said.tables said.lines ++ last (length said.lines) ∷ []) line → ⊥
+  not_after : Contains (body_lines said.swaps said.atoms said.parts said.lines ++ last (length said.lines) ∷ []) line → ⊥
   not_after there =
       ⊎_elim (λ body. ⊎_elim (λ front. ⊎_elim (λ first. ⊎_elim (λ among. let (names, _, is) = map-Contains swapped said.swaps line among in no_swap names is)
       (λ among. let (a, _, is) = map-Contains atom said.atoms line among in no_atom a is) (Contains-append_cases (map swapped said.swaps) (map atom said.atoms) line first))
-      (λ among. let (t, _, is) = map-Contains tabled said.tables line among in no_table t is) (Contains-append_cases (map swapped said.swaps ++ map atom said.atoms) (map tabled said.tables) line front))
+      (λ among. let (p, _, is) = map-Contains part said.parts line among in no_part p is) (Contains-append_cases (map swapped said.swaps ++ map atom said.atoms) (map part said.parts) line front))
       (λ among. let (l, _, is) = map-Contains listed said.lines line among in no_state l is)
-      (Contains-append_cases ((map swapped said.swaps ++ map atom said.atoms) ++ map tabled said.tables) (map listed said.lines) line body))
+      (Contains-append_cases ((map swapped said.swaps ++ map atom said.atoms) ++ map part said.parts) (map listed said.lines) line body))
       (λ end. ⊎_elim (λ same. no_end (length said.lines) same) (λ nowhere. Contains-none line nowhere) (Contains-cases (last (length said.lines)) [] line end))
-      (Contains-append_cases (body_lines said.swaps said.atoms said.tables said.lines) (last (length said.lines) ∷ []) line there)
+      (Contains-append_cases (body_lines said.swaps said.atoms said.parts said.lines) (last (length said.lines) ∷ []) line there)
 
 claim_same : (c d : Claim) → claims c ≡ claims d → c ≡ d
 claim_same c d same = cc same
@@ -215,14 +217,17 @@ module _ (task : Task) (c : Certificate) (closed : IsClosedFor task c) (text : L
         let (b, among, named) = named_among task (names_given before) at.front a.atom at.named reported in
         apart (λ (a b : Atom). a ≢ b) at.front at.following b at.here (subst (AllPairs (λ (a b : Atom). a ≢ b)) at.are closed.atoms_are_distinct) among (one_named task a.atom b at.here named at.is)
 
-    table_after : (r : Row) (atoms : List ℕ) (rows : List Row) → text_lines is.said ≡ before ++ tabled (row r) ∷ after → EndInTable before atoms rows → HasTable c.tables atoms rows r
+    tables_said : flat_map table_lines c.tables ≡ tables_given (text_lines is.said)
+    tables_said = same_lines (flat_map table_lines c.tables) (tables_given (text_lines is.said)) (sym is.parts ∙ sym (parts_of_text is.said) ∙ sym (tables_of_parts (text_lines is.said)))
+
+    table_after : (r : Row) (atoms : List ℕ) (rows : List Row) → text_lines is.said ≡ before ++ part (tabled (row r)) ∷ after → EndInTable before atoms rows → HasTable c.tables atoms rows r
     table_after r atoms rows splits (front, ends) =
         let more : List TableLine = tables_given after in
-        let lines : List TextLine = map (λ (r : Row). tabled (row r)) rows in
+        let lines : List TextLine = map (λ (r : Row). part (tabled (row r))) rows in
         let last_table : tables_given before ≡ tables_given front ++ scope atoms ∷ map row rows =
-        ap tables_given ends ∙ filter_map-append table_in front (tabled (scope atoms) ∷ lines) ∙ ap (λ lines. tables_given front ++ scope atoms ∷ lines) (tables_of_rows rows) in
+        ap tables_given ends ∙ filter_map-append table_in front (part (tabled (scope atoms)) ∷ lines) ∙ ap (λ lines. tables_given front ++ scope atoms ∷ lines) (tables_of_rows rows) in
         table_there c.tables (tables_given front) atoms rows r more
-        (sym is.tables ∙ sym (tables_of_text is.said) ∙ ap tables_given splits ∙ filter_map-append table_in before (tabled (row r) ∷ after)
+        (tables_said ∙ ap tables_given splits ∙ filter_map-append table_in before (part (tabled (row r)) ∷ after)
         ∙ ap (λ lines. lines ++ row r ∷ more) last_table ∙ append_assoc (tables_given front) (scope atoms ∷ map row rows) (row r ∷ more))
 
     of_scope : (r : Row) (atoms : List ℕ) (rows : List Row) → HasTable c.tables atoms rows r → is_of_scope atoms r.atoms ≡ true
@@ -282,8 +287,7 @@ nothing_after (claims claim) next leads = never next leads
 nothing_after (constant k) next leads = never next leads
 nothing_after (swapped names) next leads = never next leads
 nothing_after (atom a) next leads = never next leads
-nothing_after (tabled (scope s)) next leads = never next leads
-nothing_after (tabled (row r)) next leads = never next leads
+nothing_after (part p) next leads = never next leads
 nothing_after (listed l) next leads = never next leads
 nothing_after (last count) next leads = never next leads
 
@@ -301,18 +305,12 @@ within_limits (in_body b) next line within leads (an_atom a none_yet empty full 
     let (holds, _) = only_where (atom_follows b && nat_lt b.format.atoms most_atoms && is_line b.format (atom a)) (in_body (atom_more b)) next leads_on in
     let (counts, _) = and_parts (atom_follows b && nat_lt b.format.atoms most_atoms) (is_line b.format (atom a)) holds in
     omega (arith, full, ltb-true b.format.atoms most_atoms (and_parts (atom_follows b) (nat_lt b.format.atoms most_atoms) counts).1)
-within_limits (in_body b) next line within leads (a_scope s empty full is same) =
-    let here : line ≡ tabled (scope s) = one_line b.format (few_atoms (in_body b) within) line (tabled (scope s)) (leads_line (in_body b) within line next leads) is same in
-    let leads_on : next_place (in_body b) (tabled (scope s)) ≡ Some next = subst (λ line. next_place (in_body b) line ≡ Some next) here leads in
-    let (holds, _) = only_where ((b.states == 0) && nat_lt b.tables most_tables && is_line b.format (tabled (scope s))) (in_body (scope_more b)) next leads_on in
-    let (counts, _) = and_parts ((b.states == 0) && nat_lt b.tables most_tables) (is_line b.format (tabled (scope s))) holds in
-    omega (arith, full, ltb-true b.tables most_tables (and_parts (b.states == 0) (nat_lt b.tables most_tables) counts).1)
-within_limits (in_body b) next line within leads (a_row r begun empty full is same) =
-    let here : line ≡ tabled (row r) = one_line b.format (few_atoms (in_body b) within) line (tabled (row r)) (leads_line (in_body b) within line next leads) is same in
-    let leads_on : next_place (in_body b) (tabled (row r)) ≡ Some next = subst (λ line. next_place (in_body b) line ≡ Some next) here leads in
-    let (holds, _) = only_where (row_follows b && nat_lt b.rows most_rows && is_line b.format (tabled (row r))) (in_body (row_more b)) next leads_on in
-    let (counts, _) = and_parts (row_follows b && nat_lt b.rows most_rows) (is_line b.format (tabled (row r))) holds in
-    omega (arith, full, ltb-true b.rows most_rows (and_parts (row_follows b) (nat_lt b.rows most_rows) counts).1)
+within_limits (in_body b) next line within leads (a_part p empty follows full is same) =
+    let here : line ≡ part p = one_line b.format (few_atoms (in_body b) within) line (part p) (leads_line (in_body b) within line next leads) is same in
+    let leads_on : next_place (in_body b) (part p) ≡ Some next = subst (λ line. next_place (in_body b) line ≡ Some next) here leads in
+    let (holds, _) = only_where (part_follows p b && has_room b.parts p && is_line b.format (part p)) (in_body (part_more p b)) next leads_on in
+    let (counts, _) = and_parts (part_follows p b && has_room b.parts p) (is_line b.format (part p)) holds in
+    absurd (true≢false (sym (and_parts (part_follows p b) (has_room b.parts p) counts).1 ∙ full))
 within_limits (in_body b) next line within leads (a_state l full is same) =
     let here : line ≡ listed l = one_line b.format (few_atoms (in_body b) within) line (listed l) (leads_line (in_body b) within line next leads) is same in
     let leads_on : next_place (in_body b) (listed l) ≡ Some next = subst (λ line. next_place (in_body b) line ≡ Some next) here leads in
@@ -356,7 +354,7 @@ module _ (said : NamedCertificate) (keeps : IsTrue (keeps_text_limits said)) (be
 
     -- the lines after the first
     abbrev after_version : List TextLine
-    after_version = claims said.claim ∷ constant said.constants ∷ body_lines said.swaps said.atoms said.tables said.lines ++ last (length said.lines) ∷ []
+    after_version = claims said.claim ∷ constant said.constants ∷ body_lines said.swaps said.atoms said.parts said.lines ++ last (length said.lines) ∷ []
 
     this_version : IsOtherVersion before (line_text l) → ⊥
     this_version (empty, n, is, not_one, not_two, not_three, same) =

@@ -14,7 +14,7 @@ use Rattle.model.specs.Fluents.{is_fluent}
 use Rattle.model.specs.Claims.{Claim, bound, none}
 use Rattle.lower_bounds.specs.TableFunctions.{SeveralValues, Table}
 use Rattle.certificate_definitions.specs.Certificates.{Version, one}
-use Rattle.certificate_definitions.specs.CertificateText.{NamedAtom, WeightedAtom, TableLine, TextLine, version, claims, constant, swapped, atom, tabled, listed, last, BeginCertificate, AreWhole}
+use Rattle.certificate_definitions.specs.CertificateText.{NamedAtom, WeightedAtom, TableLine, TextLine, version, claims, constant, swapped, atom, tabled, part, listed, last, BeginCertificate, AreWhole}
 use Rattle.certificate_definitions.specs.CertificateNames.{AllName, Names, exchange_said, table_lines, value_count, weight_said}
 use Rattle.certificate_definitions.specs.CertificateMachine.{Body, CertificatePlace, at_version, at_claim, at_constant, in_body, ended, next_place, place_after}
 use Rattle.certificate_definitions.specs.CertificateChecking.{AreRight, IsWrongAfter, not_of_scope, repeated_row, not_fluent, repeated_atom, repeated_state, cut_not_allowed}
@@ -38,7 +38,7 @@ reported_atom lines a reported = let (line, there, is) = filter_map-Contains ato
     line_is (constant k) is = absurd (cc is)
     line_is (swapped names) is = absurd (cc is)
     line_is (atom b) is = let same : b ≡ a = cc in ap (λ a. atom a) same
-    line_is (tabled t) is = absurd (cc is)
+    line_is (part p) is = absurd (cc is)
     line_is (listed l) is = absurd (cc is)
     line_is (last count) is = absurd (cc is)
 
@@ -117,7 +117,7 @@ no_atom_first before k begun = let at = placed before (constant k) begun in by_p
 constant_there : (b : Body) (before : List TextLine) → IsBody b before → (k : List ℤ) × Contains before (constant k)
 constant_there b before body =
     let g = body.beginning in
-    let rest = map (λ names. swapped names) g.swaps ++ map (λ a. atom a) g.atoms ++ map (λ t. tabled t) g.tables ++ map (λ l. listed l) g.states in (
+    let rest = map (λ names. swapped names) g.swaps ++ map (λ a. atom a) g.atoms ++ map (λ p. part p) g.parts ++ map (λ l. listed l) g.states in (
       g.constants,
       subst (λ lines. Contains lines (constant g.constants)) (sym body.lines_are)
           (Contains-there (version g.version) (claims g.claim ∷ constant g.constants ∷ rest) (constant g.constants)
@@ -168,7 +168,7 @@ is_plain (claims claim) = true
 is_plain (constant k) = true
 is_plain (swapped names) = true
 is_plain (atom a) = false
-is_plain (tabled t) = false
+is_plain (part p) = false
 is_plain (listed l) = false
 is_plain (last count) = true
 
@@ -259,7 +259,7 @@ module _ (task : Task) (before : List TextLine) (heading : Heading) (reported : 
       none_more (constant k) is = refl
       none_more (swapped names) is = refl
       none_more (atom a) is = absurd (cc is)
-      none_more (tabled t) is = refl
+      none_more (part p) is = refl
       none_more (listed l) is = refl
       none_more (last count) is = refl
 
@@ -275,7 +275,7 @@ module _ (task : Task) (before : List TextLine) (heading : Heading) (reported : 
       none_more (constant k) is = refl
       none_more (swapped names) is = absurd (cc is)
       none_more (atom a) is = refl
-      none_more (tabled t) is = refl
+      none_more (part p) is = refl
       none_more (listed l) is = refl
       none_more (last count) is = refl
 
@@ -291,7 +291,7 @@ module _ (task : Task) (before : List TextLine) (heading : Heading) (reported : 
       none_more (constant k) is = refl
       none_more (swapped names) is = refl
       none_more (atom a) is = refl
-      none_more (tabled t) is = absurd (cc is)
+      none_more (part (tabled t)) is = absurd (cc is)
       none_more (listed l) is = refl
       none_more (last count) is = refl
 
@@ -422,22 +422,22 @@ module _ (task : Task) (before : List TextLine) (heading : Heading) (reported : 
   }
 
   -- a line of a table
-  pub reported_tables : (t : TableLine) (tables : List Table) → flat_map table_lines tables ≡ tables_given before ++ t ∷ [] → ((number : ℕ) → IsWrongAfter task before (tabled t) number → ⊥)
-      → HaveGiven task (before ++ tabled t ∷ []) (record { version = heading.version; claim = heading.claim; exchanges = heading.exchanges; atoms = heading.atoms; bounds = with_tables heading.bounds tables })
+  pub reported_tables : (t : TableLine) (tables : List Table) → flat_map table_lines tables ≡ tables_given before ++ t ∷ [] → ((number : ℕ) → IsWrongAfter task before (part (tabled t)) number → ⊥)
+      → HaveGiven task (before ++ part (tabled t) ∷ []) (record { version = heading.version; claim = heading.claim; exchanges = heading.exchanges; atoms = heading.atoms; bounds = with_tables heading.bounds tables })
   reported_tables t tables are is_right = record {
-    one_version = λ v there. reported.one_version v (among_more (tabled t) (version v) (λ same. cc same) there);
-    one_claim = λ d there. reported.one_claim d (among_more (tabled t) (claims d) (λ same. cc same) there);
-    none_occurs = λ none_is. Contains-append_left before (tabled t ∷ []) (claims none) (reported.none_occurs none_is);
+    one_version = λ v there. reported.one_version v (among_more (part (tabled t)) (version v) (λ same. cc same) there);
+    one_claim = λ d there. reported.one_claim d (among_more (part (tabled t)) (claims d) (λ same. cc same) there);
+    none_occurs = λ none_is. Contains-append_left before (part (tabled t) ∷ []) (claims none) (reported.none_occurs none_is);
     given = λ k there.
-        let given = given_still (tabled t) refl k (among_more (tabled t) (constant k) (λ same. cc same) there) in
+        let given = given_still (part (tabled t)) refl k (among_more (part (tabled t)) (constant k) (λ same. cc same) there) in
         record { values = given.values; dead_ends = given.dead_ends };
-    not_given = λ absent. let none_given = not_given_still (tabled t) absent in record { values = none_given.values; dead_ends = none_given.dead_ends };
-    exchanged = exchanged_still (tabled t) refl;
-    tables = are ∙ sym (filter_map-append table_in before (tabled t ∷ []));
-    named = named_still (tabled t) refl;
+    not_given = λ absent. let none_given = not_given_still (part (tabled t)) absent in record { values = none_given.values; dead_ends = none_given.dead_ends };
+    exchanged = exchanged_still (part (tabled t)) refl;
+    tables = are ∙ sym (filter_map-append table_in before (part (tabled t) ∷ []));
+    named = named_still (part (tabled t)) refl;
     fluent = reported.fluent;
     distinct = reported.distinct;
-    right = right_more task before (tabled t) reported.right is_right;
+    right = right_more task before (part (tabled t)) reported.right is_right;
   }
 
   pub reported_last : (count : ℕ) → HaveGiven task (before ++ last count ∷ []) heading
@@ -499,7 +499,7 @@ states_same lines line is = filter_map-append state_in lines (line ∷ []) ∙ a
     alone (constant k) is = refl
     alone (swapped names) is = refl
     alone (atom a) is = refl
-    alone (tabled t) is = refl
+    alone (part p) is = refl
     alone (listed l) is = absurd (cc is)
     alone (last count) is = refl
 

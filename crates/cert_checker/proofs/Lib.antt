@@ -1,5 +1,6 @@
 pub mod NamesLemmas
 pub mod NamedExchanges
+pub mod TableParts
 pub mod LimitsLemmas
 pub mod GivenLemmas
 pub mod ListedLemmas

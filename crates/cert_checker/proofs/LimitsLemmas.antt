@@ -1,5 +1,5 @@
 -- The certificate that a text denotes is within the limits, has a weight for each atom, and is unique.
-use Rattle.std.proofs.Common.{◌≡◌, ℕ, zero, suc, ◌+◌, ◌-◌, ◌≤◌, Bool, true, false, List, [], ◌∷◌, ◌++◌, map, length, length-append, refl, sym, ap, ◌∙◌, subst, arith}
+use Rattle.std.proofs.Common.{◌≡◌, ℕ, zero, suc, ◌+◌, ◌-◌, ◌≤◌, Bool, true, false, List, [], ◌∷◌, ◌++◌, map, length, refl, sym, ap, ◌∙◌, subst, arith}
 use Rattle.std.specs.Prelude.{◌&&◌, ◌==◌, ℤ, pos, IsTrue, All, nat_le}
 use Rattle.std.specs.List.{flat_map, list_all, range_with_len}
 use Rattle.std.proofs.lemmas.Bool.{and_parts, eq-eqb, eqb-true, false≢true, le-leb, leb-true}
@@ -11,10 +11,12 @@ use Rattle.model.specs.Task.{Atom, Task}
 use Rattle.lower_bounds.specs.PotentialFunctions.{PotentialFunction}
 use Rattle.lower_bounds.specs.TableFunctions.{Row, Table, is_among}
 use Rattle.certificate_definitions.specs.Certificates.{Version, one, two, three, Certificate, StateLine, are_exchanges, are_potentials, are_tables, are_weights, has_tables, is_claim, is_dead_end_weight, is_row, is_state_line, is_value_count, is_weight, keeps_limits, rows_of}
-use Rattle.certificate_definitions.specs.CertificateText.{NamedAtom, WeightedAtom, TableLine, scope, row, NamedCertificate, Format, TextLine, swapped, atom, tabled, listed, last, begin_with_scope, format_of, is_line, is_table_line, is_weight_count, keeps_text_limits, line_text, longest_line, most_atoms, most_rows, most_states, most_swaps, most_tables, row_count, scope_count, text_lines}
+use Rattle.certificate_definitions.specs.CertificateText.{NamedAtom, WeightedAtom, TableLine, scope, row, NamedCertificate, Format, TextLine, swapped, atom, tabled, part, listed, last, format_of, is_line, is_weight_count, keeps_text_limits, line_text, longest_line, most_atoms, most_states, most_swaps, text_lines}
+use Rattle.certificate_definitions.specs.Parts.{no_parts, are_in_order, is_table_line, most_rows, most_tables}
 use Rattle.certificate_definitions.specs.CertificateNames.{AllName, IsTextOf, dead_ends_said, exchange_said, table_lines, value_count, value_said, values_said, weight_said}
 use Rattle.certificate_reader.specs.Words.{are_lower}
 use Rattle.certificate_reader.proofs.OneText as one_text
+use Rattle.cert_checker.proofs.TableParts.{as_parts, few_of_ordered, same_lines}
 use Rattle.cert_checker.proofs.NamedExchanges.{exchanges_kept}
 use Rattle.cert_checker.proofs.NamesLemmas.{one_named}
 
@@ -79,15 +81,14 @@ limits_of c keeps =
 record AreTextLimits (said : NamedCertificate) : Type 0 where
   few_swaps : nat_le (length said.swaps) most_swaps ≡ true
   few_atoms : nat_le (length said.atoms) most_atoms ≡ true
-  few_tables : nat_le (scope_count said.tables) most_tables ≡ true
-  few_rows : nat_le (row_count said.tables) most_rows ≡ true
+  ordered : IsTrue (are_in_order no_parts said.parts)
   few_states : nat_le (length said.lines) most_states ≡ true
   claim : is_claim said.claim ≡ true
   constant_count : is_weight_count said.version (length said.constants) ≡ true
   constants : are_weights (length said.constants) said.constants ≡ true
   swaps : list_all (is_line (format_of said)) (map (λ names. swapped names) said.swaps) ≡ true
   atoms : list_all (is_line (format_of said)) (map (λ a. atom a) said.atoms) ≡ true
-  tables : list_all (is_line (format_of said)) (map (λ t. tabled t) said.tables) ≡ true
+  parts : list_all (is_line (format_of said)) (map (λ p. part p) said.parts) ≡ true
   states : list_all (is_state_line said.version (length said.atoms)) said.lines ≡ true
 
 text_limits : (said : NamedCertificate) → IsTrue (keeps_text_limits said) → AreTextLimits said
@@ -95,31 +96,27 @@ text_limits said keeps =
     let test : TextLine → Bool = is_line (format_of said) in
     let swaps : List TextLine = map (λ names. swapped names) said.swaps in
     let atoms : List TextLine = map (λ a. atom a) said.atoms in
-    let tables : List TextLine = map (λ t. tabled t) said.tables in
+    let parts : List TextLine = map (λ p. part p) said.parts in
     let states : List TextLine = map (λ l. listed l) said.lines in
     let end : List TextLine = last (length said.lines) ∷ [] in
-    let begins : Bool = begin_with_scope said.tables && nat_le (scope_count said.tables) most_tables in
     let count_is : Bool = is_weight_count said.version (length said.constants) in
-    let in_order : Bool = begins && nat_le (row_count said.tables) most_rows in
+    let in_order : Bool = are_in_order no_parts said.parts in
     let counted : Bool = nat_le (length said.swaps) most_swaps && nat_le (length said.atoms) most_atoms in
     let (counts, each) = and_parts (counted && in_order && nat_le (length said.lines) most_states) (list_all test (text_lines said)) keeps in
     let (few, few_states) = and_parts (counted && in_order) (nat_le (length said.lines) most_states) counts in
     let (few_both, ordered) = and_parts counted in_order few in
     let (few_swaps, few_atoms) = and_parts (nat_le (length said.swaps) most_swaps) (nat_le (length said.atoms) most_atoms) few_both in
-    let (begun, few_rows) = and_parts begins (nat_le (row_count said.tables) most_rows) ordered in
-    let few_tables = (and_parts (begin_with_scope said.tables) (nat_le (scope_count said.tables) most_tables) begun).1 in
-    let (claim, others) = and_parts (is_claim said.claim) ((count_is && list_all is_weight said.constants) && list_all test ((((swaps ++ atoms) ++ tables) ++ states) ++ end)) each in
-    let (constants, following) = and_parts (count_is && list_all is_weight said.constants) (list_all test ((((swaps ++ atoms) ++ tables) ++ states) ++ end)) others in
+    let (claim, others) = and_parts (is_claim said.claim) ((count_is && list_all is_weight said.constants) && list_all test ((((swaps ++ atoms) ++ parts) ++ states) ++ end)) each in
+    let (constants, following) = and_parts (count_is && list_all is_weight said.constants) (list_all test ((((swaps ++ atoms) ++ parts) ++ states) ++ end)) others in
     let (count, weights) = and_parts count_is (list_all is_weight said.constants) constants in
     let heads : List TextLine = swaps ++ atoms in
-    let body = (and_parts (list_all test ((heads ++ tables) ++ states)) (list_all test end) (sym (list_all-append test ((heads ++ tables) ++ states) end) ∙ following)).0 in
-    let (front, states_are) = and_parts (list_all test (heads ++ tables)) (list_all test states) (sym (list_all-append test (heads ++ tables) states) ∙ body) in
-    let (heads_are, tables_are) = and_parts (list_all test heads) (list_all test tables) (sym (list_all-append test heads tables) ∙ front) in
+    let body = (and_parts (list_all test ((heads ++ parts) ++ states)) (list_all test end) (sym (list_all-append test ((heads ++ parts) ++ states) end) ∙ following)).0 in
+    let (front, states_are) = and_parts (list_all test (heads ++ parts)) (list_all test states) (sym (list_all-append test (heads ++ parts) states) ∙ body) in
+    let (heads_are, parts_are) = and_parts (list_all test heads) (list_all test parts) (sym (list_all-append test heads parts) ∙ front) in
     let (swaps_are, atoms_are) = and_parts (list_all test swaps) (list_all test atoms) (sym (list_all-append test swaps atoms) ∙ heads_are) in
     record {
       few_atoms = few_atoms;
-      few_tables = few_tables;
-      few_rows = few_rows;
+      ordered = ordered;
       few_states = few_states;
       claim = claim;
       constant_count = count;
@@ -127,7 +124,7 @@ text_limits said keeps =
       swaps = swaps_are;
       constants = λ i. eq-eqb (length said.constants) (length said.constants) refl i && weights i;
       atoms = atoms_are;
-      tables = tables_are;
+      parts = parts_are;
       states = sym (list_all-map test (λ (l : StateLine). listed l) said.lines) ∙ states_are;
     }
 
@@ -215,30 +212,11 @@ module _ (said : NamedCertificate) (limits : AreTextLimits said) where
 
 -- ---- tables
 
-scopes_behind_rows : (rows : List Row) (more : List TableLine) → scope_count (map (λ r. row r) rows ++ more) ≡ scope_count more
-scopes_behind_rows [] more = refl
-scopes_behind_rows (r ∷ rows) more = scopes_behind_rows rows more
-
-rows_before : (rows : List Row) (more : List TableLine) → row_count (map (λ r. row r) rows ++ more) ≡ length rows + row_count more
-rows_before [] more = omega arith
-rows_before (r ∷ rows) more = let rest = rows_before rows more in omega (arith, rest)
-
--- there are as many scopes as tables, and as many row lines as rows of tables
-pub scopes_are : (tables : List Table) → scope_count (flat_map table_lines tables) ≡ length tables
-scopes_are [] = refl
-scopes_are (t ∷ tables) = let rest = scopes_behind_rows t.rows (flat_map table_lines tables) ∙ scopes_are tables in omega (arith, rest)
-
-pub rows_are : (tables : List Table) → row_count (flat_map table_lines tables) ≡ length (rows_of tables)
-rows_are [] = refl
-rows_are (t ∷ tables) =
-    let rest = rows_are tables in
-    omega (arith, rest, rows_before t.rows (flat_map table_lines tables), length-append t.rows (rows_of tables))
-
 -- a version without tables has no table lines
-no_lines_of_tables : (f : Format) → has_tables f.version ≡ false → (lines : List TableLine) → list_all (is_line f) (map (λ t. tabled t) lines) ≡ true → lines ≡ []
+no_lines_of_tables : (f : Format) → has_tables f.version ≡ false → (lines : List TableLine) → list_all (is_line f) (map (λ p. part p) (as_parts lines)) ≡ true → lines ≡ []
 no_lines_of_tables f none [] all = refl
 no_lines_of_tables f none (t ∷ lines) all =
-    let here = (and_parts (is_line f (tabled t)) (list_all (is_line f) (map (λ t. tabled t) lines)) all).0 in
+    let here = (and_parts (is_line f (part (tabled t))) (list_all (is_line f) (map (λ p. part p) (as_parts lines))) all).0 in
     absurd (false≢true (sym none ∙ (and_parts (has_tables f.version) (is_table_line f t) here).0))
 
 no_lines : (tables : List Table) → flat_map table_lines tables ≡ [] → tables ≡ []
@@ -246,11 +224,11 @@ no_lines [] same = refl
 no_lines (t ∷ tables) same = absurd (cc same)
 
 -- rows whose lines are within the limits, and whose atoms are in this scope
-rows_kept : (f : Format) (atoms : List ℕ) (rows : List Row) → All (λ (r : Row). list_all (is_among atoms) r.atoms ≡ true) rows → list_all (is_line f) (map (λ t. tabled t) (map (λ r. row r) rows)) ≡ true
+rows_kept : (f : Format) (atoms : List ℕ) (rows : List Row) → All (λ (r : Row). list_all (is_among atoms) r.atoms ≡ true) rows → list_all (is_line f) (map (λ p. part p) (as_parts (map (λ r. row r) rows))) ≡ true
     → list_all (is_row f.atoms f.weights atoms) rows ≡ true
 rows_kept f atoms [] among all = refl
 rows_kept f atoms (r ∷ rows) among all =
-    let (here, more) = and_parts (is_line f (tabled (row r))) (list_all (is_line f) (map (λ t. tabled t) (map (λ r. row r) rows))) all in
+    let (here, more) = and_parts (is_line f (part (tabled (row r)))) (list_all (is_line f) (map (λ p. part p) (as_parts (map (λ r. row r) rows)))) all in
     let (_, is) = and_parts (has_tables f.version) (is_table_line f (row r)) here in
     let of_scope = among 0 r (omega arith) in
     let rest = rows_kept f atoms rows (λ k d below. among (suc k) d (omega (arith, below))) more in
@@ -260,14 +238,15 @@ rows_kept f atoms (r ∷ rows) among all =
 abbrev pub AreOfScopes : List Table → Type 0
 AreOfScopes tables = All (λ (t : Table). All (λ (r : Row). list_all (is_among t.scope) r.atoms ≡ true) t.rows) tables
 
-tables_kept : (f : Format) (tables : List Table) → AreOfScopes tables → list_all (is_line f) (map (λ t. tabled t) (flat_map table_lines tables)) ≡ true → are_tables f.version f.atoms f.weights tables ≡ true
+tables_kept : (f : Format) (tables : List Table) → AreOfScopes tables → list_all (is_line f) (map (λ p. part p) (as_parts (flat_map table_lines tables))) ≡ true → are_tables f.version f.atoms f.weights tables ≡ true
 tables_kept f [] among all = refl
 tables_kept f (t ∷ tables) among all =
     let test : TextLine → Bool = is_line f in
-    let rows : List TextLine = map (λ t. tabled t) (map (λ r. row r) t.rows) in
-    let others : List TextLine = map (λ t. tabled t) (flat_map table_lines tables) in
-    let (here, following) = and_parts (test (tabled (scope t.scope))) (list_all test (map (λ t. tabled t) (map (λ r. row r) t.rows ++ flat_map table_lines tables))) all in
-    let split = ap (list_all test) (map-append (λ t. tabled t) (map (λ r. row r) t.rows) (flat_map table_lines tables)) ∙ list_all-append test rows others in
+    let rows : List TextLine = map (λ p. part p) (as_parts (map (λ r. row r) t.rows)) in
+    let others : List TextLine = map (λ p. part p) (as_parts (flat_map table_lines tables)) in
+    let (here, following) = and_parts (test (part (tabled (scope t.scope)))) (list_all test (map (λ p. part p) (as_parts (map (λ r. row r) t.rows ++ flat_map table_lines tables)))) all in
+    let split = ap (λ parts. list_all test (map (λ p. part p) parts)) (map-append (λ (t : TableLine). tabled t) (map (λ r. row r) t.rows) (flat_map table_lines tables))
+    ∙ ap (list_all test) (map-append (λ p. part p) (as_parts (map (λ r. row r) t.rows)) (as_parts (flat_map table_lines tables))) ∙ list_all-append test rows others in
     let (rows_are, more) = and_parts (list_all test rows) (list_all test others) (sym split ∙ following) in
     let (has, scope_is) = and_parts (has_tables f.version) (is_table_line f (scope t.scope)) here in
     let own = rows_kept f t.scope t.rows (among 0 t (omega arith)) rows_are in
@@ -305,12 +284,12 @@ module _ (task : Task) (text : List ℕ) (c : Certificate) (is : IsTextOf task t
       ap (λ (p : PotentialFunction). length p.weights) is.dead_ends
       ∙ length-map is.said.atoms (λ (a : WeightedAtom). weight_said (value_count is.said.version (length is.said.constants)) a.weights) ∙ as_many_atoms
 
-  -- in a version without tables neither the text nor the certificate has any
-  no_tables_said : has_tables c.version ≡ false → is.said.tables ≡ []
-  no_tables_said none = no_lines_of_tables (format_of is.said) (ap has_tables is.version ∙ none) is.said.tables limits.tables
+  parts_are : list_all (is_line (format_of is.said)) (map (λ p. part p) (as_parts (flat_map table_lines c.tables))) ≡ true
+  parts_are = subst (λ parts. list_all (is_line (format_of is.said)) (map (λ p. part p) parts) ≡ true) is.parts limits.parts
 
+  -- in a version without tables the certificate has none
   no_tables : has_tables c.version ≡ false → c.tables ≡ []
-  no_tables none = no_lines c.tables (sym is.tables ∙ no_tables_said none)
+  no_tables none = no_lines c.tables (no_lines_of_tables (format_of is.said) (ap has_tables is.version ∙ none) (flat_map table_lines c.tables) parts_are)
 
   -- its tables are within the limits if each row is in its table's scope, which the text's own limits do not ensure
   pub tables_in_limits : AreOfScopes c.tables → IsTrue (are_tables c.version (length c.atoms) (length c.values + 1) c.tables)
@@ -323,7 +302,7 @@ module _ (task : Task) (text : List ℕ) (c : Certificate) (is : IsTextOf task t
           let many : length c.values + 1 ≡ length is.said.constants =
           ap (λ n. n + 1) (ap length is.values ∙ values_length is.said limits) ∙ one_constant_more is.said.version (length is.said.constants) (ap has_tables is.version ∙ has) limits.constant_count in
           (λ i. are_tables (sym is.version i) (sym as_many_atoms i) (many i) c.tables)
-          ∙ tables_kept f c.tables among (subst (λ lines. list_all (is_line f) (map (λ t. tabled t) lines) ≡ true) is.tables limits.tables)
+          ∙ tables_kept f c.tables among parts_are
 
   -- and so does the whole certificate
   pub limits_kept : IsTrue (are_tables c.version (length c.atoms) (length c.values + 1) c.tables) → IsTrue (keeps_limits c)
@@ -334,8 +313,7 @@ module _ (task : Task) (text : List ℕ) (c : Certificate) (is : IsTextOf task t
       let states = (λ i. list_all (is_state_line (sym is.version i) (sym as_many_atoms i)) (sym is.lines i)) ∙ limits.states in
       let values = (λ i. list_all (are_potentials is_weight (sym as_many_atoms i)) (is.values i)) ∙ values_kept is.said limits in
       let dead_ends = (λ i. are_potentials (is_dead_end_weight (sym is.version i)) (sym as_many_atoms i) (is.dead_ends i)) ∙ dead_ends_kept is.said limits in
-      let few_tables = ap (λ n. nat_le n most_tables) (sym (scopes_are c.tables) ∙ ap scope_count (sym is.tables)) ∙ limits.few_tables in
-      let few_rows = ap (λ n. nat_le n most_rows) (sym (rows_are c.tables) ∙ ap row_count (sym is.tables)) ∙ limits.few_rows in
+      let (few_tables, few_rows) = few_of_ordered is.said.parts c.tables is.parts limits.ordered in
       let exchanges = (λ i. are_exchanges (sym is.version i) (is.exchanges i)) ∙ exchanges_kept task (format_of is.said) is.said.swaps limits.swaps in
       let few_exchanges = ap (λ n. nat_le n most_swaps) (ap length is.exchanges ∙ length-map is.said.swaps (exchange_said task)) ∙ limits.few_swaps in
       λ i. ((((((((((claim i && few_atoms i) && few_states i) && states i) && as_many_values i) && values i) && dead_ends i) && tables_are i) && few_tables i) && few_rows i) && exchanges i) && few_exchanges i
@@ -392,7 +370,7 @@ one_certificate task text c d is other =
     let values : c.values ≡ d.values = is.values ∙ ap values_said said ∙ sym other.values in
     let dead_ends : c.dead_ends ≡ d.dead_ends = is.dead_ends ∙ ap dead_ends_said said ∙ sym other.dead_ends in
     let exchanges : c.exchanges ≡ d.exchanges = is.exchanges ∙ ap (λ (n : NamedCertificate). map (exchange_said task) n.swaps) said ∙ sym other.exchanges in
-    let tables : c.tables ≡ d.tables = same_tables c.tables d.tables (sym is.tables ∙ ap (λ (n : NamedCertificate). n.tables) said ∙ other.tables) in
+    let tables : c.tables ≡ d.tables = same_tables c.tables d.tables (same_lines (flat_map table_lines c.tables) (flat_map table_lines d.tables) (sym is.parts ∙ ap (λ (n : NamedCertificate). n.parts) said ∙ other.parts)) in
     let atoms : c.atoms ≡ d.atoms = same_atoms task (map (λ (a : WeightedAtom). a.atom) other.said.atoms) c.atoms d.atoms
     (subst (λ (n : NamedCertificate). AllName task (map (λ (a : WeightedAtom). a.atom) n.atoms) c.atoms) said is.atoms) other.atoms in
     λ i. record { version = version_is i; claim = claim i; exchanges = exchanges i; atoms = atoms i; values = values i; dead_ends = dead_ends i; tables = tables i; lines = lines i }

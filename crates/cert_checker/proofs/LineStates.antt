@@ -1,5 +1,5 @@
 -- The states of a certificate's lines have the initial static atoms.
-use Rattle.std.proofs.Common.{◌≡◌, ◌∙◌, Bool, true, false, ◌||◌, List, [], ◌∷◌, ◌++◌, Some, inl, inr, refl, sym, ap, true≢false}
+use Rattle.std.proofs.Common.{◌≡◌, ◌∙◌, true, false, ◌||◌, List, [], ◌++◌, refl, sym, ap, true≢false}
 use Rattle.std.specs.Prelude.{All, IsTrue, Contains, slice_get}
 use Rattle.std.specs.List.{filter_map}
 use Rattle.std.specs.FinSet.{contains, contains-from_list}

@@ -11,7 +11,7 @@ use Rattle.model.specs.Claims.{Claim, none}
 use Rattle.certificate_definitions.specs.Certificates.{StateLine, rise}
 use Rattle.model.proofs.ListLemmas.{Contains-filter_map, filter_map-Contains, Contains-map, Contains-place, map-Contains}
 use Rattle.model.proofs.Tests.{passes_got}
-use Rattle.certificate_definitions.specs.CertificateText.{TextLine, version, claims, constant, swapped, atom, tabled, listed, last}
+use Rattle.certificate_definitions.specs.CertificateText.{TextLine, version, claims, constant, swapped, atom, part, listed, last}
 use Rattle.certificate_definitions.specs.CertificateChecking.{IsCut, IsWrongAfter, ListsAtoms, not_of_scope, repeated_row, not_fluent, repeated_atom, repeated_state, cut_not_allowed}
 use Rattle.certificate.specs.ListedSets.{Marked, marked}
 use Rattle.cert_checker.specs.Given.{Heading, HaveGiven, state_in, states_given}
@@ -34,7 +34,7 @@ reported_state lines l reported = let (line, there, is) = filter_map-Contains st
     line_is (constant k) is = absurd (cc is)
     line_is (swapped names) is = absurd (cc is)
     line_is (atom a) is = absurd (cc is)
-    line_is (tabled t) is = absurd (cc is)
+    line_is (part p) is = absurd (cc is)
     line_is (listed m) is = let same : m ≡ l = cc in ap (λ l. listed l) same
     line_is (last count) is = absurd (cc is)
 

@@ -18,13 +18,15 @@ use Rattle.certificate_definitions.specs.Certificates.{Certificate, StateLine, r
 use Rattle.certificate_definitions.specs.CertificateChecking.{IsCut}
 use Rattle.certificate_reader.specs.declared.line.CertLine.{CertLine}
 use Rattle.certificate_reader.specs.Lines.{claim_of, text_line_of, version_of}
-use Rattle.certificate_definitions.specs.CertificateText.{WeightedAtom, NamedCertificate, TextLine, AreWhole, BeginCertificate, atom, claims, constant, last, listed, swapped, tabled, most_atoms, text_lines, text_of, version}
+use Rattle.certificate_definitions.specs.CertificateText.{WeightedAtom, NamedCertificate, TextLine, AreWhole, BeginCertificate, atom, claims, constant, last, listed, swapped, part, most_atoms, text_lines, text_of, version}
 use Rattle.certificate_definitions.specs.CertificateNames.{AllName, IsTextOf, exchange_said}
 use Rattle.certificate_reader.specs.declared.reader.CertReader.{CertReader}
 use Rattle.certificate_reader.specs.Reader.{IsAnswer, has_failed, lines_read}
 use Rattle.model.proofs.ListLemmas.{Contains-here, Contains-there}
 use Rattle.certificate.specs.ListedSets.{Marked, line_with, lines_with, marked}
-use Rattle.cert_checker.specs.Given.{atoms_given, tables_given, is_body, names_given, states_given, swaps_given, values_given, dead_ends_given}
+use Rattle.certificate_definitions.specs.CertificateLines.{parts_given}
+use Rattle.cert_checker.proofs.TableParts.{as_parts, tables_of_parts}
+use Rattle.cert_checker.specs.Given.{atoms_given, is_body, names_given, states_given, swaps_given, values_given, dead_ends_given}
 use Rattle.certificate.specs.declared.states.Listed.{Listed}
 use Rattle.cert_checker.specs.Listed.{HaveListed, IsFit}
 use Rattle.certificate.specs.CertificateParts.{listed_of, bounds_of, exchange_in}
@@ -34,7 +36,7 @@ use Rattle.cert_checker.specs.Reading.{IsAt, IsBegun, IsListedSoFar, IsRead}
 use Rattle.certificate.proofs.SetsLemmas.{numbers_back}
 use Rattle.cert_checker.proofs.GivenLemmas.{begin_front}
 use Rattle.cert_checker.proofs.LimitsLemmas.{tables_in_limits}
-use Rattle.cert_checker.proofs.PlacedLemmas.{atoms_of_text, body_follows, few_atoms_reported, fit_there, named_length, states_of_text, swaps_of_text, tables_of_text}
+use Rattle.cert_checker.proofs.PlacedLemmas.{atoms_of_text, body_follows, few_atoms_reported, fit_there, named_length, states_of_text, swaps_of_text, parts_of_text}
 use Rattle.cert_checker.proofs.ReadingLemmas.{at_last, at_next, few_read, have_begun}
 
 -- there are as many atoms as lines that give one
@@ -54,7 +56,7 @@ lines_back width (l ∷ lines) rising =
 
 -- the lines after the first three
 abbrev body_of : NamedCertificate → List TextLine
-body_of c = map (λ names. swapped names) c.swaps ++ map (λ a. atom a) c.atoms ++ map (λ t. tabled t) c.tables ++ map (λ l. listed l) c.lines ++ last (length c.lines) ∷ []
+body_of c = map (λ names. swapped names) c.swaps ++ map (λ a. atom a) c.atoms ++ map (λ p. part p) c.parts ++ map (λ l. listed l) c.lines ++ last (length c.lines) ∷ []
 
 version_occurs : (c : NamedCertificate) → Contains (text_lines c) (version c.version)
 version_occurs c = Contains-here (version c.version) (claims c.claim ∷ constant c.constants ∷ body_of c)
@@ -143,7 +145,7 @@ module _ {R : Type 0} (remaining : R → Option (List ℕ)) (task : Task) (first
               atoms = subst (λ (said : List WeightedAtom). AllName task (map (λ a. a.atom) said) atoms) (ap atoms_given (sym are) ∙ atoms_of_text c) reported.named;
               values = given.values ∙ (λ i. values_given (version_is i) c.constants (atoms_are i));
               dead_ends = given.dead_ends ∙ (λ i. dead_ends_given (version_is i) c.constants (atoms_are i));
-              tables = sym (tables_of_text c) ∙ ap tables_given are ∙ sym reported.tables;
+              parts = sym (parts_of_text c) ∙ ap parts_given are ∙ sym (tables_of_parts lines) ∙ ap as_parts (sym reported.tables);
               lines = sym (states_are ∙ ap states_given (sym are) ∙ states_of_text c);
             } in
             record {

@@ -8,10 +8,11 @@ use Rattle.model.specs.Task.{Atom, Task}
 use Rattle.model.specs.Claims.{Claim}
 use Rattle.certificate_definitions.specs.Certificates.{StateLine, is_mark, is_number, rise}
 use Rattle.certificate_definitions.specs.CertificateChecking.{IsCut}
-use Rattle.certificate_definitions.specs.CertificateText.{NamedAtom, scope, row, NamedCertificate, TextLine, version, claims, constant, swapped, atom, tabled, listed, last, is_line, most_swaps, most_atoms, most_rows, most_states, most_tables, text_lines, AreWhole, BeginCertificate, Beginning}
+use Rattle.certificate_definitions.specs.CertificateText.{NamedAtom, NamedCertificate, TextLine, version, claims, constant, swapped, atom, part, listed, last, is_line, most_swaps, most_atoms, most_states, text_lines, AreWhole, BeginCertificate, Beginning}
+use Rattle.certificate_definitions.specs.Parts.{has_room, how_many, may_follow}
 use Rattle.certificate_definitions.specs.CertificateNames.{AllName}
-use Rattle.certificate_definitions.specs.CertificateMachine.{Body, CertificatePlace, at_version, at_claim, at_constant, in_body, ended, swap_follows, swap_more, atom_follows, atom_more, next_place, row_follows, row_more, scope_more, state_more}
-use Rattle.certificate_definitions.proofs.Beginnings.{atoms_of_body, body_lines, states_of_body, swaps_of_body, tables_of_body}
+use Rattle.certificate_definitions.specs.CertificateMachine.{Body, CertificatePlace, at_version, at_claim, at_constant, in_body, ended, swap_follows, swap_more, atom_follows, atom_more, next_place, part_follows, part_more, state_more}
+use Rattle.certificate_definitions.proofs.Beginnings.{atoms_of_body, body_lines, states_of_body, swaps_of_body, parts_of_body}
 use Rattle.certificate_definitions.proofs.Machine.{ComesBefore, never, only_where, place_of_beginning, place_same, occurs}
 use Rattle.certificate_reader.proofs.FaultsRead.{one_line_after}
 use Rattle.certificate_reader.specs.declared.line.CertLine.{CertLine}
@@ -20,7 +21,8 @@ use Rattle.certificate_reader.specs.declared.line.StateLine.{StateLine as StateL
 use Rattle.certificate_reader.specs.Lines.{text_line_of}
 use Rattle.packed_state.specs.Sets.{set_of}
 use Rattle.certificate.specs.ListedSets.{Marked, marked}
-use Rattle.cert_checker.specs.Given.{Heading, HaveGiven, atom_in, atoms_given, is_body, state_in, states_given, swap_in, swaps_given, table_in, tables_given}
+use Rattle.cert_checker.specs.Given.{Heading, HaveGiven, atom_in, atoms_given, is_body, state_in, states_given, swap_in, swaps_given}
+use Rattle.certificate_definitions.specs.CertificateLines.{part_in, parts_given}
 use Rattle.cert_checker.specs.Listed.{HaveListed, IsFit}
 use Rattle.cert_checker.proofs.GivenLemmas.{begin_front, placed, states_same, reported_last}
 use Rattle.cert_checker.proofs.SplitLemmas.{few_atoms_kept}
@@ -29,23 +31,23 @@ use Rattle.cert_checker.proofs.SplitLemmas.{few_atoms_kept}
 
 pub swaps_of_text : (c : NamedCertificate) → swaps_given (text_lines c) ≡ c.swaps
 swaps_of_text c =
-    filter_map-append swap_in (body_lines c.swaps c.atoms c.tables c.lines) (last (length c.lines) ∷ []) ∙ append-nil (swaps_given (body_lines c.swaps c.atoms c.tables c.lines))
-    ∙ swaps_of_body c.swaps c.atoms c.tables c.lines
+    filter_map-append swap_in (body_lines c.swaps c.atoms c.parts c.lines) (last (length c.lines) ∷ []) ∙ append-nil (swaps_given (body_lines c.swaps c.atoms c.parts c.lines))
+    ∙ swaps_of_body c.swaps c.atoms c.parts c.lines
 
 pub atoms_of_text : (c : NamedCertificate) → atoms_given (text_lines c) ≡ c.atoms
 atoms_of_text c =
-    filter_map-append atom_in (body_lines c.swaps c.atoms c.tables c.lines) (last (length c.lines) ∷ []) ∙ append-nil (atoms_given (body_lines c.swaps c.atoms c.tables c.lines))
-    ∙ atoms_of_body c.swaps c.atoms c.tables c.lines
+    filter_map-append atom_in (body_lines c.swaps c.atoms c.parts c.lines) (last (length c.lines) ∷ []) ∙ append-nil (atoms_given (body_lines c.swaps c.atoms c.parts c.lines))
+    ∙ atoms_of_body c.swaps c.atoms c.parts c.lines
 
-pub tables_of_text : (c : NamedCertificate) → tables_given (text_lines c) ≡ c.tables
-tables_of_text c =
-    filter_map-append table_in (body_lines c.swaps c.atoms c.tables c.lines) (last (length c.lines) ∷ []) ∙ append-nil (tables_given (body_lines c.swaps c.atoms c.tables c.lines))
-    ∙ tables_of_body c.swaps c.atoms c.tables c.lines
+pub parts_of_text : (c : NamedCertificate) → parts_given (text_lines c) ≡ c.parts
+parts_of_text c =
+    filter_map-append part_in (body_lines c.swaps c.atoms c.parts c.lines) (last (length c.lines) ∷ []) ∙ append-nil (parts_given (body_lines c.swaps c.atoms c.parts c.lines))
+    ∙ parts_of_body c.swaps c.atoms c.parts c.lines
 
 pub states_of_text : (c : NamedCertificate) → states_given (text_lines c) ≡ c.lines
 states_of_text c =
-    filter_map-append state_in (body_lines c.swaps c.atoms c.tables c.lines) (last (length c.lines) ∷ []) ∙ append-nil (states_given (body_lines c.swaps c.atoms c.tables c.lines))
-    ∙ states_of_body c.swaps c.atoms c.tables c.lines
+    filter_map-append state_in (body_lines c.swaps c.atoms c.parts c.lines) (last (length c.lines) ∷ []) ∙ append-nil (states_given (body_lines c.swaps c.atoms c.parts c.lines))
+    ∙ states_of_body c.swaps c.atoms c.parts c.lines
 
 -- ---- a line of the body
 
@@ -67,7 +69,7 @@ fit_there before line begun sets = let at = placed before line begun in by_line 
     by_line (constant k) place occurs next leads count = tt
     by_line (swapped names) place occurs next leads count = tt
     by_line (atom a) place occurs next leads count = tt
-    by_line (tabled t) place occurs next leads count = tt
+    by_line (part p) place occurs next leads count = tt
     by_line (last n) place occurs next leads count = tt
     by_line (listed l) at_version occurs next leads count = never next leads
     by_line (listed l) (at_claim v) occurs next leads count = never next leads
@@ -79,9 +81,9 @@ fit_there before line begun sets = let at = placed before line begun in by_line 
         let rising : rise b.format.atoms 0 l.atoms ≡ true = (and_parts (is_number l.cost && is_mark b.format.version l.mark) (rise b.format.atoms 0 l.atoms) is).1 in
         let g : Beginning = body.beginning in
         let atoms : length (atoms_given before) ≡ b.format.atoms =
-        ap (λ lines. length (atoms_given lines)) body.lines_are ∙ ap length (atoms_of_body g.swaps g.atoms g.tables g.states) ∙ ap (λ (b : Body). b.format.atoms) body.body_is in
+        ap (λ lines. length (atoms_given lines)) body.lines_are ∙ ap length (atoms_of_body g.swaps g.atoms g.parts g.states) ∙ ap (λ (b : Body). b.format.atoms) body.body_is in
         let states : length (states_given before) ≡ b.states =
-        ap (λ lines. length (states_given lines)) body.lines_are ∙ ap length (states_of_body g.swaps g.atoms g.tables g.states) ∙ ap (λ (b : Body). b.states) body.body_is in
+        ap (λ lines. length (states_given lines)) body.lines_are ∙ ap length (states_of_body g.swaps g.atoms g.parts g.states) ∙ ap (λ (b : Body). b.states) body.body_is in
         (subst (λ n. rise n 0 l.atoms ≡ true) (sym atoms) rising, omega (arith, count, states, ltb-true b.states most_states below))
 
 -- a line after one of the body is one of the body
@@ -104,24 +106,19 @@ body_follows before line next begun body =
         let (holds, _) = only_where (swap_follows m && nat_lt m.swaps most_swaps && is_line m.format (swapped names)) (in_body (swap_more m)) after leads in
         let (counts, _) = and_parts (swap_follows m && nat_lt m.swaps most_swaps) (is_line m.format (swapped names)) holds in
         let (follows, _) = and_parts (swap_follows m) (nat_lt m.swaps most_swaps) counts in
-        absurd (some_state b (and_parts ((m.format.atoms == 0) && (m.tables == 0)) (m.states == 0) follows).1)
+        absurd (some_state b (and_parts ((m.format.atoms == 0) && (how_many m.parts == 0)) (m.states == 0) follows).1)
     after_state b (atom a) after leads =
         let m : Body = state_more b in
         let (holds, _) = only_where (atom_follows m && nat_lt m.format.atoms most_atoms && is_line m.format (atom a)) (in_body (atom_more m)) after leads in
         let (counts, _) = and_parts (atom_follows m && nat_lt m.format.atoms most_atoms) (is_line m.format (atom a)) holds in
         let (follows, _) = and_parts (atom_follows m) (nat_lt m.format.atoms most_atoms) counts in
-        absurd (some_state b (and_parts (m.tables == 0) (m.states == 0) follows).1)
-    after_state b (tabled (scope s)) after leads =
+        absurd (some_state b (and_parts (how_many m.parts == 0) (m.states == 0) follows).1)
+    after_state b (part p) after leads =
         let m : Body = state_more b in
-        let (holds, _) = only_where ((m.states == 0) && nat_lt m.tables most_tables && is_line m.format (tabled (scope s))) (in_body (scope_more m)) after leads in
-        let (counts, _) = and_parts ((m.states == 0) && nat_lt m.tables most_tables) (is_line m.format (tabled (scope s))) holds in
-        absurd (some_state b (and_parts (m.states == 0) (nat_lt m.tables most_tables) counts).0)
-    after_state b (tabled (row r)) after leads =
-        let m : Body = state_more b in
-        let (holds, _) = only_where (row_follows m && nat_lt m.rows most_rows && is_line m.format (tabled (row r))) (in_body (row_more m)) after leads in
-        let (counts, _) = and_parts (row_follows m && nat_lt m.rows most_rows) (is_line m.format (tabled (row r))) holds in
-        let (follows, _) = and_parts (row_follows m) (nat_lt m.rows most_rows) counts in
-        absurd (some_state b (and_parts (nat_lt 0 m.tables) (m.states == 0) follows).1)
+        let (holds, _) = only_where (part_follows p m && has_room m.parts p && is_line m.format (part p)) (in_body (part_more p m)) after leads in
+        let (counts, _) = and_parts (part_follows p m && has_room m.parts p) (is_line m.format (part p)) holds in
+        let (follows, _) = and_parts (part_follows p m) (has_room m.parts p) counts in
+        absurd (some_state b (and_parts (m.states == 0) (may_follow m.parts p) follows).0)
     after_state b (listed l) after leads = refl
     after_state b (last count) after leads = refl
 
@@ -131,8 +128,7 @@ body_follows before line next begun body =
     after_last (constant k) after leads = never after leads
     after_last (swapped names) after leads = never after leads
     after_last (atom a) after leads = never after leads
-    after_last (tabled (scope s)) after leads = never after leads
-    after_last (tabled (row r)) after leads = never after leads
+    after_last (part p) after leads = never after leads
     after_last (listed l) after leads = never after leads
     after_last (last count) after leads = never after leads
 
@@ -142,7 +138,7 @@ body_follows before line next begun body =
     by_line (constant k) place then leads body next after leads_on = absurd (true≢false (sym body))
     by_line (swapped names) place then leads body next after leads_on = absurd (true≢false (sym body))
     by_line (atom a) place then leads body next after leads_on = absurd (true≢false (sym body))
-    by_line (tabled t) place then leads body next after leads_on = absurd (true≢false (sym body))
+    by_line (part p) place then leads body next after leads_on = absurd (true≢false (sym body))
     by_line (listed l) at_version then leads body next after leads_on = never then leads
     by_line (listed l) (at_claim v) then leads body next after leads_on = never then leads
     by_line (listed l) (at_constant v) then leads body next after leads_on = never then leads
@@ -167,8 +163,7 @@ last_reports task before heading claim width marks sets (code.Claim c) other bod
 last_reports task before heading claim width marks sets (code.Constant k) other body reported have = absurd (true≢false (sym body))
 last_reports task before heading claim width marks sets (code.Swap objects) other body reported have = absurd (true≢false (sym body))
 last_reports task before heading claim width marks sets (code.Weight weights predicate objects) other body reported have = absurd (true≢false (sym body))
-last_reports task before heading claim width marks sets (code.Table atoms) other body reported have = absurd (true≢false (sym body))
-last_reports task before heading claim width marks sets (code.Row weights atoms) other body reported have = absurd (true≢false (sym body))
+last_reports task before heading claim width marks sets (code.Part p) other body reported have = absurd (true≢false (sym body))
 last_reports task before heading claim width marks sets (code.Listed l) other body reported have = absurd (other l refl)
 last_reports task before heading claim width marks sets (code.Last n) other body reported have =
     let same : states_given (before ++ last n ∷ []) ≡ states_given before = states_same before (last n) refl in (
@@ -196,6 +191,6 @@ few_atoms_reported lines begun = let (place, leads) = place_of_beginning lines b
     by_place (at_constant v) (claim, is, are) = omega (arith, ap (λ lines. length (atoms_given lines)) are)
     by_place (in_body b) body =
         let g : Beginning = body.beginning in
-        let atoms : length (atoms_given lines) ≡ length g.atoms = ap (λ lines. length (atoms_given lines)) body.lines_are ∙ ap length (atoms_of_body g.swaps g.atoms g.tables g.states) in
+        let atoms : length (atoms_given lines) ≡ length g.atoms = ap (λ lines. length (atoms_given lines)) body.lines_are ∙ ap length (atoms_of_body g.swaps g.atoms g.parts g.states) in
         omega (arith, atoms, body.keeps.few_atoms)
     by_place ended whole = whole_atoms whole

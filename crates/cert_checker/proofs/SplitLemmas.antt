@@ -10,7 +10,8 @@ use Rattle.model.specs.Claims.{bound, none}
 use Rattle.certificate_definitions.specs.Evidence.{of_all, LineMark, opened, cut, dead}
 use Rattle.certificate_definitions.specs.Certificates.{Version, one, two, three, are_weights, has_exchanges, has_tables, is_mark, is_number, is_weight, rise}
 use Rattle.model.proofs.ListLemmas.{Contains-here, Contains-there}
-use Rattle.certificate_definitions.specs.CertificateText.{scope, row, NamedCertificate, TextLine, version, claims, constant, swapped, atom, tabled, listed, last, Format, format_of, begin_with_scope, row_count, scope_count, BeginCertificate, HasLine, IsInOneLine, after_blank, are_exchanged, is_line, is_weight_count, keeps_text_limits, line_text, longest_line, mark_text, most_atoms, most_rows, most_states, most_swaps, most_tables, numbers_text, text_lines, text_of, version_number, weights_text, whole_line}
+use Rattle.certificate_definitions.specs.CertificateText.{scope, row, NamedCertificate, TextLine, version, claims, constant, swapped, atom, tabled, part, listed, last, Format, format_of, BeginCertificate, HasLine, IsInOneLine, after_blank, are_exchanged, is_line, is_weight_count, keeps_text_limits, line_text, longest_line, mark_text, most_atoms, most_states, most_swaps, numbers_text, text_lines, text_of, version_number, weights_text, whole_line}
+use Rattle.certificate_definitions.specs.Parts.{are_in_order, no_parts}
 use Rattle.certificate_definitions.specs.CertificateMachine.{CertificatePlace, at_version, ended, format_at, next_place, place_from}
 use Rattle.certificate_definitions.proofs.Machine.{end_of_whole, never, place_of_beginning, place_same}
 use Rattle.certificate_reader.specs.Stages.{IsWithin}
@@ -31,7 +32,7 @@ kept_lines c keeps = (and_parts _ (list_all (is_line (format_of c)) (text_lines 
 
 pub few_atoms_kept : (c : NamedCertificate) → IsTrue (keeps_text_limits c) → length c.atoms ≤ most_atoms
 few_atoms_kept c keeps =
-    let tables = begin_with_scope c.tables && nat_le (scope_count c.tables) most_tables && nat_le (row_count c.tables) most_rows in
+    let tables = are_in_order no_parts c.parts in
     let (counts, _) = and_parts _ (list_all (is_line (format_of c)) (text_lines c)) keeps in
     let fews = nat_le (length c.swaps) most_swaps && nat_le (length c.atoms) most_atoms in
     let (bodies, _) = and_parts (fews && tables) (nat_le (length c.lines) most_states) counts in
@@ -119,12 +120,12 @@ module _ (f : Format) (few : f.atoms ≤ most_atoms) (few_weights : f.weights �
       leb-true (length (line_text (atom a))) longest_line (and_parts (are_weights f.weights a.weights && are_lower a.atom) (nat_le (length (line_text (atom a))) longest_line) is).1
   line_short (swapped names) is =
       leb-true (length (line_text (swapped names))) longest_line (and_parts (has_exchanges f.version && are_exchanged names) (nat_le (length (line_text (swapped names))) longest_line) is).1
-  line_short (tabled (scope s)) is =
+  line_short (part (tabled (scope s))) is =
       let (rising, _) = and_parts (rise f.atoms 0 s) (nat_le 1 (length s)) (and_parts (has_tables f.version) _ is).1 in
       let more = numbers_short f.atoms 0 s few (omega arith) rising in
       let long : length (codes "table" ++ numbers_text s) ≡ 5 + length (numbers_text s) = omega arith in
       omega (arith, few, more, long)
-  line_short (tabled (row r)) is =
+  line_short (part (tabled (row r))) is =
       let (weights, rising) = and_parts (are_weights f.weights r.weights) (rise f.atoms 0 r.atoms) (and_parts (has_tables f.version) _ is).1 in
       let (many, all) = and_parts (length r.weights == f.weights) (list_all is_weight r.weights) weights in
       let digits = weights_short r.weights all in

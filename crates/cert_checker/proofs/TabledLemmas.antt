@@ -1,5 +1,5 @@
 -- What lines of tables give.
-use Rattle.std.proofs.Common.{◌≡◌, ◌∙◌, ℕ, ◌+◌, ◌<◌, true, false, true≢false, List, [], ◌∷◌, ◌++◌, map, length, Some, refl, sym, ap, subst, append_assoc, append-nil, arith}
+use Rattle.std.proofs.Common.{◌≡◌, ◌∙◌, ℕ, ◌+◌, true, false, true≢false, List, [], ◌∷◌, ◌++◌, map, length, Some, refl, sym, ap, subst, append_assoc, append-nil, arith}
 use Rattle.std.specs.Prelude.{◌&&◌, ◌==◌, nat_le, nat_lt, Bool, Contains}
 use Rattle.std.specs.List.{flat_map, list_all, range_with_len}
 use Rattle.std.proofs.lemmas.Bool.{and_parts, eqb-true, ltb-true}
@@ -10,35 +10,34 @@ use Rattle.std.proofs.lemmas.Grind.{flat_map-append}
 use Rattle.model.specs.Task.{Task}
 use Rattle.model.proofs.ListLemmas.{Contains-here, Contains-there}
 use Rattle.lower_bounds.specs.TableFunctions as model
-use Rattle.lower_bounds.specs.TableFunctions.{Row, is_among}
+use Rattle.lower_bounds.specs.TableFunctions.{Row, SeveralValues, is_among}
 use Rattle.table_rows.specs.Tables.{table_of, weight_count_of}
 use Rattle.table_rows.specs.declared.by_atoms.Added.TheVariants.{New}
 use Rattle.table_rows.specs.declared.table.Table.{Table}
 use Rattle.certificate_definitions.specs.Certificates.{are_weights, has_tables, is_weight, rise}
-use Rattle.certificate_definitions.specs.CertificateText.{TableLine, scope, row, TextLine, version, claims, constant, swapped, atom, tabled, listed, last, Beginning, BeginCertificate, format_in, head_lines, is_line, is_table_line, is_weight_count, most_atoms, most_rows, most_tables, row_count, scope_count}
+use Rattle.certificate_definitions.specs.CertificateText.{Part, TableLine, scope, row, TextLine, version, claims, constant, swapped, atom, tabled, part, listed, last, Beginning, BeginCertificate, format_in, head_lines, is_line, is_weight_count, most_atoms}
+use Rattle.certificate_definitions.specs.Parts.{PartCounts, counts_after, has_room, how_many, is_table_line, may_follow, most_rows, no_parts}
 use Rattle.certificate_definitions.specs.CertificateNames.{table_lines, value_count}
-use Rattle.certificate_definitions.specs.CertificateMachine.{Body, CertificatePlace, at_version, at_claim, at_constant, in_body, ended, atom_follows, atom_more, next_place, row_follows, row_more, scope_more}
+use Rattle.certificate_definitions.specs.CertificateMachine.{Body, CertificatePlace, at_version, at_claim, at_constant, in_body, ended, atom_follows, atom_more, next_place, part_follows, part_more}
 use Rattle.certificate_definitions.specs.CertificateChecking.{EndInTable, IsWrongAfter, is_of_scope, not_of_scope, repeated_row, not_fluent, repeated_atom, repeated_state, cut_not_allowed}
-use Rattle.certificate_definitions.proofs.Beginnings.{body_lines, tables_of_body}
-use Rattle.certificate_definitions.proofs.Machine.{ComesBefore, IsBody, Keeps, body_of, never, no_states, no_tables, only_where}
+use Rattle.certificate_definitions.proofs.Beginnings.{body_lines, parts_of_body}
+use Rattle.certificate_definitions.proofs.Machine.{ComesBefore, IsBody, Keeps, body_of, never, no_states, only_where}
+use Rattle.certificate_definitions.proofs.PartLemmas.{none_yet}
+use Rattle.certificate_definitions.specs.CertificateLines.{parts_given}
 use Rattle.certificate.specs.declared.header.Header.{Header}
 use Rattle.certificate.specs.CertificateParts.{potential_of}
 use Rattle.cert_checker.specs.declared.refusal.Refusal.{Refusal}
 use Rattle.cert_checker.specs.declared.refusal.Refusal.TheVariants as refusal
 use Rattle.cert_checker.specs.declared.refusal.RefusalCode.TheVariants.{CertForm, Repeated}
 use Rattle.cert_checker.specs.Given.{Heading, HaveGiven, atoms_given, table_in, tables_given, value_given}
-use Rattle.cert_checker.specs.Tabled.{AreWeighed, HaveWeights, IsAddedToLast, IsFitHead, IsRowRefused, with_scope, with_tables}
+use Rattle.cert_checker.specs.Tabled.{AreWeighed, HaveWeights, IsAddedToLast, IsFitHead, IsPartRefused, IsPartTaken, IsRowRefused, with_scope, with_tables}
 use Rattle.cert_checker.specs.Taking.{HasTaken, IsWrongNow, heading_of}
 use Rattle.cert_checker.proofs.GivenLemmas.{placed, reported_tables}
-use Rattle.cert_checker.proofs.LimitsLemmas.{few_constants, one_constant_more, rows_are, scopes_are}
+use Rattle.cert_checker.proofs.LimitsLemmas.{few_constants, one_constant_more}
+use Rattle.cert_checker.proofs.TableParts.{as_parts, counts_of_tables, same_lines, tables_of_parts}
 use Rattle.cert_checker.proofs.TableLinesLemmas.{one_end, rising_few, rising_from, rows_of_one}
 
 -- ---- the position of a table line
-
--- for a row there must be a table, and room in it
-abbrev HasRoomFor : Beginning → TableLine → Type 0
-HasRoomFor g (scope s) = Unit {0}
-HasRoomFor g (row r) = (0 < scope_count g.tables) × (row_count g.tables < most_rows)
 
 -- it comes after these first lines, which list no state
 pub record FollowsTables (before : List TextLine) (t : TableLine) : Type 0 where
@@ -46,43 +45,30 @@ pub record FollowsTables (before : List TextLine) (t : TableLine) : Type 0 where
   pub keeps : Keeps beginning
   pub lines_are : before ≡ head_lines beginning
   pub no_states : beginning.states ≡ []
-  pub line_is : is_line (format_in beginning) (tabled t) ≡ true
-  pub room : HasRoomFor beginning t
+  pub line_is : is_line (format_in beginning) (part (tabled t)) ≡ true
+  pub follows : may_follow (counts_after no_parts beginning.parts) (tabled t) ≡ true
+  pub room : has_room (counts_after no_parts beginning.parts) (tabled t) ≡ true
 
-pub follows_tables : (before : List TextLine) (t : TableLine) → BeginCertificate (before ++ tabled t ∷ []) → FollowsTables before t
-follows_tables before t begun = let at = placed before (tabled t) begun in by_place at.place at.occurs at.next at.leads
+pub follows_tables : (before : List TextLine) (t : TableLine) → BeginCertificate (before ++ part (tabled t) ∷ []) → FollowsTables before t
+follows_tables before t begun = let at = placed before (part (tabled t)) begun in by_place at.place at.occurs at.next at.leads
   where
-    of_body : (b : Body) → IsBody b before → (t : TableLine) (next : CertificatePlace) → next_place (in_body b) (tabled t) ≡ Some next → FollowsTables before t
-    of_body b body (scope s) next leads =
+    of_body : (b : Body) → IsBody b before → (next : CertificatePlace) → next_place (in_body b) (part (tabled t)) ≡ Some next → FollowsTables before t
+    of_body b body next leads =
         let g : Beginning = body.beginning in
         let c : Body = body_of g in
-        let leads_on : next_place (in_body c) (tabled (scope s)) ≡ Some next = subst (λ b. next_place (in_body b) (tabled (scope s)) ≡ Some next) (sym body.body_is) leads in
-        let (holds, _) = only_where ((c.states == 0) && nat_lt c.tables most_tables && is_line c.format (tabled (scope s))) (in_body (scope_more c)) next leads_on in
-        let (counts, is) = and_parts ((c.states == 0) && nat_lt c.tables most_tables) (is_line c.format (tabled (scope s))) holds in
-        let (empty, _) = and_parts (c.states == 0) (nat_lt c.tables most_tables) counts in
-        record { beginning = g; keeps = body.keeps; lines_are = body.lines_are; no_states = no_states g.states (eqb-true c.states 0 empty); line_is = is; room = tt }
-    of_body b body (row r) next leads =
-        let g : Beginning = body.beginning in
-        let c : Body = body_of g in
-        let leads_on : next_place (in_body c) (tabled (row r)) ≡ Some next = subst (λ b. next_place (in_body b) (tabled (row r)) ≡ Some next) (sym body.body_is) leads in
-        let (holds, _) = only_where (row_follows c && nat_lt c.rows most_rows && is_line c.format (tabled (row r))) (in_body (row_more c)) next leads_on in
-        let (counts, is) = and_parts (row_follows c && nat_lt c.rows most_rows) (is_line c.format (tabled (row r))) holds in
-        let (follows, below) = and_parts (row_follows c) (nat_lt c.rows most_rows) counts in
-        let (begun, empty) = and_parts (nat_lt 0 c.tables) (c.states == 0) follows in
-        record {
-          beginning = g;
-          keeps = body.keeps;
-          lines_are = body.lines_are;
-          no_states = no_states g.states (eqb-true c.states 0 empty);
-          line_is = is;
-          room = (ltb-true 0 c.tables begun, ltb-true c.rows most_rows below);
-        }
+        let p : Part = tabled t in
+        let leads_on : next_place (in_body c) (part p) ≡ Some next = subst (λ b. next_place (in_body b) (part p) ≡ Some next) (sym body.body_is) leads in
+        let (holds, _) = only_where (part_follows p c && has_room c.parts p && is_line c.format (part p)) (in_body (part_more p c)) next leads_on in
+        let (counts, is) = and_parts (part_follows p c && has_room c.parts p) (is_line c.format (part p)) holds in
+        let (place, room) = and_parts (part_follows p c) (has_room c.parts p) counts in
+        let (empty, follows) = and_parts (c.states == 0) (may_follow c.parts p) place in
+        record { beginning = g; keeps = body.keeps; lines_are = body.lines_are; no_states = no_states g.states (eqb-true c.states 0 empty); line_is = is; follows = follows; room = room }
 
-    by_place : (place : CertificatePlace) → ComesBefore place before → (next : CertificatePlace) → next_place place (tabled t) ≡ Some next → FollowsTables before t
+    by_place : (place : CertificatePlace) → ComesBefore place before → (next : CertificatePlace) → next_place place (part (tabled t)) ≡ Some next → FollowsTables before t
     by_place at_version are next leads = never next leads
     by_place (at_claim v) are next leads = never next leads
     by_place (at_constant v) are next leads = never next leads
-    by_place (in_body b) body next leads = of_body b body t next leads
+    by_place (in_body b) body next leads = of_body b body next leads
     by_place ended are next leads = never next leads
 
 -- ---- one more line
@@ -93,10 +79,10 @@ module _ (task : Task) (before : List TextLine) (heading : Heading) (reported : 
     opening = at.beginning
 
     abbrev further : List TextLine
-    further = body_lines opening.swaps opening.atoms opening.tables opening.states
+    further = body_lines opening.swaps opening.atoms opening.parts opening.states
 
-    lines_of_tables : opening.tables ≡ flat_map table_lines heading.bounds.tables
-    lines_of_tables = sym (tables_of_body opening.swaps opening.atoms opening.tables opening.states) ∙ sym (ap tables_given at.lines_are) ∙ sym reported.tables
+    lines_of_tables : opening.parts ≡ as_parts (flat_map table_lines heading.bounds.tables)
+    lines_of_tables = sym (parts_of_body opening.swaps opening.atoms opening.parts opening.states) ∙ sym (ap parts_given at.lines_are) ∙ sym (tables_of_parts before) ∙ ap as_parts (sym reported.tables)
 
     count_is : is_weight_count opening.version (length opening.constants) ≡ true
     count_is = (and_parts (is_weight_count opening.version (length opening.constants)) (list_all is_weight opening.constants) at.keeps.constants_are).0
@@ -117,7 +103,7 @@ module _ (task : Task) (before : List TextLine) (heading : Heading) (reported : 
 
   -- ---- a scope
 
-  scope_is_right : (s : List ℕ) (line : TextLine) (number : ℕ) → IsWrongAfter task before line number → line ≡ tabled (scope s) → ⊥
+  scope_is_right : (s : List ℕ) (line : TextLine) (number : ℕ) → IsWrongAfter task before line number → line ≡ part (tabled (scope s)) → ⊥
   scope_is_right s line number (not_of_scope r atoms rows ends other) same = absurd (cc same)
   scope_is_right s line number (repeated_row r atoms rows ends of_scope there) same = absurd (cc same)
   scope_is_right s line number (not_fluent a none_is) same = absurd (cc same)
@@ -126,12 +112,12 @@ module _ (task : Task) (before : List TextLine) (heading : Heading) (reported : 
   scope_is_right s line number (cut_not_allowed l new cut there) same = absurd (cc same)
 
   pub reported_scope : (s : List ℕ)
-      → HaveGiven task (before ++ tabled (scope s) ∷ []) (record { version = heading.version; claim = heading.claim; exchanges = heading.exchanges; atoms = heading.atoms; bounds = with_scope heading.bounds s })
+      → HaveGiven task (before ++ part (tabled (scope s)) ∷ []) (record { version = heading.version; claim = heading.claim; exchanges = heading.exchanges; atoms = heading.atoms; bounds = with_scope heading.bounds s })
   reported_scope s =
       let table : model.Table = record { scope = s; rows = [] } in
       reported_tables task before heading reported (scope s) (heading.bounds.tables ++ table ∷ [])
       (flat_map-append table_lines heading.bounds.tables (table ∷ []) ∙ ap (λ lines. lines ++ scope s ∷ []) reported.tables)
-      (λ number wrong. scope_is_right s (tabled (scope s)) number wrong refl)
+      (λ number wrong. scope_is_right s (part (tabled (scope s))) number wrong refl)
 
   -- ---- a row
 
@@ -144,38 +130,39 @@ module _ (task : Task) (before : List TextLine) (heading : Heading) (reported : 
     given_end =
         sym reported.tables ∙ ap (flat_map table_lines) tables_are ∙ flat_map-append table_lines front (t ∷ []) ∙ ap (λ more. lines ++ more) (append-nil (scope t.scope ∷ map row t.rows))
 
-    rows_of_lines : (rows : List Row) → map tabled (map row rows) ≡ map (λ (r : Row). tabled (row r)) rows
+    rows_of_lines : (rows : List Row) → map part (as_parts (map row rows)) ≡ map (λ (r : Row). part (tabled (row r))) rows
     rows_of_lines [] = refl
-    rows_of_lines (r ∷ rows) = ap (λ lines. tabled (row r) ∷ lines) (rows_of_lines rows)
+    rows_of_lines (r ∷ rows) = ap (λ lines. part (tabled (row r)) ∷ lines) (rows_of_lines rows)
 
     end_in_table : (r : TableLine) → FollowsTables before r → EndInTable before t.scope t.rows
     end_in_table r at =
         let g : Beginning = at.beginning in
         let first_three : List TextLine → List TextLine = λ lines. version g.version ∷ claims g.claim ∷ constant g.constants ∷ lines in
-        let lines_are : g.tables ≡ lines ++ scope t.scope ∷ map row t.rows = lines_of_tables r at ∙ reported.tables ∙ given_end in
+        let lines_are : g.parts ≡ as_parts (lines ++ scope t.scope ∷ map row t.rows) = lines_of_tables r at ∙ ap as_parts (reported.tables ∙ given_end) in
         let heads : List TextLine = map swapped g.swaps ++ map atom g.atoms in
-        let table : List TextLine = tabled (scope t.scope) ∷ map (λ (r : Row). tabled (row r)) t.rows in (
-          first_three (heads ++ map tabled lines),
+        let table : List TextLine = part (tabled (scope t.scope)) ∷ map (λ (r : Row). part (tabled (row r))) t.rows in (
+          first_three (heads ++ map part (as_parts lines)),
           at.lines_are
               ∙ (λ i. first_three (body_lines g.swaps g.atoms (lines_are i) (at.no_states i)))
-              ∙ ap first_three (append-nil (heads ++ map tabled (lines ++ scope t.scope ∷ map row t.rows))
-              ∙ ap (λ lines. heads ++ lines) (map-append tabled lines (scope t.scope ∷ map row t.rows) ∙ ap (λ rows. map tabled lines ++ tabled (scope t.scope) ∷ rows) (rows_of_lines t.rows))
-              ∙ sym (append_assoc heads (map tabled lines) table)),
+              ∙ ap first_three (append-nil (heads ++ map part (as_parts (lines ++ scope t.scope ∷ map row t.rows)))
+              ∙ ap (λ lines. heads ++ lines) (ap (map part) (map-append (λ (t : TableLine). tabled t) lines (scope t.scope ∷ map row t.rows))
+              ∙ map-append part (as_parts lines) (as_parts (scope t.scope ∷ map row t.rows)) ∙ ap (λ rows. map part (as_parts lines) ++ part (tabled (scope t.scope)) ∷ rows) (rows_of_lines t.rows))
+              ∙ sym (append_assoc heads (map part (as_parts lines)) table)),
         )
 
-    tables_of_rows : (rows : List Row) → tables_given (map (λ (r : Row). tabled (row r)) rows) ≡ map row rows
+    tables_of_rows : (rows : List Row) → tables_given (map (λ (r : Row). part (tabled (row r))) rows) ≡ map row rows
     tables_of_rows [] = refl
     tables_of_rows (r ∷ rows) = ap (λ lines. row r ∷ lines) (tables_of_rows rows)
 
     -- and in no other
     only_end : (atoms : List ℕ) (rows : List Row) → EndInTable before atoms rows → (atoms ≡ t.scope) × (rows ≡ t.rows)
     only_end atoms rows (others, ends) =
-        let table : List TextLine = tabled (scope atoms) ∷ map (λ (r : Row). tabled (row r)) rows in
+        let table : List TextLine = part (tabled (scope atoms)) ∷ map (λ (r : Row). part (tabled (row r))) rows in
         one_end (tables_given others) lines atoms t.scope rows t.rows
         (sym (ap tables_given ends ∙ filter_map-append table_in others table ∙ ap (λ rows. tables_given others ++ scope atoms ∷ rows) (tables_of_rows rows)) ∙ given_end)
 
     module _ (r : Row) (of_scope : is_of_scope t.scope r.atoms ≡ true) (new : ((q : Row) → Contains t.rows q → q.atoms ≡ r.atoms → ⊥)) where
-      row_is_right : (line : TextLine) (number : ℕ) → IsWrongAfter task before line number → line ≡ tabled (row r) → ⊥
+      row_is_right : (line : TextLine) (number : ℕ) → IsWrongAfter task before line number → line ≡ part (tabled (row r)) → ⊥
       row_is_right line number (not_of_scope q atoms rows ends other) same =
           let here : q ≡ r = cc in
           let (scope_is, _) = only_end atoms rows ends in
@@ -197,15 +184,15 @@ module _ (task : Task) (before : List TextLine) (heading : Heading) (reported : 
           ∙ sym (append_assoc lines (scope t.scope ∷ map row t.rows) (row r ∷ [])) ∙ ap (λ lines. lines ++ row r ∷ []) (sym given_end)
 
   pub reported_row : (r : Row) (tables : List model.Table) → IsAddedToLast heading.bounds.tables tables r New
-      → HaveGiven task (before ++ tabled (row r) ∷ []) (record { version = heading.version; claim = heading.claim; exchanges = heading.exchanges; atoms = heading.atoms; bounds = with_tables heading.bounds tables })
+      → HaveGiven task (before ++ part (tabled (row r)) ∷ []) (record { version = heading.version; claim = heading.claim; exchanges = heading.exchanges; atoms = heading.atoms; bounds = with_tables heading.bounds tables })
   reported_row r tables it =
       let differs : (q : Row) → Contains it.before.rows q → q.atoms ≡ r.atoms → ⊥ = λ q there same. All-contains (λ (q : Row). q.atoms ≡ r.atoms → ⊥) it.before.rows q it.added.differs there same in
       reported_tables task before heading reported (row r) tables
       (ap (flat_map table_lines) (it.new_are ∙ ap (λ t. it.front ++ t ∷ []) it.added.put) ∙ lines_more it.front it.before it.old_are r it.added.of_scope differs)
-      (λ number wrong. row_is_right it.front it.before it.old_are r it.added.of_scope differs (tabled (row r)) number wrong refl)
+      (λ number wrong. row_is_right it.front it.before it.old_are r it.added.of_scope differs (part (tabled (row r))) number wrong refl)
 
-  pub row_is_wrong : (r : Row) (number : ℕ) → BeginCertificate (before ++ tabled (row r) ∷ []) → number ≡ length before + 1 → (e : Refusal) → IsRowRefused heading.bounds.tables r number e
-      → IsWrongNow task before (tabled (row r)) e
+  pub row_is_wrong : (r : Row) (number : ℕ) → BeginCertificate (before ++ part (tabled (row r)) ∷ []) → number ≡ length before + 1 → (e : Refusal) → IsRowRefused heading.bounds.tables r number e
+      → IsWrongNow task before (part (tabled (row r))) e
   row_is_wrong r number begun at (refusal.Line CertForm line) (line_is, tables, it) =
       (line_is ∙ at, not_of_scope r it.before.scope it.before.rows (end_in_table it.front it.before it.old_are (row r) (follows_tables before (row r) begun)) it.added.not_of_scope)
   row_is_wrong r number begun at (refusal.Line Repeated line) (line_is, tables, it) =
@@ -215,6 +202,24 @@ module _ (task : Task) (before : List TextLine) (heading : Heading) (reported : 
       )
   row_is_wrong r number begun at refusal.NoMemory wrong = tt
   row_is_wrong r number begun at _ wrong = absurd wrong
+
+-- ---- any part
+
+module _ (task : Task) (before : List TextLine) (heading : Heading) (reported : HaveGiven task before heading) where
+  pub reported_part : (p : Part) (bounds : SeveralValues) → IsPartTaken heading.bounds bounds p
+      → HaveGiven task (before ++ part p ∷ []) (record { version = heading.version; claim = heading.claim; exchanges = heading.exchanges; atoms = heading.atoms; bounds = bounds })
+  reported_part (tabled (scope s)) bounds is =
+      subst (λ bounds. HaveGiven task (before ++ part (tabled (scope s)) ∷ []) (record { version = heading.version; claim = heading.claim; exchanges = heading.exchanges; atoms = heading.atoms; bounds = bounds })) (sym is)
+      (reported_scope task before heading reported s)
+  reported_part (tabled (row r)) bounds it =
+      subst (λ bounds. HaveGiven task (before ++ part (tabled (row r)) ∷ []) (record { version = heading.version; claim = heading.claim; exchanges = heading.exchanges; atoms = heading.atoms; bounds = bounds })) (sym it.bounds)
+      (reported_row task before heading reported r it.tables it.added)
+
+  pub part_is_wrong : (p : Part) (number : ℕ) → BeginCertificate (before ++ part p ∷ []) → number ≡ length before + 1 → (e : Refusal) → IsPartRefused heading.bounds.tables p number e
+      → IsWrongNow task before (part p) e
+  part_is_wrong (tabled (row r)) number begun at e wrong = row_is_wrong task before heading reported r number begun at e wrong
+  part_is_wrong (tabled (scope s)) number begun at refusal.NoMemory wrong = tt
+  part_is_wrong (tabled (scope s)) number begun at _ wrong = absurd wrong
 
 -- ---- lines that fit
 
@@ -230,7 +235,7 @@ module _ (task : Task) (before : List TextLine) (header : Header) (reported : Ha
   fit_head (atom a) weighed begun = tt
   fit_head (listed l) weighed begun = tt
   fit_head (last count) weighed begun = tt
-  fit_head (tabled (scope s)) weighed begun =
+  fit_head (part (tabled (scope s))) weighed begun =
       let at = follows_tables before (scope s) begun in
       let n = length at.beginning.atoms in
       let (_, is) = and_parts (has_tables at.beginning.version) (is_table_line (format_in at.beginning) (scope s)) at.line_is in
@@ -240,7 +245,7 @@ module _ (task : Task) (before : List TextLine) (header : Header) (reported : Ha
         few = omega (arith, rising_few n 0 s rises (omega arith), at.keeps.few_atoms);
         few_values = omega (arith, as_many_values task before (heading_of header) reported (scope s) at, few_constants at.beginning.version (length at.beginning.constants) (count_is task before (heading_of header) reported (scope s) at), values_length);
       }
-  fit_head (tabled (row r)) weighed begun =
+  fit_head (part (tabled (row r))) weighed begun =
       let at = follows_tables before (row r) begun in
       let n = length at.beginning.atoms in
       let tables = header.bounds.tables.items in
@@ -249,15 +254,18 @@ module _ (task : Task) (before : List TextLine) (header : Header) (reported : Ha
       let (weights, rises) = and_parts (are_weights many r.weights) (rise n 0 r.atoms) is in
       let long : length r.weights ≡ many = eqb-true (length r.weights) many (and_parts (length r.weights == many) (list_all is_weight r.weights) weights).0 in
       let lines_are = lines_of_tables task before (heading_of header) reported (row r) at in
-      let scopes = ap scope_count lines_are ∙ scopes_are (map table_of tables) ∙ length-map tables table_of in
-      let all_rows = ap row_count lines_are ∙ rows_are (map table_of tables) in
+      let counts = ap (counts_after no_parts) lines_are ∙ counts_of_tables (map table_of tables) in
+      let some = ap (λ (c : PartCounts). c.tables) counts ∙ length-map tables table_of in
+      let all_rows = ap (λ (c : PartCounts). c.rows) counts in
+      let begun_is = ltb-true 0 (counts_after no_parts at.beginning.parts).tables at.follows in
+      let room_is = ltb-true (counts_after no_parts at.beginning.parts).rows most_rows at.room in
       let values = as_many_values task before (heading_of header) reported (row r) at in
       let same : length header.bounds.values.items + 1 ≡ length r.weights = omega (arith, values, values_length, long) in
       record {
-        some = omega (arith, scopes, at.room.0);
+        some = omega (arith, some, begun_is);
         rising = rising_from n 0 r.atoms rises;
         weights = λ k d below. weighed k d below ∙ same;
-        room = λ k d below. omega (arith, rows_of_one tables k d below, all_rows, at.room.1);
+        room = λ k d below. omega (arith, rows_of_one tables k d below, all_rows, room_is);
       }
 
 -- ---- weights of rows
@@ -269,7 +277,7 @@ is_early (claims claim) = false
 is_early (constant k) = true
 is_early (swapped names) = false
 is_early (atom a) = true
-is_early (tabled t) = false
+is_early (part p) = false
 is_early (listed l) = false
 is_early (last count) = false
 
@@ -284,7 +292,7 @@ none_given before line early begun =
     alone (constant k) early = refl
     alone (swapped names) early = absurd (true≢false (sym early))
     alone (atom a) early = refl
-    alone (tabled t) early = absurd (true≢false (sym early))
+    alone (part p) early = absurd (true≢false (sym early))
     alone (listed l) early = refl
     alone (last count) early = refl
 
@@ -294,15 +302,15 @@ none_given before line early begun =
         let (holds, _) = only_where (atom_follows b && nat_lt b.format.atoms most_atoms && is_line b.format (atom a)) (in_body (atom_more b)) next leads in
         let (counts, _) = and_parts (atom_follows b && nat_lt b.format.atoms most_atoms) (is_line b.format (atom a)) holds in
         let (follows, _) = and_parts (atom_follows b) (nat_lt b.format.atoms most_atoms) counts in
-        let (first, _) = and_parts (b.tables == 0) (b.states == 0) follows in
-        let none : scope_count g.tables ≡ 0 = ap (λ (b : Body). b.tables) body.body_is ∙ eqb-true b.tables 0 first in
-        ap tables_given body.lines_are ∙ tables_of_body g.swaps g.atoms g.tables g.states ∙ no_tables g.tables body.keeps.scope_first none
+        let (first, _) = and_parts (how_many b.parts == 0) (b.states == 0) follows in
+        let none : how_many (counts_after no_parts g.parts) ≡ 0 = ap (λ (b : Body). how_many b.parts) body.body_is ∙ eqb-true (how_many b.parts) 0 first in
+        same_lines (tables_given before) [] (tables_of_parts before ∙ ap parts_given body.lines_are ∙ parts_of_body g.swaps g.atoms g.parts g.states ∙ none_yet g.parts none)
 
     by_line : (line : TextLine) → is_early line ≡ true → (place : CertificatePlace) → ComesBefore place before → (next : CertificatePlace) → next_place place line ≡ Some next → tables_given before ≡ []
     by_line (version v) early place are next leads = absurd (true≢false (sym early))
     by_line (claims claim) early place are next leads = absurd (true≢false (sym early))
     by_line (swapped names) early place are next leads = absurd (true≢false (sym early))
-    by_line (tabled t) early place are next leads = absurd (true≢false (sym early))
+    by_line (part p) early place are next leads = absurd (true≢false (sym early))
     by_line (listed l) early place are next leads = absurd (true≢false (sym early))
     by_line (last count) early place are next leads = absurd (true≢false (sym early))
     by_line line early at_version are next leads = ap tables_given are

@@ -27,12 +27,13 @@ use Rattle.certificate_definitions.specs.Certificates.{Version, one, two, three,
 use Rattle.certificate_definitions.specs.CertificateRefusals.{IsPlanWithin}
 use Rattle.model.proofs.PlanWritingLemmas.{first_at}
 use Rattle.model.proofs.Tests.{passes_got}
-use Rattle.certificate_definitions.specs.CertificateText.{WeightedAtom, TableLine, row, Format, TextLine, swapped, atom, tabled, listed, last, after_blank, begin_with_scope, format_of, is_line, is_weight_count, keeps_text_limits, line_text, longest_line, most_atoms, most_rows, most_states, most_swaps, most_tables, text_lines, weights_text}
-use Rattle.certificate_definitions.specs.CertificateNames.{AllName, AreNumbersOf, IsNumberOf, IsTextOf, Names, are_atoms_of, are_exchanges_of, named_exchange, certificate_text, constants_of, dead_ends_said, has_atom_names, named, named_atom, predicate_name, predicate_names, table_lines, value_count, value_said, values_said, weight_said, weighted_atoms, weights_in, weights_of_atom}
+use Rattle.certificate_definitions.specs.CertificateText.{WeightedAtom, TableLine, row, Format, TextLine, swapped, atom, tabled, part, listed, last, after_blank, format_of, is_line, is_weight_count, keeps_text_limits, line_text, longest_line, most_atoms, most_states, most_swaps, text_lines, weights_text}
+use Rattle.certificate_definitions.specs.CertificateNames.{AllName, AreNumbersOf, IsNumberOf, IsTextOf, Names, are_atoms_of, are_exchanges_of, named_exchange, certificate_text, constants_of, dead_ends_said, has_atom_names, named, named_atom, predicate_name, predicate_names, parts_of, table_lines, value_count, value_said, values_said, weight_said, weighted_atoms, weights_in, weights_of_atom}
 use Rattle.certificate_definitions.specs.CertificateChecking.{IsAccepted}
 use Rattle.certificate_reader.proofs.LinesRead.{few_constants}
 use Rattle.certificate.proofs.NumbersLemmas.{potential_parts}
-use Rattle.cert_checker.proofs.LimitsLemmas.{AreLimits, limits_of, rows_are, said_kept, scopes_are}
+use Rattle.cert_checker.proofs.TableParts.{tables_in_order}
+use Rattle.cert_checker.proofs.LimitsLemmas.{AreLimits, limits_of, said_kept}
 use Rattle.cert_checker.proofs.NamesLemmas.{few_objects}
 use Rattle.cert_checker.proofs.WrittenExchanges.{exchange_lines, exchanges_back}
 use Rattle.cert_checker.specs.Exchanged.{are_short}
@@ -189,14 +190,10 @@ weights_there_keep count place (p ∷ values) all =
 
 -- ---- tables
 
-begins : (tables : List Table) → begin_with_scope (flat_map table_lines tables) ≡ true
-begins [] = refl
-begins (t ∷ tables) = refl
-
 -- the lines of tables keep the limits
 module _ (f : Format) where
   abbrev keeps_line : TableLine → Bool
-  keeps_line t = is_line f (tabled t)
+  keeps_line t = is_line f (part (tabled t))
 
   rows_keep : has_tables f.version ≡ true → (s : List ℕ) (rows : List Row) → list_all (is_row f.atoms f.weights s) rows ≡ true → list_all keeps_line (map (λ r. row r) rows) ≡ true
   rows_keep has s [] all = refl
@@ -399,7 +396,7 @@ module _ (task : Task) (c : Certificate) (well : IsTrue (is_task task)) (has_nam
       let line = atom_line task names_both.0 names_both.1 (format_of (named task c)) (weights_of_atom c place) a well few (weights_within place) here in
       λ i. line i && atom_lines (suc place) atoms more i
 
-  table_lines_within : list_all (λ t. is_line (format_of (named task c)) (tabled t)) (flat_map table_lines c.tables) ≡ true
+  table_lines_within : list_all (λ (t : TableLine). is_line (format_of (named task c)) (part (tabled t))) (flat_map table_lines c.tables) ≡ true
   table_lines_within =
       let same : has_tables c.version ≡ true → length c.values + 1 ≡ length (constants_of c) =
       λ has. ap (λ n. n + 1) (sym as_many_constants) ∙ one_more_in c.version constants c.dead_ends.constant has in
@@ -412,11 +409,11 @@ module _ (task : Task) (c : Certificate) (well : IsTrue (is_task task)) (has_nam
       let test : TextLine → Bool = is_line (format_of (named task c)) in
       let swaps : List TextLine = map (λ names. swapped names) (map (named_exchange task) c.exchanges) in
       let atoms : List TextLine = map (λ a. atom a) (named task c).atoms in
-      let tables : List TextLine = map (λ t. tabled t) (flat_map table_lines c.tables) in
+      let parts : List TextLine = map (λ p. part p) (parts_of c) in
       let states : List TextLine = map (λ l. listed l) c.lines in
       let end : List TextLine = last (length c.lines) ∷ [] in
       let atoms_are : list_all test atoms ≡ true = atom_lines 0 c.atoms typed in
-      let tables_are : list_all test tables ≡ true = list_all-map test (λ t. tabled t) (flat_map table_lines c.tables) ∙ table_lines_within in
+      let parts_are : list_all test parts ≡ true = list_all-map test (λ p. part p) (parts_of c) ∙ list_all-map (λ p. test (part p)) (λ (t : TableLine). tabled t) (flat_map table_lines c.tables) ∙ table_lines_within in
       let states_are : list_all test states ≡ true =
       list_all-map test (λ l. listed l) c.lines ∙ ap (λ n. list_all (is_state_line c.version n) c.lines) (as_many_weighted task c 0 c.atoms) ∙ limits.states in
       let few = leb-true (length c.lines) most_states limits.few_states in
@@ -425,18 +422,16 @@ module _ (task : Task) (c : Certificate) (well : IsTrue (is_task task)) (has_nam
       let swaps_are : list_all test swaps ≡ true = exchange_lines task names_both.1 (format_of (named task c)) c.exchanges exchanged limits.exchanges short in
       let heads : List TextLine = swaps ++ atoms in
       let heads_are : list_all test heads ≡ true = list_all-append test swaps atoms ∙ (λ i. swaps_are i && atoms_are i) in
-      let front : list_all test (heads ++ tables) ≡ true = list_all-append test heads tables ∙ (λ i. heads_are i && tables_are i) in
-      let body : list_all test ((heads ++ tables) ++ states) ≡ true = list_all-append test (heads ++ tables) states ∙ (λ i. front i && states_are i) in
-      let following : list_all test (((heads ++ tables) ++ states) ++ end) ≡ true = list_all-append test ((heads ++ tables) ++ states) end ∙ (λ i. body i && end_is i) in
+      let front : list_all test (heads ++ parts) ≡ true = list_all-append test heads parts ∙ (λ i. heads_are i && parts_are i) in
+      let body : list_all test ((heads ++ parts) ++ states) ≡ true = list_all-append test (heads ++ parts) states ∙ (λ i. front i && states_are i) in
+      let following : list_all test (((heads ++ parts) ++ states) ++ end) ≡ true = list_all-append test ((heads ++ parts) ++ states) end ∙ (λ i. body i && end_is i) in
       λ i. limits.claim i && ((constant_count i && constants_within i) && following i)
 
   text_limits : keeps_text_limits (named task c) ≡ true
   text_limits =
       let few_atoms = ap (λ n. nat_le n most_atoms) (as_many_weighted task c 0 c.atoms) ∙ limits.few_atoms in
       let few_swaps = ap (λ n. nat_le n most_swaps) (length-map c.exchanges (named_exchange task)) ∙ limits.few_exchanges in
-      let few_tables = ap (λ n. nat_le n most_tables) (scopes_are c.tables) ∙ limits.few_tables in
-      let few_rows = ap (λ n. nat_le n most_rows) (rows_are c.tables) ∙ limits.few_rows in
-      λ i. (((few_swaps i && few_atoms i) && ((begins c.tables i && few_tables i) && few_rows i)) && limits.few_states i) && lines_within i
+      λ i. (((few_swaps i && few_atoms i) && tables_in_order c.tables limits.few_tables limits.few_rows i) && limits.few_states i) && lines_within i
 
   pub written_reads_back : IsTextOf task (certificate_text task c) c
   written_reads_back = record {
@@ -448,7 +443,7 @@ module _ (task : Task) (c : Certificate) (well : IsTrue (is_task task)) (has_nam
     atoms = atoms_named 0 c.atoms typed;
     values = values_back;
     dead_ends = dead_ends_back;
-    tables = refl;
+    parts = refl;
     lines = refl;
   }
 

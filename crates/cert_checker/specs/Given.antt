@@ -1,6 +1,6 @@
 -- What the lines of a certificate's text say about a task's certificate.
-use Rattle.std.specs.Prelude.{◌≡◌, ◌≢◌, ℕ, zero, suc, ◌+◌, ℤ, Bool, true, false, ◌&&◌, IsTrue, List, [], ◌∷◌, ◌++◌, length, map, All, AllPairs, Contains}
-use Rattle.std.specs.List.{flat_map, range_with_len}
+use Rattle.std.specs.Prelude.{◌≡◌, ◌≢◌, ℕ, zero, suc, ◌+◌, ℤ, Bool, true, false, ◌&&◌, IsTrue, List, [], ◌∷◌, ◌++◌, length, map, All, AllPairs, Contains, Option, None, Some}
+use Rattle.std.specs.List.{filter_map, flat_map, range_with_len}
 use Rattle.model.specs.Task.{Atom, Task}
 use Rattle.model.specs.WellTyped.{is_atom}
 use Rattle.model.specs.Fluents.{is_fluent}
@@ -9,14 +9,31 @@ use Rattle.certificate_definitions.specs.Certificates.{Version}
 use Rattle.symmetries_definitions.specs.Exchanges.{Exchange}
 use Rattle.lower_bounds.specs.PotentialFunctions.{PotentialFunction}
 use Rattle.lower_bounds.specs.TableFunctions.{SeveralValues}
-pub use Rattle.certificate_definitions.specs.CertificateLines.{swap_in, atom_in, table_in, state_in, swaps_given, atoms_given, tables_given, states_given}
-use Rattle.certificate_definitions.specs.CertificateText.{NamedAtom, WeightedAtom, TextLine, version, claims, constant, swapped, atom, tabled, listed, last}
+pub use Rattle.certificate_definitions.specs.CertificateLines.{swap_in, atom_in, state_in, swaps_given, atoms_given, states_given}
+use Rattle.certificate_definitions.specs.CertificateText.{NamedAtom, WeightedAtom, TableLine, Part, tabled, TextLine, version, claims, constant, swapped, atom, part, listed, last}
 use Rattle.certificate_definitions.specs.CertificateNames.{AllName, exchange_said, table_lines, value_count, weight_said}
 use Rattle.certificate_definitions.specs.CertificateChecking.{AreRight}
 
 -- the names of those atoms
 abbrev pub names_given : List TextLine → List NamedAtom
 names_given lines = map (λ (a : WeightedAtom). a.atom) (atoms_given lines)
+
+-- the part of a table in a part, and in a line
+abbrev pub table_line_in : Part → Option TableLine
+table_line_in (tabled t) = Some t
+
+abbrev pub table_in : TextLine → Option TableLine
+table_in (version v) = None
+table_in (claims claim) = None
+table_in (constant k) = None
+table_in (swapped names) = None
+table_in (atom a) = None
+table_in (part p) = table_line_in p
+table_in (listed l) = None
+table_in (last count) = None
+
+abbrev pub tables_given : List TextLine → List TableLine
+tables_given lines = filter_map table_in lines
 
 -- the line is a state line or the last line
 abbrev pub is_body : TextLine → Bool
@@ -25,7 +42,7 @@ is_body (claims claim) = false
 is_body (constant k) = false
 is_body (swapped names) = false
 is_body (atom a) = false
-is_body (tabled t) = false
+is_body (part p) = false
 is_body (listed l) = true
 is_body (last count) = true
 

@@ -4,7 +4,7 @@ use Rattle.std.specs.List.{list_all}
 use Rattle.packed_state.specs.Sets.{set_of}
 use Rattle.model.specs.Claims.{Claim, none}
 use Rattle.certificate_definitions.specs.Certificates.{StateLine, rise}
-use Rattle.certificate_definitions.specs.CertificateText.{TextLine, version, claims, constant, swapped, atom, tabled, listed, last}
+use Rattle.certificate_definitions.specs.CertificateText.{TextLine, version, claims, constant, swapped, atom, part, listed, last}
 use Rattle.certificate_definitions.specs.CertificateChecking.{IsCut}
 use Rattle.certificate.specs.ListedSets.{Marked, marked}
 use Rattle.cert_checker.specs.Given.{states_given}
@@ -24,6 +24,6 @@ IsFit width sets (claims claim) = Unit {0}
 IsFit width sets (constant k) = Unit {0}
 IsFit width sets (swapped names) = Unit {0}
 IsFit width sets (atom a) = Unit {0}
-IsFit width sets (tabled t) = Unit {0}
+IsFit width sets (part p) = Unit {0}
 IsFit width sets (listed l) = IsTrue (rise width 0 l.atoms) × (length sets < 16777216)
 IsFit width sets (last count) = Unit {0}

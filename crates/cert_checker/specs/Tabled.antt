@@ -8,7 +8,7 @@ use Rattle.table_rows.specs.Adding.{IsAdded}
 use Rattle.table_rows.specs.declared.by_atoms.Added.{Added}
 use Rattle.table_rows.specs.declared.by_atoms.Added.TheVariants.{New, OutsideScope, Repeated}
 use Rattle.table_rows.specs.declared.table.Table.{Table}
-use Rattle.certificate_definitions.specs.CertificateText.{TextLine, version, claims, constant, swapped, atom, scope, row, tabled, listed, last}
+use Rattle.certificate_definitions.specs.CertificateText.{Part, TextLine, version, claims, constant, swapped, atom, scope, row, tabled, part, listed, last}
 use Rattle.certificate.specs.declared.cert.Cert.{Cert}
 use Rattle.certificate.specs.declared.header.Bounds.{Bounds}
 use Rattle.certificate.specs.Certificate.{certificate_of, tables_in}
@@ -43,15 +43,18 @@ pub record IsFitRow (tables : List Table) (r : Row) : Type 0 where
   pub weights : HaveWeights (length r.weights) tables
   pub room : All (λ (t : Table). length (table_of t).rows < 16777216) tables
 
--- if the line is one of a table, it may be taken
+abbrev pub IsFitPart : Bounds → Part → Type 0
+IsFitPart bounds (tabled (scope atoms)) = IsFitScope bounds atoms
+IsFitPart bounds (tabled (row r)) = IsFitRow bounds.tables.items r
+
+-- if the line is a part, it may be taken
 abbrev pub IsFitHead : Bounds → TextLine → Type 0
 IsFitHead bounds (version v) = Unit {0}
 IsFitHead bounds (claims claim) = Unit {0}
 IsFitHead bounds (constant k) = Unit {0}
 IsFitHead bounds (swapped names) = Unit {0}
 IsFitHead bounds (atom a) = Unit {0}
-IsFitHead bounds (tabled (scope atoms)) = IsFitScope bounds atoms
-IsFitHead bounds (tabled (row r)) = IsFitRow bounds.tables.items r
+IsFitHead bounds (part p) = IsFitPart bounds p
 IsFitHead bounds (listed l) = Unit {0}
 IsFitHead bounds (last count) = Unit {0}
 
@@ -86,3 +89,14 @@ IsRowRefused tables r number (refusal.Line CertForm at) = (at ≡ number) × (ne
 IsRowRefused tables r number (refusal.Line RepeatedRow at) = (at ≡ number) × (new : List model.Table) × IsAddedToLast tables new r Repeated
 IsRowRefused tables r number refusal.NoMemory = Unit {0}
 IsRowRefused tables r number _ = ⊥
+
+-- ---- any part
+
+abbrev pub IsPartTaken : (old new : SeveralValues) → Part → Type 0
+IsPartTaken old new (tabled (scope atoms)) = new ≡ with_scope old atoms
+IsPartTaken old new (tabled (row r)) = IsRowTaken old new r
+
+abbrev pub IsPartRefused : List model.Table → Part → ℕ → Refusal → Type 0
+IsPartRefused tables (tabled (row r)) number e = IsRowRefused tables r number e
+IsPartRefused tables (tabled (scope atoms)) number refusal.NoMemory = Unit {0}
+IsPartRefused tables (tabled (scope atoms)) number _ = ⊥

@@ -15,8 +15,8 @@ ghost use Rattle.cert_checker.specs.Reading.{CountsRefusal, IsBegun, IsFresh, Is
 
 use crate::exchanges::take_exchange;
 use crate::named_atoms::fluent_atom_named;
+use crate::part_lines::take_part;
 use crate::refusal::{Refusal, RefusalCode};
-use crate::table_lines::{take_row, take_scope};
 use certificate::{Bounds, CertLine, CertReader, Claim, Header, NamedAtom, Potential, Version};
 use devices::Source;
 use faults::NoMemory;
@@ -156,12 +156,8 @@ fn take(
             add_atom(header, task, fluents, &atom, &weights, number)?;
             Ok(None)
         }
-        CertLine::Table { scope } => {
-            take_scope(alloc, &mut header.bounds, scope)?;
-            Ok(None)
-        }
-        CertLine::Row { weights, atoms } => {
-            take_row(alloc, &mut header.bounds, &atoms, &weights, number)?;
+        CertLine::Part(part) => {
+            take_part(alloc, &mut header.bounds, part, number)?;
             Ok(None)
         }
         CertLine::Listed(_) | CertLine::Last { .. } => Ok(Some(line)),

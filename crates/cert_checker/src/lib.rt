@@ -9,6 +9,7 @@ mod header;
 mod laws;
 mod listed_states;
 mod named_atoms;
+mod part_lines;
 mod read_progress;
 mod refusal;
 mod table_lines;

@@ -10,8 +10,8 @@ use Rattle.model.specs.Task.{Task}
 use Rattle.model.specs.Claims.{Claim}
 use Rattle.lower_bounds.specs.TableFunctions.{Table}
 use Rattle.certificate_definitions.specs.Certificates.{Version, Certificate}
-use Rattle.certificate_definitions.specs.CertificateText.{TableLine, tabled, row, atom, claims, constant, last, listed, swapped, version, whole_line}
-use Rattle.certificate_definitions.specs.CertificateNames.{certificate_text, constants_of, named_exchange, table_lines}
+use Rattle.certificate_definitions.specs.CertificateText.{TableLine, tabled, part, row, atom, claims, constant, last, listed, swapped, version, whole_line}
+use Rattle.certificate_definitions.specs.CertificateNames.{certificate_text, constants_of, named_exchange, parts_of, table_lines}
 use Rattle.certificate.specs.Gathering.{IsPassedOn, atom_line, atoms_weighed, scope_line, state_line, swap_line, table_text}
 use Rattle.certificate.proofs.GatheringLemmas.{passed_nothing, passed_held, passed_then, passed_partly, passed_beginning, passed_all}
 
@@ -53,7 +53,7 @@ to_states task c = to_tables task c ++ states_text c
 
 -- the lines of tables
 abbrev table_line : TableLine → List ℕ
-table_line l = whole_line (tabled l)
+table_line l = whole_line (part (tabled l))
 
 of_tables : (tables : List Table) → flat_map table_line (flat_map table_lines tables) ≡ flat_map table_text tables
 of_tables [] = refl
@@ -69,19 +69,20 @@ module _ (task : Task) (c : Certificate) where
       let names = map (named_exchange task) c.exchanges in
       let swaps = map (λ n. swapped n) names in
       let atoms = map (λ a. atom a) (atoms_weighed task c) in
-      let tables = map (λ l. tabled l) (flat_map table_lines c.tables) in
+      let parts = map (λ p. part p) (parts_of c) in
       let states = map (λ l. listed l) c.lines in
       let end = last (length c.lines) ∷ [] in
       let swaps_are : flat_map whole_line swaps ≡ exchanges_text task c =
       flat_map-map whole_line (λ n. swapped n) names ∙ flat_map-map (λ n. whole_line (swapped n)) (named_exchange task) c.exchanges in
       let atoms_are : flat_map whole_line atoms ≡ atoms_text task c = flat_map-map whole_line (λ a. atom a) (atoms_weighed task c) in
-      let tables_are : flat_map whole_line tables ≡ tables_text c = flat_map-map whole_line (λ l. tabled l) (flat_map table_lines c.tables) ∙ of_tables c.tables in
+      let parts_are : flat_map whole_line parts ≡ tables_text c =
+      flat_map-map whole_line (λ p. part p) (parts_of c) ∙ flat_map-map (λ p. whole_line (part p)) (λ (l : TableLine). tabled l) (flat_map table_lines c.tables) ∙ of_tables c.tables in
       let states_are : flat_map whole_line states ≡ states_text c = flat_map-map whole_line (λ l. listed l) c.lines in
-      let body : flat_map whole_line ((((swaps ++ atoms) ++ tables) ++ states) ++ end) ≡ (((exchanges_text task c ++ atoms_text task c) ++ tables_text c) ++ states_text c) ++ last_text c =
-      flat_map-append whole_line (((swaps ++ atoms) ++ tables) ++ states) end
-      ∙ (λ i. flat_map-append whole_line ((swaps ++ atoms) ++ tables) states i ++ append-nil (last_text c) i)
-      ∙ (λ i. (flat_map-append whole_line (swaps ++ atoms) tables i ++ states_are i) ++ last_text c)
-      ∙ (λ i. ((flat_map-append whole_line swaps atoms i ++ tables_are i) ++ states_text c) ++ last_text c)
+      let body : flat_map whole_line ((((swaps ++ atoms) ++ parts) ++ states) ++ end) ≡ (((exchanges_text task c ++ atoms_text task c) ++ tables_text c) ++ states_text c) ++ last_text c =
+      flat_map-append whole_line (((swaps ++ atoms) ++ parts) ++ states) end
+      ∙ (λ i. flat_map-append whole_line ((swaps ++ atoms) ++ parts) states i ++ append-nil (last_text c) i)
+      ∙ (λ i. (flat_map-append whole_line (swaps ++ atoms) parts i ++ states_are i) ++ last_text c)
+      ∙ (λ i. ((flat_map-append whole_line swaps atoms i ++ parts_are i) ++ states_text c) ++ last_text c)
       ∙ (λ i. (((swaps_are i ++ atoms_are i) ++ tables_text c) ++ states_text c) ++ last_text c) in
       ap (λ xs. whole_line (version c.version) ++ (whole_line (claims c.claim) ++ (whole_line (constant (constants_of c)) ++ xs))) body
       ∙ one_by_one (whole_line (version c.version)) (whole_line (claims c.claim)) (whole_line (constant (constants_of c))) (exchanges_text task c) (atoms_text task c) (tables_text c) (states_text c) (last_text c)
@@ -104,13 +105,13 @@ pub head_held : (before : Option (List ℕ)) (held held_after text : List ℕ) �
 head_held before held held_after text none is = passed_held before before [] [] [] (passed_nothing before []) held_after text (is ∙ ap (λ xs. xs ++ text) none)
 
 module _ (before now : Option (List ℕ)) (held front : List ℕ) (passed : IsPassedOn before now [] held front) where
-  pub part_held : (after : Option (List ℕ)) (held_after part : List ℕ) → IsPassedOn now after held held_after part → IsPassedOn before after [] held_after (front ++ part)
-  part_held after held_after part then = passed_then before now [] held front passed after held_after part then
+  pub part_held : (after : Option (List ℕ)) (held_after piece : List ℕ) → IsPassedOn now after held held_after piece → IsPassedOn before after [] held_after (front ++ piece)
+  part_held after held_after piece then = passed_then before now [] held front passed after held_after piece then
 
-  -- a prefix of the next part is written
-  pub part_begun : (after : Option (List ℕ)) (whole part later : List ℕ) → whole ≡ (front ++ part) ++ later → AppendsBeginning now after (held ++ part) → AppendsBeginning before after whole
-  part_begun after whole part later is begun =
-      subst (AppendsBeginning before after) (sym (append_assoc front part later) ∙ sym is) (passed_beginning before now [] held front passed after part later begun)
+  -- a prefix of the next piece is written
+  pub part_begun : (after : Option (List ℕ)) (whole piece later : List ℕ) → whole ≡ (front ++ piece) ++ later → AppendsBeginning now after (held ++ piece) → AppendsBeginning before after whole
+  part_begun after whole piece later is begun =
+      subst (AppendsBeginning before after) (sym (append_assoc front piece later) ∙ sym is) (passed_beginning before now [] held front passed after piece later begun)
 
   -- nothing more is written
   pub last_begun : (whole later : List ℕ) → whole ≡ front ++ later → AppendsBeginning before now whole

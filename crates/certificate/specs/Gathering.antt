@@ -7,7 +7,7 @@ use Rattle.model.specs.Task.{Task}
 use Rattle.symmetries_definitions.specs.Exchanges.{Exchange}
 use Rattle.lower_bounds.specs.TableFunctions.{Row, Table}
 use Rattle.certificate_definitions.specs.Certificates.{Certificate, StateLine}
-use Rattle.certificate_definitions.specs.CertificateText.{WeightedAtom, atom, listed, row, scope, swapped, tabled, whole_line}
+use Rattle.certificate_definitions.specs.CertificateText.{WeightedAtom, atom, listed, part, row, scope, swapped, tabled, whole_line}
 use Rattle.certificate_definitions.specs.CertificateNames.{named_exchange, weighted_atoms}
 
 -- After the buffered bytes comes this text: a prefix of both went to the sink, and the rest is buffered.
@@ -22,10 +22,10 @@ abbrev pub atom_line : WeightedAtom → List ℕ
 atom_line a = whole_line (atom a)
 
 abbrev pub scope_line : List ℕ → List ℕ
-scope_line numbers = whole_line (tabled (scope numbers))
+scope_line numbers = whole_line (part (tabled (scope numbers)))
 
 abbrev pub row_line : Row → List ℕ
-row_line r = whole_line (tabled (row r))
+row_line r = whole_line (part (tabled (row r)))
 
 abbrev pub state_line : StateLine → List ℕ
 state_line l = whole_line (listed l)

@@ -16,7 +16,8 @@ pub use cert::Cert;
 pub use certificate_reader::{
     Basis, CertFault, CertLine, CertReader, Claim, LONGEST_LINE, MAX_ATOMS, MAX_CONSTANTS,
     MAX_ROWS, MAX_STATE_LINES, MAX_SWAPS, MAX_TABLES, MAX_WEIGHT, Mark, NUMBER_LIMIT, NamedAtom,
-    StateLine, TextFault, Version, text_examples_are_judged, texts_are_certificates_one_for_one,
+    PartLine, StateLine, TextFault, Version, text_examples_are_judged,
+    texts_are_certificates_one_for_one,
 };
 pub use devices::{Device, DeviceFault, IoFault, Memory, Sink, Source, write_all};
 pub use header::{Bounds, Header, Potential};

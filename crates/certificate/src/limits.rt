@@ -4,7 +4,7 @@ ghost use Rattle.std.specs.List.{list_all};
 ghost use Rattle.certificate_definitions.specs.Certificates as certificates;
 ghost use Rattle.certificate_definitions.specs.Certificates.{is_number, is_weight, is_dead_end_weight, is_claim, is_mark, rise, is_state_line, are_potentials, is_value_count, is_row, is_table, has_tables, are_tables, rows_of, has_exchanges, are_exchanges, keeps_limits};
 ghost use Rattle.certificate_reader.specs.Lines.{claim_of, line_of, mark_of, version_of};
-ghost use Rattle.certificate_reader.specs.declared.line.TheConstants.{MAX_ROWS};
+ghost use Rattle.certificate_reader.specs.declared.part_line.TheConstants.{MAX_ROWS};
 ghost use Rattle.table_rows.specs.Tables.{table_of};
 ghost use Rattle.certificate.specs.CertificateParts.{are_bounds, bounds_of, certificate_with_lines, exchange_in, potential_of};
 

@@ -2,7 +2,7 @@
 use Rattle.std.proofs.Common.{[], ◌∷◌, ◌++◌, refl, arith}
 use Rattle.std.specs.Prelude.{pos}
 use Rattle.lower_bounds.specs.PotentialExamples.{minus}
-use Rattle.certificate_definitions.specs.CertificateText.{scope, tabled}
+use Rattle.certificate_definitions.specs.CertificateText.{scope, tabled, part}
 use Rattle.certificate_definitions.specs.CertificateChecking.{not_of_scope, repeated_row}
 use Rattle.certificate_definitions.specs.CertificateTextExamples.{AreTextsJudged, first_lines, zeros}
 
@@ -41,7 +41,7 @@ texts_judged = record {
   dead_ends_of_version_1 = refl;
   values_of_version_3 = refl;
   dead_ends_of_version_3 = refl;
-  row_of_another_scope = not_of_scope (record { atoms = 1 ∷ []; weights = zeros }) (0 ∷ []) [] (first_lines ++ tabled (scope (1 ∷ [])) ∷ [], refl) refl;
+  row_of_another_scope = not_of_scope (record { atoms = 1 ∷ []; weights = zeros }) (0 ∷ []) [] (first_lines ++ part (tabled (scope (1 ∷ []))) ∷ [], refl) refl;
   row_twice = repeated_row (record { atoms = 0 ∷ 1 ∷ []; weights = zeros }) (0 ∷ 1 ∷ [])
       (record { atoms = []; weights = zeros } ∷ record { atoms = 0 ∷ 1 ∷ []; weights = minus 2 ∷ pos 0 ∷ pos 1 ∷ [] } ∷ [])
       (first_lines, refl) refl (record { atoms = 0 ∷ 1 ∷ []; weights = minus 2 ∷ pos 0 ∷ pos 1 ∷ [] }, (1, omega arith, refl), refl);

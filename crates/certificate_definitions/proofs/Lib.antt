@@ -3,6 +3,7 @@ pub mod CertificateRefusalsLemmas
 pub mod CertificateExampleProofs
 pub mod ExchangeExampleProofs
 pub mod CertificateTextExampleProofs
+pub mod PartLemmas
 pub mod Beginnings
 pub mod Machine
 pub mod TooMany

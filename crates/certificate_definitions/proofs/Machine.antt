@@ -9,15 +9,16 @@ use Rattle.std.proofs.lemmas.List.{map-append}
 use Rattle.std.proofs.lemmas.List.Folds.{list_all-append, list_all-map}
 use Rattle.model.specs.Claims.{Claim, none}
 use Rattle.certificate_definitions.specs.Certificates.{Version, one, two, three, StateLine, is_number, is_claim}
-use Rattle.lower_bounds.specs.TableFunctions.{Row}
-use Rattle.certificate_definitions.specs.CertificateText.{WeightedAtom, TableLine, scope, row, NamedCertificate, TextLine, version, claims, constant, swapped, atom, tabled, listed, last, Format, is_line, row_count, scope_count, begin_with_scope, format_of, most_swaps, most_atoms, most_tables, most_rows, most_states, text_lines, keeps_text_limits, AreWhole, BeginCertificate, Beginning, head_lines, format_in}
-use Rattle.certificate_definitions.specs.CertificateMachine.{Body, CertificatePlace, at_version, at_claim, at_constant, in_body, ended, no_format, no_body, swap_more, atom_more, scope_more, row_more, state_more, swap_follows, atom_follows, row_follows, only_if, next_place, place_from, place_after}
+use Rattle.certificate_definitions.specs.Parts.{Part, PartCounts, no_parts, how_many, counted, may_follow, has_room, are_in_order, counts_after}
+use Rattle.certificate_definitions.specs.CertificateText.{WeightedAtom, NamedCertificate, TextLine, version, claims, constant, swapped, atom, part, listed, last, Format, is_line, format_of, most_swaps, most_atoms, most_states, text_lines, keeps_text_limits, AreWhole, BeginCertificate, Beginning, head_lines, format_in}
+use Rattle.certificate_definitions.specs.CertificateMachine.{Body, CertificatePlace, at_version, at_claim, at_constant, in_body, ended, no_format, no_body, swap_more, atom_more, part_more, state_more, swap_follows, atom_follows, part_follows, only_if, next_place, place_from, place_after}
 use Rattle.certificate_definitions.proofs.Beginnings.{body_lines}
+use Rattle.certificate_definitions.proofs.PartLemmas.{counts_more, in_order_more, none_yet}
 
 -- ---- what comes before a state
 
 abbrev pub body_of : Beginning → Body
-body_of g = record { format = format_in g; swaps = length g.swaps; tables = scope_count g.tables; rows = row_count g.tables; states = length g.states }
+body_of g = record { format = format_in g; swaps = length g.swaps; parts = counts_after no_parts g.parts; states = length g.states }
 
 -- the first lines are within the limits
 pub record Keeps (g : Beginning) : Type 0 where
@@ -25,13 +26,11 @@ pub record Keeps (g : Beginning) : Type 0 where
   pub constants_are : IsTrue (is_line (format_in g) (constant g.constants))
   pub swaps_are : IsTrue (list_all (λ names. is_line (format_in g) (swapped names)) g.swaps)
   pub atoms_are : IsTrue (list_all (λ a. is_line (format_in g) (atom a)) g.atoms)
-  pub tables_are : IsTrue (list_all (λ t. is_line (format_in g) (tabled t)) g.tables)
+  pub parts_are : IsTrue (list_all (λ p. is_line (format_in g) (part p)) g.parts)
   pub states_are : IsTrue (list_all (λ l. is_line (format_in g) (listed l)) g.states)
-  pub scope_first : IsTrue (begin_with_scope g.tables)
+  pub in_order : IsTrue (are_in_order no_parts g.parts)
   pub few_swaps : length g.swaps ≤ most_swaps
   pub few_atoms : length g.atoms ≤ most_atoms
-  pub few_tables : scope_count g.tables ≤ most_tables
-  pub few_rows : row_count g.tables ≤ most_rows
   pub few_states : length g.states ≤ most_states
 
 pub record IsBody (b : Body) (lines : List TextLine) : Type 0 where
@@ -76,53 +75,15 @@ pub no_atoms : (atoms : List WeightedAtom) → length atoms ≡ 0 → atoms ≡ 
 no_atoms [] empty = refl
 no_atoms (a ∷ atoms) empty = absurd (omega (arith, empty))
 
-pub no_tables : (tables : List TableLine) → IsTrue (begin_with_scope tables) → scope_count tables ≡ 0 → tables ≡ []
-no_tables [] first none_yet = refl
-no_tables (scope s ∷ tables) first none_yet = absurd (omega (arith, none_yet))
-no_tables (row r ∷ tables) first none_yet = absurd (cc first)
-
 both_true : (a b : Bool) → a ≡ true → b ≡ true → a && b ≡ true
 both_true a b x y = λ i. x i && y i
-
-scopes_and_scope : (tables : List TableLine) (atoms : List ℕ) → scope_count (tables ++ scope atoms ∷ []) ≡ scope_count tables + 1
-scopes_and_scope [] atoms = refl
-scopes_and_scope (scope s ∷ tables) atoms = omega (arith, scopes_and_scope tables atoms)
-scopes_and_scope (row r ∷ tables) atoms = scopes_and_scope tables atoms
-
-scopes_and_row : (tables : List TableLine) (r : Row) → scope_count (tables ++ row r ∷ []) ≡ scope_count tables
-scopes_and_row [] r = refl
-scopes_and_row (scope s ∷ tables) r = ap (λ n. 1 + n) (scopes_and_row tables r)
-scopes_and_row (row q ∷ tables) r = scopes_and_row tables r
-
-rows_and_scope : (tables : List TableLine) (atoms : List ℕ) → row_count (tables ++ scope atoms ∷ []) ≡ row_count tables
-rows_and_scope [] atoms = refl
-rows_and_scope (scope s ∷ tables) atoms = rows_and_scope tables atoms
-rows_and_scope (row r ∷ tables) atoms = ap (λ n. 1 + n) (rows_and_scope tables atoms)
-
-rows_and_row : (tables : List TableLine) (r : Row) → row_count (tables ++ row r ∷ []) ≡ row_count tables + 1
-rows_and_row [] r = refl
-rows_and_row (scope s ∷ tables) r = rows_and_row tables r
-rows_and_row (row q ∷ tables) r = omega (arith, rows_and_row tables r)
-
-scope_stays_first : (tables : List TableLine) (t : TableLine) → 0 < scope_count tables → IsTrue (begin_with_scope tables) → IsTrue (begin_with_scope (tables ++ t ∷ []))
-scope_stays_first [] t begun first = absurd (omega (arith, begun))
-scope_stays_first (s ∷ tables) t begun first = by_first s first
-  where
-    by_first : (s : TableLine) → IsTrue (begin_with_scope (s ∷ tables)) → IsTrue (begin_with_scope (s ∷ (tables ++ t ∷ [])))
-    by_first (scope atoms) first = refl
-    by_first (row r) first = absurd (cc first)
-
-scope_after : (tables : List TableLine) (atoms : List ℕ) → IsTrue (begin_with_scope tables) → IsTrue (begin_with_scope (tables ++ scope atoms ∷ []))
-scope_after [] atoms first = refl
-scope_after (scope s ∷ tables) atoms first = refl
-scope_after (row r ∷ tables) atoms first = absurd (cc first)
 
 -- ---- one more line of a body
 
 module _ (g : Beginning) (keeps : Keeps g) where
-  -- the prefix with other atoms, tables or states
-  abbrev with_parts : List WeightedAtom → List TableLine → List StateLine → Beginning
-  with_parts atoms tables states = record { version = g.version; claim = g.claim; constants = g.constants; swaps = g.swaps; atoms = atoms; tables = tables; states = states }
+  -- the prefix with other atoms, parts or states
+  abbrev with_parts : List WeightedAtom → List Part → List StateLine → Beginning
+  with_parts atoms parts states = record { version = g.version; claim = g.claim; constants = g.constants; swaps = g.swaps; atoms = atoms; parts = parts; states = states }
 
   -- the exchanges and the atoms
   abbrev fronts : List TextLine
@@ -131,153 +92,130 @@ module _ (g : Beginning) (keeps : Keeps g) where
   abbrev first_three : List TextLine → List TextLine
   first_three lines = version g.version ∷ claims g.claim ∷ constant g.constants ∷ lines
 
-  with_atom : (a : WeightedAtom) → g.tables ≡ [] → g.states ≡ [] → length g.atoms < most_atoms → is_line (format_in g) (atom a) ≡ true
+  with_atom : (a : WeightedAtom) → g.parts ≡ [] → g.states ≡ [] → length g.atoms < most_atoms → is_line (format_in g) (atom a) ≡ true
       → IsBody (atom_more (body_of g)) (head_lines g ++ atom a ∷ [])
-  with_atom a no_tables no_states below is =
+  with_atom a none_before no_states below is =
       let atoms : List WeightedAtom = g.atoms ++ a ∷ [] in
       let format : Format = format_in (with_parts atoms [] []) in
       record {
-        beginning = with_parts atoms g.tables g.states;
+        beginning = with_parts atoms g.parts g.states;
         keeps = record {
           claim_is = keeps.claim_is;
           constants_are = keeps.constants_are;
           swaps_are = keeps.swaps_are;
           atoms_are = all_more (λ a. is_line (format_in g) (atom a)) g.atoms a keeps.atoms_are is;
-          tables_are = ap (list_all (λ t. is_line format (tabled t))) no_tables;
+          parts_are = ap (list_all (λ p. is_line format (part p))) none_before;
           states_are = ap (list_all (λ l. is_line format (listed l))) no_states;
-          scope_first = keeps.scope_first;
+          in_order = keeps.in_order;
           few_swaps = keeps.few_swaps;
           few_atoms = omega (arith, below, one_longer g.atoms a);
-          few_tables = keeps.few_tables;
-          few_rows = keeps.few_rows;
           few_states = keeps.few_states;
         };
-        body_is = (λ i. record { format = record { version = g.version; weights = length g.constants; atoms = one_longer g.atoms a i }; swaps = length g.swaps; tables = scope_count g.tables; rows = row_count g.tables; states = length g.states });
+        body_is = (λ i. record { format = record { version = g.version; weights = length g.constants; atoms = one_longer g.atoms a i }; swaps = length g.swaps; parts = counts_after no_parts g.parts; states = length g.states });
         lines_are =
-            (λ i. first_three (body_lines g.swaps g.atoms (no_tables i) (no_states i) ++ atom a ∷ []))
+            (λ i. first_three (body_lines g.swaps g.atoms (none_before i) (no_states i) ++ atom a ∷ []))
             ∙ ap (λ lines. first_three (lines ++ atom a ∷ [])) (append-nil ((map swapped g.swaps ++ map atom g.atoms) ++ []) ∙ append-nil (map swapped g.swaps ++ map atom g.atoms))
             ∙ ap first_three (append_assoc (map swapped g.swaps) (map atom g.atoms) (atom a ∷ []) ∙ ap (λ lines. map swapped g.swaps ++ lines) (sym (map-append atom g.atoms (a ∷ [])))
             ∙ sym (append-nil (map swapped g.swaps ++ map atom atoms)) ∙ sym (append-nil ((map swapped g.swaps ++ map atom atoms) ++ [])))
-            ∙ (λ i. first_three (body_lines g.swaps atoms (sym no_tables i) (sym no_states i)));
+            ∙ (λ i. first_three (body_lines g.swaps atoms (sym none_before i) (sym no_states i)));
       }
 
-  with_swap : (names : List (List ℕ)) → g.atoms ≡ [] → g.tables ≡ [] → g.states ≡ [] → length g.swaps < most_swaps → is_line (format_in g) (swapped names) ≡ true
+  with_swap : (names : List (List ℕ)) → g.atoms ≡ [] → g.parts ≡ [] → g.states ≡ [] → length g.swaps < most_swaps → is_line (format_in g) (swapped names) ≡ true
       → IsBody (swap_more (body_of g)) (head_lines g ++ swapped names ∷ [])
-  with_swap names no_atoms no_tables no_states below is =
+  with_swap names no_atoms none_before no_states below is =
       let swaps : List (List (List ℕ)) = g.swaps ++ names ∷ [] in
       record {
-        beginning = record { version = g.version; claim = g.claim; constants = g.constants; swaps = swaps; atoms = g.atoms; tables = g.tables; states = g.states };
+        beginning = record { version = g.version; claim = g.claim; constants = g.constants; swaps = swaps; atoms = g.atoms; parts = g.parts; states = g.states };
         keeps = record {
           claim_is = keeps.claim_is;
           constants_are = keeps.constants_are;
           swaps_are = all_more (λ names. is_line (format_in g) (swapped names)) g.swaps names keeps.swaps_are is;
           atoms_are = keeps.atoms_are;
-          tables_are = keeps.tables_are;
+          parts_are = keeps.parts_are;
           states_are = keeps.states_are;
-          scope_first = keeps.scope_first;
+          in_order = keeps.in_order;
           few_swaps = omega (arith, below, one_longer g.swaps names);
           few_atoms = keeps.few_atoms;
-          few_tables = keeps.few_tables;
-          few_rows = keeps.few_rows;
           few_states = keeps.few_states;
         };
-        body_is = (λ i. record { format = format_in g; swaps = one_longer g.swaps names i; tables = scope_count g.tables; rows = row_count g.tables; states = length g.states });
+        body_is = (λ i. record { format = format_in g; swaps = one_longer g.swaps names i; parts = counts_after no_parts g.parts; states = length g.states });
         lines_are =
-            (λ i. first_three (body_lines g.swaps (no_atoms i) (no_tables i) (no_states i) ++ swapped names ∷ []))
+            (λ i. first_three (body_lines g.swaps (no_atoms i) (none_before i) (no_states i) ++ swapped names ∷ []))
             ∙ ap (λ lines. first_three (lines ++ swapped names ∷ [])) (append-nil ((map swapped g.swaps ++ []) ++ []) ∙ append-nil (map swapped g.swaps ++ []) ∙ append-nil (map swapped g.swaps))
             ∙ ap first_three (sym (map-append swapped g.swaps (names ∷ []))
             ∙ sym (append-nil (map swapped swaps)) ∙ sym (append-nil (map swapped swaps ++ [])) ∙ sym (append-nil ((map swapped swaps ++ []) ++ [])))
-            ∙ (λ i. first_three (body_lines swaps (sym no_atoms i) (sym no_tables i) (sym no_states i)));
+            ∙ (λ i. first_three (body_lines swaps (sym no_atoms i) (sym none_before i) (sym no_states i)));
       }
 
-  with_table_line : (t : TableLine) (b : Body) → g.states ≡ [] → is_line (format_in g) (tabled t) ≡ true → IsTrue (begin_with_scope (g.tables ++ t ∷ []))
-      → scope_count (g.tables ++ t ∷ []) ≤ most_tables → row_count (g.tables ++ t ∷ []) ≤ most_rows → body_of (with_parts g.atoms (g.tables ++ t ∷ []) g.states) ≡ b → IsBody b (head_lines g ++ tabled t ∷ [])
-  with_table_line t b no_states is first few_tables few same = record {
-    beginning = with_parts g.atoms (g.tables ++ t ∷ []) g.states;
-    keeps = record {
-      claim_is = keeps.claim_is;
-      constants_are = keeps.constants_are;
-      swaps_are = keeps.swaps_are;
-      atoms_are = keeps.atoms_are;
-      tables_are = all_more (λ t. is_line (format_in g) (tabled t)) g.tables t keeps.tables_are is;
-      states_are = keeps.states_are;
-      scope_first = first;
-      few_swaps = keeps.few_swaps;
-      few_atoms = keeps.few_atoms;
-      few_tables = few_tables;
-      few_rows = few;
-      few_states = keeps.few_states;
-    };
-    body_is = same;
-    lines_are =
-        (λ i. first_three (body_lines g.swaps g.atoms g.tables (no_states i) ++ tabled t ∷ []))
-        ∙ ap (λ lines. first_three (lines ++ tabled t ∷ [])) (append-nil (fronts ++ map tabled g.tables))
-        ∙ ap first_three (append_assoc fronts (map tabled g.tables) (tabled t ∷ [])
-        ∙ ap (λ lines. fronts ++ lines) (sym (map-append tabled g.tables (t ∷ [])))
-        ∙ sym (append-nil (fronts ++ map tabled (g.tables ++ t ∷ []))))
-        ∙ (λ i. first_three (body_lines g.swaps g.atoms (g.tables ++ t ∷ []) (sym no_states i)));
-  }
-
-  with_scope : (s : List ℕ) → g.states ≡ [] → scope_count g.tables < most_tables → is_line (format_in g) (tabled (scope s)) ≡ true → IsBody (scope_more (body_of g)) (head_lines g ++ tabled (scope s) ∷ [])
-  with_scope s no_states below is =
-      with_table_line (scope s) (scope_more (body_of g)) no_states is (scope_after g.tables s keeps.scope_first)
-      (omega (arith, scopes_and_scope g.tables s, below))
-      (omega (arith, rows_and_scope g.tables s, keeps.few_rows))
-      (λ i. record { format = format_in g; swaps = length g.swaps; tables = scopes_and_scope g.tables s i; rows = rows_and_scope g.tables s i; states = length g.states })
-
-  with_row : (r : Row) → 0 < scope_count g.tables → g.states ≡ [] → row_count g.tables < most_rows → is_line (format_in g) (tabled (row r)) ≡ true
-      → IsBody (row_more (body_of g)) (head_lines g ++ tabled (row r) ∷ [])
-  with_row r begun no_states below is =
-      with_table_line (row r) (row_more (body_of g)) no_states is (scope_stays_first g.tables (row r) begun keeps.scope_first)
-      (omega (arith, scopes_and_row g.tables r, keeps.few_tables))
-      (omega (arith, rows_and_row g.tables r, below))
-      (λ i. record { format = format_in g; swaps = length g.swaps; tables = scopes_and_row g.tables r i; rows = rows_and_row g.tables r i; states = length g.states })
+  with_part : (p : Part) → g.states ≡ [] → IsTrue (may_follow (counts_after no_parts g.parts) p) → has_room (counts_after no_parts g.parts) p ≡ true → is_line (format_in g) (part p) ≡ true
+      → IsBody (part_more p (body_of g)) (head_lines g ++ part p ∷ [])
+  with_part p no_states follows room is =
+      let parts : List Part = g.parts ++ p ∷ [] in
+      record {
+        beginning = with_parts g.atoms parts g.states;
+        keeps = record {
+          claim_is = keeps.claim_is;
+          constants_are = keeps.constants_are;
+          swaps_are = keeps.swaps_are;
+          atoms_are = keeps.atoms_are;
+          parts_are = all_more (λ p. is_line (format_in g) (part p)) g.parts p keeps.parts_are is;
+          states_are = keeps.states_are;
+          in_order = in_order_more no_parts g.parts p keeps.in_order follows room;
+          few_swaps = keeps.few_swaps;
+          few_atoms = keeps.few_atoms;
+          few_states = keeps.few_states;
+        };
+        body_is = (λ i. record { format = format_in g; swaps = length g.swaps; parts = counts_more no_parts g.parts p i; states = length g.states });
+        lines_are =
+            (λ i. first_three (body_lines g.swaps g.atoms g.parts (no_states i) ++ part p ∷ []))
+            ∙ ap (λ lines. first_three (lines ++ part p ∷ [])) (append-nil (fronts ++ map part g.parts))
+            ∙ ap first_three (append_assoc fronts (map part g.parts) (part p ∷ [])
+            ∙ ap (λ lines. fronts ++ lines) (sym (map-append part g.parts (p ∷ [])))
+            ∙ sym (append-nil (fronts ++ map part parts)))
+            ∙ (λ i. first_three (body_lines g.swaps g.atoms parts (sym no_states i)));
+      }
 
   with_state : (l : StateLine) → length g.states < most_states → is_line (format_in g) (listed l) ≡ true → IsBody (state_more (body_of g)) (head_lines g ++ listed l ∷ [])
   with_state l below is = record {
-    beginning = with_parts g.atoms g.tables (g.states ++ l ∷ []);
+    beginning = with_parts g.atoms g.parts (g.states ++ l ∷ []);
     keeps = record {
       claim_is = keeps.claim_is;
       constants_are = keeps.constants_are;
       swaps_are = keeps.swaps_are;
       atoms_are = keeps.atoms_are;
-      tables_are = keeps.tables_are;
+      parts_are = keeps.parts_are;
       states_are = all_more (λ l. is_line (format_in g) (listed l)) g.states l keeps.states_are is;
-      scope_first = keeps.scope_first;
+      in_order = keeps.in_order;
       few_swaps = keeps.few_swaps;
       few_atoms = keeps.few_atoms;
-      few_tables = keeps.few_tables;
-      few_rows = keeps.few_rows;
       few_states = omega (arith, below, one_longer g.states l);
     };
-    body_is = (λ i. record { format = format_in g; swaps = length g.swaps; tables = scope_count g.tables; rows = row_count g.tables; states = one_longer g.states l i });
+    body_is = (λ i. record { format = format_in g; swaps = length g.swaps; parts = counts_after no_parts g.parts; states = one_longer g.states l i });
     lines_are =
-        ap first_three (append_assoc (fronts ++ map tabled g.tables) (map listed g.states) (listed l ∷ [])
-        ∙ ap (λ lines. (fronts ++ map tabled g.tables) ++ lines) (sym (map-append listed g.states (l ∷ []))));
+        ap first_three (append_assoc (fronts ++ map part g.parts) (map listed g.states) (listed l ∷ [])
+        ∙ ap (λ lines. (fronts ++ map part g.parts) ++ lines) (sym (map-append listed g.states (l ∷ []))));
   }
 
   -- the lines with the last one are a certificate
   whole : AreWhole (head_lines g ++ last (length g.states) ∷ [])
   whole =
-      let c : NamedCertificate = record { version = g.version; claim = g.claim; constants = g.constants; swaps = g.swaps; atoms = g.atoms; tables = g.tables; lines = g.states } in
+      let c : NamedCertificate = record { version = g.version; claim = g.claim; constants = g.constants; swaps = g.swaps; atoms = g.atoms; parts = g.parts; lines = g.states } in
       let test : TextLine → Bool = is_line (format_in g) in
       let swaps : list_all test (map swapped g.swaps) ≡ true = list_all-map test swapped g.swaps ∙ keeps.swaps_are in
       let atoms : list_all test (map atom g.atoms) ≡ true = list_all-map test atom g.atoms ∙ keeps.atoms_are in
-      let tables : list_all test (map tabled g.tables) ≡ true = list_all-map test tabled g.tables ∙ keeps.tables_are in
+      let parts : list_all test (map part g.parts) ≡ true = list_all-map test part g.parts ∙ keeps.parts_are in
       let states : list_all test (map listed g.states) ≡ true = list_all-map test listed g.states ∙ keeps.states_are in
       let number : is_number (length g.states) ≡ true = lt-ltb (length g.states) 1152921504606846976 (omega (arith, keeps.few_states)) in
-      let body : list_all test (body_lines g.swaps g.atoms g.tables g.states) ≡ true =
-      list_all-append test (fronts ++ map tabled g.tables) (map listed g.states)
-      ∙ both_true _ _ (list_all-append test fronts (map tabled g.tables) ∙ both_true _ _ (list_all-append test (map swapped g.swaps) (map atom g.atoms) ∙ both_true _ _ swaps atoms) tables) states in
-      let following : list_all test (body_lines g.swaps g.atoms g.tables g.states ++ last (length g.states) ∷ []) ≡ true =
-      list_all-append test (body_lines g.swaps g.atoms g.tables g.states) (last (length g.states) ∷ []) ∙ both_true _ _ body (both_true (is_number (length g.states)) true number refl) in
+      let body : list_all test (body_lines g.swaps g.atoms g.parts g.states) ≡ true =
+      list_all-append test (fronts ++ map part g.parts) (map listed g.states)
+      ∙ both_true _ _ (list_all-append test fronts (map part g.parts) ∙ both_true _ _ (list_all-append test (map swapped g.swaps) (map atom g.atoms) ∙ both_true _ _ swaps atoms) parts) states in
+      let following : list_all test (body_lines g.swaps g.atoms g.parts g.states ++ last (length g.states) ∷ []) ≡ true =
+      list_all-append test (body_lines g.swaps g.atoms g.parts g.states) (last (length g.states) ∷ []) ∙ both_true _ _ body (both_true (is_number (length g.states)) true number refl) in
       let each : list_all test (text_lines c) ≡ true = both_true (is_claim g.claim) _ keeps.claim_is (both_true (test (constant g.constants)) _ keeps.constants_are following) in
       let few_swaps : nat_le (length g.swaps) most_swaps ≡ true = le-leb (length g.swaps) most_swaps keeps.few_swaps in
       let few : nat_le (length g.atoms) most_atoms ≡ true = le-leb (length g.atoms) most_atoms keeps.few_atoms in
-      let few_tables : nat_le (scope_count g.tables) most_tables ≡ true = le-leb (scope_count g.tables) most_tables keeps.few_tables in
-      let few_rows : nat_le (row_count g.tables) most_rows ≡ true = le-leb (row_count g.tables) most_rows keeps.few_rows in
       let few_states : nat_le (length g.states) most_states ≡ true = le-leb (length g.states) most_states keeps.few_states in
-      (c, both_true _ _ (both_true _ _ (both_true _ _ (both_true _ _ few_swaps few) (both_true _ _ (both_true _ _ keeps.scope_first few_tables) few_rows)) few_states) each, refl)
+      (c, both_true _ _ (both_true _ _ (both_true _ _ (both_true _ _ few_swaps few) keeps.in_order) few_states) each, refl)
 
   -- one more such line leads to the next state
   step_on : (line : TextLine) (next : CertificatePlace) → next_place (in_body (body_of g)) line ≡ Some next → ComesBefore next (head_lines g ++ line ∷ [])
@@ -289,32 +227,25 @@ module _ (g : Beginning) (keeps : Keeps g) where
       let (holds, same) = only_where (swap_follows b && nat_lt b.swaps most_swaps && is_line b.format (swapped names)) (in_body (swap_more b)) next leads in
       let (counts, is) = and_parts (swap_follows b && nat_lt b.swaps most_swaps) (is_line b.format (swapped names)) holds in
       let (follows, below) = and_parts (swap_follows b) (nat_lt b.swaps most_swaps) counts in
-      let (before, empty) = and_parts ((b.format.atoms == 0) && (b.tables == 0)) (b.states == 0) follows in
-      let (no_atom, first) = and_parts (b.format.atoms == 0) (b.tables == 0) before in
+      let (before, empty) = and_parts ((b.format.atoms == 0) && (how_many b.parts == 0)) (b.states == 0) follows in
+      let (no_atom, first) = and_parts (b.format.atoms == 0) (how_many b.parts == 0) before in
       subst (λ q. ComesBefore q (head_lines g ++ swapped names ∷ [])) same
-      (with_swap names (no_atoms g.atoms (eqb-true b.format.atoms 0 no_atom)) (no_tables g.tables keeps.scope_first (eqb-true b.tables 0 first)) (no_states g.states (eqb-true b.states 0 empty)) (ltb-true b.swaps most_swaps below) is)
+      (with_swap names (no_atoms g.atoms (eqb-true b.format.atoms 0 no_atom)) (none_yet g.parts (eqb-true (how_many b.parts) 0 first)) (no_states g.states (eqb-true b.states 0 empty)) (ltb-true b.swaps most_swaps below) is)
   step_on (atom a) next leads =
       let b : Body = body_of g in
       let (holds, same) = only_where (atom_follows b && nat_lt b.format.atoms most_atoms && is_line b.format (atom a)) (in_body (atom_more b)) next leads in
       let (counts, is) = and_parts (atom_follows b && nat_lt b.format.atoms most_atoms) (is_line b.format (atom a)) holds in
       let (follows, below) = and_parts (atom_follows b) (nat_lt b.format.atoms most_atoms) counts in
-      let (first, empty) = and_parts (b.tables == 0) (b.states == 0) follows in
+      let (first, empty) = and_parts (how_many b.parts == 0) (b.states == 0) follows in
       subst (λ q. ComesBefore q (head_lines g ++ atom a ∷ [])) same
-      (with_atom a (no_tables g.tables keeps.scope_first (eqb-true b.tables 0 first)) (no_states g.states (eqb-true b.states 0 empty)) (ltb-true b.format.atoms most_atoms below) is)
-  step_on (tabled (scope s)) next leads =
+      (with_atom a (none_yet g.parts (eqb-true (how_many b.parts) 0 first)) (no_states g.states (eqb-true b.states 0 empty)) (ltb-true b.format.atoms most_atoms below) is)
+  step_on (part p) next leads =
       let b : Body = body_of g in
-      let (holds, same) = only_where ((b.states == 0) && nat_lt b.tables most_tables && is_line b.format (tabled (scope s))) (in_body (scope_more b)) next leads in
-      let (counts, is) = and_parts ((b.states == 0) && nat_lt b.tables most_tables) (is_line b.format (tabled (scope s))) holds in
-      let (empty, below) = and_parts (b.states == 0) (nat_lt b.tables most_tables) counts in
-      subst (λ q. ComesBefore q (head_lines g ++ tabled (scope s) ∷ [])) same (with_scope s (no_states g.states (eqb-true b.states 0 empty)) (ltb-true b.tables most_tables below) is)
-  step_on (tabled (row r)) next leads =
-      let b : Body = body_of g in
-      let (holds, same) = only_where (row_follows b && nat_lt b.rows most_rows && is_line b.format (tabled (row r))) (in_body (row_more b)) next leads in
-      let (counts, is) = and_parts (row_follows b && nat_lt b.rows most_rows) (is_line b.format (tabled (row r))) holds in
-      let (follows, below) = and_parts (row_follows b) (nat_lt b.rows most_rows) counts in
-      let (begun, empty) = and_parts (nat_lt 0 b.tables) (b.states == 0) follows in
-      subst (λ q. ComesBefore q (head_lines g ++ tabled (row r) ∷ [])) same
-      (with_row r (ltb-true 0 b.tables begun) (no_states g.states (eqb-true b.states 0 empty)) (ltb-true b.rows most_rows below) is)
+      let (holds, same) = only_where (part_follows p b && has_room b.parts p && is_line b.format (part p)) (in_body (part_more p b)) next leads in
+      let (counts, is) = and_parts (part_follows p b && has_room b.parts p) (is_line b.format (part p)) holds in
+      let (place, room) = and_parts (part_follows p b) (has_room b.parts p) counts in
+      let (empty, follows) = and_parts (b.states == 0) (may_follow b.parts p) place in
+      subst (λ q. ComesBefore q (head_lines g ++ part p ∷ [])) same (with_part p (no_states g.states (eqb-true b.states 0 empty)) follows room is)
   step_on (listed l) next leads =
       let b : Body = body_of g in
       let (holds, same) = only_where (nat_lt b.states most_states && is_line b.format (listed l)) (in_body (state_more b)) next leads in
@@ -333,7 +264,7 @@ step at_version (claims claim) next lines occurs leads = never next leads
 step at_version (constant k) next lines occurs leads = never next leads
 step at_version (swapped names) next lines occurs leads = never next leads
 step at_version (atom a) next lines occurs leads = never next leads
-step at_version (tabled t) next lines occurs leads = never next leads
+step at_version (part p) next lines occurs leads = never next leads
 step at_version (listed l) next lines occurs leads = never next leads
 step at_version (last count) next lines occurs leads = never next leads
 step (at_claim v) (version w) next lines occurs leads = never next leads
@@ -343,7 +274,7 @@ step (at_claim v) (claims claim) next lines occurs leads =
 step (at_claim v) (constant k) next lines occurs leads = never next leads
 step (at_claim v) (swapped names) next lines occurs leads = never next leads
 step (at_claim v) (atom a) next lines occurs leads = never next leads
-step (at_claim v) (tabled t) next lines occurs leads = never next leads
+step (at_claim v) (part p) next lines occurs leads = never next leads
 step (at_claim v) (listed l) next lines occurs leads = never next leads
 step (at_claim v) (last count) next lines occurs leads = never next leads
 step (at_constant v) (version w) next lines occurs leads = never next leads
@@ -352,19 +283,17 @@ step (at_constant v) (constant k) next lines occurs leads =
     let (claim, is, are) = occurs in
     let (holds, same) = only_where (is_line (no_format v) (constant k)) (in_body (no_body v (length k))) next leads in
     subst (λ q. ComesBefore q (lines ++ constant k ∷ [])) same (record {
-      beginning = record { version = v; claim = claim; constants = k; swaps = []; atoms = []; tables = []; states = [] };
+      beginning = record { version = v; claim = claim; constants = k; swaps = []; atoms = []; parts = []; states = [] };
       keeps = record {
         claim_is = is;
         constants_are = holds;
         swaps_are = refl;
         atoms_are = refl;
-        tables_are = refl;
+        parts_are = refl;
         states_are = refl;
-        scope_first = refl;
+        in_order = refl;
         few_swaps = omega arith;
         few_atoms = omega arith;
-        few_tables = omega arith;
-        few_rows = omega arith;
         few_states = omega arith;
       };
       body_is = refl;
@@ -372,7 +301,7 @@ step (at_constant v) (constant k) next lines occurs leads =
     })
 step (at_constant v) (swapped names) next lines occurs leads = never next leads
 step (at_constant v) (atom a) next lines occurs leads = never next leads
-step (at_constant v) (tabled t) next lines occurs leads = never next leads
+step (at_constant v) (part p) next lines occurs leads = never next leads
 step (at_constant v) (listed l) next lines occurs leads = never next leads
 step (at_constant v) (last count) next lines occurs leads = never next leads
 step (in_body b) line next lines body leads =
@@ -383,7 +312,7 @@ step ended (claims claim) next lines occurs leads = never next leads
 step ended (constant k) next lines occurs leads = never next leads
 step ended (swapped names) next lines occurs leads = never next leads
 step ended (atom a) next lines occurs leads = never next leads
-step ended (tabled t) next lines occurs leads = never next leads
+step ended (part p) next lines occurs leads = never next leads
 step ended (listed l) next lines occurs leads = never next leads
 step ended (last count) next lines occurs leads = never next leads
 
@@ -457,80 +386,56 @@ from_zero n = omega arith
 one_more_counted : (n k : ℕ) → (n + 1) + k ≡ n + suc k
 one_more_counted n k = omega arith
 
-one_row_counted : (n k : ℕ) → (n + 1) + k ≡ n + (1 + k)
-one_row_counted n k = omega arith
-
 module _ (v : Version) (weights : ℕ) where
   abbrev format : ℕ → Format
   format n = record { version = v; weights = weights; atoms = n }
 
-  abbrev body : (s n tables rows states : ℕ) → CertificatePlace
-  body s n t r m = in_body (record { format = format n; swaps = s; tables = t; rows = r; states = m })
+  abbrev body : (s n : ℕ) → PartCounts → (states : ℕ) → CertificatePlace
+  body s n c m = in_body (record { format = format n; swaps = s; parts = c; states = m })
 
   swaps_read : (swaps : List (List (List ℕ))) (s : ℕ) (more : List TextLine) → list_all (λ names. is_line (format 0) (swapped names)) swaps ≡ true → s + length swaps ≤ most_swaps
-      → place_from (body s 0 0 0 0) (map swapped swaps ++ more) ≡ place_from (body (s + length swaps) 0 0 0 0) more
-  swaps_read [] s more all few = ap (λ k. place_from (body k 0 0 0 0) more) (zero_more s)
+      → place_from (body s 0 no_parts 0) (map swapped swaps ++ more) ≡ place_from (body (s + length swaps) 0 no_parts 0) more
+  swaps_read [] s more all few = ap (λ k. place_from (body k 0 no_parts 0) more) (zero_more s)
   swaps_read (names ∷ swaps) s more all few =
       let (here, rest) = and_parts (is_line (format 0) (swapped names)) (list_all (λ names. is_line (format 0) (swapped names)) swaps) all in
       let below : nat_lt s most_swaps ≡ true = lt-ltb s most_swaps (omega (arith, few)) in
-      ap (λ b. option_and_then (λ next. place_from next (map swapped swaps ++ more)) (only_if b (body (s + 1) 0 0 0 0)))
+      ap (λ b. option_and_then (λ next. place_from next (map swapped swaps ++ more)) (only_if b (body (s + 1) 0 no_parts 0)))
       (both_true (true && nat_lt s most_swaps) (is_line (format 0) (swapped names)) below here)
       ∙ swaps_read swaps (s + 1) more rest (omega (arith, few))
-      ∙ ap (λ k. place_from (body k 0 0 0 0) more) (one_more_counted s (length swaps))
+      ∙ ap (λ k. place_from (body k 0 no_parts 0) more) (one_more_counted s (length swaps))
 
   atoms_read : (s : ℕ) (atoms : List WeightedAtom) (n : ℕ) (more : List TextLine) → list_all (λ a. is_line (format n) (atom a)) atoms ≡ true → n + length atoms ≤ most_atoms
-      → place_from (body s n 0 0 0) (map atom atoms ++ more) ≡ place_from (body s (n + length atoms) 0 0 0) more
-  atoms_read s [] n more all few = ap (λ k. place_from (body s k 0 0 0) more) (zero_more n)
+      → place_from (body s n no_parts 0) (map atom atoms ++ more) ≡ place_from (body s (n + length atoms) no_parts 0) more
+  atoms_read s [] n more all few = ap (λ k. place_from (body s k no_parts 0) more) (zero_more n)
   atoms_read s (a ∷ atoms) n more all few =
       let (here, rest) = and_parts (is_line (format n) (atom a)) (list_all (λ a. is_line (format n) (atom a)) atoms) all in
       let below : nat_lt n most_atoms ≡ true = lt-ltb n most_atoms (omega (arith, few)) in
-      ap (λ b. option_and_then (λ next. place_from next (map atom atoms ++ more)) (only_if b (body s (n + 1) 0 0 0)))
+      ap (λ b. option_and_then (λ next. place_from next (map atom atoms ++ more)) (only_if b (body s (n + 1) no_parts 0)))
       (both_true (true && nat_lt n most_atoms) (is_line (format n) (atom a)) below here)
       ∙ atoms_read s atoms (n + 1) more rest (omega (arith, few))
-      ∙ ap (λ k. place_from (body s k 0 0 0) more) (one_more_counted n (length atoms))
+      ∙ ap (λ k. place_from (body s k no_parts 0) more) (one_more_counted n (length atoms))
 
   module _ (s n : ℕ) where
-    tables_read : (tables : List TableLine) (t r : ℕ) (more : List TextLine) → list_all (λ t. is_line (format n) (tabled t)) tables ≡ true → 0 < t
-        → t + scope_count tables ≤ most_tables → r + row_count tables ≤ most_rows
-        → place_from (body s n t r 0) (map tabled tables ++ more) ≡ place_from (body s n (t + scope_count tables) (r + row_count tables) 0) more
-    tables_read [] t r more all begun few few_rows = λ i. place_from (body s n (zero_more t i) (zero_more r i) 0) more
-    tables_read (scope o ∷ tables) t r more all begun few few_rows =
-        let (here, rest) = and_parts (is_line (format n) (tabled (scope o))) (list_all (λ t. is_line (format n) (tabled t)) tables) all in
-        let below : nat_lt t most_tables ≡ true = lt-ltb t most_tables (omega (arith, few)) in
-        ap (λ b. option_and_then (λ next. place_from next (map tabled tables ++ more)) (only_if b (body s n (t + 1) r 0)))
-        (both_true (true && nat_lt t most_tables) (is_line (format n) (tabled (scope o))) below here)
-        ∙ tables_read tables (t + 1) r more rest (omega arith) (omega (arith, few)) few_rows
-        ∙ ap (λ k. place_from (body s n k (r + row_count tables) 0) more) (one_row_counted t (scope_count tables))
-    tables_read (row q ∷ tables) t r more all begun few few_rows =
-        let (here, rest) = and_parts (is_line (format n) (tabled (row q))) (list_all (λ t. is_line (format n) (tabled t)) tables) all in
-        let some : nat_lt 0 t && true ≡ true = both_true (nat_lt 0 t) true (lt-ltb 0 t begun) refl in
-        let below : nat_lt r most_rows ≡ true = lt-ltb r most_rows (omega (arith, few_rows)) in
-        ap (λ b. option_and_then (λ next. place_from next (map tabled tables ++ more)) (only_if b (body s n t (r + 1) 0)))
-        (both_true (nat_lt 0 t && true && nat_lt r most_rows) (is_line (format n) (tabled (row q))) (both_true (nat_lt 0 t && true) (nat_lt r most_rows) some below) here)
-        ∙ tables_read tables t (r + 1) more rest begun few (omega (arith, few_rows))
-        ∙ ap (λ k. place_from (body s n (t + scope_count tables) k 0) more) (one_row_counted r (row_count tables))
+    parts_read : (c : PartCounts) (parts : List Part) (more : List TextLine) → list_all (λ p. is_line (format n) (part p)) parts ≡ true → are_in_order c parts ≡ true
+        → place_from (body s n c 0) (map part parts ++ more) ≡ place_from (body s n (counts_after c parts) 0) more
+    parts_read c [] more all ordered = refl
+    parts_read c (p ∷ parts) more all ordered =
+        let (here, rest) = and_parts (is_line (format n) (part p)) (list_all (λ p. is_line (format n) (part p)) parts) all in
+        let (place, later) = and_parts (may_follow c p && has_room c p) (are_in_order (counted c p) parts) ordered in
+        ap (λ b. option_and_then (λ next. place_from next (map part parts ++ more)) (only_if b (body s n (counted c p) 0)))
+        (both_true (may_follow c p && has_room c p) (is_line (format n) (part p)) place here)
+        ∙ parts_read (counted c p) parts more rest later
 
-    all_tables_read : (tables : List TableLine) (more : List TextLine) → list_all (λ t. is_line (format n) (tabled t)) tables ≡ true → IsTrue (begin_with_scope tables)
-        → scope_count tables ≤ most_tables → row_count tables ≤ most_rows
-        → place_from (body s n 0 0 0) (map tabled tables ++ more) ≡ place_from (body s n (scope_count tables) (row_count tables) 0) more
-    all_tables_read [] more all first few few_rows = refl
-    all_tables_read (row r ∷ tables) more all first few few_rows = absurd (cc first)
-    all_tables_read (scope o ∷ tables) more all first few few_rows =
-        let (here, rest) = and_parts (is_line (format n) (tabled (scope o))) (list_all (λ t. is_line (format n) (tabled t)) tables) all in
-        ap (λ b. option_and_then (λ next. place_from next (map tabled tables ++ more)) (only_if b (body s n 1 0 0))) here
-        ∙ tables_read tables 1 0 more rest (omega arith) (omega (arith, few)) (omega (arith, few_rows))
-        ∙ ap (λ k. place_from (body s n (1 + scope_count tables) k 0) more) (from_zero (row_count tables))
-
-    states_read : (t r : ℕ) (states : List StateLine) (m : ℕ) (more : List TextLine) → list_all (λ l. is_line (format n) (listed l)) states ≡ true → m + length states ≤ most_states
-        → place_from (body s n t r m) (map listed states ++ more) ≡ place_from (body s n t r (m + length states)) more
-    states_read t r [] m more all few = ap (λ k. place_from (body s n t r k) more) (zero_more m)
-    states_read t r (l ∷ states) m more all few =
+    states_read : (c : PartCounts) (states : List StateLine) (m : ℕ) (more : List TextLine) → list_all (λ l. is_line (format n) (listed l)) states ≡ true → m + length states ≤ most_states
+        → place_from (body s n c m) (map listed states ++ more) ≡ place_from (body s n c (m + length states)) more
+    states_read c [] m more all few = ap (λ k. place_from (body s n c k) more) (zero_more m)
+    states_read c (l ∷ states) m more all few =
         let (here, rest) = and_parts (is_line (format n) (listed l)) (list_all (λ l. is_line (format n) (listed l)) states) all in
         let below : nat_lt m most_states ≡ true = lt-ltb m most_states (omega (arith, few)) in
-        ap (λ b. option_and_then (λ next. place_from next (map listed states ++ more)) (only_if b (body s n t r (m + 1))))
+        ap (λ b. option_and_then (λ next. place_from next (map listed states ++ more)) (only_if b (body s n c (m + 1))))
         (both_true (nat_lt m most_states) (is_line (format n) (listed l)) below here)
-        ∙ states_read t r states (m + 1) more rest (omega (arith, few))
-        ∙ ap (λ k. place_from (body s n t r k) more) (one_more_counted m (length states))
+        ∙ states_read c states (m + 1) more rest (omega (arith, few))
+        ∙ ap (λ k. place_from (body s n c k) more) (one_more_counted m (length states))
 
 same_count : (m k : ℕ) → k ≡ m → (k == m) ≡ true
 same_count m k same = grind (arith, nat_tests, same)
@@ -545,46 +450,41 @@ lines_read c keeps =
     let test : TextLine → Bool = is_line (format_of c) in
     let (counts, each) = and_parts _ (list_all test (text_lines c)) keeps in
     let (bodies, few_states) = and_parts _ (nat_le (length c.lines) most_states) counts in
-    let (fews, rows) = and_parts (nat_le (length c.swaps) most_swaps && nat_le k most_atoms) _ bodies in
+    let (fews, ordered) = and_parts (nat_le (length c.swaps) most_swaps && nat_le k most_atoms) _ bodies in
     let (few_swaps, few) = and_parts (nat_le (length c.swaps) most_swaps) (nat_le k most_atoms) fews in
-    let (scopes, few_rows) = and_parts (begin_with_scope c.tables && nat_le (scope_count c.tables) most_tables) (nat_le (row_count c.tables) most_rows) rows in
-    let (first, few_tables) = and_parts (begin_with_scope c.tables) (nat_le (scope_count c.tables) most_tables) scopes in
     let swap_lines : List TextLine = map swapped c.swaps in
     let atom_lines : List TextLine = map atom c.atoms in
-    let table_lines : List TextLine = map tabled c.tables in
+    let part_lines : List TextLine = map part c.parts in
     let state_lines : List TextLine = map listed c.lines in
     let end : List TextLine = last (length c.lines) ∷ [] in
     let fronts : List TextLine = swap_lines ++ atom_lines in
-    let all_lines : List TextLine = ((fronts ++ table_lines) ++ state_lines) ++ end in
+    let all_lines : List TextLine = ((fronts ++ part_lines) ++ state_lines) ++ end in
     let (claim, other) = and_parts (is_claim c.claim) (list_all test (constant c.constants ∷ all_lines)) each in
     let (constant_is, following) = and_parts (test (constant c.constants)) (list_all test all_lines) other in
-    let (body_is, _) = and_parts (list_all test ((fronts ++ table_lines) ++ state_lines)) (list_all test end) (sym (list_all-append test ((fronts ++ table_lines) ++ state_lines) end) ∙ following) in
-    let (behind, states) = and_parts (list_all test (fronts ++ table_lines)) (list_all test state_lines) (sym (list_all-append test (fronts ++ table_lines) state_lines) ∙ body_is) in
-    let (fronts_are, tables) = and_parts (list_all test fronts) (list_all test table_lines) (sym (list_all-append test fronts table_lines) ∙ behind) in
+    let (body_is, _) = and_parts (list_all test ((fronts ++ part_lines) ++ state_lines)) (list_all test end) (sym (list_all-append test ((fronts ++ part_lines) ++ state_lines) end) ∙ following) in
+    let (behind, states) = and_parts (list_all test (fronts ++ part_lines)) (list_all test state_lines) (sym (list_all-append test (fronts ++ part_lines) state_lines) ∙ body_is) in
+    let (fronts_are, parts) = and_parts (list_all test fronts) (list_all test part_lines) (sym (list_all-append test fronts part_lines) ∙ behind) in
     let (swaps, atoms) = and_parts (list_all test swap_lines) (list_all test atom_lines) (sym (list_all-append test swap_lines atom_lines) ∙ fronts_are) in
     let swaps_are : list_all (λ names. test (swapped names)) c.swaps ≡ true = sym (list_all-map test swapped c.swaps) ∙ swaps in
     let atoms_are : list_all (λ a. test (atom a)) c.atoms ≡ true = sym (list_all-map test atom c.atoms) ∙ atoms in
-    let tables_are : list_all (λ t. test (tabled t)) c.tables ≡ true = sym (list_all-map test tabled c.tables) ∙ tables in
+    let parts_are : list_all (λ p. test (part p)) c.parts ≡ true = sym (list_all-map test part c.parts) ∙ parts in
     let states_are : list_all (λ l. test (listed l)) c.lines ≡ true = sym (list_all-map test listed c.lines) ∙ states in
     let swaps_within : length c.swaps ≤ most_swaps = leb-true (length c.swaps) most_swaps few_swaps in
     let atoms_within : k ≤ most_atoms = leb-true k most_atoms few in
-    let tables_within : scope_count c.tables ≤ most_tables = leb-true (scope_count c.tables) most_tables few_tables in
-    let rows_within : row_count c.tables ≤ most_rows = leb-true (row_count c.tables) most_rows few_rows in
     let states_within : length c.lines ≤ most_states = leb-true (length c.lines) most_states few_states in
     let w : ℕ = length c.constants in
-    let t : ℕ = scope_count c.tables in
-    let r : ℕ = row_count c.tables in
+    let counts : PartCounts = counts_after no_parts c.parts in
     ap (λ b. option_and_then (λ next. place_from next (constant c.constants ∷ all_lines)) (only_if b (at_constant v))) claim
     ∙ ap (λ b. option_and_then (λ next. place_from next all_lines) (only_if b (in_body (no_body v w)))) constant_is
-    ∙ ap (place_from (in_body (no_body v w))) (append_assoc (fronts ++ table_lines) state_lines end ∙ append_assoc fronts table_lines (state_lines ++ end) ∙ append_assoc swap_lines atom_lines (table_lines ++ (state_lines ++ end)))
-    ∙ swaps_read v w c.swaps 0 (atom_lines ++ (table_lines ++ (state_lines ++ end))) swaps_are (omega (arith, swaps_within))
-    ∙ ap (λ n. place_from (body v w n 0 0 0 0) (atom_lines ++ (table_lines ++ (state_lines ++ end)))) (from_zero (length c.swaps))
-    ∙ atoms_read v w (length c.swaps) c.atoms 0 (table_lines ++ (state_lines ++ end)) atoms_are (omega (arith, atoms_within))
-    ∙ ap (λ n. place_from (body v w (length c.swaps) n 0 0 0) (table_lines ++ (state_lines ++ end))) (from_zero k)
-    ∙ all_tables_read v w (length c.swaps) k c.tables (state_lines ++ end) tables_are first tables_within rows_within
-    ∙ states_read v w (length c.swaps) k t r c.lines 0 end states_are (omega (arith, states_within))
-    ∙ ap (λ m. place_from (body v w (length c.swaps) k t r m) end) (from_zero (length c.lines))
-    ∙ last_read (record { format = format v w k; swaps = length c.swaps; tables = t; rows = r; states = length c.lines })
+    ∙ ap (place_from (in_body (no_body v w))) (append_assoc (fronts ++ part_lines) state_lines end ∙ append_assoc fronts part_lines (state_lines ++ end) ∙ append_assoc swap_lines atom_lines (part_lines ++ (state_lines ++ end)))
+    ∙ swaps_read v w c.swaps 0 (atom_lines ++ (part_lines ++ (state_lines ++ end))) swaps_are (omega (arith, swaps_within))
+    ∙ ap (λ n. place_from (body v w n 0 no_parts 0) (atom_lines ++ (part_lines ++ (state_lines ++ end)))) (from_zero (length c.swaps))
+    ∙ atoms_read v w (length c.swaps) c.atoms 0 (part_lines ++ (state_lines ++ end)) atoms_are (omega (arith, atoms_within))
+    ∙ ap (λ n. place_from (body v w (length c.swaps) n no_parts 0) (part_lines ++ (state_lines ++ end))) (from_zero k)
+    ∙ parts_read v w (length c.swaps) k no_parts c.parts (state_lines ++ end) parts_are ordered
+    ∙ states_read v w (length c.swaps) k counts c.lines 0 end states_are (omega (arith, states_within))
+    ∙ ap (λ m. place_from (body v w (length c.swaps) k counts m) end) (from_zero (length c.lines))
+    ∙ last_read (record { format = format v w k; swaps = length c.swaps; parts = counts; states = length c.lines })
 
 pub end_of_whole : (lines : List TextLine) → AreWhole lines → place_after lines ≡ Some ended
 end_of_whole lines (c, keeps, are) = subst (λ lines. place_after lines ≡ Some ended) are (lines_read c keeps)

@@ -10,7 +10,7 @@ use Rattle.certificate_definitions.specs.Evidence.{Basis, LineMark, cut}
 use Rattle.certificate_definitions.specs.Certificates.{Certificate, StateLine, IsClosedFor}
 use Rattle.lower_bounds.specs.TableFunctions.{Row, is_among}
 use Rattle.certificate_definitions.specs.CertificateRefusals.{IsPlanWithin}
-use Rattle.certificate_definitions.specs.CertificateText.{NamedAtom, WeightedAtom, scope, row, TextLine, claims, atom, tabled, listed, whole_line, text_of, BeginCertificate, IsFaultAfter}
+use Rattle.certificate_definitions.specs.CertificateText.{NamedAtom, WeightedAtom, scope, row, tabled, TextLine, claims, atom, part, listed, whole_line, text_of, BeginCertificate, IsFaultAfter}
 use Rattle.certificate_definitions.specs.CertificateNames.{Names, IsTextOf}
 
 -- these are the names of a well-typed atom of a fluent predicate
@@ -30,7 +30,7 @@ IsCut mark = (basis : Basis) × (rest : ℕ) × (mark ≡ cut basis rest)
 
 -- the last lines are those of a table with this scope, with these rows so far
 abbrev pub EndInTable : List TextLine → List ℕ → List Row → Type 0
-EndInTable lines atoms rows = (before : List TextLine) × (lines ≡ before ++ tabled (scope atoms) ∷ map (λ (r : Row). tabled (row r)) rows)
+EndInTable lines atoms rows = (before : List TextLine) × (lines ≡ before ++ part (tabled (scope atoms)) ∷ map (λ (r : Row). part (tabled (row r))) rows)
 
 -- each of these atoms is in the scope
 abbrev pub is_of_scope : List ℕ → List ℕ → Bool
@@ -43,10 +43,10 @@ HasRow rows atoms = (r : Row) × Contains rows r × (r.atoms ≡ atoms)
 -- After these lines, the line is wrong about the task, and the number is reported.
 pub data IsWrongAfter (task : Task) (before : List TextLine) : TextLine → ℕ → Type 0 where
   -- a row with an atom outside its table's scope
-  not_of_scope : (r : Row) (atoms : List ℕ) (rows : List Row) → EndInTable before atoms rows → is_of_scope atoms r.atoms ≡ false → IsWrongAfter task before (tabled (row r)) 40
+  not_of_scope : (r : Row) (atoms : List ℕ) (rows : List Row) → EndInTable before atoms rows → is_of_scope atoms r.atoms ≡ false → IsWrongAfter task before (part (tabled (row r))) 40
   -- a row that its table already has
   repeated_row : (r : Row) (atoms : List ℕ) (rows : List Row) → EndInTable before atoms rows → IsTrue (is_of_scope atoms r.atoms) → HasRow rows r.atoms
-      → IsWrongAfter task before (tabled (row r)) 44
+      → IsWrongAfter task before (part (tabled (row r))) 44
   -- an atom that does not belong to the task, or whose predicate is static
   not_fluent : (a : WeightedAtom) → ¬ NamesFluent task a.atom → IsWrongAfter task before (atom a) 43
   -- an atom that occurred in an earlier line, with any weight

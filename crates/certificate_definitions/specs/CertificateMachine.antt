@@ -3,14 +3,14 @@
 use Rattle.std.specs.Prelude.{ℕ, ◌+◌, Bool, ◌&&◌, ◌==◌, nat_lt, if◌then◌else◌, List, [], ◌∷◌, length, Option, None, Some}
 use Rattle.std.specs.Option.{option_and_then}
 use Rattle.certificate_definitions.specs.Certificates.{Version, one}
-use Rattle.certificate_definitions.specs.CertificateText.{Format, scope, row, TextLine, version, claims, constant, swapped, atom, tabled, listed, last, is_line, most_swaps, most_atoms, most_tables, most_rows, most_states}
+use Rattle.certificate_definitions.specs.Parts.{Format, Part, PartCounts, no_parts, how_many, counted, may_follow, has_room}
+use Rattle.certificate_definitions.specs.CertificateText.{TextLine, version, claims, constant, swapped, atom, part, listed, last, is_line, most_swaps, most_atoms, most_states}
 
--- the numbers of exchanges, atoms (in the format), tables, rows and states after the constants
+-- the numbers of exchanges, atoms (in the format), parts and states after the constants
 pub record Body : Type 0 where
   pub format : Format
   pub swaps : ℕ
-  pub tables : ℕ
-  pub rows : ℕ
+  pub parts : PartCounts
   pub states : ℕ
 
 pub data CertificatePlace : Type 0 where
@@ -35,39 +35,35 @@ format_at ended = no_format one
 
 -- the body of a text with this many constants
 abbrev pub no_body : Version → ℕ → Body
-no_body v weights = record { format = record { version = v; weights = weights; atoms = 0 }; swaps = 0; tables = 0; rows = 0; states = 0 }
+no_body v weights = record { format = record { version = v; weights = weights; atoms = 0 }; swaps = 0; parts = no_parts; states = 0 }
 
 -- one more of each kind
 abbrev pub swap_more : Body → Body
-swap_more b = record { format = b.format; swaps = b.swaps + 1; tables = b.tables; rows = b.rows; states = b.states }
+swap_more b = record { format = b.format; swaps = b.swaps + 1; parts = b.parts; states = b.states }
 
 abbrev pub atom_more : Body → Body
 atom_more b = record {
   format = record { version = b.format.version; weights = b.format.weights; atoms = b.format.atoms + 1 };
   swaps = b.swaps;
-  tables = b.tables;
-  rows = b.rows;
+  parts = b.parts;
   states = b.states;
 }
 
-abbrev pub scope_more : Body → Body
-scope_more b = record { format = b.format; swaps = b.swaps; tables = b.tables + 1; rows = b.rows; states = b.states }
-
-abbrev pub row_more : Body → Body
-row_more b = record { format = b.format; swaps = b.swaps; tables = b.tables; rows = b.rows + 1; states = b.states }
+abbrev pub part_more : Part → Body → Body
+part_more p b = record { format = b.format; swaps = b.swaps; parts = counted b.parts p; states = b.states }
 
 abbrev pub state_more : Body → Body
-state_more b = record { format = b.format; swaps = b.swaps; tables = b.tables; rows = b.rows; states = b.states + 1 }
+state_more b = record { format = b.format; swaps = b.swaps; parts = b.parts; states = b.states + 1 }
 
--- whether one more may follow: exchanges come before atoms, atoms before tables, tables before states, and rows after a scope
+-- whether one more may follow: exchanges come before atoms, atoms before parts, and parts before states
 abbrev pub swap_follows : Body → Bool
-swap_follows b = (b.format.atoms == 0) && (b.tables == 0) && (b.states == 0)
+swap_follows b = (b.format.atoms == 0) && (how_many b.parts == 0) && (b.states == 0)
 
 abbrev pub atom_follows : Body → Bool
-atom_follows b = (b.tables == 0) && (b.states == 0)
+atom_follows b = (how_many b.parts == 0) && (b.states == 0)
 
-abbrev pub row_follows : Body → Bool
-row_follows b = nat_lt 0 b.tables && (b.states == 0)
+abbrev pub part_follows : Part → Body → Bool
+part_follows p b = (b.states == 0) && may_follow b.parts p
 
 -- the state, if this holds
 abbrev pub only_if : Bool → CertificatePlace → Option CertificatePlace
@@ -80,8 +76,7 @@ next_place (at_claim v) (claims claim) = only_if (is_line (no_format v) (claims 
 next_place (at_constant v) (constant k) = only_if (is_line (no_format v) (constant k)) (in_body (no_body v (length k)))
 next_place (in_body b) (swapped names) = only_if (swap_follows b && nat_lt b.swaps most_swaps && is_line b.format (swapped names)) (in_body (swap_more b))
 next_place (in_body b) (atom a) = only_if (atom_follows b && nat_lt b.format.atoms most_atoms && is_line b.format (atom a)) (in_body (atom_more b))
-next_place (in_body b) (tabled (scope s)) = only_if ((b.states == 0) && nat_lt b.tables most_tables && is_line b.format (tabled (scope s))) (in_body (scope_more b))
-next_place (in_body b) (tabled (row r)) = only_if (row_follows b && nat_lt b.rows most_rows && is_line b.format (tabled (row r))) (in_body (row_more b))
+next_place (in_body b) (part p) = only_if (part_follows p b && has_room b.parts p && is_line b.format (part p)) (in_body (part_more p b))
 next_place (in_body b) (listed l) = only_if (nat_lt b.states most_states && is_line b.format (listed l)) (in_body (state_more b))
 next_place (in_body b) (last count) = only_if (count == b.states) ended
 next_place _ _ = None

@@ -11,7 +11,7 @@ use Rattle.certificate_definitions.specs.Certificates.{Version, one, two, three,
 use Rattle.lower_bounds.specs.TableFunctions.{Table}
 use Rattle.symmetries_definitions.specs.Exchanges.{Exchange, objects_in, are_different}
 use Rattle.lower_bounds.specs.PotentialFunctions.{PotentialFunction}
-use Rattle.certificate_definitions.specs.CertificateText.{NamedAtom, WeightedAtom, TableLine, scope, row, NamedCertificate, IsCertificateText, text_lines, text_of}
+use Rattle.certificate_definitions.specs.CertificateText.{NamedAtom, WeightedAtom, TableLine, scope, row, Part, tabled, NamedCertificate, IsCertificateText, text_lines, text_of}
 
 abbrev pub predicate_names : Task → List Name
 predicate_names task = map (λ (p : Predicate). p.name) task.predicates
@@ -47,6 +47,10 @@ weighted_atoms task c place (a ∷ atoms) = record { weights = weights_of_atom c
 abbrev pub table_lines : Table → List TableLine
 table_lines t = scope t.scope ∷ map row t.rows
 
+-- all parts of a certificate, in the order of their kinds
+abbrev pub parts_of : Certificate → List Part
+parts_of c = map (λ (t : TableLine). tabled t) (flat_map table_lines c.tables)
+
 -- the objects of an exchange by their names
 abbrev pub named_exchange : Task → Exchange → List (List ℕ)
 named_exchange task e = map (object_name task) (objects_in e)
@@ -59,7 +63,7 @@ named task c = record {
   constants = constants_of c;
   swaps = map (named_exchange task) c.exchanges;
   atoms = weighted_atoms task c 0 c.atoms;
-  tables = flat_map table_lines c.tables;
+  parts = parts_of c;
   lines = c.lines;
 }
 
@@ -133,7 +137,7 @@ pub record IsTextOf (task : Task) (bytes : List ℕ) (c : Certificate) : Type 0 
   pub atoms : AllName task (map (λ (a : WeightedAtom). a.atom) said.atoms) c.atoms
   pub values : c.values ≡ values_said said
   pub dead_ends : c.dead_ends ≡ dead_ends_said said
-  pub tables : said.tables ≡ flat_map table_lines c.tables
+  pub parts : said.parts ≡ parts_of c
   pub lines : said.lines ≡ c.lines
 
 -- ---- certificates that can be written

@@ -1,12 +1,12 @@
 -- The text of a certificate, version 1, 2 or 3, and the first faulty line of a text that is not one. The format is this
 -- repository's own; docs/certificates.md shows it. Every certificate has exactly one text, and a text is at most one certificate.
 use Rattle.std.specs.Prelude.{◌≡◌, ◌≢◌, ℕ, ◌+◌, ◌<◌, ◌≤◌, ◌==◌, Bool, true, false, not, ◌&&◌, nat_le, ℤ, IsTrue, List, [], ◌∷◌, ◌++◌, codes, length, map, Contains}
-use Rattle.std.specs.Fmt.{decimal, signed_decimal}
+use Rattle.std.specs.Fmt.{decimal}
 use Rattle.std.specs.List.{flat_map, list_all, list_any}
 use Rattle.model.specs.Claims.{Claim, bound, none}
 use Rattle.certificate_definitions.specs.Evidence.{of_all, LineMark, opened, cut, dead}
-use Rattle.certificate_definitions.specs.Certificates.{Version, one, two, three, StateLine, is_number, is_weight, is_claim, is_state_line, rise, are_weights, has_tables, has_exchanges}
-use Rattle.lower_bounds.specs.TableFunctions.{Row}
+use Rattle.certificate_definitions.specs.Certificates.{Version, one, two, three, StateLine, is_number, is_weight, is_claim, is_state_line, are_weights, has_exchanges}
+pub use Rattle.certificate_definitions.specs.Parts.{after_blank, weights_text, numbers_text, Format, TableLine, scope, row, Part, tabled, part_text, is_part, PartCounts, no_parts, counts_after, may_follow, has_room, are_in_order}
 use Rattle.model.specs.Resolution.{is_same}
 use Rattle.model.specs.PlanWriting.{is_lower_name}
 
@@ -22,11 +22,6 @@ pub record WeightedAtom : Type 0 where
   pub weights : List ℤ
   pub atom : NamedAtom
 
--- a line of a table: a scope, which begins it, or a row, which belongs to the last scope before it
-pub data TableLine : Type 0 where
-  scope : List ℕ → TableLine
-  row : Row → TableLine
-
 -- what a text says: a claim, exchanges given by pairs of names, values, and a listing of states; atoms are referred to by number,
 -- from 0
 pub record NamedCertificate : Type 0 where
@@ -35,7 +30,7 @@ pub record NamedCertificate : Type 0 where
   pub constants : List ℤ
   pub swaps : List (List (List ℕ))
   pub atoms : List WeightedAtom
-  pub tables : List TableLine
+  pub parts : List Part
   pub lines : List StateLine
 
 -- a line of a text
@@ -47,26 +42,15 @@ pub data TextLine : Type 0 where
   -- names of objects: the first is swapped with the second, the third with the fourth, and so on
   swapped : List (List ℕ) → TextLine
   atom : WeightedAtom → TextLine
-  tabled : TableLine → TextLine
+  part : Part → TextLine
   listed : StateLine → TextLine
   -- the last line, with the number of state lines
   last : ℕ → TextLine
-
--- a blank and this word
-abbrev pub after_blank : List ℕ → List ℕ
-after_blank word = codes " " ++ word
 
 abbrev pub version_number : Version → ℕ
 version_number one = 1
 version_number two = 2
 version_number three = 3
-
--- constants, weights or numbers, with a blank before each
-abbrev pub weights_text : List ℤ → List ℕ
-weights_text = flat_map (λ (w : ℤ). after_blank (signed_decimal w))
-
-abbrev pub numbers_text : List ℕ → List ℕ
-numbers_text = flat_map (λ (number : ℕ). after_blank (decimal number))
 
 -- a state's role and its cost, and for a cut the lower bound of the remaining cost
 abbrev pub mark_text : LineMark → ℕ → List ℕ
@@ -81,8 +65,7 @@ line_text (claims (bound least)) = codes "claim bound " ++ decimal least
 line_text (claims none) = codes "claim none"
 line_text (constant k) = codes "constant" ++ weights_text k
 line_text (swapped names) = codes "swap" ++ flat_map after_blank names
-line_text (tabled (scope atoms)) = codes "table" ++ numbers_text atoms
-line_text (tabled (row r)) = codes "row" ++ weights_text r.weights ++ numbers_text r.atoms
+line_text (part p) = part_text p
 line_text (atom a) = codes "atom" ++ weights_text a.weights ++ codes " (" ++ a.atom.predicate ++ flat_map after_blank a.atom.objects ++ codes ")"
 line_text (listed l) = mark_text l.mark l.cost ++ numbers_text l.atoms
 line_text (last count) = codes "end " ++ decimal count
@@ -95,9 +78,9 @@ whole_line line = line_text line ++ codes "\n"
 abbrev pub text_of : List TextLine → List ℕ
 text_of lines = flat_map whole_line lines
 
--- the certificate's lines: its exchanges come before its atoms, these before its tables, and these before its states
+-- the certificate's lines: its exchanges come before its atoms, these before its parts, and these before its states
 abbrev pub text_lines : NamedCertificate → List TextLine
-text_lines c = version c.version ∷ claims c.claim ∷ constant c.constants ∷ map swapped c.swaps ++ map atom c.atoms ++ map tabled c.tables ++ map listed c.lines ++ last (length c.lines) ∷ []
+text_lines c = version c.version ∷ claims c.claim ∷ constant c.constants ∷ map swapped c.swaps ++ map atom c.atoms ++ map part c.parts ++ map listed c.lines ++ last (length c.lines) ∷ []
 
 -- ---- limits
 
@@ -108,14 +91,6 @@ most_atoms = 1048576
 abbrev pub most_swaps : ℕ
 most_swaps = 1048576
 
--- the maximum number of tables
-abbrev pub most_tables : ℕ
-most_tables = 4194304
-
--- the maximum number of rows of all tables together
-abbrev pub most_rows : ℕ
-most_rows = 4194304
-
 abbrev pub most_states : ℕ
 most_states = 16777216
 
@@ -123,22 +98,11 @@ most_states = 16777216
 abbrev pub longest_line : ℕ
 longest_line = 16777216
 
--- The form of the lines of a text: its version, the number of weights of an atom, and the number of atoms.
-pub record Format : Type 0 where
-  pub version : Version
-  pub weights : ℕ
-  pub atoms : ℕ
-
 -- the allowed number of constants: one in version 1, two in version 2, from 2 to 33 in version 3
 abbrev pub is_weight_count : Version → ℕ → Bool
 is_weight_count one count = count == 1
 is_weight_count two count = count == 2
 is_weight_count three count = nat_le 2 count && nat_le count 33
-
--- a scope has at least one atom; a row may have none
-abbrev pub is_table_line : Format → TableLine → Bool
-is_table_line f (scope atoms) = rise f.atoms 0 atoms && nat_le 1 (length atoms)
-is_table_line f (row r) = are_weights f.weights r.weights && rise f.atoms 0 r.atoms
 
 -- the number of elements is even
 abbrev pub are_paired : {X : Type 0} → List X → Bool
@@ -165,27 +129,9 @@ is_line f (claims claim) = is_claim claim
 is_line f (constant k) = is_weight_count f.version (length k) && list_all is_weight k
 is_line f (atom a) = are_weights f.weights a.weights && list_all is_lower_name (a.atom.predicate ∷ a.atom.objects) && nat_le (length (line_text (atom a))) longest_line
 is_line f (swapped names) = has_exchanges f.version && are_exchanged names && nat_le (length (line_text (swapped names))) longest_line
-is_line f (tabled t) = has_tables f.version && is_table_line f t
+is_line f (part p) = is_part f p
 is_line f (listed l) = is_state_line f.version f.atoms l
 is_line f (last count) = is_number count
-
--- the number of lines that begin a table
-abbrev pub scope_count : List TableLine → ℕ
-scope_count [] = 0
-scope_count (scope atoms ∷ lines) = 1 + scope_count lines
-scope_count (row r ∷ lines) = scope_count lines
-
--- and the number of rows
-abbrev pub row_count : List TableLine → ℕ
-row_count [] = 0
-row_count (scope atoms ∷ lines) = row_count lines
-row_count (row r ∷ lines) = 1 + row_count lines
-
--- no row comes before a scope
-abbrev pub begin_with_scope : List TableLine → Bool
-begin_with_scope [] = true
-begin_with_scope (scope atoms ∷ lines) = true
-begin_with_scope (row r ∷ lines) = false
 
 abbrev pub format_of : NamedCertificate → Format
 format_of c = record { version = c.version; weights = length c.constants; atoms = length c.atoms }
@@ -193,7 +139,7 @@ format_of c = record { version = c.version; weights = length c.constants; atoms 
 -- the certificate is within all limits
 abbrev pub keeps_text_limits : NamedCertificate → Bool
 keeps_text_limits c =
-    (nat_le (length c.swaps) most_swaps && nat_le (length c.atoms) most_atoms) && (begin_with_scope c.tables && nat_le (scope_count c.tables) most_tables && nat_le (row_count c.tables) most_rows) && nat_le (length c.lines) most_states
+    (nat_le (length c.swaps) most_swaps && nat_le (length c.atoms) most_atoms) && are_in_order no_parts c.parts && nat_le (length c.lines) most_states
     && list_all (is_line (format_of c)) (text_lines c)
 
 -- The text is that of this certificate.
@@ -219,33 +165,31 @@ MayFollow before bytes = (line : TextLine) × BeginCertificate (before ++ line �
 abbrev pub IsOtherVersion : List TextLine → List ℕ → Type 0
 IsOtherVersion before bytes = (before ≡ []) × (number : ℕ) × IsTrue (is_number number) × (number ≢ 1) × (number ≢ 2) × (number ≢ 3) × (bytes ≡ codes "pddl-cert " ++ decimal number)
 
--- a prefix of a text's lines: all but some of the last exchanges, atoms, tables and states, and the last line
+-- a prefix of a text's lines: all but some of the last exchanges, atoms, parts and states, and the last line
 pub record Beginning : Type 0 where
   pub version : Version
   pub claim : Claim
   pub constants : List ℤ
   pub swaps : List (List (List ℕ))
   pub atoms : List WeightedAtom
-  pub tables : List TableLine
+  pub parts : List Part
   pub states : List StateLine
 
 abbrev pub head_lines : Beginning → List TextLine
-head_lines b = version b.version ∷ claims b.claim ∷ constant b.constants ∷ map swapped b.swaps ++ map atom b.atoms ++ map tabled b.tables ++ map listed b.states
+head_lines b = version b.version ∷ claims b.claim ∷ constant b.constants ∷ map swapped b.swaps ++ map atom b.atoms ++ map part b.parts ++ map listed b.states
 
 abbrev pub format_in : Beginning → Format
 format_in b = record { version = b.version; weights = length b.constants; atoms = length b.atoms }
 
--- a line of an exchange, an atom, a table, a row or a state that would be allowed there if the lines before did not exhaust the
+-- a line of an exchange, an atom, a part or a state that would be allowed there if the lines before did not exhaust the
 -- limit
 pub data IsOneTooMany (before : List TextLine) (bytes : List ℕ) : Type 0 where
-  swaps : (b : Beginning) (names : List (List ℕ)) → before ≡ head_lines b → b.atoms ≡ [] → b.tables ≡ [] → b.states ≡ [] → length b.swaps ≡ most_swaps
+  swaps : (b : Beginning) (names : List (List ℕ)) → before ≡ head_lines b → b.atoms ≡ [] → b.parts ≡ [] → b.states ≡ [] → length b.swaps ≡ most_swaps
       → IsTrue (is_line (format_in b) (swapped names)) → bytes ≡ line_text (swapped names) → IsOneTooMany before bytes
-  atoms : (b : Beginning) (a : WeightedAtom) → before ≡ head_lines b → b.tables ≡ [] → b.states ≡ [] → length b.atoms ≡ most_atoms
+  atoms : (b : Beginning) (a : WeightedAtom) → before ≡ head_lines b → b.parts ≡ [] → b.states ≡ [] → length b.atoms ≡ most_atoms
       → IsTrue (is_line (format_in b) (atom a)) → bytes ≡ line_text (atom a) → IsOneTooMany before bytes
-  scopes : (b : Beginning) (s : List ℕ) → before ≡ head_lines b → b.states ≡ [] → scope_count b.tables ≡ most_tables
-      → IsTrue (is_line (format_in b) (tabled (scope s))) → bytes ≡ line_text (tabled (scope s)) → IsOneTooMany before bytes
-  rows : (b : Beginning) (r : Row) → before ≡ head_lines b → b.tables ≢ [] → b.states ≡ [] → row_count b.tables ≡ most_rows
-      → IsTrue (is_line (format_in b) (tabled (row r))) → bytes ≡ line_text (tabled (row r)) → IsOneTooMany before bytes
+  parts : (b : Beginning) (p : Part) → before ≡ head_lines b → b.states ≡ [] → IsTrue (may_follow (counts_after no_parts b.parts) p)
+      → has_room (counts_after no_parts b.parts) p ≡ false → IsTrue (is_line (format_in b) (part p)) → bytes ≡ line_text (part p) → IsOneTooMany before bytes
   states : (b : Beginning) (l : StateLine) → before ≡ head_lines b → length b.states ≡ most_states
       → IsTrue (is_line (format_in b) (listed l)) → bytes ≡ line_text (listed l) → IsOneTooMany before bytes
 
@@ -270,7 +214,7 @@ pub data IsFaultAfter (before : List TextLine) (bytes : List ℕ) : ℕ → Type
   trailing : AreWhole before → bytes ≢ [] → IsFaultAfter before bytes 40
   -- the text ends before its last line does
   cut_short : ¬ AreWhole before → IsInOneLine bytes → length bytes ≤ longest_line → IsFaultAfter before bytes 42
-  -- too many exchanges, atoms, tables, rows or states
+  -- too many exchanges, atoms, parts of a kind, or states
   too_many : (line : List ℕ) → HasLine bytes line → IsOneTooMany before line → IsFaultAfter before bytes 55
 
 -- The number is reported for this line, counted from 1, the first faulty one: the lines before it are a prefix of a certificate.

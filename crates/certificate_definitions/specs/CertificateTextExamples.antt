@@ -5,7 +5,7 @@ use Rattle.model.specs.Examples.{tie_task}
 use Rattle.model.specs.Claims.{bound}
 use Rattle.lower_bounds.specs.PotentialExamples.{potentials, minus}
 use Rattle.certificate_definitions.specs.Certificates.{Version, one, two, three, Certificate, keeps_limits}
-use Rattle.certificate_definitions.specs.CertificateText.{WeightedAtom, scope, row, TextLine, version, claims, constant, swapped, atom, tabled, listed, last, NamedCertificate}
+use Rattle.certificate_definitions.specs.CertificateText.{WeightedAtom, scope, row, tabled, no_parts, TextLine, version, claims, constant, swapped, atom, part, listed, last, NamedCertificate}
 use Rattle.certificate_definitions.specs.CertificateMachine.{CertificatePlace, in_body, ended, place_from, place_after}
 use Rattle.certificate_definitions.specs.CertificateNames.{values_said, dead_ends_said, exchange_said, named_exchange}
 use Rattle.certificate_definitions.specs.CertificateChecking.{IsWrongAfter}
@@ -20,7 +20,7 @@ zeros = pos 0 ∷ pos 0 ∷ pos 0 ∷ []
 
 -- the line of a row with these atoms
 abbrev pub row_line : List ℤ → List ℕ → TextLine
-row_line weights atoms = tabled (row (record { atoms = atoms; weights = weights }))
+row_line weights atoms = part (tabled (row (record { atoms = atoms; weights = weights })))
 
 -- the first lines of a text of version 3 with two values
 abbrev pub first_lines : List TextLine
@@ -28,7 +28,7 @@ first_lines = version three ∷ claims (bound 2) ∷ constant (pos 2 ∷ pos 1 �
 
 -- the lines of its single table, over both atoms: one row where none is true, and one where both are
 abbrev pub table_lines_of_both : List TextLine
-table_lines_of_both = tabled (scope (0 ∷ 1 ∷ [])) ∷ row_line zeros [] ∷ row_line (minus 2 ∷ pos 0 ∷ pos 1 ∷ []) (0 ∷ 1 ∷ []) ∷ []
+table_lines_of_both = part (tabled (scope (0 ∷ 1 ∷ []))) ∷ row_line zeros [] ∷ row_line (minus 2 ∷ pos 0 ∷ pos 1 ∷ []) (0 ∷ 1 ∷ []) ∷ []
 
 abbrev pub last_lines : List TextLine
 last_lines = listed (open_at 0 []) ∷ last 1 ∷ []
@@ -48,15 +48,15 @@ with_row v weights atoms = record {
 
 -- what a text with one atom says about values and dead ends
 abbrev pub said_of : Version → (constants weights : List ℤ) → NamedCertificate
-said_of v constants weights = record { version = v; claim = bound 0; constants = constants; swaps = []; atoms = weighs weights (codes "p") ∷ []; tables = []; lines = [] }
+said_of v constants weights = record { version = v; claim = bound 0; constants = constants; swaps = []; atoms = weighs weights (codes "p") ∷ []; parts = []; lines = [] }
 
 -- the state after these lines, in a text of this version with this many constants, after two atoms
 abbrev pub behind_atoms : Version → ℕ → List TextLine → Option CertificatePlace
-behind_atoms v weights = place_from (in_body (record { format = record { version = v; weights = weights; atoms = 2 }; swaps = 0; tables = 0; rows = 0; states = 0 }))
+behind_atoms v weights = place_from (in_body (record { format = record { version = v; weights = weights; atoms = 2 }; swaps = 0; parts = no_parts; states = 0 }))
 
 -- the state after these lines, in a text of this version, after its constants
 abbrev pub behind_constants : Version → List TextLine → Option CertificatePlace
-behind_constants v = place_from (in_body (record { format = record { version = v; weights = 2; atoms = 0 }; swaps = 0; tables = 0; rows = 0; states = 0 }))
+behind_constants v = place_from (in_body (record { format = record { version = v; weights = 2; atoms = 0 }; swaps = 0; parts = no_parts; states = 0 }))
 
 pub record AreTextsJudged : Type 0 where
   -- Atoms come before tables, each table before its rows, and all of them before states.
@@ -65,17 +65,17 @@ pub record AreTextsJudged : Type 0 where
   pub row_first : behind_atoms three 3 (row_line zeros [] ∷ []) ≡ None
   pub atom_behind_a_table : behind_atoms three 3 (table_lines_of_both ++ atom (weighs zeros (codes "r")) ∷ []) ≡ None
   pub row_behind_a_state : behind_atoms three 3 (table_lines_of_both ++ listed (open_at 0 []) ∷ row_line zeros (0 ∷ []) ∷ []) ≡ None
-  pub table_behind_a_state : behind_atoms three 3 (listed (open_at 0 []) ∷ tabled (scope (0 ∷ [])) ∷ []) ≡ None
+  pub table_behind_a_state : behind_atoms three 3 (listed (open_at 0 []) ∷ part (tabled (scope (0 ∷ []))) ∷ []) ≡ None
   -- A scope has at least one atom, and its numbers ascend and are those of atoms; the same holds for a row, which has one weight
   -- for each constant.
-  pub empty_scope : behind_atoms three 3 (tabled (scope []) ∷ []) ≡ None
-  pub numbers_rise : behind_atoms three 3 (tabled (scope (1 ∷ 0 ∷ [])) ∷ []) ≡ None
-  pub another_number : behind_atoms three 3 (tabled (scope (2 ∷ [])) ∷ []) ≡ None
-  pub weight_missing : behind_atoms three 3 (tabled (scope (0 ∷ [])) ∷ row_line (pos 0 ∷ pos 0 ∷ []) [] ∷ []) ≡ None
+  pub empty_scope : behind_atoms three 3 (part (tabled (scope [])) ∷ []) ≡ None
+  pub numbers_rise : behind_atoms three 3 (part (tabled (scope (1 ∷ 0 ∷ []))) ∷ []) ≡ None
+  pub another_number : behind_atoms three 3 (part (tabled (scope (2 ∷ []))) ∷ []) ≡ None
+  pub weight_missing : behind_atoms three 3 (part (tabled (scope (0 ∷ []))) ∷ row_line (pos 0 ∷ pos 0 ∷ []) [] ∷ []) ≡ None
   -- Version 3 has at least two constants, and version 2 exactly two; versions 1 and 2 have no tables.
   pub one_constant : place_after (version three ∷ claims (bound 2) ∷ constant (pos 2 ∷ []) ∷ []) ≡ None
   pub three_in_version_2 : place_after (version two ∷ claims (bound 2) ∷ constant zeros ∷ []) ≡ None
-  pub table_in_version_2 : behind_atoms two 2 (tabled (scope (0 ∷ [])) ∷ []) ≡ None
+  pub table_in_version_2 : behind_atoms two 2 (part (tabled (scope (0 ∷ []))) ∷ []) ≡ None
   -- Exchanges come right after the constants.
   pub exchanges : behind_constants three (swapped (codes "a" ∷ codes "b" ∷ []) ∷ swapped (codes "b" ∷ codes "c" ∷ codes "d" ∷ codes "a" ∷ []) ∷ last_lines) ≡ Some ended
   pub exchange_behind_atoms : behind_atoms three 2 (swapped (codes "a" ∷ codes "b" ∷ []) ∷ []) ≡ None
@@ -103,5 +103,5 @@ pub record AreTextsJudged : Type 0 where
   pub dead_ends_of_version_3 : dead_ends_said (said_of three (pos 3 ∷ pos 5 ∷ pos 7 ∷ []) (pos 4 ∷ pos 6 ∷ pos 8 ∷ [])) ≡ potentials (pos 7) (pos 8 ∷ [])
   -- A row belongs to the last scope before it and occurs once in its table, whatever its weights; another table may have the same
   -- row.
-  pub row_of_another_scope : IsWrongAfter tie_task (first_lines ++ tabled (scope (1 ∷ [])) ∷ tabled (scope (0 ∷ [])) ∷ []) (row_line zeros (1 ∷ [])) 40
+  pub row_of_another_scope : IsWrongAfter tie_task (first_lines ++ part (tabled (scope (1 ∷ []))) ∷ part (tabled (scope (0 ∷ []))) ∷ []) (row_line zeros (1 ∷ [])) 40
   pub row_twice : IsWrongAfter tie_task (first_lines ++ table_lines_of_both) (row_line zeros (0 ∷ 1 ∷ [])) 44

@@ -4,6 +4,7 @@ pub mod Certificates
 pub mod CertificateRefusals
 pub mod CertificateExamples
 pub mod ExchangeExamples
+pub mod Parts
 pub mod CertificateText
 pub mod CertificateMachine
 pub mod CertificateLines

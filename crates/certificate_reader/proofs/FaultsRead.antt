@@ -4,10 +4,10 @@ use Rattle.std.specs.Prelude.{IsTrue}
 use Rattle.std.specs.Option.{option_and_then}
 use Rattle.std.specs.Fmt.{decimal}
 use Rattle.certificate_definitions.specs.Certificates.{is_number}
-use Rattle.certificate_definitions.specs.CertificateText.{scope, row, TextLine, version, claims, constant, swapped, atom, tabled, listed, last, is_line, line_text, MayFollow, IsOtherVersion, IsOneTooMany, HasLine, IsFaultAfter, other_version, malformed, too_many}
+use Rattle.certificate_definitions.specs.CertificateText.{TextLine, version, claims, constant, swapped, atom, part, listed, last, is_line, line_text, MayFollow, IsOtherVersion, IsOneTooMany, HasLine, IsFaultAfter, other_version, malformed, too_many}
 use Rattle.certificate_definitions.specs.CertificateMachine.{CertificatePlace, at_version, at_claim, at_constant, in_body, ended, format_at, next_place, place_from, place_after}
 use Rattle.certificate_definitions.proofs.Machine.{ComesBefore, occurs, followed, place_same}
-use Rattle.certificate_definitions.proofs.TooMany.{IsTooManyAt, a_swap, an_atom, a_scope, a_row, a_state, too_many_at, too_many_of}
+use Rattle.certificate_definitions.proofs.TooMany.{IsTooManyAt, a_swap, an_atom, a_part, a_state, too_many_at, too_many_of}
 use Rattle.certificate_reader.specs.Stages.{IsOver}
 
 -- ---- limits, in both formulations
@@ -15,9 +15,8 @@ use Rattle.certificate_reader.specs.Stages.{IsOver}
 over_is : (place : CertificatePlace) (line : TextLine) (bytes : List ℕ) → IsTrue (is_line (format_at place) line) → IsOver place line → line_text line ≡ bytes → IsTooManyAt place bytes
 over_is (in_body b) (swapped names) bytes is (no_atom, none_yet, empty, full) same = a_swap names no_atom none_yet empty full is (sym same)
 over_is (in_body b) (atom a) bytes is (none_yet, empty, full) same = an_atom a none_yet empty full is (sym same)
-over_is (in_body b) (tabled (row r)) bytes is (begun, empty, full) same = a_row r begun empty full is (sym same)
 over_is (in_body b) (listed l) bytes is full same = a_state l full is (sym same)
-over_is (in_body b) (tabled (scope s)) bytes is (empty, full) same = a_scope s empty full is (sym same)
+over_is (in_body b) (part p) bytes is (empty, follows, full) same = a_part p empty follows full is (sym same)
 over_is (in_body b) (version w) bytes is over same = absurd over
 over_is (in_body b) (claims claim) bytes is over same = absurd over
 over_is (in_body b) (constant k) bytes is over same = absurd over
@@ -30,8 +29,7 @@ over_is ended line bytes is over same = absurd over
 over_of : (place : CertificatePlace) (bytes : List ℕ) → IsTooManyAt place bytes → (line : TextLine) × IsTrue (is_line (format_at place) line) × IsOver place line × (line_text line ≡ bytes)
 over_of (in_body b) bytes (a_swap names no_atom none_yet empty full is same) = (swapped names, is, (no_atom, none_yet, empty, full), sym same)
 over_of (in_body b) bytes (an_atom a none_yet empty full is same) = (atom a, is, (none_yet, empty, full), sym same)
-over_of (in_body b) bytes (a_scope s empty full is same) = (tabled (scope s), is, (empty, full), sym same)
-over_of (in_body b) bytes (a_row r begun empty full is same) = (tabled (row r), is, (begun, empty, full), sym same)
+over_of (in_body b) bytes (a_part p empty follows full is same) = (part p, is, (empty, follows, full), sym same)
 over_of (in_body b) bytes (a_state l full is same) = (listed l, is, full, sym same)
 over_of at_version bytes over = absurd over
 over_of (at_claim v) bytes over = absurd over

@@ -13,8 +13,8 @@ use Rattle.model.specs.PlanWriting.{is_lower_name}
 use Rattle.model.specs.Claims.{bound, none}
 use Rattle.certificate_definitions.specs.Evidence.{of_all, LineMark, opened, cut, dead}
 use Rattle.certificate_definitions.specs.Certificates.{is_number, is_weight}
-use Rattle.certificate_definitions.specs.CertificateText.{scope, row, TextLine, version, claims, constant, swapped, atom, tabled, listed, last, after_blank, line_text, weights_text, numbers_text}
-use Rattle.certificate_reader.specs.Words.{is_blank, is_word, atom_rest, line_head, line_rest, mark_head, then_numbers, then_words, with_rest}
+use Rattle.certificate_definitions.specs.CertificateText.{scope, row, tabled, Part, part_text, TextLine, version, claims, constant, swapped, atom, part, listed, last, after_blank, line_text, weights_text, numbers_text}
+use Rattle.certificate_reader.specs.Words.{is_blank, is_word, atom_rest, line_head, line_rest, mark_head, then_numbers, then_words, with_rest, part_head, part_rest}
 use Rattle.certificate_reader.proofs.NumberLemmas.{is_below}
 use Rattle.certificate_reader.proofs.WordLemmas.{one_first}
 
@@ -75,14 +75,14 @@ with_bytes : (word : List ℕ) (rest : Option (List ℕ)) → with_rest word res
 with_bytes word None = sym (append-nil word)
 with_bytes word (Some rest) = append_assoc word (codes " ") rest
 
-pub words_bytes : {X : Type 0} (text : X → List ℕ) (parts : List X) (rest : Option (List ℕ))
-    → bytes_of (then_words (map text parts) rest) ≡ flat_map (λ (part : X). after_blank (text part)) parts ++ bytes_of rest
+pub words_bytes : {X : Type 0} (text : X → List ℕ) (all : List X) (rest : Option (List ℕ))
+    → bytes_of (then_words (map text all) rest) ≡ flat_map (λ (each : X). after_blank (text each)) all ++ bytes_of rest
 words_bytes text [] rest = refl
-words_bytes text (part ∷ parts) rest =
-    ap (λ bytes. codes " " ++ bytes) (with_bytes (text part) (then_words (map text parts) rest))
-    ∙ sym (append_assoc (codes " ") (text part) (bytes_of (then_words (map text parts) rest)))
-    ∙ ap (λ bytes. after_blank (text part) ++ bytes) (words_bytes text parts rest)
-    ∙ sym (append_assoc (after_blank (text part)) (flat_map (λ part. after_blank (text part)) parts) (bytes_of rest))
+words_bytes text (each ∷ all) rest =
+    ap (λ bytes. codes " " ++ bytes) (with_bytes (text each) (then_words (map text all) rest))
+    ∙ sym (append_assoc (codes " ") (text each) (bytes_of (then_words (map text all) rest)))
+    ∙ ap (λ bytes. after_blank (text each) ++ bytes) (words_bytes text all rest)
+    ∙ sym (append_assoc (after_blank (text each)) (flat_map (λ each. after_blank (text each)) all) (bytes_of rest))
 
 atom_parts : (c w p f : List ℕ) → (((c ++ w) ++ codes " (") ++ p) ++ f ++ codes ")" ≡ c ++ (w ++ (codes " " ++ ((codes "(" ++ p) ++ f ++ codes ")")))
 atom_parts c w p f = simp append_assoc
@@ -98,7 +98,16 @@ names_bytes (name ∷ names) =
     ∙ ap (λ bytes. after_blank name ++ bytes) (names_bytes names)
     ∙ sym (append_assoc (after_blank name) (flat_map after_blank names) [])
 
--- the bytes of a line: its first word, and the others
+-- the bytes of a part: its first word, and the others
+part_bytes : (p : Part) → part_text p ≡ part_head p ++ bytes_of (part_rest p)
+part_bytes (tabled (scope atoms)) = ap (λ bytes. codes "table" ++ bytes) (sym (append-nil (numbers_text atoms)) ∙ sym (words_bytes decimal atoms None))
+part_bytes (tabled (row r)) =
+    append_assoc (codes "row") (weights_text r.weights) (numbers_text r.atoms)
+    ∙ ap (λ bytes. codes "row" ++ bytes)
+    (ap (λ bytes. weights_text r.weights ++ bytes) (sym (append-nil (numbers_text r.atoms)) ∙ sym (words_bytes decimal r.atoms None))
+    ∙ sym (words_bytes signed_decimal r.weights (then_numbers r.atoms)))
+
+-- and those of a line
 pub line_bytes : (line : TextLine) → line_text line ≡ line_head line ++ bytes_of (line_rest line)
 line_bytes (version v) = refl
 line_bytes (claims (bound least)) = refl
@@ -108,12 +117,7 @@ line_bytes (swapped names) = ap (λ bytes. codes "swap" ++ bytes) (sym (append-n
 line_bytes (atom a) =
     atom_parts (codes "atom") (weights_text a.weights) a.atom.predicate (flat_map after_blank a.atom.objects)
     ∙ ap (λ bytes. codes "atom" ++ bytes) (sym (words_bytes signed_decimal a.weights (Some (atom_rest a.atom))))
-line_bytes (tabled (scope atoms)) = ap (λ bytes. codes "table" ++ bytes) (sym (append-nil (numbers_text atoms)) ∙ sym (words_bytes decimal atoms None))
-line_bytes (tabled (row r)) =
-    append_assoc (codes "row") (weights_text r.weights) (numbers_text r.atoms)
-    ∙ ap (λ bytes. codes "row" ++ bytes)
-    (ap (λ bytes. weights_text r.weights ++ bytes) (sym (append-nil (numbers_text r.atoms)) ∙ sym (words_bytes decimal r.atoms None))
-    ∙ sym (words_bytes signed_decimal r.weights (then_numbers r.atoms)))
+line_bytes (part p) = part_bytes p
 line_bytes (listed l) = listed_splits l.cost l.mark l.atoms
 line_bytes (last count) = refl
 
@@ -125,14 +129,17 @@ mark_is_word opened = refl
 mark_is_word (cut of_all rest) = refl
 mark_is_word (dead of_all) = refl
 
+part_is_word : (p : Part) → IsTrue (is_word (part_head p))
+part_is_word (tabled (scope atoms)) = refl
+part_is_word (tabled (row r)) = refl
+
 pub head_is_word : (line : TextLine) → IsTrue (is_word (line_head line))
 head_is_word (version v) = refl
 head_is_word (claims claim) = refl
 head_is_word (constant k) = refl
 head_is_word (swapped names) = refl
 head_is_word (atom a) = refl
-head_is_word (tabled (scope atoms)) = refl
-head_is_word (tabled (row r)) = refl
+head_is_word (part p) = part_is_word p
 head_is_word (listed l) = mark_is_word l.mark
 head_is_word (last count) = refl
 
@@ -186,9 +193,9 @@ all_words (first ∷ done) (word ∷ words) d w same =
     λ i. both.0 i ∷ more i
 
 -- words after a first one, in the bytes of a line
-pub words_after : {X : Type 0} (text : X → List ℕ) (word : List ℕ) (parts : List X)
-    → with_rest word (then_words (map text parts) None) ≡ word ++ flat_map (λ (part : X). after_blank (text part)) parts
+pub words_after : {X : Type 0} (text : X → List ℕ) (word : List ℕ) (all : List X)
+    → with_rest word (then_words (map text all) None) ≡ word ++ flat_map (λ (each : X). after_blank (text each)) all
 words_after text word [] = sym (append-nil word)
-words_after text word (part ∷ parts) =
-    ap (λ rest. word ++ codes " " ++ rest) (words_after text (text part) parts)
-    ∙ append_assoc word (32 ∷ []) (text part ++ flat_map (λ part. after_blank (text part)) parts)
+words_after text word (each ∷ all) =
+    ap (λ rest. word ++ codes " " ++ rest) (words_after text (text each) all)
+    ∙ append_assoc word (32 ∷ []) (text each ++ flat_map (λ each. after_blank (text each)) all)

@@ -1,6 +1,6 @@
 -- The lines of states and atoms, by what follows their first word.
 use Rattle.std.proofs.Common.{◌≡◌, ℕ, Bool, true, false, List, [], ◌∷◌, ◌++◌, codes, map, Option, None, Some, refl, sym, ap, ◌∙◌, subst, append_assoc, append-nil, arith}
-use Rattle.std.specs.Prelude.{◌&&◌, ◌<◌, ◌≤◌, ◌==◌, ℤ, IsTrue, length, nat_le, nat_lt}
+use Rattle.std.specs.Prelude.{◌&&◌, ◌||◌, ◌<◌, ◌≤◌, ◌==◌, ℤ, IsTrue, length, nat_le, nat_lt}
 use Rattle.std.specs.Fmt.{decimal}
 use Rattle.std.specs.List.{flat_map, list_all}
 use Rattle.std.specs.Str.{bytes_eq}
@@ -12,8 +12,8 @@ use Rattle.model.specs.PlanWriting.{is_lower_name}
 use Rattle.certificate_definitions.specs.Evidence.{of_all, LineMark, opened, cut, dead}
 use Rattle.certificate_definitions.specs.Certificates.{Version, one, two, three, is_number, is_mark, is_weight, are_weights, has_exchanges, has_tables, rise}
 use Rattle.lower_bounds.specs.TableFunctions.{Row}
-use Rattle.certificate_definitions.specs.CertificateText.{NamedAtom, WeightedAtom, scope, row, Format, TextLine, version, claims, constant, swapped, atom, tabled, listed, last, after_blank, are_exchanged, is_weight_count, is_line, line_text, longest_line}
-use Rattle.certificate_reader.specs.Words.{IsFirstWord, IsLeading, IsNumbered, IsReadAs, are_lower, atom_rest, line_rest, mark_head, then_numbers, then_weights, then_words, with_rest}
+use Rattle.certificate_definitions.specs.CertificateText.{NamedAtom, WeightedAtom, scope, row, tabled, Part, Format, TextLine, version, claims, constant, swapped, atom, part, listed, last, after_blank, are_exchanged, is_weight_count, is_line, line_text, longest_line}
+use Rattle.certificate_reader.specs.Words.{IsFirstWord, IsLeading, IsNumbered, IsReadAs, are_lower, atom_rest, is_part_word, line_rest, mark_head, part_head, then_numbers, then_weights, then_words, with_rest}
 use Rattle.certificate_reader.proofs.WordLemmas.{one_first}
 use Rattle.certificate_reader.proofs.LineLemmas.{line_splits, lower_name_is_word, number_is_word, some_same, words_after}
 use Rattle.certificate_reader.proofs.WeightsRead.{leading, leading_alone, one_leading}
@@ -45,6 +45,10 @@ module _ (bytes word : List ℕ) (following : Option (List ℕ)) (count : ℕ) (
 pub unlike : (text other : List ℕ) → bytes_eq text other ≡ false → text ≡ other → ⊥
 unlike text other differ same = absurd (cc (sym differ ∙ (bytes_eq-Decides text other).1 same))
 
+or_false : (a b : Bool) → a || b ≡ false → (a ≡ false) × (b ≡ false)
+or_false true b other = absurd (cc other)
+or_false false b other = (refl, other)
+
 -- no state line begins with the word
 pub is_no_mark : (word : List ℕ) → bytes_eq (codes "open") word ≡ false → bytes_eq (codes "cut") word ≡ false → bytes_eq (codes "dead") word ≡ false
     → (mark : LineMark) → mark_head mark ≡ word → ⊥
@@ -52,13 +56,18 @@ is_no_mark word no_open no_cut no_dead opened = unlike (codes "open") word no_op
 is_no_mark word no_open no_cut no_dead (cut of_all rest) = unlike (codes "cut") word no_cut
 is_no_mark word no_open no_cut no_dead (dead of_all) = unlike (codes "dead") word no_dead
 
+-- nor does a part
+pub is_no_part : (word : List ℕ) → is_part_word word ≡ false → (p : Part) → part_head p ≡ word → ⊥
+is_no_part word other (tabled (scope atoms)) = unlike (codes "table") word (or_false (bytes_eq (codes "table") word) (bytes_eq (codes "row") word) other).0
+is_no_part word other (tabled (row r)) = unlike (codes "row") word (or_false (bytes_eq (codes "table") word) (bytes_eq (codes "row") word) other).1
+
 and_all : (a b c : Bool) → a ≡ true → b ≡ true → c ≡ true → a && b && c ≡ true
 and_all a b c x y z = λ i. x i && y i && z i
 
 -- a line that begins with a state's word is a state line
 module _ (word : List ℕ) (no_version : bytes_eq (codes "pddl-cert") word ≡ false) (no_claim : bytes_eq (codes "claim") word ≡ false)
     (no_constant : bytes_eq (codes "constant") word ≡ false) (no_atom : bytes_eq (codes "atom") word ≡ false) (no_end : bytes_eq (codes "end") word ≡ false)
-    (no_scope : bytes_eq (codes "table") word ≡ false) (no_row : bytes_eq (codes "row") word ≡ false) (no_swap : bytes_eq (codes "swap") word ≡ false)
+    (no_part : is_part_word word ≡ false) (no_swap : bytes_eq (codes "swap") word ≡ false)
     (rest : List ℕ) (f : Format) where
   only_listed : ((cost : ℕ) (mark : LineMark) (atoms : List ℕ) → IsReadAs word rest f (listed (record { cost = cost; mark = mark; atoms = atoms })) → ⊥)
       → (line : TextLine) → IsReadAs word rest f line → ⊥
@@ -67,8 +76,7 @@ module _ (word : List ℕ) (no_version : bytes_eq (codes "pddl-cert") word ≡ f
   only_listed never (constant k) read = unlike (codes "constant") word no_constant read.head
   only_listed never (swapped names) read = unlike (codes "swap") word no_swap read.head
   only_listed never (atom a) read = unlike (codes "atom") word no_atom read.head
-  only_listed never (tabled (scope s)) read = unlike (codes "table") word no_scope read.head
-  only_listed never (tabled (row r)) read = unlike (codes "row") word no_row read.head
+  only_listed never (part p) read = is_no_part word no_part p read.head
   only_listed never (listed l) read = never l.cost l.mark l.atoms read
   only_listed never (last n) read = unlike (codes "end") word no_end read.head
 
@@ -96,7 +104,7 @@ module _ (rest : List ℕ) (f : Format) where
   open_parts cost (dead of_all) atoms read = absurd (unlike (codes "dead") (codes "open") refl read.head)
 
   pub no_open : ((n : ℕ) (atoms : List ℕ) → IsNumbered rest f.atoms n atoms → ⊥) → (line : TextLine) → IsReadAs (codes "open") rest f line → ⊥
-  no_open never = only_listed (codes "open") refl refl refl refl refl refl refl refl rest f (λ cost mark atoms read. never cost atoms (open_parts cost mark atoms read))
+  no_open never = only_listed (codes "open") refl refl refl refl refl refl refl rest f (λ cost mark atoms read. never cost atoms (open_parts cost mark atoms read))
 
   pub dead_is_read : IsTrue (is_mark f.version (dead of_all)) → (cost : ℕ) (atoms : List ℕ) → IsNumbered rest f.atoms cost atoms
       → IsReadAs (codes "dead") rest f (listed (record { cost = cost; mark = dead of_all; atoms = atoms }))
@@ -119,7 +127,7 @@ module _ (rest : List ℕ) (f : Format) where
   dead_parts cost opened atoms read = absurd (unlike (codes "open") (codes "dead") refl read.head)
 
   pub no_dead : ((n : ℕ) (atoms : List ℕ) → IsNumbered rest f.atoms n atoms → ⊥) → (line : TextLine) → IsReadAs (codes "dead") rest f line → ⊥
-  no_dead never = only_listed (codes "dead") refl refl refl refl refl refl refl refl rest f (λ cost mark atoms read. never cost atoms (dead_parts cost mark atoms read))
+  no_dead never = only_listed (codes "dead") refl refl refl refl refl refl refl rest f (λ cost mark atoms read. never cost atoms (dead_parts cost mark atoms read))
 
 -- ---- cuts
 
@@ -166,7 +174,7 @@ module _ (rest : List ℕ) (f : Format) where
   cut_parts cost (cut of_all least) atoms read = (least, cut_of cost least atoms read)
 
   pub no_cut : ((cost least : ℕ) (atoms : List ℕ) → IsCut rest f.atoms cost least atoms → ⊥) → (line : TextLine) → IsReadAs (codes "cut") rest f line → ⊥
-  no_cut never = only_listed (codes "cut") refl refl refl refl refl refl refl refl rest f
+  no_cut never = only_listed (codes "cut") refl refl refl refl refl refl refl rest f
       (λ cost mark atoms read. let (least, is) = cut_parts cost mark atoms read in never cost least atoms is)
 
   module _ (word : List ℕ) (following : Option (List ℕ)) (first : IsFirstWord rest word following) where
@@ -201,7 +209,7 @@ eqb_same : (a b : ℕ) → a ≡ b → (a == b) ≡ true
 eqb_same a b same = grind (arith, nat_tests, same)
 
 -- there are as many weights as in the format
-weights_within : (words : Option (List ℕ)) (count : ℕ) (weights : List ℤ) (others : Option (List ℕ)) → IsLeading words count weights others → (length weights < count → ⊥)
+pub weights_within : (words : Option (List ℕ)) (count : ℕ) (weights : List ℤ) (others : Option (List ℕ)) → IsLeading words count weights others → (length weights < count → ⊥)
     → IsTrue (are_weights count weights)
 weights_within words count weights others is whole =
     λ i. eqb_same (length weights) count (omega_cases (length weights) count is.few whole) i && is.are i
@@ -214,7 +222,7 @@ weights_within words count weights others is whole =
         by_test false other = omega (arith, few, ltb-false n m other)
 
 -- and the converse
-weights_lead : (words : Option (List ℕ)) (count : ℕ) (weights : List ℤ) (others : Option (List ℕ)) → IsTrue (are_weights count weights) → then_weights weights others ≡ words
+pub weights_lead : (words : Option (List ℕ)) (count : ℕ) (weights : List ℤ) (others : Option (List ℕ)) → IsTrue (are_weights count weights) → then_weights weights others ≡ words
     → IsLeading words count weights others
 weights_lead words count weights others are splits =
     let (long, all) = and_parts (length weights == count) (list_all is_weight weights) are in
@@ -243,8 +251,7 @@ module _ (rest : List ℕ) (f : Format) where
   only_constant never (constant k) read = never k read
   only_constant never (swapped names) read = unlike (codes "swap") (codes "constant") refl read.head
   only_constant never (atom a) read = unlike (codes "atom") (codes "constant") refl read.head
-  only_constant never (tabled (scope s)) read = unlike (codes "table") (codes "constant") refl read.head
-  only_constant never (tabled (row r)) read = unlike (codes "row") (codes "constant") refl read.head
+  only_constant never (part p) read = is_no_part (codes "constant") refl p read.head
   only_constant never (listed l) read = is_no_mark (codes "constant") refl refl refl l.mark read.head
   only_constant never (last n) read = unlike (codes "end") (codes "constant") refl read.head
 
@@ -314,8 +321,7 @@ module _ (rest : List ℕ) (f : Format) where
   no_atom never (constant k) read = unlike (codes "constant") (codes "atom") refl read.head
   no_atom never (swapped names) read = unlike (codes "swap") (codes "atom") refl read.head
   no_atom never (atom a) read = never a read
-  no_atom never (tabled (scope s)) read = unlike (codes "table") (codes "atom") refl read.head
-  no_atom never (tabled (row r)) read = unlike (codes "row") (codes "atom") refl read.head
+  no_atom never (part p) read = is_no_part (codes "atom") refl p read.head
   no_atom never (listed l) read = is_no_mark (codes "atom") refl refl refl l.mark read.head
   no_atom never (last n) read = unlike (codes "end") (codes "atom") refl read.head
 
@@ -328,8 +334,7 @@ module _ (rest : List ℕ) (f : Format) where
   only_swap never (constant k) read = unlike (codes "constant") (codes "swap") refl read.head
   only_swap never (swapped names) read = never names read
   only_swap never (atom a) read = unlike (codes "atom") (codes "swap") refl read.head
-  only_swap never (tabled (scope s)) read = unlike (codes "table") (codes "swap") refl read.head
-  only_swap never (tabled (row r)) read = unlike (codes "row") (codes "swap") refl read.head
+  only_swap never (part p) read = is_no_part (codes "swap") refl p read.head
   only_swap never (listed l) read = is_no_mark (codes "swap") refl refl refl l.mark read.head
   only_swap never (last n) read = unlike (codes "end") (codes "swap") refl read.head
 
@@ -350,78 +355,6 @@ module _ (rest : List ℕ) (f : Format) where
       let text : line_text (swapped names) ≡ with_rest (codes "swap") (Some rest) = line_splits (swapped names) ∙ ap (with_rest (codes "swap")) splits in
       let fits : nat_le (length (line_text (swapped names))) longest_line ≡ true = le-leb (length (line_text (swapped names))) longest_line (subst (λ text. length text ≤ longest_line) (sym text) short) in
       record { head = refl; following = splits; within = (λ i. has i && are i && fits i) }
-
--- ---- tables
-
-module _ (rest : List ℕ) (f : Format) where
-  only_scope : ((s : List ℕ) → IsReadAs (codes "table") rest f (tabled (scope s)) → ⊥) → (line : TextLine) → IsReadAs (codes "table") rest f line → ⊥
-  only_scope never (version w) read = unlike (codes "pddl-cert") (codes "table") refl read.head
-  only_scope never (claims claim) read = unlike (codes "claim") (codes "table") refl read.head
-  only_scope never (constant k) read = unlike (codes "constant") (codes "table") refl read.head
-  only_scope never (swapped names) read = unlike (codes "swap") (codes "table") refl read.head
-  only_scope never (atom a) read = unlike (codes "atom") (codes "table") refl read.head
-  only_scope never (tabled (scope s)) read = never s read
-  only_scope never (tabled (row r)) read = unlike (codes "row") (codes "table") refl read.head
-  only_scope never (listed l) read = is_no_mark (codes "table") refl refl refl l.mark read.head
-  only_scope never (last n) read = unlike (codes "end") (codes "table") refl read.head
-
-  only_row : ((r : Row) → IsReadAs (codes "row") rest f (tabled (row r)) → ⊥) → (line : TextLine) → IsReadAs (codes "row") rest f line → ⊥
-  only_row never (version w) read = unlike (codes "pddl-cert") (codes "row") refl read.head
-  only_row never (claims claim) read = unlike (codes "claim") (codes "row") refl read.head
-  only_row never (constant k) read = unlike (codes "constant") (codes "row") refl read.head
-  only_row never (swapped names) read = unlike (codes "swap") (codes "row") refl read.head
-  only_row never (atom a) read = unlike (codes "atom") (codes "row") refl read.head
-  only_row never (tabled (scope s)) read = unlike (codes "table") (codes "row") refl read.head
-  only_row never (tabled (row r)) read = never r read
-  only_row never (listed l) read = is_no_mark (codes "row") refl refl refl l.mark read.head
-  only_row never (last n) read = unlike (codes "end") (codes "row") refl read.head
-
-  -- a version without tables has neither line
-  pub no_scopes : has_tables f.version ≡ false → (line : TextLine) → IsReadAs (codes "table") rest f line → ⊥
-  no_scopes none = only_scope (λ s read. absurd (cc (sym none ∙ (and_parts (has_tables f.version) _ read.within).0)))
-
-  pub no_rows : has_tables f.version ≡ false → (line : TextLine) → IsReadAs (codes "row") rest f line → ⊥
-  no_rows none = only_row (λ r read. absurd (cc (sym none ∙ (and_parts (has_tables f.version) _ read.within).0)))
-
-  pub no_scope : ((atoms : List ℕ) → IsTrue (rise f.atoms 0 atoms) → then_numbers atoms ≡ Some rest → ⊥) → (line : TextLine) → IsReadAs (codes "table") rest f line → ⊥
-  no_scope never = only_scope (λ s read.
-      never s (and_parts (rise f.atoms 0 s) (nat_le 1 (length s)) (and_parts (has_tables f.version) (rise f.atoms 0 s && nat_le 1 (length s)) read.within).1).0 read.following)
-
-  pub scope_is_read : has_tables f.version ≡ true → (atoms : List ℕ) → IsTrue (rise f.atoms 0 atoms) → then_numbers atoms ≡ Some rest → IsReadAs (codes "table") rest f (tabled (scope atoms))
-  scope_is_read has [] rising splits = absurd (cc splits)
-  scope_is_read has (n ∷ atoms) rising splits =
-      let some : nat_le 1 (length (n ∷ atoms)) ≡ true = le-leb 1 (length (n ∷ atoms)) (omega arith) in
-      record { head = refl; following = splits; within = (λ i. has i && (rising i && some i)) }
-
-  row_parts : (r : Row) → IsReadAs (codes "row") rest f (tabled (row r)) → IsTrue (are_weights f.weights r.weights) × IsTrue (rise f.atoms 0 r.atoms)
-  row_parts r read =
-      and_parts (are_weights f.weights r.weights) (rise f.atoms 0 r.atoms) (and_parts (has_tables f.version) (are_weights f.weights r.weights && rise f.atoms 0 r.atoms) read.within).1
-
-  row_leads : (r : Row) → IsReadAs (codes "row") rest f (tabled (row r)) → IsLeading (Some rest) f.weights r.weights (then_numbers r.atoms)
-  row_leads r read = weights_lead (Some rest) f.weights r.weights (then_numbers r.atoms) (row_parts r read).0 read.following
-
-  pub no_weights_in_row : ((w : List ℤ) (following : Option (List ℕ)) → IsLeading (Some rest) f.weights w following → ⊥) → (line : TextLine) → IsReadAs (codes "row") rest f line → ⊥
-  no_weights_in_row never = only_row (λ r read. never r.weights (then_numbers r.atoms) (row_leads r read))
-
-  module _ (w : List ℤ) (following : Option (List ℕ)) (is : IsLeading (Some rest) f.weights w following) where
-    row_is : (r : Row) → IsReadAs (codes "row") rest f (tabled (row r)) → (w ≡ r.weights) × (following ≡ then_numbers r.atoms)
-    row_is r read = one_leading (Some rest) f.weights w r.weights following (then_numbers r.atoms) is (row_leads r read)
-
-    pub too_few_weights : length w < f.weights → (line : TextLine) → IsReadAs (codes "row") rest f line → ⊥
-    too_few_weights fewer = only_row (λ r read.
-        let long = eqb-true (length r.weights) f.weights (and_parts (length r.weights == f.weights) (list_all is_weight r.weights) (row_parts r read).0).0 in
-        absurd (omega (arith, fewer, ap length (row_is r read).0, long)))
-
-    pub no_numbers_in_row : ((atoms : List ℕ) → IsTrue (rise f.atoms 0 atoms) → then_numbers atoms ≡ following → ⊥) → (line : TextLine) → IsReadAs (codes "row") rest f line → ⊥
-    no_numbers_in_row never = only_row (λ r read. never r.atoms (row_parts r read).1 (sym (row_is r read).1))
-
-    pub row_is_read : has_tables f.version ≡ true → (length w < f.weights → ⊥) → (atoms : List ℕ) → IsTrue (rise f.atoms 0 atoms) → then_numbers atoms ≡ following
-        → IsReadAs (codes "row") rest f (tabled (row (record { weights = w; atoms = atoms })))
-    row_is_read has whole atoms rising splits = record {
-      head = refl;
-      following = ap (then_weights w) splits ∙ is.splits;
-      within = (λ i. has i && (weights_within (Some rest) f.weights w following is whole i && rising i));
-    }
 
 names_after : (word : List ℕ) (words : List (List ℕ)) → with_rest word (then_words words None) ≡ word ++ flat_map after_blank words
 names_after word [] = sym (append-nil word)

@@ -10,14 +10,14 @@ use Rattle.certificate_definitions.specs.Evidence.{of_all, LineMark, opened, cut
 use Rattle.model.specs.PlanWriting.{is_lower_name}
 use Rattle.certificate_definitions.specs.Certificates.{Version, one, two, three, StateLine, is_claim, is_number, is_weight, are_weights, has_exchanges, has_tables, rise}
 use Rattle.lower_bounds.specs.TableFunctions.{Row}
-use Rattle.certificate_definitions.specs.CertificateText.{NamedAtom, WeightedAtom, scope, row, Format, TextLine, version, claims, constant, swapped, atom, tabled, listed, last, are_exchanged, are_paired, differ, is_weight_count, is_line, line_text, numbers_text, longest_line, most_atoms, version_number}
-use Rattle.certificate_reader.specs.Words.{IsLeading, IsNumbered, IsReadAs, are_lower, atom_rest, claim_rest, is_word, line_head, line_rest, mark_head, mark_rest, then_numbers, then_weights, then_words}
+use Rattle.certificate_definitions.specs.CertificateText.{NamedAtom, WeightedAtom, scope, row, tabled, Part, is_part, Format, TextLine, version, claims, constant, swapped, atom, part, listed, last, are_exchanged, are_paired, differ, is_weight_count, is_line, line_text, numbers_text, longest_line, most_atoms, version_number}
+use Rattle.certificate_reader.specs.Words.{IsLeading, IsNumbered, IsReadAs, are_lower, atom_rest, claim_rest, is_word, line_head, line_rest, mark_head, mark_rest, part_head, part_rest, then_numbers, then_weights, then_words}
 use Rattle.certificate_reader.proofs.WordLemmas.{one_first}
 use Rattle.certificate_reader.proofs.LineLemmas.{all_words, head_is_word, line_splits, lower_name_is_word, number_is_word, some_same}
 use Rattle.certificate_reader.proofs.WeightsRead.{leading_alone, one_leading}
 use Rattle.certificate_reader.proofs.NumbersRead.{same_number, rising_are_numbers}
 use Rattle.certificate_reader.proofs.NamesRead.{names_are_words}
-use Rattle.certificate_reader.proofs.LinesRead.{IsCut, cut_of, few_constants, same_weights, dead_parts, open_parts, atom_text, inner_of, is_no_mark, same_inner, unlike}
+use Rattle.certificate_reader.proofs.LinesRead.{is_no_part, IsCut, cut_of, few_constants, same_weights, dead_parts, open_parts, atom_text, inner_of, is_no_mark, same_inner, unlike}
 
 -- ---- claims
 
@@ -139,14 +139,14 @@ one_then_numbers f few a b a_rise b_rise same =
     let b_are = rising_are_numbers f.atoms 0 b few b_rise in
     same_numbers a b a_are b_are (all_words (map decimal a) (map decimal b) (numbers_are_words a a_are) (numbers_are_words b b_are) same)
 
-one_scope : (f : Format) → f.atoms ≤ most_atoms → (a b : List ℕ) → IsTrue (is_line f (tabled (scope a))) → IsTrue (is_line f (tabled (scope b))) → then_numbers a ≡ then_numbers b
+one_scope : (f : Format) → f.atoms ≤ most_atoms → (a b : List ℕ) → IsTrue (is_part f (tabled (scope a))) → IsTrue (is_part f (tabled (scope b))) → then_numbers a ≡ then_numbers b
     → tabled (scope a) ≡ tabled (scope b)
 one_scope f few a b a_is b_is same = ap (λ atoms. tabled (scope atoms)) (one_then_numbers f few a b (rises a a_is) (rises b b_is) same)
   where
-    rises : (s : List ℕ) → IsTrue (is_line f (tabled (scope s))) → IsTrue (rise f.atoms 0 s)
+    rises : (s : List ℕ) → IsTrue (is_part f (tabled (scope s))) → IsTrue (rise f.atoms 0 s)
     rises s is = (and_parts (rise f.atoms 0 s) (nat_le 1 (length s)) (and_parts (has_tables f.version) (rise f.atoms 0 s && nat_le 1 (length s)) is).1).0
 
-one_row : (f : Format) → f.atoms ≤ most_atoms → (q r : Row) → IsTrue (is_line f (tabled (row q))) → IsTrue (is_line f (tabled (row r))) → line_rest (tabled (row q)) ≡ line_rest (tabled (row r))
+one_row : (f : Format) → f.atoms ≤ most_atoms → (q r : Row) → IsTrue (is_part f (tabled (row q))) → IsTrue (is_part f (tabled (row r))) → part_rest (tabled (row q)) ≡ part_rest (tabled (row r))
     → tabled (row q) ≡ tabled (row r)
 one_row f few q r q_is r_is same =
     let (q_weights, q_rises) = parts q q_is in
@@ -155,8 +155,18 @@ one_row f few q r q_is r_is same =
     let atoms : q.atoms ≡ r.atoms = one_then_numbers f few q.atoms r.atoms q_rises r_rises both.1 in
     λ i. tabled (row (record { atoms = atoms i; weights = both.0 i }))
   where
-    parts : (r : Row) → IsTrue (is_line f (tabled (row r))) → IsTrue (are_weights f.weights r.weights) × IsTrue (rise f.atoms 0 r.atoms)
+    parts : (r : Row) → IsTrue (is_part f (tabled (row r))) → IsTrue (are_weights f.weights r.weights) × IsTrue (rise f.atoms 0 r.atoms)
     parts r is = and_parts (are_weights f.weights r.weights) (rise f.atoms 0 r.atoms) (and_parts (has_tables f.version) (are_weights f.weights r.weights && rise f.atoms 0 r.atoms) is).1
+
+one_part : (f : Format) → f.atoms ≤ most_atoms → (p q : Part) → IsTrue (is_part f p) → IsTrue (is_part f q) → part_head p ≡ part_head q → part_rest p ≡ part_rest q → p ≡ q
+one_part f few (tabled (scope s)) (tabled (scope t)) h g heads rests = one_scope f few s t h g rests
+one_part f few (tabled (scope s)) (tabled (row r)) h g heads rests = absurd (unlike (codes "table") (codes "row") refl heads)
+one_part f few (tabled (row q)) (tabled (scope t)) h g heads rests = absurd (unlike (codes "row") (codes "table") refl heads)
+one_part f few (tabled (row q)) (tabled (row r)) h g heads rests = one_row f few q r h g rests
+
+part_is_no_mark : (p : Part) (mark : LineMark) → part_head p ≡ mark_head mark → ⊥
+part_is_no_mark (tabled (scope s)) mark heads = is_no_mark (codes "table") refl refl refl mark (sym heads)
+part_is_no_mark (tabled (row r)) mark heads = is_no_mark (codes "row") refl refl refl mark (sym heads)
 
 -- ---- any line
 
@@ -197,8 +207,7 @@ module _ (f : Format) (few : f.atoms ≤ most_atoms) where
   by_parts (version u) (constant j) h g heads rests = absurd (unlike (codes "pddl-cert") (codes "constant") refl heads)
   by_parts (version u) (swapped others) h g heads rests = absurd (unlike (codes "pddl-cert") (codes "swap") refl heads)
   by_parts (version u) (atom b) h g heads rests = absurd (unlike (codes "pddl-cert") (codes "atom") refl heads)
-  by_parts (version u) (tabled (scope t)) h g heads rests = absurd (unlike (codes "pddl-cert") (codes "table") refl heads)
-  by_parts (version u) (tabled (row r)) h g heads rests = absurd (unlike (codes "pddl-cert") (codes "row") refl heads)
+  by_parts (version u) (part q) h g heads rests = absurd (is_no_part (codes "pddl-cert") refl q (sym heads))
   by_parts (version u) (listed o) h g heads rests = absurd (is_no_mark (codes "pddl-cert") refl refl refl o.mark (sym heads))
   by_parts (version u) (last n) h g heads rests = absurd (unlike (codes "pddl-cert") (codes "end") refl heads)
   by_parts (claims c) (version w) h g heads rests = absurd (unlike (codes "claim") (codes "pddl-cert") refl heads)
@@ -206,8 +215,7 @@ module _ (f : Format) (few : f.atoms ≤ most_atoms) where
   by_parts (claims c) (constant j) h g heads rests = absurd (unlike (codes "claim") (codes "constant") refl heads)
   by_parts (claims c) (swapped others) h g heads rests = absurd (unlike (codes "claim") (codes "swap") refl heads)
   by_parts (claims c) (atom b) h g heads rests = absurd (unlike (codes "claim") (codes "atom") refl heads)
-  by_parts (claims c) (tabled (scope t)) h g heads rests = absurd (unlike (codes "claim") (codes "table") refl heads)
-  by_parts (claims c) (tabled (row r)) h g heads rests = absurd (unlike (codes "claim") (codes "row") refl heads)
+  by_parts (claims c) (part q) h g heads rests = absurd (is_no_part (codes "claim") refl q (sym heads))
   by_parts (claims c) (listed o) h g heads rests = absurd (is_no_mark (codes "claim") refl refl refl o.mark (sym heads))
   by_parts (claims c) (last n) h g heads rests = absurd (unlike (codes "claim") (codes "end") refl heads)
   by_parts (constant k) (version w) h g heads rests = absurd (unlike (codes "constant") (codes "pddl-cert") refl heads)
@@ -215,8 +223,7 @@ module _ (f : Format) (few : f.atoms ≤ most_atoms) where
   by_parts (constant k) (constant j) h g heads rests = ap (λ k. constant k) (constants_same f k j h g rests)
   by_parts (constant k) (swapped others) h g heads rests = absurd (unlike (codes "constant") (codes "swap") refl heads)
   by_parts (constant k) (atom b) h g heads rests = absurd (unlike (codes "constant") (codes "atom") refl heads)
-  by_parts (constant k) (tabled (scope t)) h g heads rests = absurd (unlike (codes "constant") (codes "table") refl heads)
-  by_parts (constant k) (tabled (row r)) h g heads rests = absurd (unlike (codes "constant") (codes "row") refl heads)
+  by_parts (constant k) (part q) h g heads rests = absurd (is_no_part (codes "constant") refl q (sym heads))
   by_parts (constant k) (listed o) h g heads rests = absurd (is_no_mark (codes "constant") refl refl refl o.mark (sym heads))
   by_parts (constant k) (last n) h g heads rests = absurd (unlike (codes "constant") (codes "end") refl heads)
   by_parts (swapped names) (version w) h g heads rests = absurd (unlike (codes "swap") (codes "pddl-cert") refl heads)
@@ -224,8 +231,7 @@ module _ (f : Format) (few : f.atoms ≤ most_atoms) where
   by_parts (swapped names) (constant j) h g heads rests = absurd (unlike (codes "swap") (codes "constant") refl heads)
   by_parts (swapped names) (swapped others) h g heads rests = ap (λ names. swapped names) (one_swap f names others h g rests)
   by_parts (swapped names) (atom b) h g heads rests = absurd (unlike (codes "swap") (codes "atom") refl heads)
-  by_parts (swapped names) (tabled (scope t)) h g heads rests = absurd (unlike (codes "swap") (codes "table") refl heads)
-  by_parts (swapped names) (tabled (row r)) h g heads rests = absurd (unlike (codes "swap") (codes "row") refl heads)
+  by_parts (swapped names) (part q) h g heads rests = absurd (is_no_part (codes "swap") refl q (sym heads))
   by_parts (swapped names) (listed o) h g heads rests = absurd (is_no_mark (codes "swap") refl refl refl o.mark (sym heads))
   by_parts (swapped names) (last n) h g heads rests = absurd (unlike (codes "swap") (codes "end") refl heads)
   by_parts (atom a) (version w) h g heads rests = absurd (unlike (codes "atom") (codes "pddl-cert") refl heads)
@@ -233,35 +239,23 @@ module _ (f : Format) (few : f.atoms ≤ most_atoms) where
   by_parts (atom a) (constant j) h g heads rests = absurd (unlike (codes "atom") (codes "constant") refl heads)
   by_parts (atom a) (swapped others) h g heads rests = absurd (unlike (codes "atom") (codes "swap") refl heads)
   by_parts (atom a) (atom b) h g heads rests = one_atom f a b h g rests
-  by_parts (atom a) (tabled (scope t)) h g heads rests = absurd (unlike (codes "atom") (codes "table") refl heads)
-  by_parts (atom a) (tabled (row r)) h g heads rests = absurd (unlike (codes "atom") (codes "row") refl heads)
+  by_parts (atom a) (part q) h g heads rests = absurd (is_no_part (codes "atom") refl q (sym heads))
   by_parts (atom a) (listed o) h g heads rests = absurd (is_no_mark (codes "atom") refl refl refl o.mark (sym heads))
   by_parts (atom a) (last n) h g heads rests = absurd (unlike (codes "atom") (codes "end") refl heads)
-  by_parts (tabled (scope s)) (version w) h g heads rests = absurd (unlike (codes "table") (codes "pddl-cert") refl heads)
-  by_parts (tabled (scope s)) (claims d) h g heads rests = absurd (unlike (codes "table") (codes "claim") refl heads)
-  by_parts (tabled (scope s)) (constant j) h g heads rests = absurd (unlike (codes "table") (codes "constant") refl heads)
-  by_parts (tabled (scope s)) (swapped others) h g heads rests = absurd (unlike (codes "table") (codes "swap") refl heads)
-  by_parts (tabled (scope s)) (atom b) h g heads rests = absurd (unlike (codes "table") (codes "atom") refl heads)
-  by_parts (tabled (scope s)) (tabled (scope t)) h g heads rests = one_scope f few s t h g rests
-  by_parts (tabled (scope s)) (tabled (row r)) h g heads rests = absurd (unlike (codes "table") (codes "row") refl heads)
-  by_parts (tabled (scope s)) (listed o) h g heads rests = absurd (is_no_mark (codes "table") refl refl refl o.mark (sym heads))
-  by_parts (tabled (scope s)) (last n) h g heads rests = absurd (unlike (codes "table") (codes "end") refl heads)
-  by_parts (tabled (row q)) (version w) h g heads rests = absurd (unlike (codes "row") (codes "pddl-cert") refl heads)
-  by_parts (tabled (row q)) (claims d) h g heads rests = absurd (unlike (codes "row") (codes "claim") refl heads)
-  by_parts (tabled (row q)) (constant j) h g heads rests = absurd (unlike (codes "row") (codes "constant") refl heads)
-  by_parts (tabled (row q)) (swapped others) h g heads rests = absurd (unlike (codes "row") (codes "swap") refl heads)
-  by_parts (tabled (row q)) (atom b) h g heads rests = absurd (unlike (codes "row") (codes "atom") refl heads)
-  by_parts (tabled (row q)) (tabled (scope t)) h g heads rests = absurd (unlike (codes "row") (codes "table") refl heads)
-  by_parts (tabled (row q)) (tabled (row r)) h g heads rests = one_row f few q r h g rests
-  by_parts (tabled (row q)) (listed o) h g heads rests = absurd (is_no_mark (codes "row") refl refl refl o.mark (sym heads))
-  by_parts (tabled (row q)) (last n) h g heads rests = absurd (unlike (codes "row") (codes "end") refl heads)
+  by_parts (part p) (version w) h g heads rests = absurd (is_no_part (codes "pddl-cert") refl p heads)
+  by_parts (part p) (claims d) h g heads rests = absurd (is_no_part (codes "claim") refl p heads)
+  by_parts (part p) (constant j) h g heads rests = absurd (is_no_part (codes "constant") refl p heads)
+  by_parts (part p) (swapped others) h g heads rests = absurd (is_no_part (codes "swap") refl p heads)
+  by_parts (part p) (atom b) h g heads rests = absurd (is_no_part (codes "atom") refl p heads)
+  by_parts (part p) (part q) h g heads rests = ap (λ p. part p) (one_part f few p q h g heads rests)
+  by_parts (part p) (listed o) h g heads rests = absurd (part_is_no_mark p o.mark heads)
+  by_parts (part p) (last n) h g heads rests = absurd (is_no_part (codes "end") refl p heads)
   by_parts (listed l) (version w) h g heads rests = absurd (is_no_mark (codes "pddl-cert") refl refl refl l.mark heads)
   by_parts (listed l) (claims d) h g heads rests = absurd (is_no_mark (codes "claim") refl refl refl l.mark heads)
   by_parts (listed l) (constant j) h g heads rests = absurd (is_no_mark (codes "constant") refl refl refl l.mark heads)
   by_parts (listed l) (swapped others) h g heads rests = absurd (is_no_mark (codes "swap") refl refl refl l.mark heads)
   by_parts (listed l) (atom b) h g heads rests = absurd (is_no_mark (codes "atom") refl refl refl l.mark heads)
-  by_parts (listed l) (tabled (scope t)) h g heads rests = absurd (is_no_mark (codes "table") refl refl refl l.mark heads)
-  by_parts (listed l) (tabled (row r)) h g heads rests = absurd (is_no_mark (codes "row") refl refl refl l.mark heads)
+  by_parts (listed l) (part q) h g heads rests = absurd (part_is_no_mark q l.mark (sym heads))
   by_parts (listed l) (listed o) h g heads rests =
       let rest_of : StateLine → List ℕ = λ l. mark_rest l.mark l.cost ++ numbers_text l.atoms in
       one_state f few (rest_of o) (line_head (listed o)) l.cost o.cost l.mark o.mark l.atoms o.atoms
@@ -272,8 +266,7 @@ module _ (f : Format) (few : f.atoms ≤ most_atoms) where
   by_parts (last m) (constant j) h g heads rests = absurd (unlike (codes "end") (codes "constant") refl heads)
   by_parts (last m) (swapped others) h g heads rests = absurd (unlike (codes "end") (codes "swap") refl heads)
   by_parts (last m) (atom b) h g heads rests = absurd (unlike (codes "end") (codes "atom") refl heads)
-  by_parts (last m) (tabled (scope t)) h g heads rests = absurd (unlike (codes "end") (codes "table") refl heads)
-  by_parts (last m) (tabled (row r)) h g heads rests = absurd (unlike (codes "end") (codes "row") refl heads)
+  by_parts (last m) (part q) h g heads rests = absurd (is_no_part (codes "end") refl q (sym heads))
   by_parts (last m) (listed o) h g heads rests = absurd (is_no_mark (codes "end") refl refl refl o.mark (sym heads))
   by_parts (last m) (last n) h g heads rests = ap (λ n. last n) (same_number m n h g (some_same (decimal m) (decimal n) rests))
 

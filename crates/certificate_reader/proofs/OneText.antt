@@ -15,7 +15,7 @@ use Rattle.model.specs.PlanWriting.{is_lower_name}
 use Rattle.model.specs.Claims.{bound, none}
 use Rattle.certificate_definitions.specs.Evidence.{of_all, LineMark, opened, cut, dead}
 use Rattle.certificate_definitions.specs.Certificates.{Version, one, two, three, is_mark, is_number, is_weight, are_weights, has_exchanges, has_tables, rise}
-use Rattle.certificate_definitions.specs.CertificateText.{scope, row, Format, NamedCertificate, TextLine, version, claims, constant, swapped, atom, tabled, listed, last, after_blank, are_exchanged, are_paired, differ, is_weight_count, is_line, line_text, mark_text, weights_text, numbers_text, text_of, text_lines, IsCertificateText, longest_line, most_atoms}
+use Rattle.certificate_definitions.specs.CertificateText.{scope, row, tabled, Part, part_text, is_part, Format, NamedCertificate, TextLine, version, claims, constant, swapped, atom, part, listed, last, after_blank, are_exchanged, are_paired, differ, is_weight_count, is_line, line_text, mark_text, weights_text, numbers_text, text_of, text_lines, IsCertificateText, longest_line, most_atoms}
 use Rattle.certificate_definitions.specs.CertificateMachine.{CertificatePlace, at_version, ended, format_at, next_place, place_from}
 use Rattle.certificate_definitions.proofs.Beginnings.{one_whole_text}
 use Rattle.certificate_definitions.proofs.Machine.{end_of_whole, never, place_same}
@@ -114,6 +114,16 @@ weights_in_one (w ∷ weights) all =
     let (here, more) = and_parts (is_weight w) (list_all is_weight weights) all in
     both (after_blank (signed_decimal w)) (weights_text weights) (both (codes " ") (signed_decimal w) refl (weight_in_one w here)) (weights_in_one weights more)
 
+part_in_one : (f : Format) → f.atoms ≤ most_atoms → (p : Part) → IsTrue (is_part f p) → is_one_line (part_text p) ≡ true
+part_in_one f few (tabled (scope s)) is =
+    let (rising, some) = and_parts (rise f.atoms 0 s) (nat_le 1 (length s)) (and_parts (has_tables f.version) _ is).1 in
+    both (codes "table") (numbers_text s) refl (numbers_in_one f.atoms 0 s few rising)
+part_in_one f few (tabled (row r)) is =
+    let (weights, rising) = and_parts (are_weights f.weights r.weights) (rise f.atoms 0 r.atoms) (and_parts (has_tables f.version) _ is).1 in
+    both (codes "row" ++ weights_text r.weights) (numbers_text r.atoms)
+    (both (codes "row") (weights_text r.weights) refl (weights_in_one r.weights (and_parts (length r.weights == f.weights) (list_all is_weight r.weights) weights).1))
+    (numbers_in_one f.atoms 0 r.atoms few rising)
+
 pub line_in_one : (f : Format) → f.atoms ≤ most_atoms → (line : TextLine) → IsTrue (is_line f line) → is_one_line (line_text line) ≡ true
 line_in_one f few (version w) is = version_in_one w
 line_in_one f few (claims (bound n)) is = both (codes "claim bound ") (decimal n) refl (number_in_one n is)
@@ -131,14 +141,7 @@ line_in_one f few (atom a) is =
     (both ((start ++ codes " (") ++ a.atom.predicate) (flat_map after_blank a.atom.objects)
     (both (start ++ codes " (") a.atom.predicate (both start (codes " (") (both (codes "atom") (weights_text a.weights) refl (weights_in_one a.weights (and_parts (length a.weights == f.weights) (list_all is_weight a.weights) weights).1)) refl) (lower_in_one a.atom.predicate predicate))
     (names_in_one a.atom.objects objects)) refl
-line_in_one f few (tabled (scope s)) is =
-    let (rising, some) = and_parts (rise f.atoms 0 s) (nat_le 1 (length s)) (and_parts (has_tables f.version) _ is).1 in
-    both (codes "table") (numbers_text s) refl (numbers_in_one f.atoms 0 s few rising)
-line_in_one f few (tabled (row r)) is =
-    let (weights, rising) = and_parts (are_weights f.weights r.weights) (rise f.atoms 0 r.atoms) (and_parts (has_tables f.version) _ is).1 in
-    both (codes "row" ++ weights_text r.weights) (numbers_text r.atoms)
-    (both (codes "row") (weights_text r.weights) refl (weights_in_one r.weights (and_parts (length r.weights == f.weights) (list_all is_weight r.weights) weights).1))
-    (numbers_in_one f.atoms 0 r.atoms few rising)
+line_in_one f few (part p) is = part_in_one f few p is
 line_in_one f few (listed l) is = state_in_one f few l.cost l.mark l.atoms is
 line_in_one f few (last n) is = both (codes "end ") (decimal n) refl (number_in_one n is)
 

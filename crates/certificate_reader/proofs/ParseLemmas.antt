@@ -14,15 +14,15 @@ use Rattle.certificate_reader.specs.declared.line.CertLine.{CertLine}
 use Rattle.certificate_reader.specs.declared.line.Version as code
 use Rattle.certificate_reader.specs.declared.line.Version.TheVariants.{One, Two, Three}
 use Rattle.certificate_reader.specs.Lines.{text_line_of, version_of}
-use Rattle.certificate_definitions.specs.CertificateText.{WeightedAtom, scope, row, Format, TextLine, version, claims, constant, swapped, atom, tabled, listed, last, are_exchanged, are_paired, differ, is_weight_count, is_line, line_text, longest_line, version_number}
+use Rattle.certificate_definitions.specs.CertificateText.{WeightedAtom, scope, row, tabled, Part, is_part, Format, TextLine, version, claims, constant, swapped, atom, part, listed, last, are_exchanged, are_paired, differ, is_weight_count, is_line, line_text, longest_line, version_number}
 use Rattle.certificate_reader.specs.declared.fault.NextFault.{NextFault}
 use Rattle.certificate_reader.specs.declared.fault.NextFault.TheVariants.{Text, NoMemory}
 use Rattle.certificate_reader.specs.declared.fault.TextFault.TheVariants as fault
 use Rattle.certificate_reader.specs.Parsing.{IsParsed, IsParsedAfter}
-use Rattle.certificate_reader.specs.Words.{IsFirstWord, IsReadAs, atom_rest, then_numbers, then_weights, then_words, line_head, line_rest, text_in, with_rest}
+use Rattle.certificate_reader.specs.Words.{IsFirstWord, IsReadAs, atom_rest, then_numbers, then_weights, then_words, line_head, line_rest, part_rest, text_in, with_rest}
 use Rattle.certificate_reader.proofs.WordLemmas.{one_first}
 use Rattle.certificate_reader.proofs.LineLemmas.{head_is_word, line_splits, some_same}
-use Rattle.certificate_reader.proofs.LinesRead.{is_no_mark, no_atom, unlike}
+use Rattle.certificate_reader.proofs.LinesRead.{is_no_mark, is_no_part, no_atom, unlike}
 
 -- ---- the first line
 
@@ -42,8 +42,7 @@ no_version rest never f (claims claim) read = unlike (codes "claim") (codes "pdd
 no_version rest never f (constant k) read = unlike (codes "constant") (codes "pddl-cert") refl read.head
 no_version rest never f (swapped names) read = unlike (codes "swap") (codes "pddl-cert") refl read.head
 no_version rest never f (atom a) read = unlike (codes "atom") (codes "pddl-cert") refl read.head
-no_version rest never f (tabled (scope s)) read = unlike (codes "table") (codes "pddl-cert") refl read.head
-no_version rest never f (tabled (row r)) read = unlike (codes "row") (codes "pddl-cert") refl read.head
+no_version rest never f (part p) read = is_no_part (codes "pddl-cert") refl p read.head
 no_version rest never f (listed l) read = is_no_mark (codes "pddl-cert") refl refl refl l.mark read.head
 no_version rest never f (last n) read = unlike (codes "end") (codes "pddl-cert") refl read.head
 
@@ -122,6 +121,14 @@ constants_count one n is = omega (arith, eqb-true n 1 is)
 constants_count two n is = omega (arith, eqb-true n 2 is)
 constants_count three n is = omega (arith, leb-true 2 n (and_parts (nat_le 2 n) (nat_le n 33) is).0)
 
+part_has_rest : (f : Format) → 1 ≤ f.weights → (p : Part) → IsTrue (is_part f p) → part_rest p ≡ None → ⊥
+part_has_rest f some (tabled (scope s)) is none =
+    some_numbers s (leb-true 1 (length s) (and_parts (rise f.atoms 0 s) (nat_le 1 (length s)) (and_parts (has_tables f.version) (rise f.atoms 0 s && nat_le 1 (length s)) is).1).1) none
+part_has_rest f some (tabled (row r)) is none =
+    let weights = (and_parts (are_weights f.weights r.weights) (rise f.atoms 0 r.atoms) (and_parts (has_tables f.version) (are_weights f.weights r.weights && rise f.atoms 0 r.atoms) is).1).0 in
+    let count = eqb-true (length r.weights) f.weights (and_parts (length r.weights == f.weights) (list_all is_weight r.weights) weights).0 in
+    some_weights r.weights (then_numbers r.atoms) (omega (arith, some, count)) none
+
 -- each line has another word after its first one
 has_rest : (f : Format) → 1 ≤ f.weights → (line : TextLine) → IsTrue (is_line f line) → line_rest line ≡ None → ⊥
 has_rest f some (version v) is none = absurd (cc none)
@@ -133,12 +140,7 @@ has_rest f some (swapped names) is none =
     (and_parts (nat_le 2 (length names) && are_paired names && differ names) (list_all is_lower_name names)
     (and_parts (has_exchanges f.version) (are_exchanged names) (and_parts (has_exchanges f.version && are_exchanged names) (nat_le (length (line_text (swapped names))) longest_line) is).0).1).0).0).0) none
 has_rest f some (atom a) is none = weights_then a.weights (atom_rest a.atom) none
-has_rest f some (tabled (scope s)) is none =
-    some_numbers s (leb-true 1 (length s) (and_parts (rise f.atoms 0 s) (nat_le 1 (length s)) (and_parts (has_tables f.version) (rise f.atoms 0 s && nat_le 1 (length s)) is).1).1) none
-has_rest f some (tabled (row r)) is none =
-    let weights = (and_parts (are_weights f.weights r.weights) (rise f.atoms 0 r.atoms) (and_parts (has_tables f.version) (are_weights f.weights r.weights && rise f.atoms 0 r.atoms) is).1).0 in
-    let count = eqb-true (length r.weights) f.weights (and_parts (length r.weights == f.weights) (list_all is_weight r.weights) weights).0 in
-    some_weights r.weights (then_numbers r.atoms) (omega (arith, some, count)) none
+has_rest f some (part p) is none = part_has_rest f some p is none
 has_rest f some (listed l) is none = absurd (cc none)
 has_rest f some (last n) is none = absurd (cc none)
 

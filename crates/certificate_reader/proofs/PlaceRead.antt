@@ -4,8 +4,9 @@ use Rattle.std.specs.Prelude.{length, ◌&&◌, ◌==◌, Err, IsTrue, nat_le, n
 use Rattle.std.specs.Fmt.{decimal}
 use Rattle.std.proofs.lemmas.Bool.{and_parts, eqb-true, leb-true, lt-ltb}
 use Rattle.certificate_definitions.specs.Certificates.{Version, one, two, three, is_number}
-use Rattle.certificate_definitions.specs.CertificateText.{scope, row, Format, TextLine, version, claims, constant, swapped, atom, tabled, listed, last, is_line, line_text, most_swaps, most_atoms, most_tables, most_rows, most_states, version_number}
-use Rattle.certificate_definitions.specs.CertificateMachine.{CertificatePlace, at_version, at_claim, at_constant, in_body, ended, no_format, no_body, format_at, swap_more, atom_more, scope_more, row_more, state_more, swap_follows, atom_follows, row_follows, next_place}
+use Rattle.certificate_definitions.specs.CertificateText.{Format, TextLine, version, claims, constant, swapped, atom, part, listed, last, is_line, line_text, most_swaps, most_atoms, most_states, version_number}
+use Rattle.certificate_definitions.specs.CertificateMachine.{CertificatePlace, at_version, at_claim, at_constant, in_body, ended, no_format, no_body, format_at, swap_more, atom_more, part_more, state_more, swap_follows, atom_follows, part_follows, next_place}
+use Rattle.certificate_definitions.specs.Parts.{are_few, has_room}
 use Rattle.certificate_definitions.proofs.Machine.{never, only_where}
 use Rattle.certificate_reader.specs.Stages.{IsOver, IsReadAt, IsStep, IsWithin}
 use Rattle.certificate_reader.specs.Parsing.{IsParsed}
@@ -17,7 +18,7 @@ use Rattle.certificate_reader.specs.Words.{line_head, line_rest}
 use Rattle.certificate_reader.proofs.NumbersRead.{same_number}
 use Rattle.certificate_reader.proofs.WordLemmas.{one_first}
 use Rattle.certificate_reader.proofs.LineLemmas.{head_is_word, line_splits, some_same}
-use Rattle.certificate_reader.proofs.LinesRead.{is_no_mark, unlike}
+use Rattle.certificate_reader.proofs.LinesRead.{is_no_mark, is_no_part, unlike}
 use Rattle.certificate_reader.proofs.OneLine.{one_line}
 
 pub few_atoms : (place : CertificatePlace) → IsWithin place → (format_at place).atoms ≤ most_atoms
@@ -25,9 +26,8 @@ few_atoms at_version within = omega arith
 few_atoms (at_claim v) within = omega arith
 few_atoms (at_constant v) within = omega arith
 few_atoms (in_body b) within =
-    let bodies = (and_parts (nat_le b.format.atoms most_atoms && nat_le b.tables most_tables && nat_le b.rows most_rows) (nat_le b.states most_states) (and_parts (nat_le 1 b.format.weights && nat_le b.swaps most_swaps) _ within).1).0 in
-    let tables = (and_parts (nat_le b.format.atoms most_atoms && nat_le b.tables most_tables) (nat_le b.rows most_rows) bodies).0 in
-    leb-true b.format.atoms most_atoms (and_parts (nat_le b.format.atoms most_atoms) (nat_le b.tables most_tables) tables).0
+    let front = (and_parts (nat_le b.format.atoms most_atoms && are_few b.parts) (nat_le b.states most_states) (and_parts (nat_le 1 b.format.weights && nat_le b.swaps most_swaps) _ within).1).0 in
+    leb-true b.format.atoms most_atoms (and_parts (nat_le b.format.atoms most_atoms) (are_few b.parts) front).0
 few_atoms ended within = omega arith
 
 pub some_weights : (place : CertificatePlace) → IsWithin place → 1 ≤ (format_at place).weights
@@ -44,8 +44,7 @@ leads_line at_version within (claims claim) next leads = never next leads
 leads_line at_version within (constant k) next leads = never next leads
 leads_line at_version within (swapped names) next leads = never next leads
 leads_line at_version within (atom a) next leads = never next leads
-leads_line at_version within (tabled (scope s)) next leads = never next leads
-leads_line at_version within (tabled (row r)) next leads = never next leads
+leads_line at_version within (part p) next leads = never next leads
 leads_line at_version within (listed l) next leads = never next leads
 leads_line at_version within (last count) next leads = never next leads
 leads_line (at_claim v) within (version w) next leads = never next leads
@@ -53,8 +52,7 @@ leads_line (at_claim v) within (claims claim) next leads = (only_where (is_line 
 leads_line (at_claim v) within (constant k) next leads = never next leads
 leads_line (at_claim v) within (swapped names) next leads = never next leads
 leads_line (at_claim v) within (atom a) next leads = never next leads
-leads_line (at_claim v) within (tabled (scope s)) next leads = never next leads
-leads_line (at_claim v) within (tabled (row r)) next leads = never next leads
+leads_line (at_claim v) within (part p) next leads = never next leads
 leads_line (at_claim v) within (listed l) next leads = never next leads
 leads_line (at_claim v) within (last count) next leads = never next leads
 leads_line (at_constant v) within (version w) next leads = never next leads
@@ -62,8 +60,7 @@ leads_line (at_constant v) within (claims claim) next leads = never next leads
 leads_line (at_constant v) within (constant k) next leads = (only_where (is_line (no_format v) (constant k)) (in_body (no_body v (length k))) next leads).0
 leads_line (at_constant v) within (swapped names) next leads = never next leads
 leads_line (at_constant v) within (atom a) next leads = never next leads
-leads_line (at_constant v) within (tabled (scope s)) next leads = never next leads
-leads_line (at_constant v) within (tabled (row r)) next leads = never next leads
+leads_line (at_constant v) within (part p) next leads = never next leads
 leads_line (at_constant v) within (listed l) next leads = never next leads
 leads_line (at_constant v) within (last count) next leads = never next leads
 leads_line (in_body b) within (version w) next leads = never next leads
@@ -71,8 +68,7 @@ leads_line (in_body b) within (claims claim) next leads = never next leads
 leads_line (in_body b) within (constant k) next leads = never next leads
 leads_line (in_body b) within (swapped names) next leads = (and_parts (swap_follows b && nat_lt b.swaps most_swaps) (is_line b.format (swapped names)) (only_where (swap_follows b && nat_lt b.swaps most_swaps && is_line b.format (swapped names)) (in_body (swap_more b)) next leads).0).1
 leads_line (in_body b) within (atom a) next leads = (and_parts (atom_follows b && nat_lt b.format.atoms most_atoms) (is_line b.format (atom a)) (only_where (atom_follows b && nat_lt b.format.atoms most_atoms && is_line b.format (atom a)) (in_body (atom_more b)) next leads).0).1
-leads_line (in_body b) within (tabled (scope s)) next leads = (and_parts ((b.states == 0) && nat_lt b.tables most_tables) (is_line b.format (tabled (scope s))) (only_where ((b.states == 0) && nat_lt b.tables most_tables && is_line b.format (tabled (scope s))) (in_body (scope_more b)) next leads).0).1
-leads_line (in_body b) within (tabled (row r)) next leads = (and_parts (row_follows b && nat_lt b.rows most_rows) (is_line b.format (tabled (row r))) (only_where (row_follows b && nat_lt b.rows most_rows && is_line b.format (tabled (row r))) (in_body (row_more b)) next leads).0).1
+leads_line (in_body b) within (part p) next leads = (and_parts (part_follows p b && has_room b.parts p) (is_line b.format (part p)) (only_where (part_follows p b && has_room b.parts p && is_line b.format (part p)) (in_body (part_more p b)) next leads).0).1
 leads_line (in_body b) within (listed l) next leads = (and_parts (nat_lt b.states most_states) (is_line b.format (listed l)) (only_where (nat_lt b.states most_states && is_line b.format (listed l)) (in_body (state_more b)) next leads).0).1
 leads_line (in_body b) within (last count) next leads =
     lt-ltb count 1152921504606846976 (omega (arith, eqb-true count b.states (only_where (count == b.states) ended next leads).0, leb-true b.states most_states (and_parts _ (nat_le b.states most_states) (and_parts (nat_le 1 b.format.weights && nat_le b.swaps most_swaps) _ within).1).1))
@@ -81,8 +77,7 @@ leads_line ended within (claims claim) next leads = never next leads
 leads_line ended within (constant k) next leads = never next leads
 leads_line ended within (swapped names) next leads = never next leads
 leads_line ended within (atom a) next leads = never next leads
-leads_line ended within (tabled (scope s)) next leads = never next leads
-leads_line ended within (tabled (row r)) next leads = never next leads
+leads_line ended within (part p) next leads = never next leads
 leads_line ended within (listed l) next leads = never next leads
 leads_line ended within (last count) next leads = never next leads
 
@@ -93,8 +88,7 @@ version_rest (claims claim) head = absurd (unlike (codes "claim") (codes "pddl-c
 version_rest (constant k) head = absurd (unlike (codes "constant") (codes "pddl-cert") refl head)
 version_rest (swapped names) head = absurd (unlike (codes "swap") (codes "pddl-cert") refl head)
 version_rest (atom a) head = absurd (unlike (codes "atom") (codes "pddl-cert") refl head)
-version_rest (tabled (scope s)) head = absurd (unlike (codes "table") (codes "pddl-cert") refl head)
-version_rest (tabled (row r)) head = absurd (unlike (codes "row") (codes "pddl-cert") refl head)
+version_rest (part p) head = absurd (is_no_part (codes "pddl-cert") refl p head)
 version_rest (last count) head = absurd (unlike (codes "end") (codes "pddl-cert") refl head)
 version_rest (listed l) head = absurd (is_no_mark (codes "pddl-cert") refl refl refl l.mark head)
 

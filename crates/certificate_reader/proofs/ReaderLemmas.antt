@@ -6,8 +6,10 @@ use Rattle.std.specs.List.{list_all}
 use Rattle.std.proofs.lemmas.List.{length-map}
 use Rattle.certificate_definitions.specs.Certificates.{Version, one, two, three, StateLine, is_weight}
 use Rattle.certificate_definitions.proofs.Beginnings.{body_lines}
-use Rattle.certificate_definitions.specs.CertificateText.{scope, row, TextLine, version, claims, constant, swapped, atom, tabled, listed, last, is_line, most_swaps, most_atoms, most_tables, most_rows, most_states, is_weight_count, scope_count, row_count, begin_with_scope, format_of, text_lines, TableLine, WeightedAtom, Beginning, AreWhole, IsFaultAfter, trailing}
-use Rattle.certificate_definitions.specs.CertificateMachine.{CertificatePlace, at_version, at_claim, at_constant, in_body, ended, no_format, no_body, swap_more, atom_more, scope_more, row_more, state_more, swap_follows, atom_follows, row_follows, next_place}
+use Rattle.certificate_definitions.specs.CertificateText.{Part, TextLine, version, claims, constant, swapped, atom, part, listed, last, is_line, most_swaps, most_atoms, most_states, is_weight_count, format_of, text_lines, WeightedAtom, Beginning, AreWhole, IsFaultAfter, trailing}
+use Rattle.certificate_definitions.specs.CertificateMachine.{CertificatePlace, at_version, at_claim, at_constant, in_body, ended, no_format, no_body, swap_more, atom_more, part_more, state_more, swap_follows, atom_follows, part_follows, next_place}
+use Rattle.certificate_definitions.specs.Parts.{are_few, has_room}
+use Rattle.certificate_definitions.proofs.PartLemmas.{ordered_are_few, stays_few}
 use Rattle.certificate_definitions.proofs.Machine.{ComesBefore, begins, never, only_where, place_same}
 use Rattle.certificate_reader.specs.declared.line.CertLine.{CertLine}
 use Rattle.certificate_reader.specs.Lines.{text_line_of}
@@ -34,8 +36,7 @@ leads_within at_version within (claims claim) next leads = never next leads
 leads_within at_version within (constant k) next leads = never next leads
 leads_within at_version within (swapped names) next leads = never next leads
 leads_within at_version within (atom a) next leads = never next leads
-leads_within at_version within (tabled (scope s)) next leads = never next leads
-leads_within at_version within (tabled (row r)) next leads = never next leads
+leads_within at_version within (part p) next leads = never next leads
 leads_within at_version within (listed l) next leads = never next leads
 leads_within at_version within (last count) next leads = never next leads
 leads_within (at_claim v) within (version w) next leads = never next leads
@@ -43,8 +44,7 @@ leads_within (at_claim v) within (claims claim) next leads = subst IsWithin (onl
 leads_within (at_claim v) within (constant k) next leads = never next leads
 leads_within (at_claim v) within (swapped names) next leads = never next leads
 leads_within (at_claim v) within (atom a) next leads = never next leads
-leads_within (at_claim v) within (tabled (scope s)) next leads = never next leads
-leads_within (at_claim v) within (tabled (row r)) next leads = never next leads
+leads_within (at_claim v) within (part p) next leads = never next leads
 leads_within (at_claim v) within (listed l) next leads = never next leads
 leads_within (at_claim v) within (last count) next leads = never next leads
 leads_within (at_constant v) within (version w) next leads = never next leads
@@ -55,8 +55,7 @@ leads_within (at_constant v) within (constant k) next leads =
     subst IsWithin same (λ i. (some i && true) && true)
 leads_within (at_constant v) within (swapped names) next leads = never next leads
 leads_within (at_constant v) within (atom a) next leads = never next leads
-leads_within (at_constant v) within (tabled (scope s)) next leads = never next leads
-leads_within (at_constant v) within (tabled (row r)) next leads = never next leads
+leads_within (at_constant v) within (part p) next leads = never next leads
 leads_within (at_constant v) within (listed l) next leads = never next leads
 leads_within (at_constant v) within (last count) next leads = never next leads
 leads_within (in_body b) within (version w) next leads = never next leads
@@ -65,72 +64,55 @@ leads_within (in_body b) within (constant k) next leads = never next leads
 leads_within (in_body b) within (swapped names) next leads =
     let (holds, same) = only_where (swap_follows b && nat_lt b.swaps most_swaps && is_line b.format (swapped names)) (in_body (swap_more b)) next leads in
     let below : b.swaps < most_swaps = ltb-true b.swaps most_swaps (and_parts (swap_follows b) (nat_lt b.swaps most_swaps) (and_parts (swap_follows b && nat_lt b.swaps most_swaps) (is_line b.format (swapped names)) holds).0).1 in
-    let all = and_parts (nat_le 1 b.format.weights && nat_le b.swaps most_swaps) (nat_le b.format.atoms most_atoms && nat_le b.tables most_tables && nat_le b.rows most_rows && nat_le b.states most_states) within in
+    let all = and_parts (nat_le 1 b.format.weights && nat_le b.swaps most_swaps) (nat_le b.format.atoms most_atoms && are_few b.parts && nat_le b.states most_states) within in
     let front = and_parts (nat_le 1 b.format.weights) (nat_le b.swaps most_swaps) all.0 in
     subst IsWithin same (λ i. (front.0 i && le-leb (b.swaps + 1) most_swaps (omega (arith, below)) i) && all.1 i)
 leads_within (in_body b) within (atom a) next leads =
     let (holds, same) = only_where (atom_follows b && nat_lt b.format.atoms most_atoms && is_line b.format (atom a)) (in_body (atom_more b)) next leads in
     let below : b.format.atoms < most_atoms = ltb-true b.format.atoms most_atoms (and_parts (atom_follows b) (nat_lt b.format.atoms most_atoms) (and_parts (atom_follows b && nat_lt b.format.atoms most_atoms) (is_line b.format (atom a)) holds).0).1 in
-    let all = and_parts (nat_le 1 b.format.weights && nat_le b.swaps most_swaps) (nat_le b.format.atoms most_atoms && nat_le b.tables most_tables && nat_le b.rows most_rows && nat_le b.states most_states) within in
-    let more = and_parts (nat_le b.format.atoms most_atoms && nat_le b.tables most_tables && nat_le b.rows most_rows) (nat_le b.states most_states) all.1 in
-    let rest = and_parts (nat_le b.format.atoms most_atoms && nat_le b.tables most_tables) (nat_le b.rows most_rows) more.0 in
-    let few = and_parts (nat_le b.format.atoms most_atoms) (nat_le b.tables most_tables) rest.0 in
-    subst IsWithin same (λ i. all.0 i && (le-leb (b.format.atoms + 1) most_atoms (omega (arith, below)) i && few.1 i && rest.1 i && more.1 i))
-leads_within (in_body b) within (tabled (scope s)) next leads =
-    let (holds, same) = only_where ((b.states == 0) && nat_lt b.tables most_tables && is_line b.format (tabled (scope s))) (in_body (scope_more b)) next leads in
-    let below : b.tables < most_tables = ltb-true b.tables most_tables (and_parts (b.states == 0) (nat_lt b.tables most_tables) (and_parts ((b.states == 0) && nat_lt b.tables most_tables) (is_line b.format (tabled (scope s))) holds).0).1 in
-    let all = and_parts (nat_le 1 b.format.weights && nat_le b.swaps most_swaps) (nat_le b.format.atoms most_atoms && nat_le b.tables most_tables && nat_le b.rows most_rows && nat_le b.states most_states) within in
-    let more = and_parts (nat_le b.format.atoms most_atoms && nat_le b.tables most_tables && nat_le b.rows most_rows) (nat_le b.states most_states) all.1 in
-    let rest = and_parts (nat_le b.format.atoms most_atoms && nat_le b.tables most_tables) (nat_le b.rows most_rows) more.0 in
-    let few = and_parts (nat_le b.format.atoms most_atoms) (nat_le b.tables most_tables) rest.0 in
-    subst IsWithin same (λ i. all.0 i && (few.0 i && le-leb (b.tables + 1) most_tables (omega (arith, below)) i && rest.1 i && more.1 i))
-leads_within (in_body b) within (tabled (row r)) next leads =
-    let (holds, same) = only_where (row_follows b && nat_lt b.rows most_rows && is_line b.format (tabled (row r))) (in_body (row_more b)) next leads in
-    let below : b.rows < most_rows = ltb-true b.rows most_rows (and_parts (row_follows b) (nat_lt b.rows most_rows) (and_parts (row_follows b && nat_lt b.rows most_rows) (is_line b.format (tabled (row r))) holds).0).1 in
-    let all = and_parts (nat_le 1 b.format.weights && nat_le b.swaps most_swaps) (nat_le b.format.atoms most_atoms && nat_le b.tables most_tables && nat_le b.rows most_rows && nat_le b.states most_states) within in
-    let more = and_parts (nat_le b.format.atoms most_atoms && nat_le b.tables most_tables && nat_le b.rows most_rows) (nat_le b.states most_states) all.1 in
-    let rest = and_parts (nat_le b.format.atoms most_atoms && nat_le b.tables most_tables) (nat_le b.rows most_rows) more.0 in
-    let few = and_parts (nat_le b.format.atoms most_atoms) (nat_le b.tables most_tables) rest.0 in
-    subst IsWithin same (λ i. all.0 i && (few.0 i && few.1 i && le-leb (b.rows + 1) most_rows (omega (arith, below)) i && more.1 i))
+    let all = and_parts (nat_le 1 b.format.weights && nat_le b.swaps most_swaps) (nat_le b.format.atoms most_atoms && are_few b.parts && nat_le b.states most_states) within in
+    let more = and_parts (nat_le b.format.atoms most_atoms && are_few b.parts) (nat_le b.states most_states) all.1 in
+    let few = and_parts (nat_le b.format.atoms most_atoms) (are_few b.parts) more.0 in
+    subst IsWithin same (λ i. all.0 i && (le-leb (b.format.atoms + 1) most_atoms (omega (arith, below)) i && few.1 i && more.1 i))
+leads_within (in_body b) within (part p) next leads =
+    let (holds, same) = only_where (part_follows p b && has_room b.parts p && is_line b.format (part p)) (in_body (part_more p b)) next leads in
+    let room = (and_parts (part_follows p b) (has_room b.parts p) (and_parts (part_follows p b && has_room b.parts p) (is_line b.format (part p)) holds).0).1 in
+    let all = and_parts (nat_le 1 b.format.weights && nat_le b.swaps most_swaps) (nat_le b.format.atoms most_atoms && are_few b.parts && nat_le b.states most_states) within in
+    let more = and_parts (nat_le b.format.atoms most_atoms && are_few b.parts) (nat_le b.states most_states) all.1 in
+    let few = and_parts (nat_le b.format.atoms most_atoms) (are_few b.parts) more.0 in
+    subst IsWithin same (λ i. all.0 i && (few.0 i && stays_few b.parts p few.1 room i && more.1 i))
 leads_within (in_body b) within (listed l) next leads =
     let (holds, same) = only_where (nat_lt b.states most_states && is_line b.format (listed l)) (in_body (state_more b)) next leads in
     let below : b.states < most_states = ltb-true b.states most_states (and_parts (nat_lt b.states most_states) (is_line b.format (listed l)) holds).0 in
-    let all = and_parts (nat_le 1 b.format.weights && nat_le b.swaps most_swaps) (nat_le b.format.atoms most_atoms && nat_le b.tables most_tables && nat_le b.rows most_rows && nat_le b.states most_states) within in
-    let more = and_parts (nat_le b.format.atoms most_atoms && nat_le b.tables most_tables && nat_le b.rows most_rows) (nat_le b.states most_states) all.1 in
-    let rest = and_parts (nat_le b.format.atoms most_atoms && nat_le b.tables most_tables) (nat_le b.rows most_rows) more.0 in
-    let few = and_parts (nat_le b.format.atoms most_atoms) (nat_le b.tables most_tables) rest.0 in
-    subst IsWithin same (λ i. all.0 i && (few.0 i && few.1 i && rest.1 i && le-leb (b.states + 1) most_states (omega (arith, below)) i))
+    let all = and_parts (nat_le 1 b.format.weights && nat_le b.swaps most_swaps) (nat_le b.format.atoms most_atoms && are_few b.parts && nat_le b.states most_states) within in
+    let more = and_parts (nat_le b.format.atoms most_atoms && are_few b.parts) (nat_le b.states most_states) all.1 in
+    let few = and_parts (nat_le b.format.atoms most_atoms) (are_few b.parts) more.0 in
+    subst IsWithin same (λ i. all.0 i && (few.0 i && few.1 i && le-leb (b.states + 1) most_states (omega (arith, below)) i))
 leads_within (in_body b) within (last count) next leads = subst IsWithin (only_where (count == b.states) ended next leads).1 refl
 leads_within ended within (version w) next leads = never next leads
 leads_within ended within (claims claim) next leads = never next leads
 leads_within ended within (constant k) next leads = never next leads
 leads_within ended within (swapped names) next leads = never next leads
 leads_within ended within (atom a) next leads = never next leads
-leads_within ended within (tabled (scope s)) next leads = never next leads
-leads_within ended within (tabled (row r)) next leads = never next leads
+leads_within ended within (part p) next leads = never next leads
 leads_within ended within (listed l) next leads = never next leads
 leads_within ended within (last count) next leads = never next leads
 
 -- ---- the number of lines
 
-body_length : (swaps : List (List (List ℕ))) (atoms : List WeightedAtom) (tables : List TableLine) (states : List StateLine)
-    → length (body_lines swaps atoms tables states) ≡ (length swaps + length atoms + length tables) + length states
-body_length swaps atoms tables states =
+body_length : (swaps : List (List (List ℕ))) (atoms : List WeightedAtom) (parts : List Part) (states : List StateLine)
+    → length (body_lines swaps atoms parts states) ≡ (length swaps + length atoms + length parts) + length states
+body_length swaps atoms parts states =
     omega (
       arith,
-      length-append ((map swapped swaps ++ map atom atoms) ++ map tabled tables) (map listed states),
-      length-append (map swapped swaps ++ map atom atoms) (map tabled tables),
+      length-append ((map swapped swaps ++ map atom atoms) ++ map part parts) (map listed states),
+      length-append (map swapped swaps ++ map atom atoms) (map part parts),
       length-append (map swapped swaps) (map atom atoms),
       length-map swaps swapped,
       length-map atoms atom,
-      length-map tables tabled,
+      length-map parts part,
       length-map states listed,
     )
-
-table_lines : (tables : List TableLine) → length tables ≡ scope_count tables + row_count tables
-table_lines [] = refl
-table_lines (scope s ∷ tables) = let more = table_lines tables in let long : length (scope s ∷ tables) ≡ 1 + length tables = omega arith in omega (arith, more, long)
-table_lines (row r ∷ tables) = let more = table_lines tables in let long : length (row r ∷ tables) ≡ 1 + length tables = omega arith in omega (arith, more, long)
 
 -- the number of lines is limited, so their count is exact
 pub few_lines : (lines : List TextLine) (place : CertificatePlace) → ComesBefore place lines → length lines < 30000000
@@ -139,23 +121,20 @@ few_lines lines (at_claim v) are = omega (arith, ap length are)
 few_lines lines (at_constant v) (claim, is, are) = omega (arith, ap length are)
 few_lines lines (in_body b) body =
     let g : Beginning = body.beginning in
-    omega (arith, ap length body.lines_are, body_length g.swaps g.atoms g.tables g.states, table_lines g.tables, body.keeps.few_swaps, body.keeps.few_atoms, body.keeps.few_tables, body.keeps.few_rows, body.keeps.few_states)
+    omega (arith, ap length body.lines_are, body_length g.swaps g.atoms g.parts g.states, ordered_are_few g.parts body.keeps.in_order, body.keeps.few_swaps, body.keeps.few_atoms, body.keeps.few_states)
 few_lines lines ended (c, keeps, are) =
     let (counts, each) = and_parts _ (list_all (is_line (format_of c)) (text_lines c)) keeps in
     let (bodies, states) = and_parts _ (nat_le (length c.lines) most_states) counts in
-    let (fronts, tables) = and_parts (nat_le (length c.swaps) most_swaps && nat_le (length c.atoms) most_atoms) _ bodies in
+    let (fronts, ordered) = and_parts (nat_le (length c.swaps) most_swaps && nat_le (length c.atoms) most_atoms) _ bodies in
     let (swaps, atoms) = and_parts (nat_le (length c.swaps) most_swaps) (nat_le (length c.atoms) most_atoms) fronts in
-    let (scopes, rows) = and_parts (begin_with_scope c.tables && nat_le (scope_count c.tables) most_tables) (nat_le (row_count c.tables) most_rows) tables in
     omega (
       arith,
       ap length are,
-      body_length c.swaps c.atoms c.tables c.lines,
-      length-append (body_lines c.swaps c.atoms c.tables c.lines) (last (length c.lines) ∷ []),
-      table_lines c.tables,
+      body_length c.swaps c.atoms c.parts c.lines,
+      length-append (body_lines c.swaps c.atoms c.parts c.lines) (last (length c.lines) ∷ []),
+      ordered_are_few c.parts ordered,
       leb-true (length c.swaps) most_swaps swaps,
       leb-true (length c.atoms) most_atoms atoms,
-      leb-true (scope_count c.tables) most_tables (and_parts (begin_with_scope c.tables) (nat_le (scope_count c.tables) most_tables) scopes).1,
-      leb-true (row_count c.tables) most_rows rows,
       leb-true (length c.lines) most_states states,
     )
 

@@ -1,3 +1,5 @@
+pub mod PartWords
+pub mod Parts
 pub mod Lines
 pub mod Ends
 pub mod Words

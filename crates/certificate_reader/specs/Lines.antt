@@ -13,6 +13,7 @@ use Rattle.certificate_reader.specs.declared.line.StateLine.{StateLine}
 use Rattle.certificate_reader.specs.declared.line.NamedAtom.{NamedAtom}
 use Rattle.certificate_reader.specs.declared.line.CertLine.{CertLine}
 use Rattle.certificate_reader.specs.declared.line.CertLine.TheVariants as line
+use Rattle.certificate_reader.specs.Parts.{part_of}
 use Rattle.model.specs.Claims as claims
 use Rattle.certificate_definitions.specs.Certificates as certificates
 use Rattle.certificate_definitions.specs.Evidence as evidence
@@ -51,7 +52,6 @@ text_line_of (line.Constant k) = text.constant k.items
 text_line_of (line.Swap objects) = text.swapped (map name_of objects.items)
 text_line_of (line.Weight weights predicate objects) =
     text.atom (record { weights = weights.items; atom = record { predicate = name_of predicate; objects = map name_of objects.items } })
-text_line_of (line.Table scope) = text.tabled (text.scope scope.items)
-text_line_of (line.Row weights atoms) = text.tabled (text.row (record { weights = weights.items; atoms = atoms.items }))
+text_line_of (line.Part p) = text.part (part_of p)
 text_line_of (line.Listed l) = text.listed (line_of l)
 text_line_of (line.Last count) = text.last count

@@ -1,12 +1,14 @@
 -- The stage of the code's reader, and the result of a line there.
-use Rattle.std.specs.Prelude.{◌≡◌, ◌≢◌, ℕ, ◌<◌, Bool, true, ◌&&◌, nat_le, List, ◌++◌, codes, None, Some, Result, Ok, Err, IsTrue}
+use Rattle.std.specs.Prelude.{◌≡◌, ◌≢◌, ℕ, Bool, true, false, ◌&&◌, nat_le, List, ◌++◌, codes, None, Some, Result, Ok, Err, IsTrue}
 use Rattle.std.specs.Fmt.{decimal}
 use Rattle.certificate_definitions.specs.Certificates.{is_number}
 use Rattle.certificate_reader.specs.declared.line.CertLine.{CertLine}
 use Rattle.certificate_reader.specs.declared.format.Format.{Format}
 use Rattle.certificate_reader.specs.Lines.{text_line_of, version_of}
 use Rattle.certificate_definitions.specs.CertificateText as text
-use Rattle.certificate_definitions.specs.CertificateText.{scope, row, TextLine, swapped, atom, tabled, listed, is_line, line_text, most_swaps, most_atoms, most_tables, most_rows, most_states}
+use Rattle.certificate_definitions.specs.CertificateText.{TextLine, swapped, atom, part, listed, is_line, line_text, most_swaps, most_atoms, most_states}
+use Rattle.certificate_definitions.specs.Parts.{are_few, has_room, how_many, may_follow}
+use Rattle.certificate_reader.specs.Parts.{counts_of}
 use Rattle.certificate_definitions.specs.CertificateMachine as machine
 use Rattle.certificate_definitions.specs.CertificateMachine.{CertificatePlace, at_version, at_claim, at_constant, in_body, ended, format_at, next_place}
 use Rattle.certificate_reader.specs.declared.stage.Body.{Body}
@@ -21,7 +23,7 @@ abbrev pub format_of : Format → text.Format
 format_of f = record { version = version_of f.version; weights = f.weights; atoms = f.atoms }
 
 abbrev pub body_of : Body → machine.Body
-body_of b = record { format = format_of b.format; swaps = b.swaps; tables = b.tables; rows = b.rows; states = b.states }
+body_of b = record { format = format_of b.format; swaps = b.swaps; parts = counts_of b.parts; states = b.states }
 
 abbrev pub place_of : Stage → CertificatePlace
 place_of stage.Version = at_version
@@ -30,9 +32,9 @@ place_of (stage.Constants version) = at_constant (version_of version)
 place_of (stage.Body b) = in_body (body_of b)
 place_of stage.Ended = ended
 
--- the body has weights, and its numbers of exchanges, atoms, tables, rows and states are within the limits
+-- the body has weights, and its numbers of exchanges, atoms, parts and states are within the limits
 abbrev pub is_body_within : machine.Body → Bool
-is_body_within b = (nat_le 1 b.format.weights && nat_le b.swaps most_swaps) && (nat_le b.format.atoms most_atoms && nat_le b.tables most_tables && nat_le b.rows most_rows && nat_le b.states most_states)
+is_body_within b = (nat_le 1 b.format.weights && nat_le b.swaps most_swaps) && (nat_le b.format.atoms most_atoms && are_few b.parts && nat_le b.states most_states)
 
 abbrev pub is_within : CertificatePlace → Bool
 is_within at_version = true
@@ -46,10 +48,9 @@ IsWithin place = IsTrue (is_within place)
 
 -- the line would be allowed there but for a limit
 abbrev pub IsOver : CertificatePlace → TextLine → Type 0
-IsOver (in_body b) (swapped names) = (b.format.atoms ≡ 0) × (b.tables ≡ 0) × (b.states ≡ 0) × (b.swaps ≡ most_swaps)
-IsOver (in_body b) (atom a) = (b.tables ≡ 0) × (b.states ≡ 0) × (b.format.atoms ≡ most_atoms)
-IsOver (in_body b) (tabled (scope s)) = (b.states ≡ 0) × (b.tables ≡ most_tables)
-IsOver (in_body b) (tabled (row r)) = (0 < b.tables) × (b.states ≡ 0) × (b.rows ≡ most_rows)
+IsOver (in_body b) (swapped names) = (b.format.atoms ≡ 0) × (how_many b.parts ≡ 0) × (b.states ≡ 0) × (b.swaps ≡ most_swaps)
+IsOver (in_body b) (atom a) = (how_many b.parts ≡ 0) × (b.states ≡ 0) × (b.format.atoms ≡ most_atoms)
+IsOver (in_body b) (part p) = (b.states ≡ 0) × IsTrue (may_follow b.parts p) × (has_room b.parts p ≡ false)
 IsOver (in_body b) (listed l) = b.states ≡ most_states
 IsOver _ _ = ⊥
 

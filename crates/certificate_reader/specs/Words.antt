@@ -9,7 +9,8 @@ use Rattle.model.specs.PlanWriting.{is_lower_name}
 use Rattle.model.specs.Claims.{Claim, bound, none}
 use Rattle.certificate_definitions.specs.Evidence.{of_all, LineMark, opened, cut, dead}
 use Rattle.certificate_definitions.specs.Certificates.{is_number, is_weight, rise}
-use Rattle.certificate_definitions.specs.CertificateText.{NamedAtom, scope, row, Format, TextLine, version, claims, constant, swapped, atom, tabled, listed, last, after_blank, numbers_text, is_line, version_number}
+pub use Rattle.certificate_reader.specs.PartWords.{with_rest, then_words, then_weights, then_numbers, part_head, is_part_word, part_rest, IsPartReadAs}
+use Rattle.certificate_definitions.specs.CertificateText.{NamedAtom, Format, TextLine, version, claims, constant, swapped, atom, part, listed, last, after_blank, numbers_text, is_line, version_number}
 
 -- the bytes of a word, if there is one
 abbrev pub text_in : Option (Bor (List ℕ)) → Option (List ℕ)
@@ -21,11 +22,6 @@ is_blank byte = byte == 32
 -- none of these bytes is a blank
 abbrev pub is_word : List ℕ → Bool
 is_word = list_all (λ byte. not (is_blank byte))
-
--- a word, and the rest after a blank, if there is one
-abbrev pub with_rest : List ℕ → Option (List ℕ) → List ℕ
-with_rest word None = word
-with_rest word (Some rest) = word ++ codes " " ++ rest
 
 -- The bytes are this word, and after a blank the rest, if any.
 pub record IsFirstWord (bytes word : List ℕ) (rest : Option (List ℕ)) : Type 0 where
@@ -56,8 +52,7 @@ line_head (claims claim) = codes "claim"
 line_head (constant k) = codes "constant"
 line_head (swapped names) = codes "swap"
 line_head (atom a) = codes "atom"
-line_head (tabled (scope atoms)) = codes "table"
-line_head (tabled (row r)) = codes "row"
+line_head (part p) = part_head p
 line_head (listed l) = mark_head l.mark
 line_head (last count) = codes "end"
 
@@ -65,19 +60,6 @@ line_head (last count) = codes "end"
 abbrev pub claim_rest : Claim → List ℕ
 claim_rest (bound least) = codes "bound " ++ decimal least
 claim_rest none = codes "none"
-
--- these words, each after a blank, and then the rest, if any, without the first blank
-abbrev pub then_words : List (List ℕ) → Option (List ℕ) → Option (List ℕ)
-then_words [] rest = rest
-then_words (word ∷ words) rest = Some (with_rest word (then_words words rest))
-
--- weights and the rest after them
-abbrev pub then_weights : List ℤ → Option (List ℕ) → Option (List ℕ)
-then_weights weights = then_words (map signed_decimal weights)
-
--- numbers, and nothing after them
-abbrev pub then_numbers : List ℕ → Option (List ℕ)
-then_numbers numbers = then_words (map decimal numbers) None
 
 -- The words begin with weights, at most this many, and anything else comes only after as many.
 pub record IsLeading (words : Option (List ℕ)) (most : ℕ) (weights : List ℤ) (others : Option (List ℕ)) : Type 0 where
@@ -97,8 +79,7 @@ line_rest (claims claim) = Some (claim_rest claim)
 line_rest (constant k) = then_weights k None
 line_rest (swapped names) = then_words names None
 line_rest (atom a) = then_weights a.weights (Some (atom_rest a.atom))
-line_rest (tabled (scope atoms)) = then_numbers atoms
-line_rest (tabled (row r)) = then_weights r.weights (then_numbers r.atoms)
+line_rest (part p) = part_rest p
 line_rest (listed l) = Some (mark_rest l.mark l.cost ++ numbers_text l.atoms)
 line_rest (last count) = Some (decimal count)
 

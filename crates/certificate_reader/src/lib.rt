@@ -11,6 +11,7 @@ mod lower_names;
 mod next;
 mod number;
 mod parsing;
+mod part_line;
 mod parts;
 mod position;
 mod reader;
@@ -21,7 +22,8 @@ mod waiting;
 pub use fault::TextFault;
 pub use laws::{text_examples_are_judged, texts_are_certificates_one_for_one};
 pub use line::{
-    Basis, CertLine, Claim, LONGEST_LINE, MAX_ATOMS, MAX_CONSTANTS, MAX_ROWS, MAX_STATE_LINES,
-    MAX_SWAPS, MAX_TABLES, MAX_WEIGHT, Mark, NUMBER_LIMIT, NamedAtom, StateLine, Version,
+    Basis, CertLine, Claim, LONGEST_LINE, MAX_ATOMS, MAX_CONSTANTS, MAX_STATE_LINES, MAX_SWAPS,
+    MAX_WEIGHT, Mark, NUMBER_LIMIT, NamedAtom, StateLine, Version,
 };
+pub use part_line::{MAX_ROWS, MAX_TABLES, PartLine};
 pub use reader::{CertFault, CertReader};

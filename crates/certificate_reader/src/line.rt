@@ -1,16 +1,11 @@
 //! The content of a line of a certificate's text.
+use crate::part_line::PartLine;
 
 /// The maximum number of atoms of a certificate.
 pub const MAX_ATOMS: usize = 1_048_576;
 
 /// The maximum number of exchanges of objects of a certificate.
 pub const MAX_SWAPS: usize = 1_048_576;
-
-/// The maximum number of tables of a certificate.
-pub const MAX_TABLES: usize = 4_194_304;
-
-/// The maximum number of rows of all tables of a certificate together.
-pub const MAX_ROWS: usize = 4_194_304;
 
 /// The maximum number of state lines of a certificate.
 pub const MAX_STATE_LINES: usize = 16_777_216;
@@ -117,18 +112,8 @@ pub enum CertLine {
         /// The names of its objects, in order.
         objects: Vec<Vec<u8>>,
     },
-    /// A table over these atoms: `table 0 2`.
-    Table {
-        /// The atoms, in ascending order, by index.
-        scope: Vec<u32>,
-    },
-    /// A row of the last table: `row 3 0 2`.
-    Row {
-        /// The weights, as many as the constants.
-        weights: Vec<i64>,
-        /// The true atoms of the table, in ascending order, by index.
-        atoms: Vec<u32>,
-    },
+    /// A part, which gives what state lines rest on: `table 0 2`, `row 3 0 2`.
+    Part(PartLine),
     /// A state: `open 3 0 2`, `cut 6 2 0 1`, `dead 1 2`.
     Listed(StateLine),
     /// The last line, with the number of state lines: `end 2`.

@@ -12,11 +12,12 @@ ghost use Rattle.certificate_reader.specs.Words.{IsReadAs, are_lower, atom_rest,
 use crate::exchanged::exchanged_names;
 use crate::fault::{NextFault, TextFault};
 use crate::first_word::{first_word, is};
-use crate::format::{Format, has_exchanges, has_tables, is_weight_count};
+use crate::format::{Format, has_exchanges, is_weight_count};
 use crate::line::{Basis, CertLine, MAX_CONSTANTS, Mark, NamedAtom, StateLine, Version};
 use crate::lower_names::{copy, is_lower_name, names};
 use crate::number::number;
-use crate::parts::{claim, leading_weights, numbered, numbers};
+use crate::part_line::parse_part;
+use crate::parts::{claim, leading_weights, numbered};
 use std::alloc::{AllocError, Global};
 
 /// Parses these bytes, without LF, as a line of a text with this format.
@@ -57,12 +58,6 @@ fn parse_after(
     if is(word, b"dead") {
         return dead_line(alloc, rest, format);
     }
-    if is(word, b"row") {
-        return row_line(alloc, rest, format);
-    }
-    if is(word, b"table") {
-        return table_line(alloc, rest, format);
-    }
     if is(word, b"atom") {
         return atom_line(alloc, rest, format);
     }
@@ -81,7 +76,10 @@ fn parse_after(
     if is(word, b"pddl-cert") {
         return head_line(rest);
     }
-    Err(NextFault::Text(TextFault::Form))
+    match parse_part(alloc, word, rest, format) {
+        Ok(part) => Ok(CertLine::Part(part)),
+        Err(fault) => Err(fault),
+    }
 }
 
 /// Parses the first line from what follows `pddl-cert`.
@@ -165,40 +163,6 @@ fn swap_line(alloc: Global, rest: &[u8], format: Format) -> Result<CertLine, Nex
     }
     match exchanged_names(alloc, rest)? {
         Some(objects) => Ok(CertLine::Swap { objects }),
-        None => Err(NextFault::Text(TextFault::Form)),
-    }
-}
-
-/// Parses a table from the scope that follows `table`.
-fn table_line(alloc: Global, rest: &[u8], format: Format) -> Result<CertLine, NextFault>
-    requires few { format.atoms ≤ most_atoms }
-    ensures { IsParsedAfter (codes "table") rest.now (format_of format) result }
-{
-    if !has_tables(format.version) {
-        return Err(NextFault::Text(TextFault::Form));
-    }
-    match numbers(alloc, Some(rest), format.atoms)? {
-        Some(scope) => Ok(CertLine::Table { scope }),
-        None => Err(NextFault::Text(TextFault::Form)),
-    }
-}
-
-/// Parses a row with its weights from what follows `row`.
-fn row_line(alloc: Global, rest: &[u8], format: Format) -> Result<CertLine, NextFault>
-    requires few { format.atoms ≤ most_atoms }
-    ensures { IsParsedAfter (codes "row") rest.now (format_of format) result }
-{
-    if !has_tables(format.version) {
-        return Err(NextFault::Text(TextFault::Form));
-    }
-    let Some((weights, following)) = leading_weights(alloc, Some(rest), format.weights)? else {
-        return Err(NextFault::Text(TextFault::Form));
-    };
-    if weights.len() < format.weights {
-        return Err(NextFault::Text(TextFault::Form));
-    }
-    match numbers(alloc, following, format.atoms)? {
-        Some(atoms) => Ok(CertLine::Row { weights, atoms }),
         None => Err(NextFault::Text(TextFault::Form)),
     }
 }

@@ -1,16 +1,18 @@
 //! The stage of a reader: which line may come next.
 ghost use Rattle.std.specs.Prelude.{◌≡◌, ℕ, ◌≤◌, IsTrue, List, length};
-ghost use Rattle.lower_bounds.specs.TableFunctions.{Row};
 ghost use Rattle.certificate_definitions.specs.Certificates.{StateLine};
-ghost use Rattle.certificate_definitions.specs.CertificateText.{WeightedAtom, scope, row, swapped, atom, tabled, listed, is_line, longest_line};
+ghost use Rattle.certificate_definitions.specs.CertificateText as text;
+ghost use Rattle.certificate_definitions.specs.CertificateText.{WeightedAtom, swapped, atom, listed, is_line, longest_line};
 ghost use Rattle.certificate_definitions.specs.CertificateMachine.{format_at, in_body, no_body, no_format};
 ghost use Rattle.certificate_reader.specs.Lines.{text_line_of, version_of};
+ghost use Rattle.certificate_reader.specs.Parts.{part_of};
 ghost use Rattle.certificate_reader.specs.Stages.{IsReadAt, IsStep, IsWithin, body_of, format_of, place_of};
 
 use crate::fault::{NextFault, TextFault};
 use crate::format::Format;
-use crate::line::{CertLine, MAX_ATOMS, MAX_ROWS, MAX_STATE_LINES, MAX_SWAPS, MAX_TABLES, Version};
+use crate::line::{CertLine, MAX_ATOMS, MAX_STATE_LINES, MAX_SWAPS, Version};
 use crate::parsing::parse;
+use crate::part_line::{PartCounts, PartLine};
 use std::alloc::Global;
 
 /// The lines that may come next.
@@ -28,17 +30,15 @@ pub(crate) enum Stage {
     Ended,
 }
 
-/// The lines after the constants so far: exchanges, then atoms (counted by the format), then tables with their rows, then states.
+/// The lines after the constants so far: exchanges, then atoms (counted by the format), then parts, then states.
 #[derive(Clone, Copy, Debug, PartialEq, Eq)]
 pub(crate) struct Body {
     /// The form of lines.
     pub(crate) format: Format,
     /// The number of exchanges of objects.
     pub(crate) swaps: usize,
-    /// The number of tables.
-    pub(crate) tables: usize,
-    /// The number of rows.
-    pub(crate) rows: usize,
+    /// The numbers of parts.
+    pub(crate) parts: PartCounts,
     /// The number of states.
     pub(crate) states: usize,
 }
@@ -103,8 +103,7 @@ fn no_body(version: Version, weights: usize) -> Body
             atoms: 0,
         },
         swaps: 0,
-        tables: 0,
-        rows: 0,
+        parts: PartCounts { tables: 0, rows: 0 },
         states: 0,
     }
 }
@@ -119,8 +118,7 @@ impl Body {
         match line {
             CertLine::Swap { .. } => self.after_swap(),
             CertLine::Weight { .. } => self.after_atom(),
-            CertLine::Table { .. } => self.after_table(),
-            CertLine::Row { .. } => self.after_row(),
+            CertLine::Part(part) => self.after_part(part),
             CertLine::Listed(_) => self.after_state(),
             CertLine::Last { count } => {
                 if *count == self.states as u64 {
@@ -138,7 +136,7 @@ impl Body {
         requires within { IsWithin (in_body (body_of self)) }
         ensures { (names : List (List ℕ)) → IsTrue (is_line (format_of self.format) (swapped names)) → IsStep (in_body (body_of self)) (swapped names) result }
     {
-        if self.format.atoms > 0 || self.tables > 0 || self.states > 0 {
+        if self.format.atoms > 0 || !self.parts.is_empty() || self.states > 0 {
             return Err(TextFault::Form);
         }
         if self.swaps >= MAX_SWAPS {
@@ -147,8 +145,7 @@ impl Body {
         Ok(Stage::Body(Body {
             format: self.format,
             swaps: self.swaps + 1,
-            tables: self.tables,
-            rows: self.rows,
+            parts: self.parts,
             states: self.states,
         }))
     }
@@ -158,7 +155,7 @@ impl Body {
         requires within { IsWithin (in_body (body_of self)) }
         ensures { (a : WeightedAtom) → IsTrue (is_line (format_of self.format) (atom a)) → IsStep (in_body (body_of self)) (atom a) result }
     {
-        if self.tables > 0 || self.states > 0 {
+        if !self.parts.is_empty() || self.states > 0 {
             return Err(TextFault::Form);
         }
         if self.format.atoms >= MAX_ATOMS {
@@ -171,50 +168,29 @@ impl Body {
                 atoms: self.format.atoms + 1,
             },
             swaps: self.swaps,
-            tables: self.tables,
-            rows: self.rows,
+            parts: self.parts,
             states: self.states,
         }))
     }
 
-    /// The stage after the first line of a table, or its fault.
-    fn after_table(self) -> Result<Stage, TextFault>
+    /// The stage after a part, or its fault.
+    fn after_part(self, part: &PartLine) -> Result<Stage, TextFault>
         requires within { IsWithin (in_body (body_of self)) }
-        ensures { (atoms : List ℕ) → IsTrue (is_line (format_of self.format) (tabled (scope atoms))) → IsStep (in_body (body_of self)) (tabled (scope atoms)) result }
+        requires line { IsTrue (is_line (format_of self.format) (text.part (part_of part.now))) }
+        ensures { IsStep (in_body (body_of self)) (text.part (part_of part.now)) result }
     {
         if self.states > 0 {
             return Err(TextFault::Form);
         }
-        if self.tables >= MAX_TABLES {
-            return Err(TextFault::Limit);
+        match self.parts.after(part) {
+            Ok(parts) => Ok(Stage::Body(Body {
+                format: self.format,
+                swaps: self.swaps,
+                parts,
+                states: self.states,
+            })),
+            Err(fault) => Err(fault),
         }
-        Ok(Stage::Body(Body {
-            format: self.format,
-            swaps: self.swaps,
-            tables: self.tables + 1,
-            rows: self.rows,
-            states: self.states,
-        }))
-    }
-
-    /// The stage after a row, or its fault.
-    fn after_row(self) -> Result<Stage, TextFault>
-        requires within { IsWithin (in_body (body_of self)) }
-        ensures { (r : Row) → IsTrue (is_line (format_of self.format) (tabled (row r))) → IsStep (in_body (body_of self)) (tabled (row r)) result }
-    {
-        if self.tables == 0 || self.states > 0 {
-            return Err(TextFault::Form);
-        }
-        if self.rows >= MAX_ROWS {
-            return Err(TextFault::Limit);
-        }
-        Ok(Stage::Body(Body {
-            format: self.format,
-            swaps: self.swaps,
-            tables: self.tables,
-            rows: self.rows + 1,
-            states: self.states,
-        }))
     }
 
     /// The stage after a state, or its fault.
@@ -228,8 +204,7 @@ impl Body {
         Ok(Stage::Body(Body {
             format: self.format,
             swaps: self.swaps,
-            tables: self.tables,
-            rows: self.rows,
+            parts: self.parts,
             states: self.states + 1,
         }))
     }

@@ -8,7 +8,7 @@ ghost use Rattle.model.specs.Task.{Schema};
 ghost use Rattle.explain_tasks.specs.Forms.{AreForms, added, forms_in, forms_in_effect, forms_of_schema};
 ghost use Rattle.explain_tasks.specs.Summary.{forms_text};
 
-use crate::summary::yes_or_no;
+use crate::summary::YesOrNo;
 use std::alloc::{AllocError, Global};
 use task::{Effect, Formula, SchemaId, Task};
 
@@ -112,10 +112,10 @@ impl Forms {
     pub(crate) fn text(self, alloc: Global) -> Result<String, AllocError>
         ensures { IfOk result (λ text. string_bytes text ≡ forms_text self) }
     {
-        let conditional = yes_or_no(self.conditional_effects);
-        let quantifiers = yes_or_no(self.quantifiers);
-        let negations = yes_or_no(self.negations);
-        let disjunctions = yes_or_no(self.disjunctions);
+        let conditional = YesOrNo(self.conditional_effects);
+        let quantifiers = YesOrNo(self.quantifiers);
+        let negations = YesOrNo(self.negations);
+        let disjunctions = YesOrNo(self.disjunctions);
         format!(in alloc;
             "conditional effects {conditional}, quantifiers {quantifiers}, \
 negations {negations}, disjunctions {disjunctions}"

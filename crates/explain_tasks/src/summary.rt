@@ -2,11 +2,12 @@
 ghost use Rattle.std.specs.Prelude.{◌≡◌, IfOk};
 ghost use Rattle.std.specs.String.{string_bytes};
 ghost use Rattle.task.specs.Task.{task_of};
-ghost use Rattle.explain_tasks.specs.Summary.{IsSummaryOf, answer, forms_line, numbers_line, summary_text};
+ghost use Rattle.explain_tasks.specs.Summary.{IsSummaryOf, forms_line, numbers_line, summary_text};
 
 use crate::forms::Forms;
 use faults::NoMemory;
 use std::alloc::{AllocError, Global};
+use std::fmt;
 use task::Task;
 
 /// The size and features of a task.
@@ -72,14 +73,24 @@ impl Summary {
     fn forms_line(&self, alloc: Global) -> Result<String, AllocError>
         ensures { IfOk result (λ line. string_bytes line ≡ forms_line self.now) }
     {
-        let costs = yes_or_no(self.has_costs);
+        let costs = YesOrNo(self.has_costs);
         let forms = self.forms.text(alloc)?;
         format!(in alloc; "costs {costs}, {forms}\n")
     }
 }
 
-pub(crate) fn yes_or_no(is_so: bool) -> &'static str
-    ensures { result.now ≡ answer is_so }
-{
-    if is_so { "yes" } else { "no" }
+/// A fact in a word: `yes` or `no`.
+#[derive(Clone, Copy)]
+pub(crate) struct YesOrNo(pub bool);
+
+impl fmt::Display for YesOrNo {
+    ghost use Rattle.std.specs.Prelude.{Some};
+    ghost use Rattle.explain_tasks.specs.Summary.{answer};
+
+    ghost output = { λ fact. Some (answer fact.0) };
+
+    fn fmt<W: fmt::Write>(&self, f: &mut fmt::Formatter<W>) -> fmt::Result {
+        let word = if self.0 { "yes" } else { "no" };
+        write!(f, "{word}")
+    }
 }

@@ -51,7 +51,11 @@ fn makes_one(zone: ZoneRef<'_>, change: &CountingChange<'_>, changes: &[Counting
     requires { IsSorted (zone_in zone) }
     ensures { result ≡ fair.makes_one (map conditional_of changes.now) (zone_in zone.entry) (conditional_of change.now).change }
 {
-    is_in(zone, change.atom, change.value) && (change.value || !are_adding(changes, change.atom))
+    let made = NumberedLiteral {
+        atom: change.atom,
+        value: change.value,
+    };
+    is_in(zone, made) && (change.value || !are_adding(changes, change.atom))
 }
 
 /// Whether the change may take effect where the zone is whole.
@@ -87,22 +91,22 @@ pub(crate) fn has_any(zone: ZoneRef<'_>, literals: &[NumberedLiteral]) -> bool
     ensures { result ≡ has_any (zone_in zone.entry) (map numbered_of literals.now) }
 {
     for literal in literals {
-        if is_in(zone, literal.atom, literal.value) {
+        if is_in(zone, *literal) {
             return true;
         }
     }
     false
 }
 
-/// Whether the literal of this atom with this truth value is one of the zone's.
-fn is_in(zone: ZoneRef<'_>, atom: u32, value: bool) -> bool
+/// Whether the literal is one of the zone's.
+fn is_in(zone: ZoneRef<'_>, literal: NumberedLiteral) -> bool
     requires { IsSorted (zone_in zone) }
-    ensures { result ≡ is_in (zone_in zone.entry) (record { atom = atom; value = value }) }
+    ensures { result ≡ is_in (zone_in zone.entry) (numbered_of literal) }
 {
-    if value {
-        is_among(zone.atoms, atom)
+    if literal.value {
+        is_among(zone.atoms, literal.atom)
     } else {
-        is_among(zone.negated, atom)
+        is_among(zone.negated, literal.atom)
     }
 }
 

@@ -1,7 +1,6 @@
 -- The loss of an instance, change by change: each atom counts at its first change.
 use Rattle.std.proofs.Common.{◌≡◌, ◌∙◌, ℕ, ◌+◌, ◌*◌, ◌<◌, Bool, true, false, ◌||◌, ◌==◌, List, [], ◌∷◌, ◌++◌, length, map, take, get_or, refl, sym, ap, subst, arith, ℤ, pos, ◌+ℤ◌, neg_ℤ, ◌≤ℤ◌}
 use Rattle.std.specs.Prelude.{if◌then◌else◌, All, Some, slice_get}
-use Rattle.std.specs.Int.{int_max}
 use Rattle.std.proofs.lemmas.Option.{get_or_from_slice_get}
 use Rattle.std.proofs.lemmas.List.Elements.{All-contains}
 use Rattle.std.proofs.lemmas.Bool.{eq-eqb, eqb-true, false_from_ne_true}
@@ -9,7 +8,7 @@ use Rattle.std.proofs.lemmas.Int.{ints}
 use Rattle.model.specs.NumberedLiterals.{NumberedLiteral, NumberedChange}
 use Rattle.lower_bounds.specs.PotentialFunctions.{weight, sum_below, IsInRange}
 use Rattle.model.proofs.ListLemmas.{Contains-got, Contains-map}
-use Rattle.lower_bounds.specs.FairPotentials.{says, touches, is_pair, worst, goal_gives}
+use Rattle.lower_bounds.specs.FairPotentials.{touches, is_pair, worst}
 use Rattle.lower_bounds.proofs.Sums.{sum-alike, sum-changed, sum-zero, sum-range}
 use Rattle.lower_bounds.proofs.Ranges.{weight-range, zero-range}
 use Rattle.lower_bounds.proofs.Worst.{worst_by, worst-is, worst-range}
@@ -120,13 +119,3 @@ module _ (literals : List NumberedLiteral) (changes : List NumberedChange) (weig
       let few = All-contains (λ (k : NumberedChange). k.atom < length weights) (map counting_of xs) (counting_of c) below (Contains-map counting_of xs c (Contains-got xs place c it.1)) in
       let more = losing-more (map counting_of (take place xs)) (counting_of c) x few (loses c it.1) in
       ap (λ z. z +ℤ x) so_far ∙ sym more ∙ ap losing (sym (map-take-more counting_of xs place c within at))
-
--- ---- the contribution of an atom in goal states
-
-pub gives-is : (literals : List NumberedLiteral) (weights : List ℤ) (n : ℕ) (fails holds : Bool) (w v x : ℤ) → fails ≡ says literals n false → holds ≡ says literals n true → w ≡ weight weights n → v ≡ w
-    → x ≡ (if fails then pos 0 else if holds then v else int_max (pos 0) v) → x ≡ goal_gives literals weights n
-gives-is literals weights n fails holds w v x says_fails says_holds weighs same gives =
-    gives
-    ∙ ap (λ b. if b then pos 0 else if holds then v else int_max (pos 0) v) says_fails
-    ∙ ap (λ b. if says literals n false then pos 0 else if b then v else int_max (pos 0) v) says_holds
-    ∙ ap (λ z. if says literals n false then pos 0 else if says literals n true then z else int_max (pos 0) z) (same ∙ weighs)

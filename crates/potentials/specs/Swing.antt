@@ -3,8 +3,8 @@ use Rattle.std.specs.Prelude.{◌≡◌, ℕ, Bool, true, false, ◌||◌, List}
 use Rattle.model.specs.NumberedLiterals.{NumberedLiteral, NumberedChange}
 use Rattle.lower_bounds.specs.FairPotentials.{Pair, is_pair, makes}
 use Rattle.potentials.specs.declared.swing.Swing.{Swing}
-use Rattle.potentials.specs.declared.swing.Made.{Made}
-use Rattle.potentials.specs.declared.swing.Made.TheVariants.{Always, Sometimes}
+use Rattle.potentials.specs.declared.swing.Kind.{Kind}
+use Rattle.potentials.specs.declared.swing.Kind.TheVariants.{Add, Delete, MayAdd, MayDelete}
 use Rattle.potentials.specs.declared.swing.Makers.{Makers}
 use Rattle.potentials.specs.declared.swing.Transition.{Transition}
 use Rattle.potentials.specs.declared.swing.Transition.TheVariants.{StaysFalse, Rises, Falls, StaysTrue}
@@ -16,9 +16,19 @@ pair_of Rises = record { before = false; after = true }
 pair_of Falls = record { before = true; after = false }
 pair_of StaysTrue = record { before = true; after = true }
 
-abbrev pub is_always : Made → Bool
-is_always Always = true
-is_always Sometimes = false
+-- a change of this kind takes effect whenever the instance is applied
+abbrev pub is_always : Kind → Bool
+is_always Add = true
+is_always Delete = true
+is_always MayAdd = false
+is_always MayDelete = false
+
+-- it makes the atom true
+abbrev pub adds : Kind → Bool
+adds Add = true
+adds Delete = false
+adds MayAdd = true
+adds MayDelete = false
 
 -- which of the changes affect the atom with this number
 pub record AreMakers (changes : List NumberedChange) (number : ℕ) (m : Makers) : Type 0 where

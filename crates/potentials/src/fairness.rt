@@ -8,7 +8,7 @@ ghost use Rattle.lower_bounds.specs.FairPotentials.{nothing, IsFairAt, IsFairAtG
 ghost use Rattle.potentials.specs.Potentials.{potentials_of};
 ghost use Rattle.potentials.specs.Fairness.{allowed_by, AreInstancesFairAt, ReportsAt, Reports, DetectsDead};
 
-use crate::goals::goal_gives_at_most;
+use crate::goals::GoalAtoms;
 use crate::instances::instance_count;
 use crate::losses::loses_at_most;
 use crate::potentials::Potentials;
@@ -39,47 +39,56 @@ enum Allowance {
 impl Potentials {
     /// Whether they are fair for the ground task: no kept instance may lose more than it costs, and the value in goal states is
     /// at most 0. There must be a weight for each numbered atom.
-    pub fn fair(&self, _alloc: Global, ground: &Ground<'_>) -> Result<Fairness, NoMemory>
+    pub fn fair(&self, alloc: Global, ground: &Ground<'_>) -> Result<Fairness, NoMemory>
         requires { length (potentials_of self.now).weights ≡ length (atoms_in ground.now) }
         ensures { IfOk result (Reports (task_in ground.now) (atoms_in ground.now) (potentials_of self.now)) }
     {
-        Ok(self.fairness(ground, Allowance::Cost))
+        self.fairness(alloc, ground, Allowance::Cost)
     }
 
     /// Whether they are dead-fair for the ground task: no kept instance may lose anything, and the value in goal states is at
     /// most 0. A state with a value of at least 1 is then a dead end. There must be a weight for each numbered atom.
-    pub fn dead_fair(&self, _alloc: Global, ground: &Ground<'_>) -> Result<Fairness, NoMemory>
+    ///
+    /// # Errors
+    /// An allocation failed.
+    pub fn dead_fair(&self, alloc: Global, ground: &Ground<'_>) -> Result<Fairness, NoMemory>
         requires { length (potentials_of self.now).weights ≡ length (atoms_in ground.now) }
         ensures { IfOk result (DetectsDead (task_in ground.now) (atoms_in ground.now) (potentials_of self.now)) }
     {
-        Ok(self.fairness(ground, Allowance::Nothing))
+        self.fairness(alloc, ground, Allowance::Nothing)
     }
 
     /// Whether they are fair with this allowance for each instance.
-    fn fairness(&self, ground: &Ground<'_>, allowance: Allowance) -> Fairness
+    fn fairness(
+        &self,
+        alloc: Global,
+        ground: &Ground<'_>,
+        allowance: Allowance,
+    ) -> Result<Fairness, NoMemory>
         requires { length (potentials_of self.now).weights ≡ length (atoms_in ground.now) }
-        ensures { ReportsAt (allowed_by allowance (task_in ground.now)) (task_in ground.now) (atoms_in ground.now) (potentials_of self.now) result }
+        ensures { IfOk result (ReportsAt (allowed_by allowance (task_in ground.now)) (task_in ground.now) (atoms_in ground.now) (potentials_of self.now)) }
     {
         match self.first_unfair(ground, allowance) {
-            Some(number) => Fairness::Instance(number),
+            Some(number) => Ok(Fairness::Instance(number)),
             None => {
-                if self.is_fair_at_goals(ground) {
-                    Fairness::Fair
+                if self.is_fair_at_goals(alloc, ground)? {
+                    Ok(Fairness::Fair)
                 } else {
-                    Fairness::Goal
+                    Ok(Fairness::Goal)
                 }
             }
         }
     }
 
     /// Whether they satisfy the goal condition.
-    fn is_fair_at_goals(&self, ground: &Ground<'_>) -> bool
+    fn is_fair_at_goals(&self, alloc: Global, ground: &Ground<'_>) -> Result<bool, NoMemory>
         requires { length (potentials_of self.now).weights ≡ length (atoms_in ground.now) }
-        ensures { IsTrue result ↔ IsFairAtGoals (task_in ground.now) (atoms_in ground.now) (potentials_of self.now) }
+        ensures { IfOk result (λ fair. IsTrue fair ↔ IsFairAtGoals (task_in ground.now) (atoms_in ground.now) (potentials_of self.now)) }
     {
-        let given = goal_gives_at_most(ground.goal_literals(), self.weights());
+        let goal = GoalAtoms::new(alloc, ground.goal_literals(), ground.width())?;
+        let given = goal.give_at_most(self.weights());
         let sum = self.constant() + given;
-        is_at_most(sum, 0)
+        Ok(is_at_most(sum, 0))
     }
 
     /// The number of the first instance that violates fairness, if there is one.

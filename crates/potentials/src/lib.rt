@@ -8,14 +8,16 @@ mod laws;
 mod losses;
 mod potentials;
 mod range;
+mod said;
 mod swing;
 mod words;
 
 pub use fairness::Fairness;
-pub use goals::{goal_gives, goal_gives_at_most};
+pub use goals::GoalAtoms;
 pub use instances::instance_count;
 pub use laws::ground_atoms_are_numberable;
 pub use losses::loses_at_most;
 pub use potentials::{Potentials, or_zero};
 pub use range::{MAX_WEIGHT, is_in_range};
-pub use swing::{Swing, says, touches};
+pub use said::Said;
+pub use swing::{Swing, touches};

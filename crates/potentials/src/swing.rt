@@ -1,14 +1,14 @@
 //! What an instance may do to an atom's truth value.
 ghost use Rattle.std.specs.Prelude.{◌≡◌, ℕ, List, map};
-ghost use Rattle.std.specs.Bool.{beq};
 ghost use Rattle.grounding.specs.Views.{numbered_of};
 ghost use Rattle.grounding.specs.Changes.{counting_of};
 ghost use Rattle.lower_bounds.specs.PotentialFunctions.{IsInRange};
 ghost use Rattle.lower_bounds.specs.FairPotentials as model;
 ghost use Rattle.lower_bounds.proofs.Worst.{worst_by};
 ghost use Rattle.model.specs.NumberedLiterals.{NumberedChange};
-ghost use Rattle.potentials.specs.Swing.{IsSwing, is_always};
+ghost use Rattle.potentials.specs.Swing.{IsSwing, is_always, adds};
 
+use crate::said::Said;
 use grounding::{CountingChange, NumberedLiteral};
 
 /// The truth value of an atom before and after a step.
@@ -48,23 +48,37 @@ impl Transition {
     }
 }
 
-/// When a change takes effect.
+/// A kind of change of an atom: what it makes of it, whenever the instance is applied or under the condition of a `when`.
 #[derive(Clone, Copy)]
-enum Made {
-    /// Whenever the instance is applied.
-    Always,
-    /// Under the condition of a `when`.
-    Sometimes,
+enum Kind {
+    /// It always adds the atom.
+    Add,
+    /// It always deletes it.
+    Delete,
+    /// It sometimes adds it.
+    MayAdd,
+    /// It sometimes deletes it.
+    MayDelete,
 }
 
-impl Made {
+impl Kind {
     /// Whether it takes effect whenever the instance is applied.
     fn is_always(self) -> bool
         ensures { result ≡ is_always self }
     {
         match self {
-            Made::Always => true,
-            Made::Sometimes => false,
+            Kind::Add | Kind::Delete => true,
+            Kind::MayAdd | Kind::MayDelete => false,
+        }
+    }
+
+    /// Whether it makes the atom true.
+    fn adds(self) -> bool
+        ensures { result ≡ adds self }
+    {
+        match self {
+            Kind::Add | Kind::MayAdd => true,
+            Kind::Delete | Kind::MayDelete => false,
         }
     }
 }
@@ -90,10 +104,10 @@ impl Makers {
         ensures { AreMakers (map counting_of changes.now) atom result }
     {
         Makers {
-            add: makes(changes, Made::Always, true, atom),
-            delete: makes(changes, Made::Always, false, atom),
-            may_add: makes(changes, Made::Sometimes, true, atom),
-            may_delete: makes(changes, Made::Sometimes, false, atom),
+            add: has(changes, Kind::Add, atom),
+            delete: has(changes, Kind::Delete, atom),
+            may_add: has(changes, Kind::MayAdd, atom),
+            may_delete: has(changes, Kind::MayDelete, atom),
         }
     }
 
@@ -107,7 +121,8 @@ impl Makers {
             return after;
         }
         let may_be_made = if after { self.may_add } else { self.may_delete };
-        same(after, transition.before() && !self.delete) || may_be_made
+        let unchanged = transition.before() && !self.delete;
+        after == unchanged || may_be_made
     }
 }
 
@@ -127,8 +142,9 @@ impl Swing {
     pub fn new(literals: &[NumberedLiteral], changes: &[CountingChange<'_>], atom: u32) -> Swing
         ensures { IsSwing (map numbered_of literals.now) (map counting_of changes.now) atom result }
     {
-        let was_true = !says(literals, atom, false);
-        let was_false = !says(literals, atom, true);
+        let said = Said::of(literals, atom);
+        let was_true = !said.is_false;
+        let was_false = !said.is_true;
         let makers = Makers::new(changes, atom);
         Swing {
             falls: was_true && makers.allow(Transition::Falls),
@@ -153,20 +169,6 @@ impl Swing {
     }
 }
 
-/// Whether both are true or both false.
-fn same(one: bool, other: bool) -> bool
-    ensures { result ≡ beq one other }
-{
-    if one { other } else { !other }
-}
-
-/// Whether one of the literals states that the atom with this number is true (or false, by `value`).
-pub fn says(literals: &[NumberedLiteral], atom: u32, value: bool) -> bool
-    ensures { result ≡ model.says (map numbered_of literals.now) atom value }
-{
-    literals.iter().any(|literal| literal.atom == atom && same(literal.value, value))
-}
-
 /// Whether one of the changes affects the atom with this number.
 pub fn touches(changes: &[CountingChange<'_>], atom: u32) -> bool
     ensures { result ≡ model.touches (map counting_of changes.now) atom }
@@ -174,14 +176,13 @@ pub fn touches(changes: &[CountingChange<'_>], atom: u32) -> bool
     changes.iter().any(|change| change.atom == atom)
 }
 
-/// Whether one of the changes, made this way, makes the atom true (or false, by `value`).
-fn makes(changes: &[CountingChange<'_>], made: Made, value: bool, atom: u32) -> bool
-    ensures { result ≡ model.makes (map counting_of changes.now) (is_always made) value atom }
+/// Whether one of the changes is of this kind, to the atom with this number.
+fn has(changes: &[CountingChange<'_>], kind: Kind, atom: u32) -> bool
+    ensures { result ≡ model.makes (map counting_of changes.now) (is_always kind) (adds kind) atom }
 {
-    let is_always = made.is_always();
+    let is_always = kind.is_always();
+    let adds = kind.adds();
     changes.iter().any(|change| {
-        change.atom == atom
-            && same(change.is_unconditional(), is_always)
-            && same(change.value, value)
+        change.atom == atom && change.is_unconditional() == is_always && change.value == adds
     })
 }

@@ -7,7 +7,7 @@ use crate::samples::{sampled, true_atoms};
 use faults::NoMemory;
 use grounding::Ground;
 use packed_state::Packed;
-use potentials::{goal_gives, instance_count, is_in_range};
+use potentials::{Said, instance_count, is_in_range};
 use std::alloc::Global;
 
 /// The number of sampled states.
@@ -47,7 +47,11 @@ impl AtGoal {
     /// Upper bound of the atom's contribution in goal states, for this weight.
     fn gives(self, weight: i64) -> i64 {
         if is_in_range(weight) {
-            goal_gives(self.is_false, self.is_true, weight)
+            let said = Said {
+                is_false: self.is_false,
+                is_true: self.is_true,
+            };
+            said.gives(weight)
         } else {
             0
         }

@@ -16,7 +16,12 @@ use Rattle.lower_bounds.specs.Settled.{initial_value, IsSettledAt, IsImprovedAt}
 use Rattle.lower_bounds.proofs.Sums.{sum-range}
 use Rattle.lower_bounds.proofs.Ranges.{zero-range, weight-range, given-range}
 use Rattle.lower_bounds.proofs.Settling.{weight-here, gives-set, given-set, potentials, IsNoneBetter, IsTried, settled}
+use Rattle.potentials.specs.declared.said.Said.{Said}
+use Rattle.potentials.specs.declared.goals.GoalAtoms.{GoalAtoms}
+use Rattle.potentials.specs.Said.{IsSaid}
+use Rattle.potentials.specs.Goals.{AreSaid}
 use Rattle.potentials.specs.Potentials.{potentials_of}
+use Rattle.potentials.proofs.GoalLemmas.{gives-is}
 use Rattle.potentials.specs.Fairness.{AreInstancesFairAt}
 use Rattle.potentials_improved.specs.declared.climb.Climb.{Climb}
 use Rattle.potentials_improved.specs.declared.climb.Next.{Next}
@@ -53,36 +58,41 @@ module _ (allowance : Instance → ℕ) (task : Task) (atoms : List Atom) where
   pub initial-long : length initial ≡ length atoms
   initial-long = length-map atoms (contains (initial_state task))
 
+  -- what the code computes of the goal
+  pub goal-given : (p : PotentialFunction) (weights : List ℤ) (g : GoalAtoms) (given : ℤ) → weights ≡ p.weights → length p.weights ≡ length atoms → AreSaid goal (length atoms) g
+      → ((literals : List NumberedLiteral) → AreSaid literals (length weights) g → given ≡ goal_gives_at_most (length weights) weights literals) → given ≡ goal_gives_at_most (length atoms) p.weights goal
+  goal-given p weights g given same width said gives =
+      let long : length weights ≡ length atoms = ap length same ∙ width in
+      gives goal (subst (λ n. AreSaid goal n g) (sym long) said)
+      ∙ ap (λ n. goal_gives_at_most n weights goal) long
+      ∙ ap (λ (w : List ℤ). goal_gives_at_most (length atoms) w goal) same
+
   -- ---- sums with one weight changed
 
-  -- what the code computes of the goal
-  pub goal-moved : (weights : List ℤ) (n : ℕ) (w s old v before after : ℤ) (fails holds : Bool) (literals : List NumberedLiteral) → n < length atoms → length weights ≡ length atoms
+  -- of the goal
+  pub goal-moved : (weights : List ℤ) (n : ℕ) (w s old v before after : ℤ) (said is : Said) → n < length atoms → length weights ≡ length atoms
       → s ≡ goal_gives_at_most (length atoms) weights goal
-      → literals ≡ goal → fails ≡ says literals n false → holds ≡ says literals n true → old ≡ weight weights n → v ≡ w
-      → before ≡ (if fails then pos 0 else if holds then old else int_max (pos 0) old)
-      → after ≡ (if fails then pos 0 else if holds then v else int_max (pos 0) v)
+      → said ≡ is → IsSaid goal n is → old ≡ weight weights n → v ≡ w
+      → before ≡ (if said.is_false then pos 0 else if said.is_true then old else int_max (pos 0) old)
+      → after ≡ (if said.is_false then pos 0 else if said.is_true then v else int_max (pos 0) v)
       → ((s +ℤ neg_ℤ before) +ℤ after) ≡ goal_gives_at_most (length atoms) (set weights n w) goal
-  goal-moved weights n w s old v before after fails holds literals within width sums are says_fails says_holds weighs same gives_before gives_after =
+  goal-moved weights n w s old v before after said is within width sums same_said are weighs same gives_before gives_after =
       let here : w ≡ weight (set weights n w) n = sym (weight-here weights n w (omega (arith, width))) in
-      let as_reported = λ (x y : ℤ) (xy : x ≡ y). (
-      ap (λ b. if b then pos 0 else if holds then x else int_max (pos 0) x) (says_fails ∙ ap (λ l. says l n false) are)
-      ∙ ap (λ b. if says goal n false then pos 0 else if b then x else int_max (pos 0) x) (says_holds ∙ ap (λ l. says l n true) are)
-      ∙ ap (λ z. if says goal n false then pos 0 else if says goal n true then z else int_max (pos 0) z) xy
-      ) in
-      let e0 : before ≡ goal_gives goal weights n = gives_before ∙ as_reported old (weight weights n) weighs in
-      let e1 : after ≡ goal_gives goal (set weights n w) n = gives_after ∙ as_reported v (weight (set weights n w) n) (same ∙ here) in
+      let all : IsSaid goal n said = subst (IsSaid goal n) (sym same_said) are in
+      let e0 = gives-is goal weights n said old old before all weighs refl gives_before in
+      let e1 = gives-is goal (set weights n w) n said w v after all here same gives_after in
       let moved = gives-set (length atoms) weights n w goal within (sym width) in
       omega (arith, ints)
 
   -- and of the initial state
-  pub score-moved : (p : PotentialFunction) (n : ℕ) (w k s c kk old v before after : ℤ) (bit : Bool) (bits : List Bool) → n < length atoms → length p.weights ≡ length atoms
+  pub score-moved : (p : PotentialFunction) (n : ℕ) (w k s c kk old v before after : ℤ) (bits : List Bool) → n < length atoms → length p.weights ≡ length atoms
       → s ≡ score p initial → c ≡ p.constant → kk ≡ k
-      → bits ≡ initial → bit ≡ get_or bits n false → old ≡ weight p.weights n → v ≡ w
-      → before ≡ (if bit then old else pos 0) → after ≡ (if bit then v else pos 0)
+      → bits ≡ initial → old ≡ weight p.weights n → v ≡ w
+      → before ≡ (if get_or bits n false then old else pos 0) → after ≡ (if get_or bits n false then v else pos 0)
       → ((((s +ℤ neg_ℤ c) +ℤ kk) +ℤ neg_ℤ before) +ℤ after) ≡ score (potentials k (set p.weights n w)) initial
-  score-moved p n w k s c kk old v before after bit bits within width sums constant kept are holds weighs same gives_before gives_after =
+  score-moved p n w k s c kk old v before after bits within width sums constant kept are weighs same gives_before gives_after =
       let here : w ≡ weight (set p.weights n w) n = sym (weight-here p.weights n w (omega (arith, width))) in
-      let as_reported = λ (x y : ℤ) (xy : x ≡ y). (ap (λ b. if b then x else pos 0) (holds ∙ ap (λ l. get_or l n false) are) ∙ ap (λ z. if get_or initial n false then z else pos 0) xy) in
+      let as_reported = λ (x y : ℤ) (xy : x ≡ y). (ap (λ l. if get_or l n false then x else pos 0) are ∙ ap (λ z. if get_or initial n false then z else pos 0) xy) in
       let e0 : before ≡ given p.weights initial n = gives_before ∙ as_reported old (weight p.weights n) weighs in
       let e1 : after ≡ given (set p.weights n w) initial n = gives_after ∙ as_reported v (weight (set p.weights n w) n) (same ∙ here) in
       let long = initial-long in

@@ -1,6 +1,7 @@
 //! Hill climbing: steps of single weights from fair potentials to better ones.
-ghost use Rattle.std.specs.Prelude.{◌≡◌, ◌<◌, ◌≤◌, ◌||◌, ◌↔◌, ℤ, ◌+ℤ◌, ◌≤ℤ◌, neg_ℤ, pos, set, if◌then◌else◌, All, IfSome, IfNone, IsTrue, length, map};
+ghost use Rattle.std.specs.Prelude.{◌≡◌, ◌<◌, ◌≤◌, ◌↔◌, ℤ, ◌+ℤ◌, ◌≤ℤ◌, neg_ℤ, pos, set, if◌then◌else◌, All, IfSome, IfNone, IsTrue, length, map};
 ghost use Rattle.packed_state.specs.Packed.{bits_of};
+ghost use Rattle.packed_state.specs.Sets.{has};
 ghost use Rattle.grounding.specs.Ground.{task_in, atoms_in};
 ghost use Rattle.model.specs.StaticallyFalse.{kept_instances};
 ghost use Rattle.model.specs.NumberedLiterals.{literals_of_goal};
@@ -12,16 +13,16 @@ ghost use Rattle.lower_bounds.specs.FairPotentials.{AreFairAt};
 ghost use Rattle.lower_bounds.specs.Settled.{initial_value};
 ghost use Rattle.lower_bounds.proofs.Settling.{IsNoneBetter};
 ghost use Rattle.potentials.specs.Potentials.{potentials_of};
-ghost use Rattle.potentials_drafted.specs.Incidence.{number_of, IsIncidence};
+ghost use Rattle.potentials_drafted.specs.Incidence.{number_of};
+ghost use Rattle.potentials_improved.specs.Groundwork.{ground_under};
 ghost use Rattle.potentials_improved.specs.Climb.{AreFairAmong, IsClimb, IsNext, IsWeightTried, IsAtomTried, IsPass, worth};
 
 use crate::allowance::Allowance;
+use crate::groundwork::Groundwork;
 use grounding::Ground;
 use packed_state::Packed;
-use potentials::{
-    MAX_WEIGHT, Potentials, goal_gives, goal_gives_at_most, is_in_range, or_zero, says,
-};
-use potentials_drafted::{Incidence, IncidenceEntry};
+use potentials::{MAX_WEIGHT, Potentials, is_in_range, or_zero};
+use potentials_drafted::IncidenceEntry;
 
 /// Potentials that are fair at an allowance and have the greatest constant, an upper bound of their score in goal states without
 /// the constant, and their score in the initial state.
@@ -38,6 +39,13 @@ pub(crate) struct Next {
     pub(crate) constant: i64,
     pub(crate) goal: i64,
     pub(crate) score: i64,
+}
+
+/// A weight to be tried for an atom.
+#[derive(Clone, Copy)]
+pub(crate) struct Trial {
+    pub(crate) atom: u32,
+    pub(crate) weight: i64,
 }
 
 /// The greatest constant in range, given the upper bound of the score in goal states.
@@ -57,19 +65,17 @@ impl Climb {
     /// Begins at these potentials, with the greatest constant.
     pub(crate) fn new<A: Allowance>(
         mut potentials: Potentials,
-        ground: &Ground<'_>,
-        initial: &Packed,
+        groundwork: &Groundwork<'_, '_>,
     ) -> Climb
-        requires width { length (potentials_of potentials).weights ≡ length (atoms_in ground.now) }
-        requires fair { AreFairAt (A.allowance (task_in ground.now)) (task_in ground.now) (atoms_in ground.now) (potentials_of potentials) }
-        requires initial { bits_of initial.now ≡ (ground_system (task_in ground.now) (atoms_in ground.now)).initial }
-        ensures climb { IsClimb (A.allowance (task_in ground.now)) (task_in ground.now) (atoms_in ground.now) result }
-        ensures no_lower { initial_value (task_in ground.now) (atoms_in ground.now) (potentials_of potentials) ≤ worth (task_in ground.now) (atoms_in ground.now) result }
+        requires width { length (potentials_of potentials).weights ≡ length (atoms_in (ground_under groundwork.now)) }
+        requires fair { AreFairAt (A.allowance (task_in (ground_under groundwork.now))) (task_in (ground_under groundwork.now)) (atoms_in (ground_under groundwork.now)) (potentials_of potentials) }
+        ensures climb { IsClimb (A.allowance (task_in (ground_under groundwork.now))) (task_in (ground_under groundwork.now)) (atoms_in (ground_under groundwork.now)) result }
+        ensures no_lower { initial_value (task_in (ground_under groundwork.now)) (atoms_in (ground_under groundwork.now)) (potentials_of potentials) ≤ worth (task_in (ground_under groundwork.now)) (atoms_in (ground_under groundwork.now)) result }
     {
-        let goal = goal_gives_at_most(ground.goal_literals(), potentials.weights());
+        let goal = groundwork.goal.give_at_most(potentials.weights());
         let constant = greatest_constant(goal);
         potentials.set_constant(constant);
-        let score = potentials.score(initial);
+        let score = potentials.score(&groundwork.initial);
         Climb {
             potentials,
             goal,
@@ -78,66 +84,53 @@ impl Climb {
     }
 
     /// The upper bound in goal states, with the changed weight.
-    fn moved_goal<A: Allowance>(&self, ground: &Ground<'_>, atom: u32, weight: i64) -> i64
-        requires climb { IsClimb (A.allowance (task_in ground.now)) (task_in ground.now) (atoms_in ground.now) self.now }
-        requires within { atom < length (atoms_in ground.now) }
-        requires range { IsInRange weight }
-        ensures { result ≡ model.goal_gives_at_most (length (atoms_in ground.now)) (set self.now.potentials.weights.items atom weight) (literals_of_goal (task_in ground.now) (atoms_in ground.now)) }
+    fn moved_goal<A: Allowance>(&self, groundwork: &Groundwork<'_, '_>, trial: Trial) -> i64
+        requires climb { IsClimb (A.allowance (task_in (ground_under groundwork.now))) (task_in (ground_under groundwork.now)) (atoms_in (ground_under groundwork.now)) self.now }
+        requires within { trial.atom < length (atoms_in (ground_under groundwork.now)) }
+        requires range { IsInRange trial.weight }
+        ensures { result ≡ model.goal_gives_at_most (length (atoms_in (ground_under groundwork.now))) (set self.now.potentials.weights.items trial.atom trial.weight) (literals_of_goal (task_in (ground_under groundwork.now)) (atoms_in (ground_under groundwork.now))) }
     {
-        let old = self.potentials.weight(atom);
-        let literals = ground.goal_literals();
-        let is_false = says(literals, atom, false);
-        let is_true = says(literals, atom, true);
-        let before = goal_gives(is_false, is_true, old);
-        let after = goal_gives(is_false, is_true, weight);
+        let old = self.potentials.weight(trial.atom);
+        let said = groundwork.goal.of(trial.atom);
+        let before = said.gives(old);
+        let after = said.gives(trial.weight);
         exchanged(self.goal, before, after)
     }
 
     /// The score in the initial state, with the changed weight and this constant.
     fn moved_score<A: Allowance>(
         &self,
-        ground: &Ground<'_>,
-        initial: &Packed,
-        atom: u32,
-        weight: i64,
+        groundwork: &Groundwork<'_, '_>,
+        trial: Trial,
         constant: i64,
     ) -> i64
-        requires climb { IsClimb (A.allowance (task_in ground.now)) (task_in ground.now) (atoms_in ground.now) self.now }
-        requires initial { bits_of initial.now ≡ (ground_system (task_in ground.now) (atoms_in ground.now)).initial }
-        requires within { atom < length (atoms_in ground.now) }
-        requires weight { IsInRange weight }
+        requires climb { IsClimb (A.allowance (task_in (ground_under groundwork.now))) (task_in (ground_under groundwork.now)) (atoms_in (ground_under groundwork.now)) self.now }
+        requires within { trial.atom < length (atoms_in (ground_under groundwork.now)) }
+        requires weight { IsInRange trial.weight }
         requires constant { IsInRange constant }
-        ensures { result ≡ potential.score (record { constant = constant; weights = set self.now.potentials.weights.items atom weight }) (ground_system (task_in ground.now) (atoms_in ground.now)).initial }
+        ensures { result ≡ potential.score (record { constant = constant; weights = set self.now.potentials.weights.items trial.atom trial.weight }) (ground_system (task_in (ground_under groundwork.now)) (atoms_in (ground_under groundwork.now))).initial }
     {
-        let old = self.potentials.weight(atom);
-        let is_true = initial.has(atom);
-        let before = given(is_true, old);
-        let after = given(is_true, weight);
+        let old = self.potentials.weight(trial.atom);
+        let before = given(&groundwork.initial, trial.atom, old);
+        let after = given(&groundwork.initial, trial.atom, trial.weight);
         let moved = exchanged(self.score, self.potentials.constant(), constant);
         exchanged(moved, before, after)
     }
 
     /// The numbers for the changed weight, if they are better.
-    fn next<A: Allowance>(
-        &self,
-        ground: &Ground<'_>,
-        initial: &Packed,
-        atom: u32,
-        weight: i64,
-    ) -> Option<Next>
-        requires climb { IsClimb (A.allowance (task_in ground.now)) (task_in ground.now) (atoms_in ground.now) self.now }
-        requires initial { bits_of initial.now ≡ (ground_system (task_in ground.now) (atoms_in ground.now)).initial }
-        requires within { atom < length (atoms_in ground.now) }
-        requires range { IsInRange weight }
-        ensures none { IfNone result (IsNoneBetter (A.allowance (task_in ground.now)) (task_in ground.now) (atoms_in ground.now) (potentials_of self.now.potentials) (set self.now.potentials.weights.items atom weight)) }
-        ensures some { IfSome result (IsNext (task_in ground.now) (atoms_in ground.now) self.now atom weight) }
+    fn next<A: Allowance>(&self, groundwork: &Groundwork<'_, '_>, trial: Trial) -> Option<Next>
+        requires climb { IsClimb (A.allowance (task_in (ground_under groundwork.now))) (task_in (ground_under groundwork.now)) (atoms_in (ground_under groundwork.now)) self.now }
+        requires within { trial.atom < length (atoms_in (ground_under groundwork.now)) }
+        requires range { IsInRange trial.weight }
+        ensures none { IfNone result (IsNoneBetter (A.allowance (task_in (ground_under groundwork.now))) (task_in (ground_under groundwork.now)) (atoms_in (ground_under groundwork.now)) (potentials_of self.now.potentials) (set self.now.potentials.weights.items trial.atom trial.weight)) }
+        ensures some { IfSome result (IsNext (task_in (ground_under groundwork.now)) (atoms_in (ground_under groundwork.now)) self.now trial.atom trial.weight) }
     {
-        let goal = self.moved_goal::<A>(ground, atom, weight);
+        let goal = self.moved_goal::<A>(groundwork, trial);
         if goal > MAX_WEIGHT {
             return None;
         }
         let constant = greatest_constant(goal);
-        let score = self.moved_score::<A>(ground, initial, atom, weight, constant);
+        let score = self.moved_score::<A>(groundwork, trial, constant);
         if or_zero(score) <= or_zero(self.score) {
             return None;
         }
@@ -149,25 +142,16 @@ impl Climb {
     }
 
     /// Takes the weight, if the potentials become better and stay fair.
-    fn try_weight<A: Allowance>(
-        &mut self,
-        ground: &Ground<'_>,
-        incidence: &Incidence,
-        initial: &Packed,
-        atom: u32,
-        weight: i64,
-    ) -> bool
-        requires climb { IsClimb (A.allowance (task_in ground.now)) (task_in ground.now) (atoms_in ground.now) self.old }
-        requires incidence { IsIncidence (task_in ground.now) (atoms_in ground.now) (length (kept_instances (task_in ground.now))) incidence.now }
-        requires initial { bits_of initial.now ≡ (ground_system (task_in ground.now) (atoms_in ground.now)).initial }
-        requires within { atom < length (atoms_in ground.now) }
-        ensures { IsWeightTried (A.allowance (task_in ground.now)) (task_in ground.now) (atoms_in ground.now) self.old self.new atom weight result }
+    fn try_weight<A: Allowance>(&mut self, groundwork: &Groundwork<'_, '_>, trial: Trial) -> bool
+        requires climb { IsClimb (A.allowance (task_in (ground_under groundwork.now))) (task_in (ground_under groundwork.now)) (atoms_in (ground_under groundwork.now)) self.old }
+        requires within { trial.atom < length (atoms_in (ground_under groundwork.now)) }
+        ensures { IsWeightTried (A.allowance (task_in (ground_under groundwork.now))) (task_in (ground_under groundwork.now)) (atoms_in (ground_under groundwork.now)) self.old self.new trial.atom trial.weight result }
     {
-        if !is_in_range(weight) {
+        if !is_in_range(trial.weight) {
             return false;
         }
-        match self.next::<A>(ground, initial, atom, weight) {
-            Some(next) => self.take_if_fair::<A>(ground, incidence, atom, weight, next),
+        match self.next::<A>(groundwork, trial) {
+            Some(next) => self.take_if_fair::<A>(groundwork, trial, next),
             None => false,
         }
     }
@@ -175,23 +159,21 @@ impl Climb {
     /// Takes the weight and its numbers, if each instance that touches the atom stays fair. All others do.
     fn take_if_fair<A: Allowance>(
         &mut self,
-        ground: &Ground<'_>,
-        incidence: &Incidence,
-        atom: u32,
-        weight: i64,
+        groundwork: &Groundwork<'_, '_>,
+        trial: Trial,
         next: Next,
     ) -> bool
-        requires climb { IsClimb (A.allowance (task_in ground.now)) (task_in ground.now) (atoms_in ground.now) self.old }
-        requires incidence { IsIncidence (task_in ground.now) (atoms_in ground.now) (length (kept_instances (task_in ground.now))) incidence.now }
-        requires within { atom < length (atoms_in ground.now) }
-        requires range { IsInRange weight }
-        requires next { IsNext (task_in ground.now) (atoms_in ground.now) self.old atom weight next }
-        ensures { IsWeightTried (A.allowance (task_in ground.now)) (task_in ground.now) (atoms_in ground.now) self.old self.new atom weight result }
+        requires climb { IsClimb (A.allowance (task_in (ground_under groundwork.now))) (task_in (ground_under groundwork.now)) (atoms_in (ground_under groundwork.now)) self.old }
+        requires within { trial.atom < length (atoms_in (ground_under groundwork.now)) }
+        requires range { IsInRange trial.weight }
+        requires next { IsNext (task_in (ground_under groundwork.now)) (atoms_in (ground_under groundwork.now)) self.old trial.atom trial.weight next }
+        ensures { IsWeightTried (A.allowance (task_in (ground_under groundwork.now))) (task_in (ground_under groundwork.now)) (atoms_in (ground_under groundwork.now)) self.old self.new trial.atom trial.weight result }
     {
-        let old = self.potentials.weight(atom);
-        self.potentials.set_weight(atom, weight);
-        if !are_fair_at::<A>(&self.potentials, ground, incidence.of(atom)) {
-            self.potentials.set_weight(atom, old);
+        let old = self.potentials.weight(trial.atom);
+        self.potentials.set_weight(trial.atom, trial.weight);
+        let touching = groundwork.tables.incidence().of(trial.atom);
+        if !are_fair_at::<A>(&self.potentials, groundwork.ground, touching) {
+            self.potentials.set_weight(trial.atom, old);
             return false;
         }
         self.potentials.set_constant(next.constant);
@@ -201,42 +183,35 @@ impl Climb {
     }
 
     /// Tries the atom's weight less one, and plus one.
-    fn try_atom<A: Allowance>(
-        &mut self,
-        ground: &Ground<'_>,
-        incidence: &Incidence,
-        initial: &Packed,
-        atom: u32,
-    ) -> bool
-        requires climb { IsClimb (A.allowance (task_in ground.now)) (task_in ground.now) (atoms_in ground.now) self.old }
-        requires incidence { IsIncidence (task_in ground.now) (atoms_in ground.now) (length (kept_instances (task_in ground.now))) incidence.now }
-        requires initial { bits_of initial.now ≡ (ground_system (task_in ground.now) (atoms_in ground.now)).initial }
-        requires within { atom < length (atoms_in ground.now) }
-        ensures { IsAtomTried (A.allowance (task_in ground.now)) (task_in ground.now) (atoms_in ground.now) self.old self.new atom result }
+    fn try_atom<A: Allowance>(&mut self, groundwork: &Groundwork<'_, '_>, atom: u32) -> bool
+        requires climb { IsClimb (A.allowance (task_in (ground_under groundwork.now))) (task_in (ground_under groundwork.now)) (atoms_in (ground_under groundwork.now)) self.old }
+        requires within { atom < length (atoms_in (ground_under groundwork.now)) }
+        ensures { IsAtomTried (A.allowance (task_in (ground_under groundwork.now))) (task_in (ground_under groundwork.now)) (atoms_in (ground_under groundwork.now)) self.old self.new atom result }
     {
         let old = self.potentials.weight(atom);
-        if self.try_weight::<A>(ground, incidence, initial, atom, old - 1) {
+        let less = Trial {
+            atom,
+            weight: old - 1,
+        };
+        if self.try_weight::<A>(groundwork, less) {
             return true;
         }
-        self.try_weight::<A>(ground, incidence, initial, atom, old + 1)
+        let more = Trial {
+            atom,
+            weight: old + 1,
+        };
+        self.try_weight::<A>(groundwork, more)
     }
 
     /// One pass: tries each atom once.
-    pub(crate) fn pass<A: Allowance>(
-        &mut self,
-        ground: &Ground<'_>,
-        incidence: &Incidence,
-        initial: &Packed,
-    ) -> bool
-        requires climb { IsClimb (A.allowance (task_in ground.now)) (task_in ground.now) (atoms_in ground.now) self.old }
-        requires incidence { IsIncidence (task_in ground.now) (atoms_in ground.now) (length (kept_instances (task_in ground.now))) incidence.now }
-        requires initial { bits_of initial.now ≡ (ground_system (task_in ground.now) (atoms_in ground.now)).initial }
-        ensures { IsPass (A.allowance (task_in ground.now)) (task_in ground.now) (atoms_in ground.now) (length (atoms_in ground.now)) self.old self.new result }
+    pub(crate) fn pass<A: Allowance>(&mut self, groundwork: &Groundwork<'_, '_>) -> bool
+        requires climb { IsClimb (A.allowance (task_in (ground_under groundwork.now))) (task_in (ground_under groundwork.now)) (atoms_in (ground_under groundwork.now)) self.old }
+        ensures { IsPass (A.allowance (task_in (ground_under groundwork.now))) (task_in (ground_under groundwork.now)) (atoms_in (ground_under groundwork.now)) (length (atoms_in (ground_under groundwork.now))) self.old self.new result }
     {
         let mut raised = false;
-        for atom in 0..ground.width() {
-            let better = self.try_atom::<A>(ground, incidence, initial, atom);
-            raised = either(raised, better);
+        for atom in 0..groundwork.ground.width() {
+            let better = self.try_atom::<A>(groundwork, atom);
+            raised |= better;
         }
         raised
     }
@@ -271,18 +246,12 @@ fn exchanged(sum: i64, before: i64, after: i64) -> i64
     sum - before + after
 }
 
-/// The weight, if the atom is true; else 0.
-fn given(is_true: bool, weight: i64) -> i64
-    requires { IsInRange weight }
-    ensures value { result ≡ (if is_true then weight else pos 0) }
+/// The weight, if the atom is true in the state; else 0.
+fn given(state: &Packed, atom: u32, weight: i64) -> i64
+    requires within { atom < length (bits_of state.now) }
+    requires range { IsInRange weight }
+    ensures value { result ≡ (if has (bits_of state.now) atom then weight else pos 0) }
     ensures range { IsInRange result }
 {
-    if is_true { weight } else { 0 }
-}
-
-/// Whether at least one is true.
-fn either(one: bool, other: bool) -> bool
-    ensures { result ≡ (one || other) }
-{
-    one || other
+    if state.has(atom) { weight } else { 0 }
 }

@@ -1,8 +1,6 @@
 //! Potentials from drafts.
 ghost use Rattle.std.specs.Prelude.{◌≡◌, ◌≤◌, IfOk, IfSome, length};
 ghost use Rattle.grounding.specs.Ground.{task_in, atoms_in};
-ghost use Rattle.packed_state.specs.Packed.{bits_of};
-ghost use Rattle.model.specs.Grounding.{ground_system};
 ghost use Rattle.lower_bounds.specs.FairPotentials.{AreFairAt};
 ghost use Rattle.lower_bounds.specs.Settled.{initial_value};
 ghost use Rattle.potentials.specs.Potentials.{potentials_of};
@@ -13,9 +11,7 @@ use crate::allowance::Allowance;
 use crate::climb::greatest_constant;
 use crate::groundwork::Groundwork;
 use faults::NoMemory;
-use grounding::Ground;
-use packed_state::Packed;
-use potentials::{Fairness, MAX_WEIGHT, Potentials, goal_gives_at_most};
+use potentials::{Fairness, MAX_WEIGHT, Potentials};
 use std::alloc::Global;
 
 /// An allowance with drafts.
@@ -43,11 +39,10 @@ pub(crate) fn no_worse<A: Allowance>(
     requires fair { AreFairAt (A.allowance (task_in (ground_under groundwork.now))) (task_in (ground_under groundwork.now)) (atoms_in (ground_under groundwork.now)) (potentials_of potentials) }
     ensures { IfOk result (λ p. IsNoWorseAt (A.allowance (task_in (ground_under groundwork.now))) (task_in (ground_under groundwork.now)) (atoms_in (ground_under groundwork.now)) (potentials_of potentials) (potentials_of p)) }
 {
-    let ground = groundwork.ground;
-    let Some(other) = if_no_lower(&potentials, ground, &groundwork.initial, weights) else {
+    let Some(other) = if_no_lower(&potentials, groundwork, weights) else {
         return Ok(potentials);
     };
-    match A::fairness(&other, alloc, ground)? {
+    match A::fairness(&other, alloc, groundwork.ground)? {
         Fairness::Fair => Ok(other),
         Fairness::Instance(_) => Ok(potentials),
         Fairness::Goal => Ok(potentials),
@@ -57,26 +52,25 @@ pub(crate) fn no_worse<A: Allowance>(
 /// Potentials with these weights and the greatest constant, if their value of the initial state is no lower than the others'.
 fn if_no_lower(
     potentials: &Potentials,
-    ground: &Ground<'_>,
-    initial: &Packed,
+    groundwork: &Groundwork<'_, '_>,
     weights: Vec<i64>,
 ) -> Option<Potentials>
-    requires width { length (potentials_of potentials.now).weights ≡ length (atoms_in ground.now) }
-    requires initial { bits_of initial.now ≡ (ground_system (task_in ground.now) (atoms_in ground.now)).initial }
-    ensures width { IfSome result (λ p. length (potentials_of p).weights ≡ length (atoms_in ground.now)) }
-    ensures no_lower { IfSome result (λ p. initial_value (task_in ground.now) (atoms_in ground.now) (potentials_of potentials.now) ≤ initial_value (task_in ground.now) (atoms_in ground.now) (potentials_of p)) }
+    requires width { length (potentials_of potentials.now).weights ≡ length (atoms_in (ground_under groundwork.now)) }
+    ensures width { IfSome result (λ p. length (potentials_of p).weights ≡ length (atoms_in (ground_under groundwork.now))) }
+    ensures no_lower { IfSome result (λ p. initial_value (task_in (ground_under groundwork.now)) (atoms_in (ground_under groundwork.now)) (potentials_of potentials.now) ≤ initial_value (task_in (ground_under groundwork.now)) (atoms_in (ground_under groundwork.now)) (potentials_of p)) }
 {
-    if weights.len() != ground.width() as usize {
+    if weights.len() != groundwork.ground.width() as usize {
         return None;
     }
     let Some(mut other) = Potentials::new(0, weights) else {
         return None;
     };
-    let goal = goal_gives_at_most(ground.goal_literals(), other.weights());
+    let goal = groundwork.goal.give_at_most(other.weights());
     if goal > MAX_WEIGHT {
         return None;
     }
     other.set_constant(greatest_constant(goal));
+    let initial = &groundwork.initial;
     if other.value(initial) < potentials.value(initial) {
         return None;
     }

@@ -1,26 +1,31 @@
 //! What improving potentials of a ground task needs, at any allowance.
-ghost use Rattle.std.specs.Prelude.{◌≡◌};
+ghost use Rattle.std.specs.Prelude.{◌≡◌, length};
 ghost use Rattle.std.proofs.Props.{props};
 ghost use Rattle.packed_state.specs.Packed.{bits_of};
 ghost use Rattle.grounding.specs.Ground.{task_in, atoms_in};
+ghost use Rattle.model.specs.NumberedLiterals.{literals_of_goal};
 ghost use Rattle.model.specs.Grounding.{ground_system};
+ghost use Rattle.potentials.specs.Goals.{AreSaid};
 ghost use Rattle.potentials_improved.specs.Tested.{AreTestedTables};
 
 use faults::NoMemory;
 use grounding::Ground;
 use packed_state::Packed;
+use potentials::GoalAtoms;
 use potentials_drafted::Tables;
 use std::alloc::Global;
 
-/// What improving potentials of a ground task needs, at any allowance: its tables of instances and atoms, and its initial state.
-/// Made once.
+/// What improving potentials of a ground task needs, at any allowance: its tables of instances and atoms, its initial state, and what
+/// its goal says of each atom. Made once.
 #[derive(Drop)]
 pub struct Groundwork<'g, 't> {
     pub(crate) ground: &'g Ground<'t>,
     pub(crate) tables: Tables,
     pub(crate) initial: Packed,
+    pub(crate) goal: GoalAtoms,
     ghost incidence: { AreTestedTables ground.now tables } by { Prim.hlevel props },
     ghost initial_is: { bits_of initial ≡ (ground_system (task_in ground.now) (atoms_in ground.now)).initial } by { Prim.hlevel props },
+    ghost goal_is: { AreSaid (literals_of_goal (task_in ground.now) (atoms_in ground.now)) (length (atoms_in ground.now)) goal } by { Prim.hlevel props },
 }
 
 impl<'g, 't> Groundwork<'g, 't> {
@@ -36,10 +41,12 @@ impl<'g, 't> Groundwork<'g, 't> {
     {
         let initial = ground.initial(alloc)?;
         let tables = Tables::new(alloc, ground, &initial)?;
+        let goal = GoalAtoms::new(alloc, ground.goal_literals(), ground.width())?;
         Ok(Groundwork {
             ground,
             tables,
             initial,
+            goal,
         })
     }
 }

@@ -73,13 +73,10 @@ fn improved<A: Drafts>(
     requires fair { AreFairAt (A.allowance (task_in (ground_under groundwork.now))) (task_in (ground_under groundwork.now)) (atoms_in (ground_under groundwork.now)) (potentials_of potentials) }
     ensures { IfOk result (λ p. IsImprovedAt (A.allowance (task_in (ground_under groundwork.now))) (task_in (ground_under groundwork.now)) (atoms_in (ground_under groundwork.now)) rounds (potentials_of potentials) (potentials_of p)) }
 {
-    let ground = groundwork.ground;
-    let incidence = groundwork.tables.incidence();
-    let initial = &groundwork.initial;
     let drafted = A::drafted(alloc, potentials, groundwork, rounds)?;
-    let mut climb = Climb::new::<A>(drafted, ground, initial);
+    let mut climb = Climb::new::<A>(drafted, groundwork);
     for _ in 0..rounds {
-        if !climb.pass::<A>(ground, incidence, initial) {
+        if !climb.pass::<A>(groundwork) {
             return Ok(climb.potentials);
         }
     }

@@ -10,6 +10,7 @@ pub mod NodesLemmas
 pub mod Noted
 pub mod OpenList
 pub mod OpenListLemmas
+pub mod Paused
 pub mod Reached
 pub mod Steps
 pub mod ShortWays

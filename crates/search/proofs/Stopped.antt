@@ -24,7 +24,7 @@ use Rattle.search.proofs.Steps.{entries_of, current_entry, entry_waits}
 module _ {S : Type 0} (t : System S ℕ) (class_of : S → S) (value : S → ℕ) (is_dead : S → Bool) (states : List S) (all : List Node) (open_list : List Waiting)
     (one_each : length all ≡ length states) (nodes : AreNodes t class_of value is_dead (found_of states all) open_list) (are_open : AreOpen t class_of (found_of states all)) where
   -- the least sum of those that wait is a bound
-  at_least : AreClassesOf t class_of → IsAdmissible t value → ReportsDeadEnds t is_dead → (max_states least : ℕ) → length states ≡ max_states
+  pub at_least : AreClassesOf t class_of → IsAdmissible t value → ReportsDeadEnds t is_dead → (max_states least : ℕ) → length states ≡ max_states
       → ((k : ℕ) (n : Found S) → slice_get (found_of states all) k ≡ Some n → IsWaiting is_dead n → least ≤ total_of value n)
       → (k : ℕ) (n : Found S) → slice_get (found_of states all) k ≡ Some n → IsWaiting is_dead n → total_of value n ≡ least → IsAtLimit t class_of value is_dead max_states least states all
   at_least classes admissible reports max_states least full no_less i one occurs waits is =

@@ -5,8 +5,10 @@ use Rattle.search.specs.declared.nodes.Node.{Node}
 use Rattle.search.specs.declared.under_way.Halt.{Halt}
 use Rattle.search.specs.declared.under_way.Halt.TheVariants.{Ended, Paused}
 use Rattle.search.specs.declared.under_way.Search.{Search}
+use Rattle.search.specs.declared.under_way.Stop.{Stop}
+use Rattle.search.specs.declared.under_way.Stop.TheVariants as stop
 use Rattle.search.specs.Nodes.{AreOpen}
-use Rattle.search.specs.Outcome.{HasEstimates, IsTrueOutcome}
+use Rattle.search.specs.Outcome.{AreEstimates, HasEstimates, IsAtLimit, IsTrueOutcome}
 use Rattle.search.specs.Progress.{AreWide, IsSearch, nodes_in}
 
 -- the found states
@@ -33,3 +35,13 @@ module _ {S Store R : Type 0} (t : System S ℕ) (class_of : S → S) (value : S
   abbrev pub IsTrueHalt : ℕ → ℕ → Halt Store R → Type 0
   IsTrueHalt pause max_states (Ended outcome) = IsTrueOutcome t class_of value is_dead states_of max_states outcome × HasEstimates value is_dead states_of outcome
   IsTrueHalt pause max_states (Paused search) = IsUnderWay max_states search × (pause ≤ length (states_of (store_in search)))
+
+-- Stopped at a pause, the search shows what it would show at a limit of as many states as are listed, with the estimates of the cuts; or no
+-- state waits, and its outcome is true.
+abbrev pub IsTrueStop : {S Store : Type 0} → System S ℕ → (S → S) → (S → ℕ) → (S → Bool) → (Store → List S) → ℕ → Stop Store → Type 0
+IsTrueStop t class_of value is_dead states_of max_states (stop.Ended outcome) =
+    IsTrueOutcome t class_of value is_dead states_of max_states outcome × HasEstimates value is_dead states_of outcome
+IsTrueStop t class_of value is_dead states_of max_states (stop.Waiting least found) =
+    (length (states_of found.store) ≤ max_states)
+    × IsAtLimit t class_of value is_dead (length (states_of found.store)) least (states_of found.store) found.nodes.items
+    × AreEstimates value is_dead (states_of found.store) found.nodes.items found.estimates.items

@@ -20,4 +20,4 @@ pub use guide::{EstimateWithDeadEnds, Guide};
 pub use listing::{OwnClasses, Place, StateListing};
 pub use nodes::{FoundStates, Node, NodeStatus, StateId};
 pub use transitions::TransitionSystem;
-pub use under_way::{Halt, Search, begin, finish, go_on};
+pub use under_way::{Halt, Search, Stop, begin, finish, go_on, stop_at_pause};

@@ -51,16 +51,18 @@
 //! Left open are which of several cheapest plans is answered, which states whose sum equals its cost are expanded before, and the
 //! order of the listing. `next_waiting` promises the order above; that its state is the one to expand or answer, and that states are
 //! found in the order of successors, is only tested.
-ghost use Rattle.std.specs.Prelude.{◌≡◌, ◌≤◌, ℕ, [], IfOk};
+ghost use Rattle.std.specs.Prelude.{◌≡◌, ◌≤◌, ℕ, [], IfOk, length};
 ghost use Rattle.model.specs.Limits.{max_states_listed};
 ghost use Rattle.search.specs.OpenList.{IsLeastSum};
 ghost use Rattle.search.specs.Outcome.{AreClassesOf, HasEstimates, IsTrueOutcome};
-ghost use Rattle.search.specs.UnderWay.{store_in, nodes_of, IsUnderWay, IsTrueHalt};
+ghost use Rattle.search.specs.Nodes.{AreOpen};
+ghost use Rattle.search.specs.Progress.{IsSearch, nodes_in};
+ghost use Rattle.search.specs.UnderWay.{store_in, nodes_of, IsUnderWay, IsTrueHalt, IsTrueStop};
 
 use crate::best::Outcome;
 use crate::guide::Guide;
 use crate::listing::StateListing;
-use crate::nodes::Node;
+use crate::nodes::{FoundStates, Node};
 use crate::progress::{Buffers, Progress};
 use crate::transitions::TransitionSystem;
 use faults::NoMemory;
@@ -80,6 +82,20 @@ pub enum Halt<L, R> {
     Ended(Outcome<L>),
     /// At a pause: as many states are listed as were asked for, and there is no outcome yet.
     Paused(Search<L, R>),
+}
+
+/// What a search that is stopped at a pause shows.
+#[derive(Drop)]
+pub enum Stop<L> {
+    /// No state waits, so it is at its end: no plan exists.
+    Ended(Outcome<L>),
+    /// States wait.
+    Waiting {
+        /// A lower bound of every plan's cost: the least sum of a waiting state.
+        bound: u64,
+        /// The found states.
+        states: FoundStates<L>,
+    },
 }
 
 impl<L: StateListing, R> Search<L, R> {
@@ -198,4 +214,31 @@ pub fn finish<T: TransitionSystem, G: Guide, L: StateListing>(
         Halt::Ended(outcome) => Ok(outcome),
         Halt::Paused(_) => unreachable!(),
     }
+}
+
+/// Stops the search where it pauses. The found states prove its bound, as they do at the limit of states. The guide is asked nothing.
+///
+/// # Errors
+/// Memory is refused.
+pub fn stop_at_pause<G: Guide, L: StateListing>(
+    alloc: Global,
+    _guide: &G,
+    search: Search<L, G::Scratch>,
+) -> Result<Stop<L>, NoMemory>
+    requires search { IsSearch (G.system_of _guide.now) (L.class_of (store_in search)) (G.estimate_of _guide.now) (G.is_dead _guide.now) L.states search.progress }
+    requires successors { AreOpen (G.system_of _guide.now) (L.class_of (store_in search)) (nodes_in L.states search.progress) }
+    requires classes { AreClassesOf (G.system_of _guide.now) (L.class_of (store_in search)) }
+    ensures { IfOk result (λ stop. (max_states : ℕ) → length (L.states (store_in search)) ≤ max_states
+        → IsTrueStop (G.system_of _guide.now) (L.class_of (store_in search)) (G.estimate_of _guide.now) (G.is_dead _guide.now) L.states max_states stop) }
+{
+    let Search {
+        mut progress,
+        buffers: _,
+    } = search;
+    let Some(turn) = progress.next_waiting() else {
+        let states = progress.into_states(alloc)?;
+        return Ok(Stop::Ended(Outcome::Exhausted { states }));
+    };
+    let (bound, states) = progress.into_bound(alloc, turn)?;
+    Ok(Stop::Waiting { bound, states })
 }

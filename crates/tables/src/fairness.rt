@@ -13,7 +13,7 @@ ghost use Rattle.tables.specs.Fairness.{function_of, allowed_by, FitsGround};
 use crate::tables::IndexedTables;
 use faults::NoMemory;
 use grounding::Ground;
-use potentials::{Potentials, goal_gives_at_most, loses_at_most};
+use potentials::{GoalAtoms, Potentials, loses_at_most};
 use std::alloc::Global;
 
 /// One of several values, with what instances may lose of it.
@@ -67,7 +67,8 @@ impl TableValue<'_, '_> {
             return Ok(true);
         }
         let by_tables = self.tables.give(alloc, literals, self.place)?;
-        let by_atoms = goal_gives_at_most(literals, self.potentials.weights());
+        let goal = GoalAtoms::new(alloc, literals, ground.width())?;
+        let by_atoms = goal.give_at_most(self.potentials.weights());
         Ok(is_at_most(self.potentials.constant() + by_atoms + by_tables, 0))
     }
 }

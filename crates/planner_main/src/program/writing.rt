@@ -219,6 +219,7 @@ fn cert_of(answer: &Answer) -> Option<&Cert>
         Answer::Plan { cert, .. } => Some(cert),
         Answer::Unsolvable { cert } => Some(cert),
         Answer::Unknown(Exceeded::States { cert, .. }) => Some(cert),
+        Answer::Unknown(Exceeded::Time { cert, .. }) => Some(cert),
         Answer::Unknown(Exceeded::Instances | Exceeded::Atoms) => None,
     }
 }

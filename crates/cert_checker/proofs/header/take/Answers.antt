@@ -5,20 +5,20 @@ use Rattle.faults.proofs.Results.{passed_on}
 use Rattle.task.specs.Task.{task_of}
 use Rattle.task.specs.TaskParts.{atom_of}
 use Rattle.certificate_reader.specs.Lines.{claim_of, name_of, named_atom_of, text_line_of, version_of}
-use Rattle.certificate_definitions.specs.CertificateText.{TextLine, BeginCertificate, atom, constant, swapped, tabled, scope, row}
+use Rattle.certificate_definitions.specs.CertificateText.{TextLine, BeginCertificate, atom, constant, swapped}
 use Rattle.symmetries_definitions.specs.Exchanges.{Exchange}
 use Rattle.certificate_definitions.specs.CertificateNames.{exchange_said}
 use Rattle.model.specs.Task.{Task}
-use Rattle.lower_bounds.specs.TableFunctions.{Row, SeveralValues}
-use Rattle.table_rows.specs.Tables.{table_of}
+use Rattle.lower_bounds.specs.TableFunctions.{SeveralValues}
 use Rattle.certificate.specs.declared.header.Bounds.{Bounds}
 use Rattle.certificate.specs.declared.header.Header.{Header}
 use Rattle.certificate.specs.CertificateParts.{bounds_of, exchange_in}
+use Rattle.certificate_reader.specs.Parts.{part_of}
 use Rattle.cert_checker.specs.Given.{Heading, HaveGiven, begun_with}
-use Rattle.cert_checker.specs.Tabled.{AreWeighed, IsFitHead, IsFitRow, IsRowRefused, IsRowTaken}
+use Rattle.cert_checker.specs.Tabled.{AreWeighed, IsFitHead}
 use Rattle.cert_checker.specs.Taking.{HasTaken, IsTaken, IsWrongNow, heading_of}
 use Rattle.cert_checker.proofs.GivenLemmas.{reported_version, reported_claim, reported_constant, reported_exchange}
-use Rattle.cert_checker.proofs.TabledLemmas.{reported_row, reported_scope, row_is_wrong, weighed_early}
+use Rattle.cert_checker.proofs.TabledLemmas.{weighed_early, part_is_wrong, reported_part}
 use Rattle.cert_checker.proofs.header.take.Goals as goal
 
 pub returns-in-Claim-clause-taken : goal.returns-in-Claim-clause-taken
@@ -99,69 +99,35 @@ returns-in-Head-clause-taken c =
     → IsTaken task before (text_line_of line) (record { version = c.in-Head.version; claim = header.claim; exchanges = header.exchanges; atoms = header.atoms; bounds = header.bounds }) None)
     (sym c.in-Head.is) (λ before begun reported. (reported_version task before (heading_of header) reported (version_of c.in-Head.version) begun, refl))
 
--- ---- tables
+-- ---- parts
 
-pub take_scope-requires : goal.take_scope-requires
-take_scope-requires c = record { fit = subst (λ line. IsFitHead c.args.header.now.bounds (text_line_of line)) c.in-Table.is c.requires.fit }
+pub take_part-requires : goal.take_part-requires
+take_part-requires c = record { fit = subst (λ line. IsFitHead c.args.header.now.bounds (text_line_of line)) c.in-Part.is c.requires.fit }
 
-pub returns-in_ok-take_scope-in-Table-clause-taken : goal.returns-in_ok-take_scope-in-Table-clause-taken
-returns-in_ok-take_scope-in-Table-clause-taken c =
+pub returns-in_ok-take_part-in-Part-clause-taken : goal.returns-in_ok-take_part-in-Part-clause-taken
+returns-in_ok-take_part-in-Part-clause-taken c =
     let task = task_of c.args.task.now in
     let header = c.args.header.now in
-    let atoms = c.in-Table.scope.items in
-    let heading : SeveralValues → Heading = λ bounds. record { version = version_of header.version; claim = claim_of header.claim; exchanges = map exchange_in header.exchanges.items; atoms = map atom_of header.atoms.keys; bounds = bounds } in
-    subst (λ line. (before : List TextLine) → BeginCertificate (before ++ text_line_of line ∷ []) → HasTaken task before header
-    → IsTaken task before (text_line_of line) (record { version = header.version; claim = header.claim; exchanges = header.exchanges; atoms = header.atoms; bounds = c.take_scope.new.bounds }) None)
-    (sym c.in-Table.is) (λ before begun reported. (
-      subst (λ bounds. HaveGiven task (before ++ tabled (scope atoms) ∷ []) (heading bounds)) (sym c.in_ok-take_scope-in-Table.ensures.taken) (reported_scope task before (heading_of header) reported atoms),
-      refl,
-    ))
-
-pub returns-in_ok-take_scope-in-Table-clause-weighed : goal.returns-in_ok-take_scope-in-Table-clause-weighed
-returns-in_ok-take_scope-in-Table-clause-weighed c = λ before begun reported weighed. c.in_ok-take_scope-in-Table.ensures.weighed weighed
-
-pub take_row-requires : goal.take_row-requires
-take_row-requires c =
-    let bounds = c.args.header.now.bounds in
-    record {
-      fit = subst (IsFitRow bounds.tables.items) (λ i. record { atoms = sym c.deref-in-Row.ensures.value i; weights = sym c.deref-in-Row-2.ensures.value i })
-          (subst (λ line. IsFitHead bounds (text_line_of line)) c.in-Row.is c.requires.fit);
-    }
-
-pub returns-in_ok-take_row-in-Row-clause-taken : goal.returns-in_ok-take_row-in-Row-clause-taken
-returns-in_ok-take_row-in-Row-clause-taken c =
-    let task = task_of c.args.task.now in
-    let header = c.args.header.now in
-    let after = c.take_row.new.bounds in
-    let r : Row = record { atoms = c.in-Row.atoms.items; weights = c.in-Row.weights.items } in
-    let heading : SeveralValues → Heading = λ bounds. record { version = version_of header.version; claim = claim_of header.claim; exchanges = map exchange_in header.exchanges.items; atoms = map atom_of header.atoms.keys; bounds = bounds } in
-    let it : IsRowTaken (bounds_of header.bounds) (bounds_of after) r =
-    subst (IsRowTaken (bounds_of header.bounds) (bounds_of after)) (λ i. record { atoms = c.deref-in-Row.ensures.value i; weights = c.deref-in-Row-2.ensures.value i }) c.in_ok-take_row-in-Row.ensures.taken in
+    let after = c.take_part.new.bounds in
     subst (λ line. (before : List TextLine) → BeginCertificate (before ++ text_line_of line ∷ []) → HasTaken task before header
     → IsTaken task before (text_line_of line) (record { version = header.version; claim = header.claim; exchanges = header.exchanges; atoms = header.atoms; bounds = after }) None)
-    (sym c.in-Row.is) (λ before begun reported. (
-      subst (λ bounds. HaveGiven task (before ++ tabled (row r) ∷ []) (heading bounds)) (sym it.bounds) (reported_row task before (heading_of header) reported r it.tables it.added),
-      refl,
-    ))
+    (sym c.in-Part.is) (λ before begun reported. (reported_part task before (heading_of header) reported (part_of c.in-Part.part) (bounds_of after) c.in_ok-take_part-in-Part.ensures.taken, refl))
 
-pub returns-in_ok-take_row-in-Row-clause-weighed : goal.returns-in_ok-take_row-in-Row-clause-weighed
-returns-in_ok-take_row-in-Row-clause-weighed c = λ before begun reported weighed. c.in_ok-take_row-in-Row.ensures.weighed weighed
+pub returns-in_ok-take_part-in-Part-clause-weighed : goal.returns-in_ok-take_part-in-Part-clause-weighed
+returns-in_ok-take_part-in-Part-clause-weighed c = λ before begun reported weighed. c.in_ok-take_part-in-Part.ensures.weighed weighed
 
-pub returns-in_err-take_row-in-Row-clause-wrong : goal.returns-in_err-take_row-in-Row-clause-wrong
-returns-in_err-take_row-in-Row-clause-wrong c =
+pub returns-in_err-take_part-in-Part-clause-wrong : goal.returns-in_err-take_part-in-Part-clause-wrong
+returns-in_err-take_part-in-Part-clause-wrong c =
     let task = task_of c.args.task.now in
     let header = c.args.header.now in
-    let r : Row = record { atoms = c.in-Row.atoms.items; weights = c.in-Row.weights.items } in
-    let e = c.in_err-take_row-in-Row.field-0.0 in
+    let e = c.in_err-take_part-in-Part.field-0.0 in
     passed_on (λ refusal. (before : List TextLine) → BeginCertificate (before ++ text_line_of c.args.line ∷ []) → c.args.number ≡ length before + 1 → HasTaken task before header
     → IsWrongNow task before (text_line_of c.args.line) refusal)
-    c.from_residual-in_err-take_row-in-Row.result e c.from_residual-in_err-take_row-in-Row.ensures.1
+    c.from_residual-in_err-take_part-in-Part.result e c.from_residual-in_err-take_part-in-Part.ensures.1
     (subst (λ line. (before : List TextLine) → BeginCertificate (before ++ text_line_of line ∷ []) → c.args.number ≡ length before + 1 → HasTaken task before header
     → IsWrongNow task before (text_line_of line) e)
-    (sym c.in-Row.is) (λ before begun at reported.
-    row_is_wrong task before (heading_of header) reported r c.args.number begun at e
-    (subst (λ r. IsRowRefused (map table_of header.bounds.tables.items) r c.args.number e) (λ i. record { atoms = c.deref-in-Row.ensures.value i; weights = c.deref-in-Row-2.ensures.value i })
-    c.in_err-take_row-in-Row.ensures.wrong)))
+    (sym c.in-Part.is) (λ before begun at reported.
+    part_is_wrong task before (heading_of header) reported (part_of c.in-Part.part) c.args.number begun at e c.in_err-take_part-in-Part.ensures.wrong))
 
 -- ---- weights of rows
 

@@ -1,6 +1,7 @@
 use Rattle.std.proofs.Common.{codes, sym, ◌∙◌}
 use Rattle.certificate_reader.specs.Stages.{format_of}
 use Rattle.certificate_reader.proofs.ParseLemmas.{parsed_as}
+use Rattle.certificate_reader.proofs.PartsRead.{reported_as_part}
 use Rattle.certificate_reader.proofs.parsing.parse_after.Goals as goal
 
 pub returns-then-is : goal.returns-then-is
@@ -17,32 +18,30 @@ returns-then-is-3 c =
 
 pub returns-then-is-4 : goal.returns-then-is-4
 returns-then-is-4 c =
-    parsed_as c.args.word.now (codes "row") c.args.rest.now (format_of c.args.format) c.row_line.result (sym c.is-4.ensures ∙ c.if-is-4.true) c.row_line.ensures
-
-pub returns-then-is-5 : goal.returns-then-is-5
-returns-then-is-5 c =
-    parsed_as c.args.word.now (codes "table") c.args.rest.now (format_of c.args.format) c.table_line.result (sym c.is-5.ensures ∙ c.if-is-5.true) c.table_line.ensures
+    parsed_as c.args.word.now (codes "atom") c.args.rest.now (format_of c.args.format) c.atom_line.result (sym c.is-4.ensures ∙ c.if-is-4.true) c.atom_line.ensures
 
 pub returns-then-is-6 : goal.returns-then-is-6
 returns-then-is-6 c =
-    parsed_as c.args.word.now (codes "atom") c.args.rest.now (format_of c.args.format) c.atom_line.result (sym c.is-6.ensures ∙ c.if-is-6.true) c.atom_line.ensures
-
-pub returns-then-is-8 : goal.returns-then-is-8
-returns-then-is-8 c =
-    parsed_as c.args.word.now (codes "end") c.args.rest.now (format_of c.args.format) c.last_line.result (sym c.is-8.ensures ∙ c.if-is-8.true) (c.last_line.ensures (format_of c.args.format))
-
-pub returns-then-is-9 : goal.returns-then-is-9
-returns-then-is-9 c =
-    parsed_as c.args.word.now (codes "claim") c.args.rest.now (format_of c.args.format) c.claim_line.result (sym c.is-9.ensures ∙ c.if-is-9.true) (c.claim_line.ensures (format_of c.args.format))
-
-pub returns-then-is-10 : goal.returns-then-is-10
-returns-then-is-10 c =
-    parsed_as c.args.word.now (codes "constant") c.args.rest.now (format_of c.args.format) c.constant_line.result (sym c.is-10.ensures ∙ c.if-is-10.true) c.constant_line.ensures
-
-pub returns-then-is-11 : goal.returns-then-is-11
-returns-then-is-11 c =
-    parsed_as c.args.word.now (codes "pddl-cert") c.args.rest.now (format_of c.args.format) c.head_line.result (sym c.is-11.ensures ∙ c.if-is-11.true) (c.head_line.ensures (format_of c.args.format))
+    parsed_as c.args.word.now (codes "end") c.args.rest.now (format_of c.args.format) c.last_line.result (sym c.is-6.ensures ∙ c.if-is-6.true) (c.last_line.ensures (format_of c.args.format))
 
 pub returns-then-is-7 : goal.returns-then-is-7
 returns-then-is-7 c =
-    parsed_as c.args.word.now (codes "swap") c.args.rest.now (format_of c.args.format) c.swap_line.result (sym c.is-7.ensures ∙ c.if-is-7.true) c.swap_line.ensures
+    parsed_as c.args.word.now (codes "claim") c.args.rest.now (format_of c.args.format) c.claim_line.result (sym c.is-7.ensures ∙ c.if-is-7.true) (c.claim_line.ensures (format_of c.args.format))
+
+pub returns-then-is-8 : goal.returns-then-is-8
+returns-then-is-8 c =
+    parsed_as c.args.word.now (codes "constant") c.args.rest.now (format_of c.args.format) c.constant_line.result (sym c.is-8.ensures ∙ c.if-is-8.true) c.constant_line.ensures
+
+pub returns-then-is-9 : goal.returns-then-is-9
+returns-then-is-9 c =
+    parsed_as c.args.word.now (codes "pddl-cert") c.args.rest.now (format_of c.args.format) c.head_line.result (sym c.is-9.ensures ∙ c.if-is-9.true) (c.head_line.ensures (format_of c.args.format))
+
+pub returns-then-is-5 : goal.returns-then-is-5
+returns-then-is-5 c =
+    parsed_as c.args.word.now (codes "swap") c.args.rest.now (format_of c.args.format) c.swap_line.result (sym c.is-5.ensures ∙ c.if-is-5.true) c.swap_line.ensures
+
+pub returns-in-Err : goal.returns-in-Err
+returns-in-Err c =
+    reported_as_part c.args.word.now c.args.rest.now (format_of c.args.format) (sym c.is.ensures ∙ c.if-is.false) (sym c.is-2.ensures ∙ c.if-is-2.false) (sym c.is-3.ensures ∙ c.if-is-3.false)
+    (sym c.is-4.ensures ∙ c.if-is-4.false) (sym c.is-5.ensures ∙ c.if-is-5.false) (sym c.is-6.ensures ∙ c.if-is-6.false) (sym c.is-7.ensures ∙ c.if-is-7.false)
+    (sym c.is-8.ensures ∙ c.if-is-8.false) (sym c.is-9.ensures ∙ c.if-is-9.false) c.in-Err.fault c.in-Err.ensures

@@ -1,7 +1,6 @@
 use Rattle.std.proofs.Common.{◌<◌, ◌≤◌, true≢false, refl, length, map, subst, sym, arith}
 use Rattle.std.proofs.lemmas.List.{get_or-map, length-map, take_all}
 use Rattle.grounding.specs.Ground.{task_in, atoms_in}
-use Rattle.model.specs.Meaning.{cost_of}
 use Rattle.model.specs.StaticallyFalse.{kept_instances}
 use Rattle.potentials.specs.Potentials.{potentials_of}
 use Rattle.potentials.proofs.FairLemmas.{Decides}

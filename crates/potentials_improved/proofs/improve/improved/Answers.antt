@@ -1,15 +1,9 @@
-use Rattle.std.proofs.Common.{length, sym, subst, arith}
+use Rattle.std.proofs.Common.{length, subst, arith}
 use Rattle.grounding.specs.Ground.{task_in, atoms_in}
-use Rattle.model.specs.StaticallyFalse.{kept_instances}
 use Rattle.potentials.specs.Potentials.{potentials_of}
-use Rattle.potentials_drafted.specs.Incidence.{IsIncidence}
 use Rattle.potentials_improved.specs.Climb.{IsPass}
-use Rattle.potentials_improved.proofs.TestedLemmas.{untested}
 use Rattle.potentials_improved.proofs.ClimbLemmas.{improved-settled, improved-rounds, pass-gained}
 use Rattle.potentials_improved.proofs.improve.improved.Goals as goal
-
-pub new-climb-requires-clause-initial : goal.new-climb-requires-clause-initial
-new-climb-requires-clause-initial g c = c.args.groundwork.now.initial_is
 
 pub loop-init : goal.loop-init
 loop-init g c =
@@ -17,17 +11,8 @@ loop-init g c =
     let least = c.new-climb.ensures.no_lower in
     record { climb = c.new-climb.ensures.climb; gained = omega arith }
 
-pub pass-requires-clause-climb : goal.pass-requires-clause-climb
-pass-requires-clause-climb g c = c.loop.invariant.climb
-
-pub pass-requires-clause-incidence : goal.pass-requires-clause-incidence
-pass-requires-clause-incidence g c =
-    let t = task_in c.args.groundwork.now.ground.now in
-    let a = atoms_in c.args.groundwork.now.ground.now in
-    subst (IsIncidence t a (length (kept_instances t))) (sym c.incidence-incidence.ensures) (untested t a (length (kept_instances t)) c.args.groundwork.now.tables.incidence c.args.groundwork.now.incidence)
-
-pub pass-requires-clause-initial : goal.pass-requires-clause-initial
-pass-requires-clause-initial g c = c.args.groundwork.now.initial_is
+pub pass-requires : goal.pass-requires
+pass-requires g c = record { climb = c.loop.invariant.climb }
 
 pub returns-then-not-pass : goal.returns-then-not-pass
 returns-then-not-pass g c =

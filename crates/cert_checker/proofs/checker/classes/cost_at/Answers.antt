@@ -1,4 +1,4 @@
-use Rattle.std.proofs.Common.{◌≡◌, ◌∙◌, ◌<◌, Some, ap, get_or, length, arith}
+use Rattle.std.proofs.Common.{◌∙◌, ◌<◌, Some, ap, get_or, length, arith}
 use Rattle.std.proofs.lemmas.Option.{slice_get-get_or}
 use Rattle.certificate.specs.Certificate.{certificate_of}
 use Rattle.certificate_reader.specs.declared.line.Mark.TheVariants.{Open}

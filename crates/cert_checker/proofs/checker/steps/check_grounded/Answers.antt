@@ -1,4 +1,4 @@
-use Rattle.std.proofs.Common.{◌≡◌, ◌∙◌, ◌+◌, length, arith, subst, sym}
+use Rattle.std.proofs.Common.{◌≡◌, ◌+◌, length, arith, subst, sym}
 use Rattle.std.specs.Prelude.{All, IfErr, IsTrue, OnOk}
 use Rattle.std.specs.List.{list_all}
 use Rattle.certificate.specs.Certificate.{certificate_of, tables_in}

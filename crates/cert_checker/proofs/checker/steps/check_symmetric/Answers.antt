@@ -1,8 +1,8 @@
-use Rattle.std.proofs.Common.{◌≡◌, ◌∙◌, length, map, true, subst, sym, ap}
+use Rattle.std.proofs.Common.{◌≡◌, map, true, subst, sym}
 use Rattle.std.specs.Prelude.{IfErr, OnOk}
 use Rattle.std.specs.List.{list_all}
 use Rattle.certificate.specs.Certificate.{certificate_of}
-use Rattle.grounding.specs.Ground.{task_in, atoms_in}
+use Rattle.grounding.specs.Ground.{task_in}
 use Rattle.faults.proofs.Results.{passed_on}
 use Rattle.model.specs.Task.{Task}
 use Rattle.model.specs.NumberedAtoms.{numbered_atoms}

@@ -1,9 +1,7 @@
-use Rattle.std.proofs.Common.{map}
-use Rattle.task.specs.TaskParts.{atom_of}
 use Rattle.grounding.specs.Ground.{task_in, atoms_in}
 use Rattle.symmetries.specs.Exchange.{exchange_of}
 use Rattle.symmetries.specs.SymmetryTest.{task_tested}
-use Rattle.cert_checker.proofs.SymmetriesLemmas.{fails_by, keeps_by}
+use Rattle.cert_checker.proofs.SymmetriesLemmas.{fails_by}
 use Rattle.cert_checker.proofs.checker.symmetry.is_symmetry.Goals as goal
 
 pub returns-then-not-is_symmetry : goal.returns-then-not-is_symmetry

@@ -1,7 +1,6 @@
-use Rattle.std.proofs.Common.{◌≡◌, ◌∙◌, Option, None, Some, ap, sym}
+use Rattle.std.proofs.Common.{◌∙◌, ap, sym}
 use Rattle.std.specs.Option.{option_map}
 use Rattle.grounding.specs.Ground.{task_in, atoms_in}
-use Rattle.symmetries.specs.declared.exchange.Exchange.{Exchange}
 use Rattle.symmetries.specs.Exchange.{exchange_of}
 use Rattle.symmetries.specs.ObjectPairs.{exchange_among, pairs_in}
 use Rattle.symmetries_definitions.specs.Exchanges.{objects_in}

@@ -1,4 +1,4 @@
-use Rattle.std.proofs.Common.{◌≡◌, ◌∙◌, ◌≤◌, true, false, length, map, Option, None, Some, ap, refl, subst, sym, arith}
+use Rattle.std.proofs.Common.{◌≡◌, ◌∙◌, ◌≤◌, true, false, length, map, None, Some, ap, refl, sym, arith}
 use Rattle.std.specs.Prelude.{slice_get}
 use Rattle.std.specs.Option.{option_map}
 use Rattle.std.proofs.lemmas.List.{length-map}
@@ -13,7 +13,7 @@ use Rattle.certificate_definitions.specs.CertificateRefusals.{exchange_line}
 use Rattle.cert_checker.specs.declared.refusal.Refusal.TheVariants as refusal
 use Rattle.cert_checker.specs.declared.refusal.RefusalCode.TheVariants.{NotSymmetry}
 use Rattle.cert_checker.specs.CheckedLines.{IsFirstGrounded, IsTrueAnyway}
-use Rattle.cert_checker.specs.Exchanged.{is_said, is_symmetry_by}
+use Rattle.cert_checker.specs.Exchanged.{is_said}
 use Rattle.cert_checker.proofs.FirstLemmas.{reported_first}
 use Rattle.cert_checker.proofs.OrderLemmas.{atoms_right, first_symmetry, states_right_all}
 use Rattle.cert_checker.proofs.RefusalsLemmas.{reported}

@@ -18,11 +18,10 @@ returns-in-Weight c =
     (c.after_atom.ensures (record { weights = c.in-Weight.weights.items; atom = record { predicate = name_of c.in-Weight.predicate; objects = map name_of c.in-Weight.objects.items } })
     (subst (λ line. IsTrue (is_line (format_of c.args.self.format) line)) is c.requires.line))
 
-pub returns-in-Row : goal.returns-in-Row
-returns-in-Row c =
-    let is = ap text_line_of c.in-Row.is in
-    subst (λ line. IsStep (in_body (body_of c.args.self)) line c.after_row.result) (sym is)
-    (c.after_row.ensures (record { weights = c.in-Row.weights.items; atoms = c.in-Row.atoms.items }) (subst (λ line. IsTrue (is_line (format_of c.args.self.format) line)) is c.requires.line))
+pub returns-in-Part : goal.returns-in-Part
+returns-in-Part c =
+    let is = ap text_line_of c.in-Part.is in
+    subst (λ line. IsStep (in_body (body_of c.args.self)) line c.after_part.result) (sym is) c.after_part.ensures
 
 pub returns-in-Listed : goal.returns-in-Listed
 returns-in-Listed c =

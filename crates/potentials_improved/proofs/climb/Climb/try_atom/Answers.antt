@@ -11,8 +11,8 @@ weight-old-requires g c = omega (arith, c.requires.within, c.requires.climb.widt
 
 pub returns-then-try_weight : goal.returns-then-try_weight
 returns-then-try_weight g c =
-    let t = task_in c.args.ground.now in
-    let a = atoms_in c.args.ground.now in
+    let t = task_in c.args.groundwork.now.ground.now in
+    let a = atoms_in c.args.groundwork.now.ground.now in
     atom-first (g.A.Allowance.allowance t) t a c.args.self.now c.try_weight.new.self c.args.atom _
     (subst (λ b. IsWeightTried (g.A.Allowance.allowance t) t a c.args.self.now c.try_weight.new.self c.args.atom (to_z w64 (of_z w64 (to_z w64 (of_z w64 c.weight-old.result) -ℤ pos 1))) b) c.if-try_weight.true c.try_weight.ensures)
 
@@ -21,8 +21,8 @@ try_weight-requires-2-clause-climb g c = c.try_weight.ensures.climb
 
 pub returns : goal.returns
 returns g c =
-    let t = task_in c.args.ground.now in
-    let a = atoms_in c.args.ground.now in
+    let t = task_in c.args.groundwork.now.ground.now in
+    let a = atoms_in c.args.groundwork.now.ground.now in
     let old = c.args.self.now in
     let mid = c.try_weight.new.self in
     let new = c.try_weight-2.new.self in

@@ -1,7 +1,7 @@
 use Rattle.std.proofs.Common.{length}
 use Rattle.grounding.specs.Ground.{task_in, atoms_in}
 use Rattle.model.specs.StaticallyFalse.{kept_instances}
-use Rattle.potentials_improved.proofs.TestedLemmas.{tested}
+use Rattle.potentials_improved.proofs.TestedLemmas.{tested, goal-said}
 use Rattle.potentials_improved.proofs.groundwork.Groundwork.new.Goals as goal
 
 pub invariant_of-result : goal.invariant_of-result
@@ -10,4 +10,5 @@ invariant_of-result c =
     record {
       incidence = tested t (atoms_in c.args.ground.now) (length (kept_instances t)) c.in_ok-tables.tables.incidence c.in_ok-tables.ensures;
       initial_is = c.in_ok-initial.ensures;
+      goal_is = goal-said t (atoms_in c.args.ground.now) _ _ c.in_ok-goal.goal c.goal_literals.ensures c.width.ensures c.in_ok-goal.ensures;
     }

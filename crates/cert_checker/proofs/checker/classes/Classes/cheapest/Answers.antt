@@ -1,4 +1,4 @@
-use Rattle.std.proofs.Common.{◌≡◌, ◌∙◌, Some, List, Bool, ap, length, sym, subst, arith}
+use Rattle.std.proofs.Common.{◌∙◌, Some, List, Bool, ap, length, sym, subst, arith}
 use Rattle.std.specs.Prelude.{Contains}
 use Rattle.std.proofs.lemmas.Option.{slice_get_within}
 use Rattle.packed_state.specs.Packed.{bits_of}

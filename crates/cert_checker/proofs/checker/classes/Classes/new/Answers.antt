@@ -1,5 +1,4 @@
-use Rattle.std.proofs.Common.{◌≡◌, ◌∙◌, ℕ, [], refl, ap, length, sym, subst, arith}
-use Rattle.packed_state.specs.Packed.{bits_of}
+use Rattle.std.proofs.Common.{◌∙◌, ℕ, [], refl, ap, length, sym, subst, arith}
 use Rattle.packed_state.specs.PooledView.{pooled_states, pooled_width}
 use Rattle.certificate.specs.declared.cert.Cert.{Cert}
 use Rattle.certificate.specs.Certificate.{certificate_of, store_in}

@@ -4,7 +4,6 @@ use Rattle.packed_state.specs.declared.pooled.PooledStore.{PooledStore}
 use Rattle.packed_state.specs.Packed.{bits_of}
 use Rattle.packed_state.specs.PooledView.{pooled_states}
 use Rattle.certificate.specs.Certificate.{store_in}
-use Rattle.cert_checker.specs.Classified.{AreClassesOf}
 use Rattle.cert_checker.specs.PackedListing.{task_at, atoms_at, certificate_at}
 use Rattle.cert_checker.proofs.ClassLemmas.{by_classes, by_itself}
 use Rattle.cert_checker.proofs.checker.packed.PackedListing.cheapest.Goals as goal

@@ -1,4 +1,3 @@
-use Rattle.packed_state.specs.Packed.{bits_of}
 use Rattle.certificate.specs.Certificate.{store_in}
 use Rattle.certificate_definitions.specs.Certificates.{AreAlikeFor}
 use Rattle.cert_checker.specs.PackedListing.{task_at, atoms_at, certificate_at, state_at}

@@ -1,0 +1,12 @@
+use Rattle.std.proofs.Common.{codes, sym, ◌∙◌}
+use Rattle.certificate_reader.specs.Stages.{format_of}
+use Rattle.certificate_reader.proofs.PartsRead.{part_parsed_as}
+use Rattle.certificate_reader.proofs.part_line.parse_part.Goals as goal
+
+pub returns-then-is : goal.returns-then-is
+returns-then-is c =
+    part_parsed_as c.args.word.now (codes "row") c.args.rest.now (format_of c.args.format) c.row_line.result (sym c.is.ensures ∙ c.if-is.true) c.row_line.ensures
+
+pub returns-then-is-2 : goal.returns-then-is-2
+returns-then-is-2 c =
+    part_parsed_as c.args.word.now (codes "table") c.args.rest.now (format_of c.args.format) c.table_line.result (sym c.is-2.ensures ∙ c.if-is-2.true) c.table_line.ensures
