@@ -15,7 +15,7 @@ ghost use Rattle.certificate.specs.declared.cert.Cert.{Cert};
 ghost use Rattle.certificate.specs.Certificate.{certificate_of};
 ghost use Rattle.cert_checker.specs.declared.checker.Accepted.TheVariants.{AtLeast};
 ghost use Rattle.solver.specs.declared.answer.Answer.TheVariants.{Unknown};
-ghost use Rattle.solver.specs.declared.answer.Exceeded.TheVariants.{States};
+ghost use Rattle.solver.specs.declared.answer.Exceeded.TheVariants.{States, Time};
 ghost use Rattle.solver.specs.Listing.{IsShownBy};
 ghost use Rattle.solver.specs.Solver.{IsTrueAnswer};
 ghost use Rattle.file_answers.specs.Checked.{IsAcceptedAs};
@@ -34,7 +34,11 @@ pub fn solved_certificates_are_accepted()
         → IsTextOf task (certificate_text task c) c × IsAccepted task (certificate_text task c) plan
         × (exceeded_limit most max_numbered_atoms task c.atoms ≡ None) }
     // The certificate for an exceeded state limit is accepted with its claim, which is true: every plan costs at least the bound.
-    ensures at_a_limit { (domain problem : List ℕ) (task : Task) (states instances least : ℕ) (cert : Cert)
-        → IsTaskOf domain problem task → IsTrueAnswer task states instances (Unknown (States least cert))
+    ensures at_a_limit { (domain problem : List ℕ) (task : Task) (seconds : Option ℕ) (states instances least : ℕ) (cert : Cert)
+        → IsTaskOf domain problem task → IsTrueAnswer task seconds states instances (Unknown (States least cert))
+        → IsAcceptedAs task (certificate_text task (certificate_of cert)) None instances (AtLeast least) }
+    // So is the certificate where the time is over.
+    ensures in_time { (domain problem : List ℕ) (task : Task) (seconds : Option ℕ) (states instances least : ℕ) (cert : Cert)
+        → IsTaskOf domain problem task → IsTrueAnswer task seconds states instances (Unknown (Time least cert))
         → IsAcceptedAs task (certificate_text task (certificate_of cert)) None instances (AtLeast least) }
 {}
