@@ -10,8 +10,8 @@ use Rattle.clap.specs.ValueTests.{is_unsigned_in}
 use Rattle.command_line.specs.Description.{optplan}
 use Rattle.command_line.specs.Limit.{most}
 
--- the options of `solve`: the limits of states, of instances and, if there is one, of seconds, the files to write the plan and the certificate to, if any, whether
--- the answer is printed as JSON, and whether the progress of the search is reported
+-- the options of `solve`: the limits of states, of instances and, if there is one, of seconds, the files to write the plan and the
+-- certificate to, if any, whether the answer is printed as JSON, and whether the progress of the search is reported
 pub record Asked : Type 0 where
   pub states : ℕ
   pub instances : ℕ

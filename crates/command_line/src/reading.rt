@@ -26,8 +26,8 @@ use std::alloc::{AllocError, Global};
 ///
 /// Options may come in any order, each at most once, before, between and after the files, as `--states 5` or `--states=5`. A word
 /// after `--` is a file name, even if it begins with a hyphen. A number is from 1 to 16,777,216, in decimal digits after an
-/// optional plus; the default is 1,000,000. Seconds are at most 1,000,000, and not limited by default. Words that ask for help or the version are not an order: the fault's text is what
-/// they ask for.
+/// optional plus; the default is 1,000,000. Seconds are at most 1,000,000, and not limited by default. Words that ask for help or
+/// the version are not an order: the fault's text is what they ask for.
 pub fn read_words<'a>(alloc: Global, words: &'a [&str]) -> Result<Order<'a>, WordsFault>
     ensures asks { IfOk result (λ order. Asks (texts words.entry.now) (wanted_of order)) }
     ensures refused { IfErr result (λ fault. IsOfWords fault → IsCommand (texts words.entry.now) → ⊥) }
