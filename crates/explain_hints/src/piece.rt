@@ -1,7 +1,7 @@
 //! The pieces of a text: its parentheses and runs, in order, whether or not the text reads as words.
 use faults::{NoMemory, Span};
 use std::alloc::Global;
-use tokens::{Form, part_end};
+use tokens::{Lexeme, Lexemes};
 
 /// The shape of a piece.
 #[derive(Clone, Copy, Debug, PartialEq, Eq)]
@@ -15,18 +15,18 @@ pub enum Shape {
 }
 
 impl Shape {
-    /// The shape of a part of a text, if it is a piece.
-    fn of(form: Form) -> Option<Shape> {
-        match form {
-            Form::Opening => Some(Shape::Open),
-            Form::Closing => Some(Shape::Close),
-            Form::Run => Some(Shape::Run),
-            Form::Blank | Form::Comment | Form::Stray => None,
+    /// The shape of a lexeme, if it is a piece.
+    fn of(lexeme: Lexeme<'_>) -> Option<Shape> {
+        match lexeme.shape() {
+            tokens::Shape::Open => Some(Shape::Open),
+            tokens::Shape::Close => Some(Shape::Close),
+            tokens::Shape::Run => Some(Shape::Run),
+            tokens::Shape::Stray => None,
         }
     }
 }
 
-/// A parenthesis or a run, with its place.
+/// A lexeme of a text that is no stray byte.
 #[derive(Clone, Copy, Debug)]
 pub struct Piece<'a> {
     /// Its shape.
@@ -49,32 +49,20 @@ impl Piece<'_> {
     }
 }
 
-/// The part of a text as a piece, if it is one.
-fn piece_of(start: usize, form: Form, text: &[u8]) -> Option<Piece<'_>> {
-    let shape = Shape::of(form)?;
-    Some(Piece {
-        shape,
-        text,
-        span: Span {
-            start,
-            end: start.saturating_add(text.len()),
-        },
-    })
-}
-
 /// The pieces of a text, in order.
 pub fn pieces(alloc: Global, text: &[u8]) -> Result<Vec<Piece<'_>>, NoMemory> {
     let mut pieces = Vec::new(alloc);
-    let mut start = 0;
-    while start < text.len() {
-        let form = Form::of(text[start]);
-        let end = part_end(text, start, form);
-        if let Some(piece) = piece_of(start, form, &text[start..end]) {
+    for lexeme in Lexemes::of(text) {
+        if let Some(shape) = Shape::of(lexeme) {
+            let piece = Piece {
+                shape,
+                text: lexeme.text(),
+                span: lexeme.span(),
+            };
             if pieces.push(piece).is_err() {
                 return Err(NoMemory);
             }
         }
-        start = end;
     }
     Ok(pieces)
 }

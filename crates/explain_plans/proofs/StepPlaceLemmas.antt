@@ -1,94 +1,57 @@
--- The places of steps in a plan text: the parts of a text one after another, and the steps of its words.
-use Rattle.std.specs.Prelude.{◌≡◌, ℕ, ◌+◌, ◌-◌, ◌<◌, ◌≤◌, ◌==◌, Bool, true, false, cond, ◌&&◌, if◌then◌else◌, List, [], ◌∷◌, ◌++◌, length, drop, get_or, Option, None, Some, IsSomeAnd, refl}
+-- The places of steps in a plan text: its lexemes one after another, and its steps.
+use Rattle.std.specs.Prelude.{◌≡◌, ℕ, ◌+◌, ◌-◌, ◌<◌, ◌≤◌, ◌==◌, Bool, true, false, ◌&&◌, if◌then◌else◌, List, [], ◌∷◌, ◌++◌, length, Option, None, Some, IsSomeAnd, refl}
 use Rattle.std.proofs.Common.{sym, ◌∙◌, ap, subst, zero, suc, arith, ⊎_elim, append_assoc, true≢false}
 use Rattle.std.specs.Char.{is_ascii_alphabetic}
 use Rattle.std.specs.Int.{is_in_range}
-use Rattle.std.specs.List.{list_all, prefix_len}
+use Rattle.std.specs.List.{list_all}
 use Rattle.std.specs.Option.{option_map}
 use Rattle.std.proofs.lemmas.Bool.{and_parts, or_cases, ne_eqb, leb-true, le-leb}
 use Rattle.std.proofs.lemmas.Bool.Decides.{nat_tests}
-use Rattle.std.proofs.lemmas.List.{drop_all}
 use Rattle.std.proofs.lemmas.Option.{same_Some}
 use Rattle.faults.specs.declared.refused.Span as code
 use Rattle.model.specs.Fault.{Span}
-use Rattle.model.specs.Words.{Form, blank, comment, opening, closing, run, stray, form_of, goes_on, is_gap, Part, form, bytes, size, is_name, is_name_byte, AreParts}
+use Rattle.model.specs.Words.{Form, run, form_of, Part, form, bytes, size, is_name, is_name_byte, AreParts}
 use Rattle.model.specs.Trees.{Name}
 use Rattle.model.specs.PlanText.{Placed, placed_from, Step, AreNames, AreSteps, IsStep}
-use Rattle.tokens.proofs.Cut.{cut, cut_unique, PartBetween, part_between}
+use Rattle.tokens.specs.declared.lexeme.Shape.{Shape}
+use Rattle.tokens.specs.declared.lexeme.Shape.TheVariants.{Open, Close, Run, Stray}
+use Rattle.tokens.specs.Shape.{form_by}
+use Rattle.tokens.proofs.Cut.{cut, cut_unique}
 use Rattle.explain_plans.specs.StepPlaces.{IsStepPlace, closes, opens, place_from, span_of}
 
--- ---- one more part of the text
+-- ---- one more lexeme of the text
 
-module _ (text : List ℕ) (start end : ℕ) (f : Form) (inside : start < length text) (f_is : f ≡ form_of (get_or text start 0))
-    (longest : end ≡ start + 1 + prefix_len (goes_on f) (drop (start + 1) text)) (n opened last : ℕ) where
-  here : PartBetween text start end
-  here = part_between text start end inside (longest ∙ ap (λ g. start + 1 + prefix_len (goes_on g) (drop (start + 1) text)) f_is)
+module _ (left after : List Placed) (lexeme : Placed) (left_is : left ≡ lexeme ∷ after) (s : Shape) (f_is : form lexeme.part ≡ form_by s) (n opened last : ℕ) where
+  abbrev found : Option Span
+  found = Some (record { start = last; end = lexeme.start + size lexeme.part })
 
-  same_form : form here.part ≡ f
-  same_form = ap form_of here.first ∙ sym f_is
+  abbrev by_form : Form → Option Span
+  by_form f = if opens f then place_from n (opened + 1) lexeme.start after else (if closes f && opened == n then found else place_from n opened last after)
 
-  abbrev following : List Placed
-  following = placed_from end (cut (drop end text))
-
-  abbrev word_here : Placed
-  word_here = record { start = start; part = here.part }
-
-  words_here : placed_from start (cut (drop start text)) ≡ cond (is_gap f) following (word_here ∷ following)
-  words_here =
-      ap (placed_from start) here.cut_is
-      ∙ ap (λ k. cond (is_gap (form here.part)) (placed_from k (cut (drop end text))) (word_here ∷ placed_from k (cut (drop end text)))) here.size_is
-      ∙ ap (λ g. cond (is_gap g) following (word_here ∷ following)) same_form
-
-  read_here : place_from n opened last (placed_from start (cut (drop start text)))
-      ≡ cond (is_gap f) (place_from n opened last following)
-      (if opens f then place_from n (opened + 1) start following
-      else (if closes f && opened == n then Some (record { start = last; end = end }) else place_from n opened last following))
-  read_here =
-      ap (place_from n opened last) words_here ∙ under (is_gap f)
-    where
-      under : (b : Bool) → place_from n opened last (cond b following (word_here ∷ following))
-          ≡ cond b (place_from n opened last following)
-          (if opens f then place_from n (opened + 1) start following
-          else (if closes f && opened == n then Some (record { start = last; end = end }) else place_from n opened last following))
-      under true = refl
-      under false =
-          ap (λ g. if opens g then place_from n (opened + 1) start following
-          else (if closes g && opened == n then Some (record { start = last; end = start + size here.part }) else place_from n opened last following)) same_form
-          ∙ ap (λ e. if opens f then place_from n (opened + 1) start following
-          else (if closes f && opened == n then Some (record { start = last; end = e }) else place_from n opened last following)) here.size_is
+  read_here : place_from n opened last left ≡ by_form (form_by s)
+  read_here = ap (place_from n opened last) left_is ∙ ap by_form f_is
 
   -- it closes the step
-  pub closed_here : (closes f && opened == n) ≡ true → place_from n opened last (placed_from start (cut (drop start text))) ≡ Some (record { start = last; end = end })
-  closed_here is = read_here ∙ by_form f is
+  pub closed_here : (closes (form_by s) && opened == n) ≡ true → place_from n opened last left ≡ found
+  closed_here is = read_here ∙ by_shape s is
     where
-      by_form : (g : Form) → (closes g && opened == n) ≡ true
-          → cond (is_gap g) (place_from n opened last following)
-          (if opens g then place_from n (opened + 1) start following
-          else (if closes g && opened == n then Some (record { start = last; end = end }) else place_from n opened last following))
-          ≡ Some (record { start = last; end = end })
-      by_form blank e = absurd (true≢false (sym e))
-      by_form comment e = absurd (true≢false (sym e))
-      by_form opening e = absurd (true≢false (sym e))
-      by_form closing e = ap (λ b. if b then Some (record { start = last; end = end }) else place_from n opened last following) e
-      by_form run e = absurd (true≢false (sym e))
-      by_form stray e = absurd (true≢false (sym e))
+      by_shape : (t : Shape) → (closes (form_by t) && opened == n) ≡ true → by_form (form_by t) ≡ found
+      by_shape Open e = absurd (true≢false (sym e))
+      by_shape Close e = ap (λ b. if b then found else place_from n opened last after) e
+      by_shape Run e = absurd (true≢false (sym e))
+      by_shape Stray e = absurd (true≢false (sym e))
 
   -- it does not
-  pub passed_here : (closes f && opened == n) ≡ false
-      → place_from n opened last (placed_from start (cut (drop start text))) ≡ place_from n (if opens f then opened + 1 else opened) (if opens f then start else last) following
-  passed_here other = read_here ∙ by_form f other
+  pub passed_here : (closes (form_by s) && opened == n) ≡ false
+      → place_from n opened last left ≡ place_from n (if opens (form_by s) then opened + 1 else opened) (if opens (form_by s) then lexeme.start else last) after
+  passed_here other = read_here ∙ by_shape s other
     where
-      by_form : (g : Form) → (closes g && opened == n) ≡ false
-          → cond (is_gap g) (place_from n opened last following)
-          (if opens g then place_from n (opened + 1) start following
-          else (if closes g && opened == n then Some (record { start = last; end = end }) else place_from n opened last following))
-          ≡ place_from n (if opens g then opened + 1 else opened) (if opens g then start else last) following
-      by_form blank e = refl
-      by_form comment e = refl
-      by_form opening e = refl
-      by_form closing e = ap (λ b. if b then Some (record { start = last; end = end }) else place_from n opened last following) e
-      by_form run e = refl
-      by_form stray e = refl
+      by_shape : (t : Shape) → (closes (form_by t) && opened == n) ≡ false
+          → by_form (form_by t) ≡ place_from n (if opens (form_by t) then opened + 1 else opened) (if opens (form_by t) then lexeme.start else last) after
+      by_shape Open e = refl
+      by_shape Close e = ap (λ b. if b then found else place_from n opened last after) e
+      by_shape Run e = refl
+      by_shape Stray e = refl
 
 -- ---- names are runs
 
@@ -239,13 +202,17 @@ place_is_found text n found is parts steps are_parts are_steps low high =
 
 -- ---- the loop
 
--- the text is skipped
-pub nothing_here : (text : List ℕ) (start n opened last : ℕ) → length text ≤ start → place_from n opened last (placed_from start (cut (drop start text))) ≡ None
-nothing_here text start n opened last past = ap (λ rest. place_from n opened last (placed_from start (cut rest))) (drop_all start text past)
+-- the number of opening parentheses stays below the number of lexemes
+pub counted_more : (left after : List Placed) (lexeme : Placed) (s : Shape) (opened counted limit : ℕ) → left ≡ lexeme ∷ after → opened + length left ≤ limit
+    → counted ≡ (if opens (form_by s) then opened + 1 else opened) → counted + length after ≤ limit
+counted_more left after lexeme Open opened counted limit left_is few is = let sizes = ap length left_is in omega (arith, sizes, few, is)
+counted_more left after lexeme Close opened counted limit left_is few is = let sizes = ap length left_is in omega (arith, sizes, few, is)
+counted_more left after lexeme Run opened counted limit left_is few is = let sizes = ap length left_is in omega (arith, sizes, few, is)
+counted_more left after lexeme Stray opened counted limit left_is few is = let sizes = ap length left_is in omega (arith, sizes, few, is)
 
--- a part that changes nothing else is skipped
-pub kept_same : (text : List ℕ) (n end opened last : ℕ) (counted begun : ℕ) → opened ≡ counted → last ≡ begun
-    → {whole : Option Span} → whole ≡ place_from n counted begun (placed_from end (cut (drop end text)))
-    → place_from n opened last (placed_from end (cut (drop end text))) ≡ whole
-kept_same text n end opened last counted begun same also {whole} is =
-    (λ i. place_from n (same i) (also i) (placed_from end (cut (drop end text)))) ∙ sym is
+-- a lexeme that changes nothing else is passed
+pub kept_same : (n : ℕ) (after : List Placed) (opened last counted begun begins : ℕ) (s : Shape) → begins ≡ begun
+    → counted ≡ (if opens (form_by s) then opened + 1 else opened) → (later : ℕ) → later ≡ (if opens (form_by s) then begins else last)
+    → place_from n counted later after ≡ place_from n (if opens (form_by s) then opened + 1 else opened) (if opens (form_by s) then begun else last) after
+kept_same n after opened last counted begun begins s same counted_is later later_is =
+    (λ i. place_from n (counted_is i) (later_is i) after) ∙ ap (λ b. place_from n (if opens (form_by s) then opened + 1 else opened) (if opens (form_by s) then b else last) after) same

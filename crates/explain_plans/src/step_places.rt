@@ -2,13 +2,13 @@
 ghost use Rattle.std.specs.Prelude.{◌≡◌, ◌+◌, ◌<◌, ◌≤◌, ◌^◌, ◌&&◌, ◌==◌, List, IsSomeAnd, if◌then◌else◌, length};
 ghost use Rattle.std.specs.Option.{option_map};
 ghost use Rattle.tokens.specs.Cut.{cut};
-ghost use Rattle.tokens.specs.Form.{view};
+ghost use Rattle.tokens.specs.Shape.{form_by};
 ghost use Rattle.explain_plans.specs.StepPlaces.{IsStepPlace, closes, opens, place_from, span_of};
 ghost use Rattle.model.specs.PlanText.{AreSteps, Step, placed_from};
 ghost use Rattle.model.specs.Words.{AreParts, Part};
 
 use faults::Span;
-use tokens::{Form, part_end};
+use tokens::{Lexemes, Shape};
 
 /// The span of the step with this number, counted from 1, in a plan text: from its `(` to its `)`.
 ///
@@ -27,18 +27,16 @@ fn closed_at(text: &[u8], step: usize) -> Option<Span>
     ensures { option_map span_of result ≡ place_from step 0 0 (placed_from 0 (cut text.now)) }
 {
     let mut opened = Opened { count: 0, last: 0 };
-    let mut start = 0;
-    'parts: while start < text.len() {
-        let form = Form::of(text[start]);
-        let end = part_end(text, start, form);
-        if opened.is_closed(form, step) {
+    'lexemes: for lexeme in Lexemes::of(text) {
+        let shape = lexeme.shape();
+        let span = lexeme.span();
+        if opened.is_closed(shape, step) {
             return Some(Span {
                 start: opened.last,
-                end,
+                end: span.end,
             });
         }
-        opened = opened.after(form, start);
-        start = end;
+        opened = opened.after(shape, span.start);
     }
     None
 }
@@ -53,28 +51,28 @@ struct Opened {
 }
 
 impl Opened {
-    /// Whether this part closes the opening parenthesis with this number, which is the last one.
-    fn is_closed(self, form: Form, number: usize) -> bool
-        ensures { result ≡ (closes (view form) && self.count == number) }
+    /// Whether a lexeme of this shape closes the opening parenthesis with this number, which is the last one.
+    fn is_closed(self, shape: Shape, number: usize) -> bool
+        ensures { result ≡ (closes (form_by shape) && self.count == number) }
     {
-        match form {
-            Form::Closing => self.count == number,
-            Form::Blank | Form::Comment | Form::Opening | Form::Run | Form::Stray => false,
+        match shape {
+            Shape::Close => self.count == number,
+            Shape::Open | Shape::Run | Shape::Stray => false,
         }
     }
 
-    /// The same after this part, which is counted if it is an opening parenthesis.
-    fn after(self, form: Form, start: usize) -> Opened
+    /// The same after a lexeme of this shape, which is counted if it is an opening parenthesis.
+    fn after(self, shape: Shape, start: usize) -> Opened
         requires { self.count + 1 < 2 ^ 64 }
-        ensures count { result.count ≡ (if opens (view form) then self.count + 1 else self.count) }
-        ensures last { result.last ≡ (if opens (view form) then start else self.last) }
+        ensures count { result.count ≡ (if opens (form_by shape) then self.count + 1 else self.count) }
+        ensures last { result.last ≡ (if opens (form_by shape) then start else self.last) }
     {
-        match form {
-            Form::Opening => Opened {
+        match shape {
+            Shape::Open => Opened {
                 count: self.count + 1,
                 last: start,
             },
-            Form::Blank | Form::Comment | Form::Closing | Form::Run | Form::Stray => self,
+            Shape::Close | Shape::Run | Shape::Stray => self,
         }
     }
 }

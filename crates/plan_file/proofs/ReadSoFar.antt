@@ -7,19 +7,19 @@ use Rattle.faults.specs.declared.refused.TextRefusal.{TextRefusal}
 use Rattle.faults.specs.declared.refused.Refused.TheVariants.{At}
 use Rattle.model.specs.Fault.{Span, Fault}
 use Rattle.model.specs.Task.{Task, Instance}
-use Rattle.model.specs.PlanText.{Step, HasSteps, Means, AllMean, IsPlanText, IsPlanFault}
+use Rattle.model.specs.PlanText.{Placed, Step, HasSteps, Means, AllMean, IsPlanText, IsPlanFault}
 use Rattle.model.specs.Words.{longest_text}
-use Rattle.model.specs.PlanMachine.{PlanPlace, outside, Advance, goes, ends, after_turn, at_end}
+use Rattle.model.specs.PlanMachine.{PlanPlace, outside, Advance, goes, ends, after_turn, at_end, outcome}
 use Rattle.model.proofs.PlanMeaning.{all_mean_push}
-use Rattle.plan_file.specs.PlanFile.{read_from, IsFirstFault, MeanOrRefused, IsMeaning}
+use Rattle.plan_file.specs.PlanFile.{IsFirstFault, MeanOrRefused, IsMeaning}
 use Rattle.plan_file.specs.declared.steps.Meaning.{Meaning}
 use Rattle.plan_file.proofs.PlanWords.{Keeps, keeps_on, keeps_step, all_read}
 use Rattle.plan_file.proofs.PlanSteps.{reported_more, meaning_refused}
 
 -- There are steps so far, which are not stored in memory: the text up to here reads as them, and this is their meaning.
-pub record IsReadSoFar (task : Task) (text : List ℕ) (at : ℕ) (place : PlanPlace) (meaning : Meaning) : Type 0 where
+pub record IsReadSoFar (task : Task) (text : List ℕ) (left : List Placed) (place : PlanPlace) (meaning : Meaning) : Type 0 where
   pub steps : List Step
-  pub keeps : Keeps text at place steps
+  pub keeps : Keeps text left place steps
   pub mean : IsMeaning task steps meaning
 
 -- one more step
@@ -55,24 +55,24 @@ module _ (task : Task) (steps : List Step) (step : Step) where
   instance_taken f items more x more_is (Some refusal) unrefused mean means = absurd (true≢false unrefused)
 
 -- the effect of a word here
-module _ (task : Task) (text : List ℕ) (at end : ℕ) (place : PlanPlace) (t : Advance) (span : Span) (meaning : Meaning)
-    (read : read_from text at place ≡ after_turn span t (read_from text end)) (so_far : IsReadSoFar task text at place meaning) where
-  pub goes_on : (next : PlanPlace) → t ≡ goes next → IsReadSoFar task text end next meaning
-  goes_on next e = record { steps = so_far.steps; keeps = keeps_on text at end place t span so_far.steps read so_far.keeps next e; mean = so_far.mean }
+module _ (task : Task) (text : List ℕ) (left after : List Placed) (place : PlanPlace) (t : Advance) (span : Span) (meaning : Meaning)
+    (read : outcome (length text) left place ≡ after_turn span t (outcome (length text) after)) (so_far : IsReadSoFar task text left place meaning) where
+  pub goes_on : (next : PlanPlace) → t ≡ goes next → IsReadSoFar task text after next meaning
+  goes_on next e = record { steps = so_far.steps; keeps = keeps_on text left after place t span so_far.steps read so_far.keeps next e; mean = so_far.mean }
 
-  pub takes_step : (step : Step) → t ≡ ends step → (after : Meaning) → ((steps : List Step) → IsMeaning task steps meaning → IsMeaning task (steps ++ step ∷ []) after)
-      → IsReadSoFar task text end outside after
-  takes_step step e after taken = record {
+  pub takes_step : (step : Step) → t ≡ ends step → (taken : Meaning) → ((steps : List Step) → IsMeaning task steps meaning → IsMeaning task (steps ++ step ∷ []) taken)
+      → IsReadSoFar task text after outside taken
+  takes_step step e meant taken = record {
     steps = so_far.steps ++ step ∷ [];
-    keeps = keeps_step text at end place t span so_far.steps read so_far.keeps step e;
+    keeps = keeps_step text left after place t span so_far.steps read so_far.keeps step e;
     mean = taken so_far.steps so_far.mean;
   }
 
 -- the end of the text, outside of steps
-module _ (task : Task) (text : List ℕ) (at : ℕ) (place : PlanPlace) (meaning : Meaning) (short : length text ≤ longest_text)
-    (read : read_from text at place ≡ at_end (length text) place) (so_far : IsReadSoFar task text at place meaning) (is_outside : place ≡ outside) where
+module _ (task : Task) (text : List ℕ) (left : List Placed) (place : PlanPlace) (meaning : Meaning) (short : length text ≤ longest_text)
+    (read : outcome (length text) left place ≡ at_end (length text) place) (so_far : IsReadSoFar task text left place meaning) (is_outside : place ≡ outside) where
   has : HasSteps text so_far.steps
-  has = all_read text at place so_far.steps short read so_far.keeps is_outside
+  has = all_read text left place so_far.steps short read so_far.keeps is_outside
 
   pub plan_read : (plan : List Instance) → ((task : Task) (steps : List Step) → IsMeaning task steps meaning → AllMean task steps plan) → IsPlanText task text plan
   plan_read plan mean = (so_far.steps, has, mean task so_far.steps so_far.mean)

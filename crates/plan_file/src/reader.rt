@@ -14,12 +14,12 @@ ghost use Rattle.model.specs.Fault as reported;
 
 use crate::steps::Meaning;
 use crate::text::{Advance, PlanPlace};
-use crate::word::{PlanWord, refusal};
+use crate::word::{Sort, refusal};
 use faults::{Code, Fault};
 use formulas::{Instance, Plan};
 use std::alloc::Global;
 use task::Task;
-use tokens::LONGEST_TEXT;
+use tokens::{LONGEST_TEXT, Lexemes};
 
 /// Reads a text as a plan for the task.
 ///
@@ -77,16 +77,15 @@ fn instances_of(alloc: Global, task: &Task, text: &[u8]) -> Result<Vec<Instance>
     let mut place = PlanPlace::Outside;
     let mut objects = Vec::new(alloc);
     let mut meaning = Meaning::new(alloc);
-    let mut at = 0;
-    'words: while let Some(word) = PlanWord::first_from(text, at) {
-        match place.after(word, &mut objects)? {
+    'words: for word in Lexemes::of(text) {
+        let sort = Sort::of(word);
+        match place.after(sort, word, &mut objects)? {
             Advance::Goes(next) => place = next,
             Advance::Ends(action) => {
                 meaning.take(task, action, objects.as_slice())?;
                 place = PlanPlace::Outside;
             }
         }
-        at = word.end();
     }
     match place {
         PlanPlace::Outside => meaning.into_instances(),

@@ -13,11 +13,12 @@ ghost use Rattle.model.specs.Typing.{folded, is_same};
 ghost use Rattle.model.specs.PlanText as text;
 ghost use Rattle.model.specs.PlanText.{Means, AllMean, IsNumberOf, AreNumbersOf, IsStepFault, schema_names, object_names};
 
-use crate::word::PlanWord;
+use crate::word::{fold_into, refused};
 use faults::{Code, Fault, NoMemory, Refused, TextRefusal};
 use formulas::{Binding, Instance};
 use std::alloc::Global;
 use task::{ObjectId, SchemaId, Task, TypeUnion};
+use tokens::Lexeme;
 
 /// The meaning of the steps read so far: their instances, in order, or the refusal of the first faulty step.
 #[derive(Drop)]
@@ -46,8 +47,8 @@ impl Meaning {
     pub(super) fn take(
         &mut self,
         task: &Task,
-        action: PlanWord<'_>,
-        objects: &[PlanWord<'_>],
+        action: Lexeme<'_>,
+        objects: &[Lexeme<'_>],
     ) -> Result<(), NoMemory>
         ensures { OnOk result ((steps : List text.Step) → IsMeaning (task_of task.now) steps self.old
             → IsMeaning (task_of task.now) (steps ++ step_of action.entry objects.now ∷ []) self.new) }
@@ -85,19 +86,19 @@ impl Meaning {
 /// The instance of the step with this action and these objects. Names are folded in the given buffer.
 fn instance_of(
     task: &Task,
-    action: PlanWord<'_>,
-    names: &[PlanWord<'_>],
+    action: Lexeme<'_>,
+    names: &[Lexeme<'_>],
     buffer: &mut Vec<u8>,
 ) -> Result<Instance, Fault>
     ensures means { IfOk result (λ i. Means (task_of task.now) (step_of action.entry names.now) (view.instance_of i)) }
     ensures refused { IfErr result (λ fault. IfSome (reported_by fault) (IsStepFault (task_of task.now) (step_of action.entry names.now))) }
 {
     let Some(schema) = schema_named(task, action, buffer)? else {
-        return Err(action.refused(Code::UnknownAction));
+        return Err(refused(action, Code::UnknownAction));
     };
     let parameters = parameters_of(task, schema);
     if names.len() != parameters.len() {
-        return Err(action.refused(Code::StepArity));
+        return Err(refused(action, Code::StepArity));
     }
     let objects = objects_of(task, parameters, names, buffer)?;
     Ok(Instance { schema, objects })
@@ -116,7 +117,7 @@ fn parameters_of(task: &Task, schema: SchemaId) -> &[TypeUnion]
 fn objects_of(
     task: &Task,
     parameters: &[TypeUnion],
-    names: &[PlanWord<'_>],
+    names: &[Lexeme<'_>],
     buffer: &mut Vec<u8>,
 ) -> Result<Binding, Fault>
     requires few { length parameters.now ≤ 16 }
@@ -137,7 +138,7 @@ fn objects_of(
 fn object_of(
     task: &Task,
     types: &TypeUnion,
-    name: PlanWord<'_>,
+    name: Lexeme<'_>,
     buffer: &mut Vec<u8>,
 ) -> Result<ObjectId, Fault>
     ensures number { IfOk result (λ object. IsNumberOf (object_names (task_of task.now)) (name_of name.entry) object.0) }
@@ -146,30 +147,30 @@ fn object_of(
 {
     match object_named(task, name, buffer)? {
         Some(object) if task.is_of(object, types) => Ok(object),
-        _ => Err(name.refused(Code::StepType)),
+        _ => Err(refused(name, Code::StepType)),
     }
 }
 
 fn schema_named(
     task: &Task,
-    name: PlanWord<'_>,
+    name: Lexeme<'_>,
     buffer: &mut Vec<u8>,
 ) -> Result<Option<SchemaId>, NoMemory>
     ensures { IfOk result (λ found.
         option_map schema_id_of found ≡ position (is_same (folded (name_of name.entry))) (schema_names (task_of task.now))) }
 {
-    name.fold_into(buffer)?;
+    fold_into(name, buffer)?;
     Ok(task.schema_named(buffer.as_slice()))
 }
 
 fn object_named(
     task: &Task,
-    name: PlanWord<'_>,
+    name: Lexeme<'_>,
     buffer: &mut Vec<u8>,
 ) -> Result<Option<ObjectId>, NoMemory>
     ensures { IfOk result (λ found.
         option_map object_of found ≡ position (is_same (folded (name_of name.entry))) (object_names (task_of task.now))) }
 {
-    name.fold_into(buffer)?;
+    fold_into(name, buffer)?;
     Ok(task.object_named(buffer.as_slice()))
 }

@@ -150,8 +150,8 @@ fn schema_name(task: &Task, schema: SchemaId) -> &[u8]
     }
 }
 
-/// The object's name; empty if there is no such object.
-fn object_name(task: &Task, object: ObjectId) -> &[u8]
+/// The object's name, in lower case; empty if there is no such object.
+pub fn object_name(task: &Task, object: ObjectId) -> &[u8]
     ensures { result.now ≡ object_name (task_of task.now) object.0 }
 {
     match task.object_name(object) {

@@ -218,7 +218,7 @@ into_end start n c (part ∷ parts) fault h code s e =
     let sum = sum_by-cons size part parts in
     inr (into_end (start + size part) (open_with n (form part)) (closed_with n c (form part)) parts fault h code (omega (arith, s, sum)) (omega (arith, e, sum)))
 
-size_is : (text : List ℕ) (parts : List Part) → AreParts text parts → size_of_all parts ≡ length text
+pub size_is : (text : List ℕ) (parts : List Part) → AreParts text parts → size_of_all parts ≡ length text
 size_is text [] h = sym (ap length h)
 size_is text (part ∷ parts) (rest, e, _, _, more) =
     let sum = sum_by-cons size part parts in

@@ -1,7 +1,9 @@
 pub mod Nesting
 pub mod Cut
+pub mod LexemeSteps
 pub mod Reading
 pub mod Faults
 pub mod Words
+pub mod LexemeReading
 pub mod Steps
 pub mod Order

@@ -49,7 +49,7 @@ nested_run n opens kinds r h = absurd r
 nested_run n closes kinds r h = absurd r
 
 -- The words of a list of parts are determined.
-gap_has_no_kind : (f : Form) (text : List ℕ) → IsTrue (is_gap f) → kind_by f text ≡ None
+pub gap_has_no_kind : (f : Form) (text : List ℕ) → IsTrue (is_gap f) → kind_by f text ≡ None
 gap_has_no_kind blank text g = refl
 gap_has_no_kind comment text g = refl
 gap_has_no_kind opening text g = absurd (cc)
@@ -205,12 +205,12 @@ passes start n m c d f text parts sound opens_is closes_is inner =
     ∙ ap (λ k. first_fault (start + length text) k (closed_with n c f) parts) opens_is
     ∙ ap (λ b. first_fault (start + length text) m b parts) closes_is ∙ inner
 
-record Passes (n : ℕ) (c : Bool) (f : Form) (text : List ℕ) (m : ℕ) (d : Bool) : Type 0 where
-  sound : fault_by n c f text ≡ None
-  open_lists : open_with n f ≡ m
-  has_closed : closed_with n c f ≡ d
+pub record Passes (n : ℕ) (c : Bool) (f : Form) (text : List ℕ) (m : ℕ) (d : Bool) : Type 0 where
+  pub sound : fault_by n c f text ≡ None
+  pub open_lists : open_with n f ≡ m
+  pub has_closed : closed_with n c f ≡ d
 
-gap_passes : (n : ℕ) (c : Bool) (f : Form) (text : List ℕ) → IsTrue (is_gap f) → Passes n c f text n c
+pub gap_passes : (n : ℕ) (c : Bool) (f : Form) (text : List ℕ) → IsTrue (is_gap f) → Passes n c f text n c
 gap_passes n c blank text g = record { sound = refl; open_lists = refl; has_closed = refl }
 gap_passes n c comment text g = record { sound = refl; open_lists = refl; has_closed = refl }
 gap_passes n c opening text g = absurd (cc)

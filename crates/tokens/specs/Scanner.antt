@@ -1,7 +1,9 @@
 -- What the scanner says of one part, given what came before it: the number of open lists, and whether the first list is closed.
 use Rattle.std.specs.Prelude.{ℕ, ◌+◌, Bool, ◌||◌, ◌==◌, nat_lt, if◌then◌else◌, List, length, Option, None, Some}
 use Rattle.model.specs.Fault as reported
-use Rattle.model.specs.Words.{Form, blank, comment, opening, closing, run, stray, Kind, Word, kind_of_run, longest_run, deepest}
+use Rattle.std.specs.Option.{option_to_list}
+use Rattle.model.specs.Words.{Form, blank, comment, opening, closing, run, stray, form, bytes, size, Kind, Word, kind_of_run, kind_of_part, longest_run, deepest}
+use Rattle.model.specs.PlanText.{Placed}
 
 -- fault 6 (a word after the first list) if that list is closed
 abbrev pub fault_of_word : Bool → Option ℕ
@@ -34,3 +36,13 @@ word_at start text (Some kind) = Some (record { kind = kind; text = text; start 
 abbrev pub fault_at : ℕ → ℕ → Option ℕ → Option reported.Fault
 fault_at start size None = None
 fault_at start size (Some code) = Some (record { code = code; span = record { start = start; end = start + size } })
+
+-- what the scanner says of a lexeme: the number of its fault, that fault, and its words, of which there is one at most
+abbrev pub code_of_lexeme : ℕ → Bool → Placed → Option ℕ
+code_of_lexeme open_lists has_closed lexeme = fault_by open_lists has_closed (form lexeme.part) (bytes lexeme.part)
+
+abbrev pub fault_of_lexeme : ℕ → Bool → Placed → Option reported.Fault
+fault_of_lexeme open_lists has_closed lexeme = fault_at lexeme.start (size lexeme.part) (code_of_lexeme open_lists has_closed lexeme)
+
+abbrev pub words_of_lexeme : Placed → List Word
+words_of_lexeme lexeme = option_to_list (word_at lexeme.start (bytes lexeme.part) (kind_of_part lexeme.part))

@@ -6,7 +6,7 @@ ghost use Rattle.tokens.specs.Reported.{reported_by};
 ghost use Rattle.tokens.specs.Word.{word_of};
 ghost use Rattle.model.specs.Words.{longest_text, ReadsAs, Reads, IsReported};
 
-use crate::form::{Form, part_end};
+use crate::lexeme::{Lexeme, Lexemes, Shape};
 use crate::run::kind_of_run;
 use crate::word::{Kind, Word};
 use faults::{Code, Fault, Span, TextRefusal};
@@ -68,18 +68,13 @@ pub fn scan(alloc: Global, text: &[u8]) -> Result<Vec<Word<'_>>, Fault>
     }
     let mut words = Vec::new(alloc);
     let mut nesting = Nesting::outside();
-    let mut start = 0;
-    while start < text.len() {
-        let form = Form::of(text[start]);
-        let end = part_end(text, start, form);
-        let part = &text[start..end];
-        if let Some(word) = nesting.word(start, form, part)? {
-            if words.push(word).is_err() {
-                return Err(Fault::NoMemory);
-            }
+    'lexemes: for lexeme in Lexemes::of(text) {
+        let word = nesting.word(lexeme)?;
+        if words.push(word).is_err() {
+            return Err(Fault::NoMemory);
         }
-        nesting = nesting.after(form);
-        start = end;
+        let shape = lexeme.shape();
+        nesting = nesting.after(shape);
     }
     if nesting.open_lists > 0 {
         return Err(refusal(Code::Unbalanced, text.len(), text.len()));
@@ -97,7 +92,7 @@ fn refusal(code: Code, start: usize, end: usize) -> Fault
     })
 }
 
-/// The context of a part: what came before it, as far as faults depend on it.
+/// The context of a lexeme: what came before it, as far as faults depend on it.
 #[derive(Clone, Copy, Debug)]
 struct Nesting {
     /// How many lists are open.
@@ -107,10 +102,12 @@ struct Nesting {
 }
 
 impl Nesting {
-    ghost use Rattle.tokens.specs.Form.{view};
+    ghost use Rattle.std.specs.Prelude.{[], ◌∷◌};
+    ghost use Rattle.tokens.specs.Lexeme.{placed_of};
+    ghost use Rattle.tokens.specs.Shape.{form_by};
     ghost use Rattle.faults.specs.Fault.{number_of};
     ghost use Rattle.tokens.specs.Reported.{reported_by};
-    ghost use Rattle.tokens.specs.Scanner.{fault_by, closed_with, word_at, fault_at};
+    ghost use Rattle.tokens.specs.Scanner.{fault_by, closed_with, code_of_lexeme, fault_of_lexeme, words_of_lexeme};
     ghost use Rattle.tokens.specs.Word.{kind_of, word_of};
     ghost use Rattle.model.specs.Words.{opening, closing, open_with, kind_by};
 
@@ -125,24 +122,23 @@ impl Nesting {
         }
     }
 
-    /// The kind of the part if it is a word, `None` if it is skipped, or the code that refuses it.
-    fn word_kind(self, form: Form, part: &[u8]) -> Result<Option<Kind>, Code>
+    /// The kind of a lexeme with this shape and these bytes as a word, or the code that refuses it.
+    fn word_kind(self, shape: Shape, text: &[u8]) -> Result<Kind, Code>
         ensures sound { IfOk result (λ kind.
-            fault_by self.open_lists self.has_closed (view form) part.now ≡ None) }
-        ensures kind { IfOk result (λ kind. option_map kind_of kind ≡ kind_by (view form) part.now) }
+            fault_by self.open_lists self.has_closed (form_by shape) text.now ≡ None) }
+        ensures kind { IfOk result (λ kind. kind_by (form_by shape) text.now ≡ Some (kind_of kind)) }
         ensures refused { IfErr result (λ code.
-            fault_by self.open_lists self.has_closed (view form) part.now ≡ Some (number_of code)) }
+            fault_by self.open_lists self.has_closed (form_by shape) text.now ≡ Some (number_of code)) }
     {
-        let kind = match form {
-            Form::Blank | Form::Comment => return Ok(None),
-            Form::Stray => return Err(Code::BadByte),
-            Form::Opening if self.open_lists == DEEPEST => return Err(Code::TooDeep),
-            Form::Opening => Kind::Open,
-            Form::Closing if self.open_lists == 0 => return Err(Code::Unbalanced),
-            Form::Closing => Kind::Close,
-            Form::Run => {
-                let kind = kind_of_run(part).ok_or(Code::BadWord)?;
-                if part.len() > LONGEST_RUN {
+        let kind = match shape {
+            Shape::Stray => return Err(Code::BadByte),
+            Shape::Open if self.open_lists == DEEPEST => return Err(Code::TooDeep),
+            Shape::Open => Kind::Open,
+            Shape::Close if self.open_lists == 0 => return Err(Code::Unbalanced),
+            Shape::Close => Kind::Close,
+            Shape::Run => {
+                let kind = kind_of_run(text).ok_or(Code::BadWord)?;
+                if text.len() > LONGEST_RUN {
                     return Err(Code::TooLong);
                 }
                 kind
@@ -151,50 +147,44 @@ impl Nesting {
         if self.has_closed {
             Err(Code::Trailing)
         } else {
-            Ok(Some(kind))
+            Ok(kind)
         }
     }
 
-    /// The part as a word, if it is one.
-    fn word<'a>(self, start: usize, form: Form, part: &'a [u8]) -> Result<Option<Word<'a>>, Fault>
-        requires { start + length part.now < 2 ^ 64 }
-        ensures sound { IfOk result (λ word.
-            fault_by self.open_lists self.has_closed (view form) part.now ≡ None) }
-        ensures word { IfOk result (λ word.
-            option_map word_of word ≡ word_at start part.now (kind_by (view form) part.now)) }
+    /// The lexeme as a word, or its refusal.
+    fn word<'a>(self, lexeme: Lexeme<'a>) -> Result<Word<'a>, Fault>
+        ensures sound { IfOk result (λ word. code_of_lexeme self.open_lists self.has_closed (placed_of lexeme.entry) ≡ None) }
+        ensures word { IfOk result (λ word. words_of_lexeme (placed_of lexeme.entry) ≡ word_of word ∷ []) }
         ensures refused { IfErr result (λ fault.
-            reported_by fault ≡ fault_at start (length part.now)
-            (fault_by self.open_lists self.has_closed (view form) part.now)) }
+            reported_by fault ≡ fault_of_lexeme self.open_lists self.has_closed (placed_of lexeme.entry)) }
     {
-        match self.word_kind(form, part) {
-            Ok(Some(kind)) => Ok(Some(Word {
-                kind,
-                start,
-                text: part,
-            })),
-            Ok(None) => Ok(None),
-            Err(code) => Err(refusal(code, start, start + part.len())),
+        let shape = lexeme.shape();
+        let text = lexeme.text();
+        let Span { start, end } = lexeme.span();
+        match self.word_kind(shape, text) {
+            Ok(kind) => Ok(Word { kind, text, start }),
+            Err(code) => Err(refusal(code, start, end)),
         }
     }
 
-    /// The context after a part of this form.
-    fn after(self, form: Form) -> Nesting
-        requires opens { view form ≡ opening → self.open_lists < 64 }
-        requires closes { view form ≡ closing → 0 < self.open_lists }
-        ensures open_lists { result.open_lists ≡ open_with self.open_lists (view form) }
+    /// The context after a lexeme of this shape.
+    fn after(self, shape: Shape) -> Nesting
+        requires opens { form_by shape ≡ opening → self.open_lists < 64 }
+        requires closes { form_by shape ≡ closing → 0 < self.open_lists }
+        ensures open_lists { result.open_lists ≡ open_with self.open_lists (form_by shape) }
         ensures has_closed { result.has_closed
-            ≡ closed_with self.open_lists self.has_closed (view form) }
+            ≡ closed_with self.open_lists self.has_closed (form_by shape) }
     {
-        match form {
-            Form::Opening => Nesting {
+        match shape {
+            Shape::Open => Nesting {
                 open_lists: self.open_lists + 1,
                 has_closed: self.has_closed,
             },
-            Form::Closing => Nesting {
+            Shape::Close => Nesting {
                 open_lists: self.open_lists - 1,
                 has_closed: self.has_closed || self.open_lists == 1,
             },
-            _ => self,
+            Shape::Run | Shape::Stray => self,
         }
     }
 }
