@@ -18,6 +18,7 @@ use Rattle.certificate_definitions.specs.Evidence.{Basis, of_all, landmark, Line
 use Rattle.landmark_functions.specs.LandmarkFunctions as landmarks
 use Rattle.landmark_functions.specs.LandmarkFunctions.{LandmarkFunction}
 use Rattle.landmark_functions.specs.LandmarkLines.{NumberedLandmarks, functions_of as landmark_functions, keep_limits, most_values}
+pub use Rattle.landmark_functions.specs.LandmarkLines.{rise}
 use Rattle.landmark_functions.specs.FairLandmarks.{IsFair, IsDeadFair}
 use Rattle.symmetries_definitions.specs.Symmetries.{is_symmetry}
 use Rattle.symmetries_definitions.specs.Orbits.{AreAlike, keeps_atoms}
@@ -77,11 +78,6 @@ is_weight (negsuc n) = nat_lt n 2147483647
 abbrev pub is_claim : Claim → Bool
 is_claim (bound least) = is_number least
 is_claim none = true
-
--- the numbers are strictly ascending, from the least allowed one, and are those of atoms
-abbrev pub rise : ℕ → ℕ → List ℕ → Bool
-rise atom_count least [] = true
-rise atom_count least (n ∷ rest) = nat_le least n && nat_lt n atom_count && rise atom_count (n + 1) rest
 
 -- landmark values are those of version 4
 abbrev pub has_landmarks : Version → Bool
