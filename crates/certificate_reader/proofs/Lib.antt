@@ -5,6 +5,7 @@ pub mod WeightsRead
 pub mod NumbersRead
 pub mod NamesRead
 pub mod LinesRead
+pub mod LandmarksRead
 pub mod PartsRead
 pub mod ParseLemmas
 pub mod OneLine

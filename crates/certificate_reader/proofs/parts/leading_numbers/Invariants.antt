@@ -4,7 +4,7 @@ use Rattle.std.specs.Fmt.{decimal}
 use Rattle.certificate_definitions.specs.Certificates.{rise}
 use Rattle.certificate_reader.specs.Words.{text_in, then_words}
 use Rattle.certificate_reader.proofs.NumbersRead.{bytes_left}
-use Rattle.certificate_reader.proofs.parts.numbers.Given as goal
+use Rattle.certificate_reader.proofs.parts.leading_numbers.Given as goal
 
 abbrev pub invariant-words : goal.invariant-words
 invariant-words l = record {

@@ -2,7 +2,7 @@ use Rattle.std.proofs.Common.{codes, refl}
 use Rattle.certificate_reader.specs.Stages.{format_of}
 use Rattle.certificate_reader.proofs.LinesRead.{dead_is_read, no_dead}
 use Rattle.certificate_reader.proofs.ParseLemmas.{has_dead_ends, malformed}
-use Rattle.certificate_reader.proofs.parsing.dead_line.Goals as goal
+use Rattle.certificate_reader.proofs.state_line.dead_line.Goals as goal
 
 pub returns-in-Some : goal.returns-in-Some
 returns-in-Some c =

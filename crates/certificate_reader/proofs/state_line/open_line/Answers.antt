@@ -3,7 +3,7 @@ use Rattle.std.proofs.lemmas.Result.{err_from_is_err_and}
 use Rattle.certificate_reader.specs.Stages.{format_of}
 use Rattle.certificate_reader.proofs.LinesRead.{no_open, open_is_read}
 use Rattle.certificate_reader.proofs.ParseLemmas.{malformed}
-use Rattle.certificate_reader.proofs.parsing.open_line.Goals as goal
+use Rattle.certificate_reader.proofs.state_line.open_line.Goals as goal
 
 pub returns-in_err-cost : goal.returns-in_err-cost
 returns-in_err-cost c = let p = err_from_is_err_and c.from_residual.result c.from_residual.ensures.1 in rw (p.1, p.2) tt
