@@ -160,7 +160,7 @@ part_is_no_mark (landmark_line (value shares)) mark heads = is_no_mark (codes "m
 
 -- ---- any line
 
-numbered_as : ℕ → Version
+abbrev numbered_as : ℕ → Version
 numbered_as n = if n == 1 then one else if n == 2 then two else if n == 3 then three else four
 
 by_number : (v : Version) → numbered_as (version_number v) ≡ v

@@ -1,4 +1,4 @@
-use Rattle.std.proofs.Common.{map, sym, ◌∙◌}
+use Rattle.std.proofs.Common.{rules, map, sym, ◌∙◌}
 use Rattle.landmark_zones.specs.Landmarks.{share_of}
 use Rattle.certificate_reader.specs.Stages.{format_of}
 use Rattle.certificate_reader.proofs.LandmarksRead.{marks_are_read, no_marks, no_shares_in_marks, no_value}
@@ -13,10 +13,10 @@ returns-in_default c = no_shares_in_marks c.args.rest.now (format_of c.args.form
 pub returns-then-not-is_value : goal.returns-then-not-is_value
 returns-then-not-is_value c =
     let (may, splits) = rw c.in-Some.is at c.in_ok-shares.ensures.some in
-    no_value c.args.rest.now (format_of c.args.format) (map share_of c.in-Some.shares.items) may splits (sym c.is_value.ensures ∙ c.if-not-is_value.true)
+    no_value c.args.rest.now (format_of c.args.format) (map share_of c.in-Some.shares.items) may splits (search rules)
 
 pub returns : goal.returns
 returns c =
     let (_, splits) = rw c.in-Some.is at c.in_ok-shares.ensures.some in
     marks_are_read c.args.rest.now (format_of c.args.format) (sym c.has_landmarks.ensures ∙ c.if-not-has_landmarks.false) (map share_of c.in-Some.shares.items) splits
-    (sym c.is_value.ensures ∙ c.if-not-is_value.false)
+    (search rules)

@@ -1,4 +1,4 @@
-use Rattle.std.proofs.Common.{arith, ap, sym, subst}
+use Rattle.std.proofs.Common.{ap, sym, subst}
 use Rattle.certificate_reader.specs.Parts.{IsCounted, counts_of, part_of}
 use Rattle.certificate_reader.proofs.part_line.PartCounts.after.Goals as goal
 
@@ -9,11 +9,3 @@ pub returns-in-Row : goal.returns-in-Row
 returns-in-Row c =
     subst (λ p. IsCounted (counts_of c.args.self) p c.after_row.result) (sym (ap part_of c.in-Row.is))
     (c.after_row.ensures (record { atoms = c.in-Row.atoms.items; weights = c.in-Row.weights.items }))
-
-pub returns-in-Zone : goal.returns-in-Zone
-returns-in-Zone c =
-    subst (λ p. IsCounted (counts_of c.args.self) p c.after_zone.result) (sym (ap part_of c.in-Zone.is))
-    (c.after_zone.ensures (record { atoms = c.in-Zone.atoms.items; negated = c.in-Zone.negated.items }) (omega (arith, c.len.ensures, c.len-2.ensures)))
-
-pub returns-in-Landmark : goal.returns-in-Landmark
-returns-in-Landmark c = subst (λ p. IsCounted (counts_of c.args.self) p c.after_landmark.result) (sym (ap part_of c.in-Landmark.is)) c.after_landmark.ensures
