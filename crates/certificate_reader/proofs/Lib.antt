@@ -16,3 +16,4 @@ pub mod FirstPlaces
 pub mod NextLemmas
 pub mod ReaderLemmas
 pub mod ExchangedRead
+pub mod AdvanceLemmas
