@@ -6,7 +6,7 @@ use Rattle.std.proofs.lemmas.Bool.{and_parts}
 use Rattle.std.proofs.lemmas.List.Elements.{All-cons, All-nil}
 use Rattle.certificate_definitions.specs.Certificates.{Certificate, Version, StateLine, are_exchanges, are_potentials, are_tables, is_value_count, rows_of, is_claim, is_dead_end_weight, is_mark, is_number, is_state_line, is_weight, keeps_limits, rise}
 
--- the limits: those of the numbers of items, of the lines, and of the bounds of plan costs
+-- the limits: those of the numbers of items, of the lines, and of the evidence
 pub record Limits (c : Certificate) : Type 0 where
   pub few_atoms : nat_le (length c.atoms) 1048576 ≡ true
   pub few_lines : nat_le (length c.lines) 16777216 ≡ true

@@ -19,8 +19,8 @@ use Rattle.certificate_definitions.specs.Certificates.{Version, one, two, three,
 use Rattle.model.specs.PlanWriting.{object_name, object_text}
 use Rattle.certificate_definitions.specs.CertificateText.{after_blank, claims, constant, line_text, mark_text, version, weights_text, whole_line}
 use Rattle.certificate_definitions.specs.CertificateNames.{named_atom, predicate_name, weights_in}
-use Rattle.certificate.specs.declared.header.Potential.{Potential}
-use Rattle.certificate.specs.CertificateParts.{potential_of}
+use Rattle.certificate.specs.declared.evidence.Potential.{Potential}
+use Rattle.certificate.specs.Evidence.{potential_of}
 use Rattle.certificate.specs.Gathering.{atom_line, number_text, row_line, scope_line, state_line, swap_line, weight_text}
 
 -- the bytes after the last piece was added

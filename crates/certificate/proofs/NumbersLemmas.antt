@@ -22,10 +22,11 @@ use Rattle.certificate_reader.proofs.NumbersRead.{rise_parts}
 use Rattle.certificate.specs.ListedSets.{Marked, line_with, lines_with, marked, numbers_of}
 use Rattle.certificate.specs.declared.cert.Cert.{Cert}
 use Rattle.certificate.specs.CertificateParts.{listed_of}
-use Rattle.certificate.specs.declared.header.Potential.{Potential}
+use Rattle.certificate.specs.declared.evidence.Potential.{Potential}
 use Rattle.certificate.specs.declared.states.Listed.{Listed}
 use Rattle.certificate.specs.declared.states.States.{States}
-use Rattle.certificate.specs.CertificateParts.{certificate_with, potential_of}
+use Rattle.certificate.specs.CertificateParts.{certificate_with}
+use Rattle.certificate.specs.Evidence.{potential_of}
 use Rattle.certificate.specs.Certificate.{certificate_of, store_in}
 use Rattle.certificate.proofs.LimitsLemmas.{Limits, limits_of}
 use Rattle.certificate.proofs.SetsLemmas.{numbers_back, rise_below}
@@ -220,17 +221,17 @@ module _ (cert : Cert) where
   rises : All (Rises count) sets
   rises = all_rise version count marks sets as_many limits.lines
 
-  pub value_count_kept : is_value_count version (length cert.header.bounds.values.items) ≡ true
-  value_count_kept = ap (is_value_count version) (sym (length-map cert.header.bounds.values.items potential_of)) ∙ limits.value_count
+  pub value_count_kept : is_value_count version (length cert.header.evidence.values.items) ≡ true
+  value_count_kept = ap (is_value_count version) (sym (length-map cert.header.evidence.values.items potential_of)) ∙ limits.value_count
 
-  pub values_kept : All (λ (p : Potential). are_potentials is_weight count (potential_of p) ≡ true) cert.header.bounds.values.items
-  values_kept = all_kept (are_potentials is_weight count) potential_of cert.header.bounds.values.items limits.values
+  pub values_kept : All (λ (p : Potential). are_potentials is_weight count (potential_of p) ≡ true) cert.header.evidence.values.items
+  values_kept = all_kept (are_potentials is_weight count) potential_of cert.header.evidence.values.items limits.values
 
-  pub dead_ends_kept : are_potentials is_weight count (potential_of cert.header.bounds.dead_ends) ≡ true
-  dead_ends_kept = dead_ends_are version count (potential_of cert.header.bounds.dead_ends) limits.dead_ends
+  pub dead_ends_kept : are_potentials is_weight count (potential_of cert.header.evidence.dead_ends) ≡ true
+  dead_ends_kept = dead_ends_are version count (potential_of cert.header.evidence.dead_ends) limits.dead_ends
 
-  pub tables_kept : are_tables version count (length cert.header.bounds.values.items + 1) (certificate_of cert).tables ≡ true
-  tables_kept = ap (λ n. are_tables version count (n + 1) (certificate_of cert).tables) (sym (length-map cert.header.bounds.values.items potential_of)) ∙ limits.tables
+  pub tables_kept : are_tables version count (length cert.header.evidence.values.items + 1) (certificate_of cert).tables ≡ true
+  tables_kept = ap (λ n. are_tables version count (n + 1) (certificate_of cert).tables) (sym (length-map cert.header.evidence.values.items potential_of)) ∙ limits.tables
 
   pub marks_are : map listed_of cert.states.marks.items ≡ map marked (certificate_of cert).lines
   marks_are = sym (marked_back marks sets as_many)

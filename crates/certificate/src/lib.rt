@@ -4,6 +4,7 @@
 #![tactic(auto)]
 
 mod cert;
+mod evidence;
 mod header;
 mod limits;
 mod line_text;
@@ -20,6 +21,7 @@ pub use certificate_reader::{
     texts_are_certificates_one_for_one,
 };
 pub use devices::{Device, DeviceFault, IoFault, Memory, Sink, Source, write_all};
-pub use header::{Bounds, Header, Potential};
+pub use evidence::{Evidence, Potential};
+pub use header::Header;
 pub use states::{Listed, States};
 pub use writer::write_cert;

@@ -6,12 +6,14 @@ ghost use Rattle.certificate_definitions.specs.Certificates.{is_number, is_weigh
 ghost use Rattle.certificate_reader.specs.Lines.{claim_of, line_of, mark_of, version_of};
 ghost use Rattle.certificate_reader.specs.declared.part_line.TheConstants.{MAX_ROWS};
 ghost use Rattle.table_rows.specs.Tables.{table_of};
-ghost use Rattle.certificate.specs.CertificateParts.{are_bounds, bounds_of, certificate_with_lines, exchange_in, potential_of};
+ghost use Rattle.certificate.specs.CertificateParts.{certificate_with_lines, exchange_in};
+ghost use Rattle.certificate.specs.Evidence.{potential_of};
 
-use crate::header::{Bounds, Header, Potential};
+use crate::evidence::Potential;
+use crate::header::Header;
 use certificate_reader::{
-    Claim, MAX_ATOMS, MAX_CONSTANTS, MAX_ROWS, MAX_STATE_LINES, MAX_SWAPS, MAX_TABLES, MAX_WEIGHT,
-    Mark, NUMBER_LIMIT, StateLine, Version,
+    Claim, MAX_ATOMS, MAX_CONSTANTS, MAX_ROWS, MAX_STATE_LINES, MAX_SWAPS, MAX_WEIGHT, Mark,
+    NUMBER_LIMIT, StateLine, Version,
 };
 use table_rows::Table;
 use task::ObjectId;
@@ -25,7 +27,7 @@ pub(crate) fn keeps_limits(header: &Header, lines: &[StateLine]) -> bool
         && atom_count <= MAX_ATOMS
         && lines.len() <= MAX_STATE_LINES
         && are_state_lines(header.version, lines, atom_count)
-        && are_bounds(header.version, &header.bounds, atom_count)
+        && header.evidence.keep_limits(header.version, atom_count)
         && are_exchanges(header.version, &header.exchanges)
         && header.exchanges.len() <= MAX_SWAPS
 }
@@ -49,20 +51,8 @@ fn has_exchanges(version: Version) -> bool
     version == Version::Three
 }
 
-/// Whether a certificate of this version and with this many atoms may have these bounds.
-pub(crate) fn are_bounds(version: Version, bounds: &Bounds, atom_count: usize) -> bool
-    ensures { result ≡ are_bounds (version_of version) atom_count (bounds_of bounds.now) }
-{
-    is_value_count(version, bounds.values.len())
-        && are_values(&bounds.values, atom_count)
-        && are_dead_ends(version, &bounds.dead_ends, atom_count)
-        && are_tables(version, &bounds.tables, atom_count, bounds.values.len() + 1)
-        && bounds.tables.len() <= MAX_TABLES
-        && are_few_rows(&bounds.tables)
-}
-
 /// Whether a certificate of this version may have this many values.
-fn is_value_count(version: Version, count: usize) -> bool
+pub(crate) fn is_value_count(version: Version, count: usize) -> bool
     ensures { result ≡ is_value_count (version_of version) count }
 {
     match version {
@@ -89,7 +79,7 @@ fn is_claim(claim: Claim) -> bool
 }
 
 /// Whether each value has a constant and a weight for each of this many atoms.
-fn are_values(values: &[Potential], atom_count: usize) -> bool
+pub(crate) fn are_values(values: &[Potential], atom_count: usize) -> bool
     ensures { result ≡ list_all (are_potentials is_weight atom_count) (map potential_of values.now) }
 {
     for value in values {
@@ -110,7 +100,7 @@ fn are_potentials(potential: &Potential, atom_count: usize) -> bool
 }
 
 /// Whether this potential function may detect dead ends in a certificate of this version and with this many atoms.
-fn are_dead_ends(version: Version, potential: &Potential, atom_count: usize) -> bool
+pub(crate) fn are_dead_ends(version: Version, potential: &Potential, atom_count: usize) -> bool
     ensures { result ≡ are_potentials (is_dead_end_weight (version_of version)) atom_count (potential_of potential.now) }
 {
     is_dead_end_weight(version, potential.constant)
@@ -197,7 +187,12 @@ fn rise(numbers: &[u32], atom_count: usize) -> bool
 }
 
 /// Whether a certificate of this version and with this many atoms may have these tables, whose rows have this many weights.
-fn are_tables(version: Version, tables: &[Table], atom_count: usize, weight_count: usize) -> bool
+pub(crate) fn are_tables(
+    version: Version,
+    tables: &[Table],
+    atom_count: usize,
+    weight_count: usize,
+) -> bool
     ensures { result ≡ are_tables (version_of version) atom_count weight_count (map table_of tables.now) }
 {
     for table in tables {
@@ -249,7 +244,7 @@ fn are_row_weights(weights: &[i64], count: usize) -> bool
 }
 
 /// Whether the tables have no more rows in total than a certificate may have.
-fn are_few_rows(tables: &[Table]) -> bool
+pub(crate) fn are_few_rows(tables: &[Table]) -> bool
     ensures { result ≡ nat_le (length (rows_of (map table_of tables.now))) MAX_ROWS }
 {
     let mut room = MAX_ROWS;

@@ -46,10 +46,10 @@ pub fn write_cert<W: Sink>(
     ensures name { W.name out.new ≡ W.name out.old }
 {
     let mut held = Vec::new(alloc);
-    add_head(cert.version(), cert.claim(), cert.bounds(), &mut held)?;
+    add_head(cert.version(), cert.claim(), cert.evidence(), &mut held)?;
     write_exchanges(task, cert.exchanges(), &mut held, out)?;
     write_atoms(task, cert, &mut held, out)?;
-    write_tables(alloc, &cert.bounds().tables, &mut held, out)?;
+    cert.evidence().write_parts(alloc, &mut held, out)?;
     write_states(alloc, cert, &mut held, out)?;
     add_last(cert.line_count(), &mut held)?;
     write_all(out, held.as_slice())
@@ -86,16 +86,16 @@ fn write_atoms<W: Sink>(
     ensures failures { CountsDevice (W.failures out.old) (W.failures out.new) result }
     ensures name { W.name out.new ≡ W.name out.old }
 {
-    let (version, bounds, atoms) = (cert.version(), cert.bounds(), cert.atoms());
+    let (version, evidence, atoms) = (cert.version(), cert.evidence(), cert.atoms());
     for place in 0..atoms.len() {
-        add_atom(task, &atoms[place], place, version, bounds, held)?;
+        add_atom(task, &atoms[place], place, version, evidence, held)?;
         pass_on(held, out)?;
     }
     Ok(())
 }
 
 /// Writes the lines of the tables after the buffered bytes.
-fn write_tables<W: Sink>(
+pub(crate) fn write_tables<W: Sink>(
     alloc: Global,
     tables: &[Table],
     held: &mut Vec<u8>,

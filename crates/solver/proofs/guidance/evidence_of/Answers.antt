@@ -1,7 +1,7 @@
 use Rattle.std.proofs.Common.{◌∙◌, [], ◌∷◌, ◌++◌, ap, map}
-use Rattle.certificate.specs.CertificateParts.{potential_of}
+use Rattle.certificate.specs.Evidence.{potential_of}
 use Rattle.table_rows.specs.Tables.{table_of}
-use Rattle.solver.proofs.guidance.bounds_of.Goals as goal
+use Rattle.solver.proofs.guidance.evidence_of.Goals as goal
 
 pub returns : goal.returns
 returns c =
