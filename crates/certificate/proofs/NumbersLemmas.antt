@@ -10,13 +10,13 @@ use Rattle.std.proofs.lemmas.Option.{slice_get-map}
 use Rattle.std.proofs.lemmas.List.Elements.{All-cons, All-nil, All-contains, All-map, All-tail}
 use Rattle.packed_state.specs.Sets.{at_width, has, set_of}
 use Rattle.packed_state.specs.declared.pooled.PooledStore.{PooledStore}
-use Rattle.packed_state.specs.PooledStore.{rows_of}
+use Rattle.packed_state.specs.PooledStore as pooled
 use Rattle.packed_state.specs.PooledView.{pooled_states, pooled_width}
 use Rattle.packed_state.specs.Store.{sets_in}
 use Rattle.packed_state.specs.Words.{bits_in}
 use Rattle.packed_state.proofs.PackedLemmas.{length-bits}
 use Rattle.lower_bounds.specs.PotentialFunctions.{PotentialFunction}
-use Rattle.certificate_definitions.specs.Certificates.{Version, one, two, three, StateLine, are_potentials, are_tables, is_dead_end_weight, is_mark, is_number, is_state_line, is_value_count, is_weight, rise}
+use Rattle.certificate_definitions.specs.Certificates.{Version, one, two, three, four, StateLine, are_potentials, are_tables, is_dead_end_weight, is_mark, is_number, is_state_line, is_value_count, is_weight, rise, rows_of, several_of}
 use Rattle.model.proofs.ListLemmas.{Contains-cases, Contains-filter, Contains-here, Contains-none, Contains-range, Contains-there, filter-Contains}
 use Rattle.certificate_reader.proofs.NumbersRead.{rise_parts}
 use Rattle.certificate.specs.ListedSets.{Marked, line_with, lines_with, marked, numbers_of}
@@ -26,9 +26,9 @@ use Rattle.certificate.specs.declared.evidence.Potential.{Potential}
 use Rattle.certificate.specs.declared.states.Listed.{Listed}
 use Rattle.certificate.specs.declared.states.States.{States}
 use Rattle.certificate.specs.CertificateParts.{certificate_with}
-use Rattle.certificate.specs.Evidence.{potential_of}
+use Rattle.certificate.specs.Evidence.{line_count, potential_of}
 use Rattle.certificate.specs.Certificate.{certificate_of, store_in}
-use Rattle.certificate.proofs.LimitsLemmas.{Limits, limits_of}
+use Rattle.certificate.proofs.LimitsLemmas.{Limits, few_values, few_zones, limits_of}
 use Rattle.certificate.proofs.SetsLemmas.{numbers_back, rise_below}
 use Rattle.certificate.proofs.WideningLemmas.{IsBelow, has-at_width, length-at_width}
 
@@ -159,7 +159,7 @@ lines_wide count wide (mark ∷ marks) (set ∷ sets) enough same rises =
 
 set_lengths : (store : PooledStore) → All (λ (set : List Bool). length set ≡ pooled_width store) (pooled_states store)
 unfolding sets_in
-set_lengths store = All-map (λ (set : List Bool). length set ≡ store.width) (bits_in store.width) (rows_of store.pool) (λ k d within. length-bits store.width (get_or (rows_of store.pool) k d))
+set_lengths store = All-map (λ (set : List Bool). length set ≡ store.width) (bits_in store.width) (pooled.rows_of store.pool) (λ k d within. length-bits store.width (get_or (pooled.rows_of store.pool) k d))
 
 -- the meaning of a potential function's limits
 pub potential_parts : (is_in_range : ℤ → Bool) (count : ℕ) (p : PotentialFunction) → are_potentials is_in_range count p ≡ true
@@ -179,6 +179,7 @@ dead_end_weight one (pos (suc n)) is = absurd (cc)
 dead_end_weight one (negsuc n) is = absurd (cc)
 dead_end_weight two w is = is
 dead_end_weight three w is = is
+dead_end_weight four w is = is
 
 dead_end_weights_are : (version : Version) (weights : List ℤ) → list_all (is_dead_end_weight version) weights ≡ true → list_all is_weight weights ≡ true
 dead_end_weights_are version [] are = refl
@@ -243,6 +244,19 @@ module _ (cert : Cert) where
   pub few_atoms : length (certificate_of cert).atoms ≤ 1048576
   few_atoms = leb-true count 1048576 limits.few_atoms
 
+  pub few_exchanges : length (certificate_of cert).exchanges ≤ 1048576
+  few_exchanges = leb-true (length (certificate_of cert).exchanges) 1048576 limits.few_exchanges
+
+  -- the lines of all parts
+  pub few_parts : line_count (several_of (certificate_of cert)) (certificate_of cert).landmarks ≤ 41943040
+  few_parts =
+      let c = certificate_of cert in
+      let tables = leb-true (length c.tables) 4194304 limits.few_tables in
+      let rows = leb-true (length (rows_of c.tables)) 4194304 limits.few_rows in
+      let zones = few_zones c limits in
+      let values = few_values c limits in
+      omega (arith, tables, rows, zones, values)
+
   pub few_lines : length (certificate_of cert).lines ≤ 16777216
   few_lines = leb-true (length (certificate_of cert).lines) 16777216 limits.few_lines
 
@@ -266,4 +280,4 @@ module _ (cert : Cert) where
     same_certificate states same are =
         let lines = (λ i. lines_with (map listed_of (same i)) (are i)) ∙ lines_wide count wide marks sets enough as_many rises in
         let c = certificate_of cert in
-        λ i. record { version = c.version; claim = c.claim; exchanges = c.exchanges; atoms = c.atoms; values = c.values; dead_ends = c.dead_ends; tables = c.tables; lines = lines i }
+        λ i. record { version = c.version; claim = c.claim; exchanges = c.exchanges; atoms = c.atoms; values = c.values; dead_ends = c.dead_ends; tables = c.tables; landmarks = c.landmarks; lines = lines i }

@@ -1,12 +1,14 @@
 -- The parts of the code's certificates, in the model's terms.
-use Rattle.std.specs.Prelude.{List, map}
+use Rattle.std.specs.Prelude.{Bool, ◌&&◌, nat_le, List, length, map}
+use Rattle.std.specs.List.{list_all}
 use Rattle.std.specs.Global.{Vec}
 use Rattle.task.specs.declared.atoms.ObjectId.{ObjectId}
 use Rattle.task.specs.TaskParts.{atom_of}
 use Rattle.packed_state.specs.PooledView.{pooled_states}
 use Rattle.symmetries_definitions.specs.Exchanges.{Exchange}
 use Rattle.symmetries.specs.ObjectPairs.{pairs_in}
-use Rattle.certificate_definitions.specs.Certificates.{Certificate, StateLine}
+use Rattle.certificate_definitions.specs.Certificates.{Certificate, StateLine, are_exchanges, is_claim, is_state_line}
+use Rattle.landmark_zones.specs.Landmarks.{landmarks_of}
 use Rattle.certificate_reader.specs.Lines.{claim_of, mark_of, version_of}
 use Rattle.certificate.specs.declared.header.Header.{Header}
 use Rattle.certificate.specs.declared.states.Listed.{Listed}
@@ -30,9 +32,19 @@ certificate_with_lines header lines = record {
   values = (evidence_of header.evidence).values;
   dead_ends = (evidence_of header.evidence).dead_ends;
   tables = (evidence_of header.evidence).tables;
+  landmarks = landmarks_of header.evidence.landmarks;
   lines = lines;
 }
 
 -- its lines are those of the marks and sets
 abbrev pub certificate_with : Header → States → Certificate
 certificate_with header states = certificate_with_lines header (lines_with (map listed_of states.marks.items) (pooled_states states.sets))
+
+-- the limits of its claim, its atoms and its lines, each by itself
+abbrev pub keeps_item_limits : Certificate → Bool
+keeps_item_limits c =
+    is_claim c.claim && nat_le (length c.atoms) 1048576 && nat_le (length c.lines) 16777216 && list_all (is_state_line c.version (length c.atoms)) c.lines
+
+-- the limits of its exchanges
+abbrev pub keeps_exchange_limits : Certificate → Bool
+keeps_exchange_limits c = are_exchanges c.version c.exchanges && nat_le (length c.exchanges) 1048576

@@ -32,7 +32,10 @@ impl Cert {
     ghost use Rattle.packed_state.specs.Packed.{bits_of};
     ghost use Rattle.packed_state.specs.PooledView.{pooled_width};
     ghost use Rattle.certificate_definitions.specs.CertificateRefusals.{state_line};
-    ghost use Rattle.certificate_definitions.specs.Certificates.{are_potentials, are_tables, is_value_count, is_weight, several_of};
+    ghost use Rattle.certificate_definitions.specs.Certificates as certificates;
+    ghost use Rattle.certificate_definitions.specs.Certificates.{are_landmarks, are_potentials, are_tables, has_basis, is_value_count, is_weight, several_of};
+    ghost use Rattle.std.specs.List.{list_all};
+    ghost use Rattle.landmark_zones.specs.Landmarks.{landmarks_of};
     ghost use Rattle.certificate_reader.specs.Lines.{claim_of, line_of, version_of};
     ghost use Rattle.certificate_reader.specs.declared.line.TheConstants.{MAX_ATOMS, MAX_STATE_LINES, MAX_SWAPS};
     ghost use Rattle.certificate.specs.declared.evidence.Potential as code;
@@ -102,6 +105,8 @@ impl Cert {
         ensures dead_ends { IsTrue (are_potentials is_weight (length (certificate_of self.now).atoms) (potential_of result.now.dead_ends)) }
         ensures tables { IsTrue (are_tables (certificate_of self.now).version (length (certificate_of self.now).atoms) (length result.now.values.items + 1) (certificate_of self.now).tables) }
         ensures in_memory { result.now.tables.items ≡ tables_in self.now }
+        ensures landmarks { landmarks_of result.now.landmarks ≡ (certificate_of self.now).landmarks }
+        ensures landmark_limits { IsTrue (are_landmarks (certificate_of self.now).version (length (certificate_of self.now).atoms) (certificate_of self.now).landmarks) }
     {
         &self.header.evidence
     }
@@ -114,10 +119,11 @@ impl Cert {
         self.header.atoms.as_slice()
     }
 
-    /// The costs and roles of its states, in line order.
+    /// The costs and roles of its states, in line order. There is the landmark value that each rests on, if any.
     pub fn marks(&self) -> &[Listed]
         ensures marks { map listed_of result.now ≡ map marked (certificate_of self.now).lines }
         ensures at_most { length result.now ≤ MAX_STATE_LINES }
+        ensures bases { IsTrue (list_all (λ (l : certificates.StateLine). has_basis (length (certificate_of self.now).landmarks.values) l.mark) (certificate_of self.now).lines) }
     {
         self.states.marks.as_slice()
     }
@@ -129,7 +135,8 @@ impl Cert {
         &self.states.sets
     }
 
-    /// The number of the line of its first state, from 1. Each exchange, atom, table and row before it has a line.
+    /// The number of the line of its first state, from 1. Each exchange, atom, table, row, zone and landmark value before it has a
+    /// line.
     pub fn first_state_line(&self) -> u64
         ensures line { result ≡ state_line (certificate_of self.now) 0 }
         ensures small { result < 2 ^ 32 }

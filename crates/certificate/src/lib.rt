@@ -1,6 +1,6 @@
 //! A certificate in memory (the claim, the values, the tables and the listing as sets of numbers), and its unique text.
 //!
-//! It re-exports the reader of lines and the devices for texts.
+//! It re-exports the reader of lines, the landmark values and the devices for texts.
 #![tactic(auto)]
 
 mod cert;
@@ -23,5 +23,6 @@ pub use certificate_reader::{
 pub use devices::{Device, DeviceFault, IoFault, Memory, Sink, Source, write_all};
 pub use evidence::{Evidence, Potential};
 pub use header::Header;
+pub use landmark_zones::{Landmarks, Share, ZoneRef};
 pub use states::{Listed, States};
 pub use writer::write_cert;

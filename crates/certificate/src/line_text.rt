@@ -18,6 +18,7 @@ ghost use Rattle.certificate.specs.Gathering.{atom_line, number_text, row_line, 
 use crate::evidence::Evidence;
 use certificate_reader::{Basis, Claim, Mark, StateLine, Version};
 use itoa::Buffer;
+use landmark_zones::{add_cut_by, add_dead_by};
 use std::alloc::AllocError;
 use task::{Atom, ObjectId, PredicateId, Task};
 
@@ -45,6 +46,7 @@ fn version_line(version: Version) -> &'static [u8]
         Version::One => b"pddl-cert 1\n",
         Version::Two => b"pddl-cert 2\n",
         Version::Three => b"pddl-cert 3\n",
+        Version::Four => b"pddl-cert 4\n",
     }
 }
 
@@ -145,7 +147,7 @@ fn add_dead_end_weight(version: Version, weight: i64, text: &mut Vec<u8>) -> Res
 {
     match version {
         Version::One => Ok(()),
-        Version::Two | Version::Three => add_weight(weight, text),
+        Version::Two | Version::Three | Version::Four => add_weight(weight, text),
     }
 }
 
@@ -205,7 +207,8 @@ fn add_numbers(numbers: &[u32], text: &mut Vec<u8>) -> Result<(), AllocError>
     Ok(())
 }
 
-/// Adds a state's role and its cost, and for a cut the lower bound of the remaining cost.
+/// Adds a state's role, the number of the landmark value that it rests on, if any, its cost, and for a cut the lower bound of the
+/// remaining cost.
 fn add_mark(mark: Mark, cost: u64, text: &mut Vec<u8>) -> Result<(), AllocError>
     ensures { OnOk result (text.new.items ≡ text.old.items ++ mark_text (mark_of mark) cost) }
 {
@@ -218,7 +221,14 @@ fn add_mark(mark: Mark, cost: u64, text: &mut Vec<u8>) -> Result<(), AllocError>
             add_number(b"cut ", cost, text)?;
             add_number(b" ", rest, text)
         }
+        Mark::Cut {
+            by: Basis::Landmark(value),
+            rest,
+        } => add_cut_by(value, cost, rest, text),
         Mark::Dead { by: Basis::OfAll } => add_number(b"dead ", cost, text),
+        Mark::Dead {
+            by: Basis::Landmark(value),
+        } => add_dead_by(value, cost, text),
     }
 }
 

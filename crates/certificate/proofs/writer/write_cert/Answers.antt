@@ -7,6 +7,7 @@ use Rattle.devices.specs.Devices.{AppendsBeginning}
 use Rattle.certificate_definitions.specs.CertificateText.{last, whole_line}
 use Rattle.certificate_definitions.specs.Certificates.{several_of}
 use Rattle.certificate_definitions.specs.CertificateNames.{certificate_text}
+use Rattle.landmark_zones.specs.Landmarks.{landmarks_of}
 use Rattle.certificate.specs.CertificateParts.{exchange_in}
 use Rattle.certificate.specs.Evidence.{constants_in, evidence_of, parts_text}
 use Rattle.certificate.specs.Gathering.{IsPassedOn, swap_line}
@@ -46,16 +47,16 @@ second g c first =
     part_held _ _ _ (to_exchanges (task_of c.args.task.now) (certificate_of c.args.cert.now)) first (g.W.Sink.taken c.write_atoms.new.out) _ (atoms_text (task_of c.args.task.now) (certificate_of c.args.cert.now)) c.in_ok-write_atoms.ensures.text
 
 -- the written parts are the certificate's
-parts_are : (g : Over) (c : After-write_parts g) → parts_text (evidence_of c.evidence-2.result.now) ≡ parts_text (several_of (certificate_of c.args.cert.now))
-parts_are g c = ap parts_text c.evidence-2.ensures.evidence
+parts_are : (g : Over) (c : After-write_parts g) → parts_text (evidence_of c.evidence-2.result.now) (landmarks_of c.evidence-2.result.now.landmarks) ≡ parts_text (several_of (certificate_of c.args.cert.now)) (certificate_of c.args.cert.now).landmarks
+parts_are g c = λ i. parts_text (c.evidence-2.ensures.evidence i) (c.evidence-2.ensures.landmarks i)
 
-third : (g : Over) (c : In_ok-write_parts g) → parts_text (evidence_of c.evidence-2.result.now) ≡ parts_text (several_of (certificate_of c.args.cert.now))
+third : (g : Over) (c : In_ok-write_parts g) → parts_text (evidence_of c.evidence-2.result.now) (landmarks_of c.evidence-2.result.now.landmarks) ≡ parts_text (several_of (certificate_of c.args.cert.now)) (certificate_of c.args.cert.now).landmarks
     → IsPassedOn (g.W.Sink.taken c.args.out.now) (g.W.Sink.taken c.write_atoms.new.out) [] c.write_atoms.new.held.items
     (to_atoms (task_of c.args.task.now) (certificate_of c.args.cert.now))
     → IsPassedOn (g.W.Sink.taken c.args.out.now) (g.W.Sink.taken c.write_parts.new.out) [] c.write_parts.new.held.items
     (to_parts (task_of c.args.task.now) (certificate_of c.args.cert.now))
 third g c are second =
-    part_held _ _ _ (to_atoms (task_of c.args.task.now) (certificate_of c.args.cert.now)) second (g.W.Sink.taken c.write_parts.new.out) _ (parts_text (several_of (certificate_of c.args.cert.now)))
+    part_held _ _ _ (to_atoms (task_of c.args.task.now) (certificate_of c.args.cert.now)) second (g.W.Sink.taken c.write_parts.new.out) _ (parts_text (several_of (certificate_of c.args.cert.now)) (certificate_of c.args.cert.now).landmarks)
     (subst (IsPassedOn _ _ _ _) are c.in_ok-write_parts.ensures.text)
 
 fourth : (g : Over) (c : In_ok-write_states g) → IsPassedOn (g.W.Sink.taken c.args.out.now) (g.W.Sink.taken c.write_parts.new.out) [] c.write_parts.new.held.items
@@ -96,7 +97,7 @@ returns-in_err-write_parts-clause-beginning g c =
     let task = task_of c.args.task.now in
     let cert = certificate_of c.args.cert.now in
     let at = goal.at.returns-in_err-write_parts-clause-beginning g c in
-    part_begun _ _ _ (to_atoms task cert) (second g at.In_ok-write_atoms (exchanged g at.In_ok-write_exchanges (exchanges_are g at.After-write_exchanges) (first g at.In_ok-add_head))) _ (certificate_text task cert) (parts_text (several_of cert)) _ (by_parts task cert)
+    part_begun _ _ _ (to_atoms task cert) (second g at.In_ok-write_atoms (exchanged g at.In_ok-write_exchanges (exchanges_are g at.After-write_exchanges) (first g at.In_ok-add_head))) _ (certificate_text task cert) (parts_text (several_of cert) cert.landmarks) _ (by_parts task cert)
     (subst (λ text. AppendsBeginning (g.W.Sink.taken c.write_atoms.new.out) (g.W.Sink.taken c.write_parts.new.out) (c.write_atoms.new.held.items ++ text)) (parts_are g at.After-write_parts) c.write_parts.ensures.beginning)
 
 pub returns-in_err-write_states-clause-beginning : goal.returns-in_err-write_states-clause-beginning
