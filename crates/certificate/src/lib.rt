@@ -1,4 +1,4 @@
-//! A certificate in memory (the claim, the values, the tables and the listing as sets of numbers), and its unique text.
+//! A certificate in memory (the claim, what its lines rest on, and the listing as sets of numbers), and its unique text.
 //!
 //! It re-exports the reader of lines, the landmark values and the devices for texts.
 #![tactic(auto)]
