@@ -221,14 +221,11 @@ fn has_basis(mark: Mark, value_count: usize) -> bool
     ensures { result ≡ has_basis value_count (mark_of mark) }
 {
     match mark {
-        Mark::Cut {
-            by: Basis::Landmark(number),
-            ..
-        } => (number as usize) < value_count,
-        Mark::Dead {
-            by: Basis::Landmark(number),
-        } => (number as usize) < value_count,
-        _ => true,
+        Mark::Open => true,
+        Mark::Cut { by, .. } | Mark::Dead { by } => match by {
+            Basis::OfAll => true,
+            Basis::Landmark(number) => (number as usize) < value_count,
+        },
     }
 }
 
