@@ -1,6 +1,6 @@
 use Rattle.std.proofs.Common.{◌∙◌, [], ap, length}
 use Rattle.packed_state.proofs.PackedLemmas.{length-set_of}
-use Rattle.table_rows.proofs.afters.Room.new.Goals as goal
+use Rattle.table_rows.proofs.afters.Scratch.new.Goals as goal
 
 pub returns : goal.returns
 returns c = record {

@@ -3,7 +3,7 @@ use Rattle.packed_state.specs.Packed.{bits_of}
 use Rattle.table_rows.specs.Afters.{AreListed, free_places, left_of}
 use Rattle.table_rows.specs.PlacedChanges.{changes_of}
 use Rattle.table_rows.proofs.AfterLemmas.{length-changed}
-use Rattle.table_rows.proofs.afters.Room.find.Goals as goal
+use Rattle.table_rows.proofs.afters.Scratch.find.Goals as goal
 
 pub list_free-requires-clause-left : goal.list_free-requires-clause-left
 list_free-requires-clause-left c =
