@@ -1,5 +1,5 @@
 //! The report of a fault: its first line, its line with marks, and sentences.
-ghost use Rattle.std.specs.Prelude.{◌≡◌, ◌⊎◌, IfOk, codes};
+ghost use Rattle.std.specs.Prelude.{◌≡◌, IfOk};
 ghost use Rattle.std.specs.String.{string_bytes};
 ghost use Rattle.explain_hints.specs.Files.{name_in};
 ghost use Rattle.explain_hints.specs.Places.{lines_ended};
@@ -108,9 +108,5 @@ fn if_one_line(text: &str) -> &str
 {
     let bytes = text.as_bytes();
     let end = place_of(bytes, bytes.len());
-    if end.line == 1 {
-        text
-    } else {
-        ""
-    }
+    if end.line == 1 { text } else { "" }
 }

@@ -110,7 +110,11 @@ impl FaultExplanation<'_> {
 
     /// The lines for the place where the text goes wrong before the fault, if there is one: the place, its line with marks, and a
     /// sentence.
-    pub(crate) fn wrong_lines(&self, alloc: Global, texts: &NamedTexts<'_>) -> Result<String, NoMemory> {
+    pub(crate) fn wrong_lines(
+        &self,
+        alloc: Global,
+        texts: &NamedTexts<'_>,
+    ) -> Result<String, NoMemory> {
         let Some(wrong) = self.wrong else {
             return Ok(String::new(alloc));
         };

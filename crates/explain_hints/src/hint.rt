@@ -87,6 +87,8 @@ pub enum FormMistake<'a> {
     },
     /// A name in place of a variable.
     NoQuestionMark(&'a [u8]),
+    /// A type without a hyphen before it.
+    NoHyphen(&'a [u8]),
     /// A variable that ends with a hyphen, before a type.
     HyphenAtEnd(&'a [u8]),
     /// An `or` in an effect.
@@ -289,6 +291,9 @@ impl fmt::Display for FormMistake<'_> {
                     "a variable begins with `?`; did you mean `?{}`?",
                     name.escape_ascii()
                 )
+            }
+            FormMistake::NoHyphen(name) => {
+                write!(f, "a `-` is missing before the type {}", Name(name))
             }
             FormMistake::HyphenAtEnd(variable) => {
                 write!(

@@ -15,7 +15,7 @@ pub(crate) fn of_list<'a>(context: &Context<'a>, at: usize) -> Option<FormMistak
         (Shape::Open, Shape::Close) => second_in(here, at, head),
         (Shape::Open, Shape::Open) => first_in(here, at),
         (Shape::Run, Shape::Open) => head_mistake(here, at, *piece),
-        (Shape::Run, Shape::Run) => word_mistake(here, at, *piece, *before),
+        (Shape::Run, Shape::Run) => word_mistake(context, at, *piece, *before),
         (Shape::Run, Shape::Close) | (Shape::Close, _) => None,
         (Shape::Open, Shape::Run) => None,
     }
@@ -157,11 +157,12 @@ fn is_effect(here: &[Piece<'_>], at: usize) -> bool {
 
 /// The remark for a word after another one.
 fn word_mistake<'a>(
-    here: &[Piece<'a>],
+    context: &Context<'a>,
     at: usize,
     piece: Piece<'a>,
     before: Piece<'a>,
 ) -> Option<FormMistake<'a>> {
+    let here = context.here();
     let is_quantifier = before.is(b"forall") || before.is(b"exists");
     if is_quantifier && piece.is_variable() {
         return Some(FormMistake::BareVariable {
@@ -177,7 +178,20 @@ fn word_mistake<'a>(
         None
     } else if before.is_variable() && before.text.ends_with(b"-") {
         Some(FormMistake::HyphenAtEnd(before.text))
+    } else if before.is_variable() && is_type(context, piece.text) {
+        Some(FormMistake::NoHyphen(piece.text))
     } else {
         name_mistake(piece)
     }
+}
+
+/// Whether the domain's `:types` have this name.
+fn is_type(context: &Context<'_>, name: &[u8]) -> bool {
+    let domain = context.domain.as_slice();
+    let Some(keyword) = domain.iter().position(|piece| piece.is(b":types")) else {
+        return false;
+    };
+    list_from(domain, keyword.saturating_sub(1))
+        .iter()
+        .any(|piece| piece.is(name))
 }

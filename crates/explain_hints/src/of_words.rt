@@ -57,6 +57,9 @@ fn early_end<'a>(
     context: &Context<'a>,
     list: &[Piece<'a>],
 ) -> Result<Option<EarlyEnd<'a>>, NoMemory> {
+    if !head_of(list).eq_ignore_ascii_case(b"define") {
+        return Ok(None);
+    }
     let sections = children(alloc, list)?;
     let (Some(section), Some(end)) = (sections.last(), list.last()) else {
         return Ok(None);
