@@ -28,24 +28,14 @@ first_line name place message code remark =
     name ++ (codes ":" ++ (decimal place.line ++ (codes ":" ++ (decimal place.column ++ (codes ": error: " ++ (message
     ++ (codes " [" ++ (decimal (number_of code) ++ (codes " " ++ (faults.name_in faults.names (number_of code) ++ (codes "]" ++ (remark ++ codes "\n"))))))))))))
 
--- it is such a line, with a message that has no line feed
-pub record IsFirstLine (name : List ℕ) (place : LineColumn) (code : Code) (line : List ℕ) : Type 0 where
-  pub message : List ℕ
-  pub remark : List ℕ
-  pub is_line : line ≡ first_line name place message code remark
-  pub is_one_line : lines_ended message ≡ 0
-  pub is_remark : IsRemark remark
-
--- the form of the first line of a report
-abbrev pub heading : (name : List ℕ) → LineColumn → Code → List ℕ → Type 0
-heading name place code line = IsFirstLine name place code line
+-- the form of the first line of a report: a message without a line feed, and what is said of its columns
+abbrev pub heading : (name : List ℕ) → LineColumn → Code → (line : List ℕ) → Type 0
+heading name place code line =
+    (message : List ℕ) × (remark : List ℕ) × (line ≡ first_line name place message code remark) × (lines_ended message ≡ 0) × IsRemark remark
 
 -- the text begins with bytes of this form
-pub record BeginsWith (text : List ℕ) (form : List ℕ → Type 0) : Type 0 where
-  pub beginning : List ℕ
-  pub rest : List ℕ
-  pub is : text ≡ beginning ++ rest
-  pub has_form : form beginning
+abbrev pub BeginsWith : (text : List ℕ) → (form : List ℕ → Type 0) → Type 0
+BeginsWith text form = (beginning : List ℕ) × (rest : List ℕ) × (text ≡ beginning ++ rest) × form beginning
 
 -- the words may occur at the fault of a domain or a problem; none are reported for a plan
 abbrev pub AreWanted : NamedTexts → FileRefusal → List Word → Type 0

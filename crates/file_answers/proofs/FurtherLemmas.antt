@@ -15,12 +15,8 @@ use Rattle.file_answers.specs.declared.explanation.Location.{Location}
 
 -- a text that is extended begins as before
 pub begins_before : (new old : List ℕ) (form : List ℕ → Type 0) (more : List ℕ) → new ≡ old ++ more → BeginsWith old form → BeginsWith new form
-begins_before new old form more is was = record {
-  beginning = was.beginning;
-  rest = was.rest ++ more;
-  is = is ∙ ap (λ t. t ++ more) was.is ∙ append_assoc was.beginning was.rest more;
-  has_form = was.has_form;
-}
+begins_before new old form more is (beginning, rest, was, has_form) =
+    (beginning, rest ++ more, is ∙ ap (λ t. t ++ more) was ∙ append_assoc beginning rest more, has_form)
 
 -- and so it states what it stated
 pub says_before : (at : Option Location) (form : Location → List ℕ → Type 0) (new old more : List ℕ) → new ≡ old ++ more
