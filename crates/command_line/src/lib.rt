@@ -5,9 +5,11 @@ mod description;
 mod fault;
 mod max_count;
 mod order;
+mod plain;
 mod reading;
 
 pub use fault::WordsFault;
 pub use max_count::{MAX_LIMIT, MaxCount};
 pub use order::Order;
+pub use plain::text_of;
 pub use reading::{examples_are_read, read_words};

@@ -7,7 +7,7 @@ ghost use Rattle.file_answers.specs.Files.{fault_at};
 ghost use Rattle.planner_main.specs.Program.{IsReportedOfWords, IsReportedOn};
 ghost use Rattle.devices.specs.Devices.{IsWritten};
 
-use command_line::WordsFault;
+use command_line::{WordsFault, text_of};
 use devices::{IoFault, Sink, write_all};
 use faults::{Code, NoMemory, Span};
 use file_answers::{File, FileFault};
@@ -149,7 +149,7 @@ fn words_text(alloc: Global, fault: &WordsFault) -> Result<String, AllocError>
 {
     match fault {
         WordsFault::Words(_) => {
-            let mut text = format!(in alloc; "{fault}")?;
+            let mut text = text_of(alloc, fault)?;
             text.push_str(NOTHING_DONE)?;
             Ok(text)
         }
