@@ -17,6 +17,10 @@ is_costly (by_function f) = true
 abbrev pub ignores_costs : Task → Bool
 ignores_costs t = not t.has_metric && list_any (λ (s : Schema). is_costly s.increase) t.schemas
 
+-- the total cost is minimized, but no action increases it
+abbrev pub lacks_costs : Task → Bool
+lacks_costs t = t.has_metric && not (list_any (λ (s : Schema). is_costly s.increase) t.schemas)
+
 -- An instance lacks a value: its cost increase has none, which is the only reason why it is never applicable, since its
 -- precondition is not statically false.
 abbrev pub lacks_value : Task → Instance → Bool

@@ -5,7 +5,7 @@ use Rattle.formulas.specs.State.{instance_of}
 use Rattle.model.specs.Task.{Task}
 use Rattle.explain_tasks.specs.declared.notes.TaskNotes.{TaskNotes}
 use Rattle.explain_tasks.specs.declared.ground_notes.GroundNotes.{GroundNotes}
-use Rattle.explain_tasks.specs.Costs.{AreLacking, all_looked_at, ignores_costs, passed_over}
+use Rattle.explain_tasks.specs.Costs.{AreLacking, all_looked_at, ignores_costs, lacks_costs, passed_over}
 use Rattle.explain_tasks.specs.Goals.{first_missing}
 use Rattle.explain_tasks.specs.Unused.{idle_actions, unasked_predicates, unnamed_objects}
 
@@ -16,6 +16,7 @@ most_found = 11
 -- the notes that the files lead to
 pub record AreNotesOf (t : Task) (notes : TaskNotes) : Type 0 where
   pub ignores_costs : notes.ignores_costs ≡ ignores_costs t
+  pub lacks_costs : notes.lacks_costs ≡ lacks_costs t
   pub unasked_predicates : notes.unasked_predicates.items ≡ unasked_predicates t
   pub unnamed_objects : notes.unnamed_objects.items ≡ unnamed_objects t
 

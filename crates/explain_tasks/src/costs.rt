@@ -1,4 +1,4 @@
-//! Costs that are ignored.
+//! Costs that are ignored, and a metric without costs.
 ghost use Rattle.std.specs.Prelude.{◌≡◌};
 ghost use Rattle.std.specs.List.{list_any};
 ghost use Rattle.task.specs.Task.{task_of};
@@ -13,6 +13,13 @@ pub(crate) fn ignores_costs(task: &Task) -> bool
     ensures { result ≡ defined.ignores_costs (task_of task.now) }
 {
     !task.has_metric() && some_is_costly(task)
+}
+
+/// Whether the task minimizes the total cost although no action increases it.
+pub(crate) fn lacks_costs(task: &Task) -> bool
+    ensures { result ≡ defined.lacks_costs (task_of task.now) }
+{
+    task.has_metric() && !some_is_costly(task)
 }
 
 /// Whether some action increases the total cost.

@@ -6,7 +6,7 @@ ghost use Rattle.explain_tasks.specs.Notes.{AreNotesOf};
 ghost use Rattle.explain_tasks.specs.Unused as unused;
 ghost use Rattle.explain_tasks.specs.Views.{mention_of};
 
-use crate::costs::ignores_costs;
+use crate::costs::{ignores_costs, lacks_costs};
 use crate::mentions::{Mention, mentions_of};
 use crate::tables::{asked_table, named_table, unmarked};
 use faults::NoMemory;
@@ -18,6 +18,8 @@ use task::Task;
 pub struct TaskNotes {
     /// Whether some action increases the total cost although the task does not minimize it: each step costs 1.
     pub ignores_costs: bool,
+    /// Whether the task minimizes the total cost although no action increases it: every plan costs 0.
+    pub lacks_costs: bool,
     /// The predicates, by number, that occur in no precondition, no condition of an effect and no goal.
     pub unasked_predicates: Vec<usize>,
     /// The objects, by number, that no fact, no action and no goal names.
@@ -37,6 +39,7 @@ impl TaskNotes {
         let unnamed_objects = unnamed_objects(alloc, task, &mentions)?;
         Ok(TaskNotes {
             ignores_costs: ignores_costs(task),
+            lacks_costs: lacks_costs(task),
             unasked_predicates,
             unnamed_objects,
         })

@@ -16,6 +16,7 @@ impl TaskNotes {
     /// # Examples
     /// ```text
     /// Actions increase the total cost, but the problem has no `:metric`, so each step costs 1.
+    /// The problem has a `:metric`, but no action increases the total cost, so every plan costs 0.
     /// Predicates that no precondition, no condition and no goal asks for: dirty.
     /// Objects that no atom of `:init`, no action and no goal names: truck3, truck4.
     /// ```
@@ -28,6 +29,11 @@ impl TaskNotes {
         if self.ignores_costs {
             let line =
                 "Actions increase the total cost, but the problem has no `:metric`, so each step costs 1.";
+            lines.push(String::from_str(alloc, line)?)?;
+        }
+        if self.lacks_costs {
+            let line =
+                "The problem has a `:metric`, but no action increases the total cost, so every plan costs 0.";
             lines.push(String::from_str(alloc, line)?)?;
         }
         let unasked = NameList {
