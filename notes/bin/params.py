@@ -16,7 +16,7 @@ for f in glob.glob(root+'/crates/*/src/**/*.rt',recursive=True):
         if not a: continue
         k=c+(0 if a.endswith(',') else 1)
         cr=f[len(root):].split('/')[2]
-        if k>=5: n5+=1; by.setdefault(cr,[]).append(m.group(1))
+        if k-(1 if re.match(r"(&('\w+ )?(mut )?)?self\b",a) else 0)>=5: n5+=1; by.setdefault(cr,[]).append(m.group(1))
         if re.search(r':\s*bool\b',a): nb+=1; by.setdefault(cr+'-bool',[]).append(m.group(1))
 print(n5,nb)
 for k in sorted(by): print(k,len(by[k]),by[k])

@@ -12,7 +12,8 @@ while True:
         if not p.isdigit(): continue
         try: cwd=os.readlink(f'/proc/{p}/cwd'); cmd=open(f'/proc/{p}/cmdline').read(); g=open(f'/proc/{p}/autogroup').read().split()[0]
         except (OSError,IndexError): continue
-        if cwd.startswith('/work/gate') and ('/opt/rattle' in cmd or 'rt\0ci' in cmd or 'clang' in cmd): write(p,nice); gate.add(g)
+        if (cwd.startswith('/work/gate') or cwd.startswith('/tmp/rt-copy')) and ('/opt/rattle' in cmd or 'rt\0ci' in cmd or 'clang' in cmd): write(p,nice); gate.add(g)
+        elif cwd.startswith('/work/clock') and '/opt/rattle' in cmd: write(p,-8)
         elif '/opt/rattle' in cmd: other.append((p,g))
     for p,g in other:
         if g not in gate: write(p,0)

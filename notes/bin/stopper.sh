@@ -1,0 +1,2 @@
+while sleep 1; do
+for p in $(pgrep -f "bin/rattle check|bin/rattle.*--crate-name"); do d=$(readlink /proc/$p/cwd); case $d in /work/gate2/crates/cert_checker|/work/gate2/crates/solver|/work/gate2/crates/solver_tests|/work/gate2/crates/file_answers|/work/gate2/crates/printed_answers|/work/gate2/crates/planner_main|/work/gate2/crates/optplan|/work/gate2/crates/cases|/work/gate2/crates/reading_tests|/work/gate2/crates/program_tests) kill -9 $p; echo "$(date +%T) $d" >>/tmp/stopper.log;; esac; done; done
