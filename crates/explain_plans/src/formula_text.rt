@@ -11,9 +11,9 @@ ghost use Rattle.explain_plans.specs.FormulaText.{atom_text, formula_text, funct
 ghost use Rattle.explain_plans.specs.NamesView.{names_in};
 ghost use Rattle.explain_plans.specs.ScopeView.{scope_of};
 ghost use Rattle.explain_plans.specs.VariableNames.{formulas};
-ghost use Rattle.model.specs.PlanWriting.{object_name};
 
 use crate::variable_names::{names_behind, without_first};
+use plan_file::object_name;
 use std::alloc::{AllocError, Global};
 use task::{Formula, LiftedAtom, ObjectId, PredicateId, Task, Term, TypeId, TypeUnion};
 
@@ -290,16 +290,6 @@ fn inner_name<'a>(names: &[&'a [u8]], place: usize) -> &'a [u8]
     ensures { result.now ≡ option_map_or (λ (name : Bor (List ℕ)). name.now) (slice_get names.now place) [] }
 {
     match names.get(place) {
-        Some(name) => name,
-        None => b"",
-    }
-}
-
-/// The object's name; empty if there is no such object.
-fn object_name(task: &Task, object: ObjectId) -> &[u8]
-    ensures { result.now ≡ object_name (task_of task.now) object.0 }
-{
-    match task.object_name(object) {
         Some(name) => name,
         None => b"",
     }
