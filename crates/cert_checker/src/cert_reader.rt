@@ -9,7 +9,7 @@ ghost use Rattle.devices.specs.Progress.{AreSaid, stream};
 ghost use Rattle.certificate.specs.Certificate.{certificate_of};
 
 use crate::header::read_header;
-use crate::listed_states::take_line;
+use crate::listed_states::StateLines;
 use crate::read_progress::{FIRST_REPORT, say_if_due};
 use crate::refusal::Refusal;
 use certificate::{Cert, CertReader, States};
@@ -41,11 +41,15 @@ pub(crate) fn read_cert<R: Source, E: Sink>(
 {
     let (header, mut next) = read_header(alloc, task, reader)?;
     let mut states = States::new(alloc, header.atoms.len() as u32)?;
+    let state_lines = StateLines {
+        alloc,
+        claim: header.claim,
+    };
     let mut due = FIRST_REPORT;
     'states: while let Some(line) = next {
         let number = reader.lines();
         due = say_if_due(alloc, number, due, err);
-        take_line(&mut states, alloc, header.claim, line, number)?;
+        state_lines.take_line(&mut states, line, number)?;
         next = reader.next_line()?;
     }
     Ok(Cert::from_parts(header, states))

@@ -112,23 +112,38 @@ fn push_weight(values: &mut Vec<Potential>, place: usize, weight: i64) -> Result
     Ok(())
 }
 
+/// What lines are read by.
+#[derive(Clone, Copy)]
+struct Reading<'a> {
+    alloc: Global,
+    task: &'a Task,
+    /// The task's fluent predicates.
+    fluents: &'a FluentPredicates,
+}
+
+/// An atom, as its line has it.
+#[derive(Drop)]
+struct ReadAtom {
+    name: NamedAtom,
+    /// Its weights: one for each value and, last, one for dead ends.
+    weights: Vec<i64>,
+}
+
 /// Takes the line with this number, from 1; a state line or the last line is given back.
 fn take(
-    alloc: Global,
+    reading: &Reading<'_>,
     header: &mut Header,
-    task: &Task,
-    fluents: &FluentPredicates,
     line: CertLine,
     number: u64,
 ) -> Result<Option<CertLine>, Refusal>
-    requires fluents { AreFluentsOf (task_of task.now) fluents.now }
+    requires fluents { AreFluentsOf (task_of reading.now.task.now) reading.now.fluents.now }
     requires fit { IsFitHead header.old.evidence (text_line_of line) }
     ensures taken { IfOk result (λ back. (before : List TextLine) → BeginCertificate (before ++ text_line_of line ∷ [])
-        → HasTaken (task_of task.now) before header.old → IsTaken (task_of task.now) before (text_line_of line) header.new back) }
+        → HasTaken (task_of reading.now.task.now) before header.old → IsTaken (task_of reading.now.task.now) before (text_line_of line) header.new back) }
     ensures wrong { IfErr result (λ refusal. (before : List TextLine) → BeginCertificate (before ++ text_line_of line ∷ []) → number ≡ length before + 1
-        → HasTaken (task_of task.now) before header.old → IsWrongNow (task_of task.now) before (text_line_of line) refusal) }
+        → HasTaken (task_of reading.now.task.now) before header.old → IsWrongNow (task_of reading.now.task.now) before (text_line_of line) refusal) }
     ensures weighed { OnOk result ((before : List TextLine) → BeginCertificate (before ++ text_line_of line ∷ [])
-        → HasTaken (task_of task.now) before header.old → AreWeighed header.old.evidence → AreWeighed header.new.evidence) }
+        → HasTaken (task_of reading.now.task.now) before header.old → AreWeighed header.old.evidence → AreWeighed header.new.evidence) }
 {
     match line {
         CertLine::Head(version) => {
@@ -140,11 +155,16 @@ fn take(
             Ok(None)
         }
         CertLine::Constant(constants) => {
-            take_constants(alloc, &mut header.evidence, header.version, &constants)?;
+            take_constants(
+                reading.alloc,
+                &mut header.evidence,
+                header.version,
+                &constants,
+            )?;
             Ok(None)
         }
         CertLine::Swap { objects } => {
-            take_exchange(alloc, task, &mut header.exchanges, &objects)?;
+            take_exchange(reading.alloc, reading.task, &mut header.exchanges, &objects)?;
             Ok(None)
         }
         CertLine::Weight {
@@ -152,34 +172,33 @@ fn take(
             predicate,
             objects,
         } => {
-            let atom = NamedAtom { predicate, objects };
-            add_atom(header, task, fluents, &atom, &weights, number)?;
+            let name = NamedAtom { predicate, objects };
+            let atom = ReadAtom { name, weights };
+            add_atom(reading, header, &atom, number)?;
             Ok(None)
         }
         CertLine::Part(part) => {
-            take_part(alloc, &mut header.evidence, part, number)?;
+            take_part(reading.alloc, &mut header.evidence, part, number)?;
             Ok(None)
         }
         CertLine::Listed(_) | CertLine::Last { .. } => Ok(Some(line)),
     }
 }
 
-/// Appends the atom with these names, from the line with this number, and its weights.
+/// Appends the atom, from the line with this number, and its weights.
 fn add_atom(
+    reading: &Reading<'_>,
     header: &mut Header,
-    task: &Task,
-    fluents: &FluentPredicates,
-    name: &NamedAtom,
-    weights: &[i64],
+    said: &ReadAtom,
     number: u64,
 ) -> Result<(), Refusal>
-    requires { AreFluentsOf (task_of task.now) fluents.now }
-    ensures reported { OnOk result ((before : List TextLine) → BeginCertificate (before ++ atom (record { weights = weights.now; atom = named_atom_of name.now }) ∷ []) → HasTaken (task_of task.now) before header.old
-        → HasTaken (task_of task.now) (before ++ atom (record { weights = weights.now; atom = named_atom_of name.now }) ∷ []) header.new) }
-    ensures wrong { IfErr result (λ refusal. (before : List TextLine) → number ≡ length before + 1 → HasTaken (task_of task.now) before header.old
-        → IsWrongNow (task_of task.now) before (atom (record { weights = weights.now; atom = named_atom_of name.now })) refusal) }
+    requires { AreFluentsOf (task_of reading.now.task.now) reading.now.fluents.now }
+    ensures reported { OnOk result ((before : List TextLine) → BeginCertificate (before ++ atom (record { weights = said.now.weights.items; atom = named_atom_of said.now.name }) ∷ []) → HasTaken (task_of reading.now.task.now) before header.old
+        → HasTaken (task_of reading.now.task.now) (before ++ atom (record { weights = said.now.weights.items; atom = named_atom_of said.now.name }) ∷ []) header.new) }
+    ensures wrong { IfErr result (λ refusal. (before : List TextLine) → number ≡ length before + 1 → HasTaken (task_of reading.now.task.now) before header.old
+        → IsWrongNow (task_of reading.now.task.now) before (atom (record { weights = said.now.weights.items; atom = named_atom_of said.now.name })) refusal) }
 {
-    let Some(atom) = fluent_atom_named(task, fluents, name) else {
+    let Some(atom) = fluent_atom_named(reading.task, reading.fluents, &said.name) else {
         return Err(Refusal::Line {
             code: RefusalCode::NotFluent,
             line: number,
@@ -191,7 +210,7 @@ fn add_atom(
             line: number,
         });
     }
-    take_weights(&mut header.evidence, weights)?;
+    take_weights(&mut header.evidence, &said.weights)?;
     Ok(())
 }
 
@@ -208,12 +227,17 @@ pub(crate) fn read_header<R: Source>(
     ensures failures { CountsRefusal (R.failures (source_of reader.old)) (R.failures (source_of reader.new)) result }
 {
     let fluents = FluentPredicates::new(alloc, task)?;
+    let reading = Reading {
+        alloc,
+        task,
+        fluents: &fluents,
+    };
     let mut header = nothing_reported(alloc);
     'lines: loop {
         let Some(line) = reader.next_line()? else {
             return Ok((header, None));
         };
-        if let Some(line) = take(alloc, &mut header, task, &fluents, line, reader.lines())? {
+        if let Some(line) = take(&reading, &mut header, line, reader.lines())? {
             return Ok((header, Some(line)));
         }
     }

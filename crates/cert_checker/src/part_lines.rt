@@ -5,7 +5,7 @@ ghost use Rattle.certificate.specs.Evidence.{evidence_of};
 ghost use Rattle.cert_checker.specs.Tabled.{AreWeighed, IsFitPart, IsPartRefused, IsPartTaken};
 
 use crate::refusal::Refusal;
-use crate::table_lines::{take_row, take_scope};
+use crate::table_lines::{ReadRow, take_row, take_scope};
 use certificate::{Evidence, PartLine};
 use std::alloc::Global;
 
@@ -26,6 +26,12 @@ pub(crate) fn take_part(
             take_scope(alloc, evidence, scope)?;
             Ok(())
         }
-        PartLine::Row { weights, atoms } => take_row(alloc, evidence, &atoms, &weights, number),
+        PartLine::Row { weights, atoms } => {
+            let row = ReadRow {
+                atoms: &atoms,
+                weights: &weights,
+            };
+            take_row(alloc, evidence, row, number)
+        }
     }
 }

@@ -27,20 +27,28 @@ pub(crate) fn take_scope(
     Ok(())
 }
 
-/// Takes a row with these atoms and weights, from the line with this number. It belongs to the last table.
+/// A row, as its line has it.
+#[derive(Clone, Copy)]
+pub(crate) struct ReadRow<'a> {
+    /// Its atoms, by number.
+    pub(crate) atoms: &'a [u32],
+    /// Its weights: one for each value and, last, one for dead ends.
+    pub(crate) weights: &'a [i64],
+}
+
+/// Takes a row, from the line with this number. It belongs to the last table.
 pub(crate) fn take_row(
     alloc: Global,
     evidence: &mut Evidence,
-    atoms: &[u32],
-    weights: &[i64],
+    row: ReadRow<'_>,
     number: u64,
 ) -> Result<(), Refusal>
-    requires fit { IsFitRow evidence.old.tables.items (record { atoms = atoms.now; weights = weights.now }) }
-    ensures taken { OnOk result (IsRowTaken (evidence_of evidence.old) (evidence_of evidence.new) (record { atoms = atoms.now; weights = weights.now })) }
-    ensures wrong { IfErr result (IsRowRefused (map table_of evidence.old.tables.items) (record { atoms = atoms.now; weights = weights.now }) number) }
+    requires fit { IsFitRow evidence.old.tables.items (record { atoms = row.atoms.now; weights = row.weights.now }) }
+    ensures taken { OnOk result (IsRowTaken (evidence_of evidence.old) (evidence_of evidence.new) (record { atoms = row.entry.atoms.now; weights = row.entry.weights.now })) }
+    ensures wrong { IfErr result (IsRowRefused (map table_of evidence.old.tables.items) (record { atoms = row.entry.atoms.now; weights = row.entry.weights.now }) number) }
     ensures weighed { OnOk result (AreWeighed evidence.old → AreWeighed evidence.new) }
 {
-    match add_row(alloc, &mut evidence.tables, atoms, weights)? {
+    match add_row(alloc, &mut evidence.tables, row)? {
         Added::New => Ok(()),
         Added::OutsideScope => Err(Refusal::Line {
             code: RefusalCode::CertForm,
@@ -54,16 +62,11 @@ pub(crate) fn take_row(
 }
 
 /// Adds the row to the last table.
-fn add_row(
-    alloc: Global,
-    tables: &mut Vec<Table>,
-    atoms: &[u32],
-    weights: &[i64],
-) -> Result<Added, NoMemory>
-    requires fit { IsFitRow tables.old.items (record { atoms = atoms.now; weights = weights.now }) }
-    ensures added { IfOk result (IsAddedToLast (map table_of tables.old.items) (map table_of tables.new.items) (record { atoms = atoms.now; weights = weights.now })) }
+fn add_row(alloc: Global, tables: &mut Vec<Table>, row: ReadRow<'_>) -> Result<Added, NoMemory>
+    requires fit { IsFitRow tables.old.items (record { atoms = row.atoms.now; weights = row.weights.now }) }
+    ensures added { IfOk result (IsAddedToLast (map table_of tables.old.items) (map table_of tables.new.items) (record { atoms = row.entry.atoms.now; weights = row.entry.weights.now })) }
     ensures weighed { (count : ℕ) → HaveWeights count tables.old.items → HaveWeights count tables.new.items }
 {
     let last = tables.len() - 1;
-    tables[last].add(alloc, atoms, weights)
+    tables[last].add(alloc, row.atoms, row.weights)
 }

@@ -63,7 +63,7 @@ fn fair_without_tables<'a>(
     let value = fair_potentials(alloc, cert, grounded)?;
     let dead_ends = dead_fair_potentials(alloc, cert, grounded)?;
     let values = vec![in alloc; value]?;
-    let functions = over_tables(alloc, cert, values, dead_ends, grounded)?;
+    let functions = over_tables(alloc, cert, Widened { values, dead_ends }, grounded)?;
     Ok(functions)
 }
 
@@ -86,7 +86,7 @@ fn fair_with_tables<'a>(
     let width = grounded.width();
     let values = all_at_width(alloc, &evidence.values, width)?;
     let dead_ends = at_width(alloc, &evidence.dead_ends, width)?;
-    let functions = over_tables(alloc, cert, values, dead_ends, grounded)?;
+    let functions = over_tables(alloc, cert, Widened { values, dead_ends }, grounded)?;
     check_fairness(alloc, cert, &functions, grounded)?;
     Ok(functions)
 }
@@ -119,21 +119,28 @@ fn check_fairness(
     }
 }
 
-/// These potential functions over the certificate's tables, whose rows are not copied. Each has a weight for each numbered atom.
+/// A certificate's potential functions, with a weight for each atom that the ground task numbers.
+#[derive(Drop)]
+struct Widened {
+    values: Vec<Potentials>,
+    dead_ends: Potentials,
+}
+
+/// These potential functions over the certificate's tables, whose rows are not copied.
 fn over_tables<'a>(
     alloc: Global,
     cert: &'a Cert,
-    values: Vec<Potentials>,
-    dead_ends: Potentials,
+    functions: Widened,
     grounded: &Ground<'_>,
 ) -> Result<TableFunctions<'a>, NoMemory>
     requires counted { AreCounted cert.now }
     requires enough { length (certificate_of cert.now).atoms ≤ length (atoms_in grounded.now) }
-    requires as_many { length values.items ≡ length (certificate_of cert.now).values }
-    requires values { All (λ (p : in_memory.Potentials). length (potentials_of p).weights ≡ length (atoms_in grounded.now)) values.items }
-    requires dead_ends { length (potentials_of dead_ends).weights ≡ length (atoms_in grounded.now) }
-    ensures { IfOk result (λ f. several_of f ≡ record { values = map potentials_of values.items; dead_ends = potentials_of dead_ends; tables = (certificate_of cert.now).tables }) }
+    requires as_many { length functions.values.items ≡ length (certificate_of cert.now).values }
+    requires values { All (λ (p : in_memory.Potentials). length (potentials_of p).weights ≡ length (atoms_in grounded.now)) functions.values.items }
+    requires dead_ends { length (potentials_of functions.dead_ends).weights ≡ length (atoms_in grounded.now) }
+    ensures { IfOk result (λ f. several_of f ≡ record { values = map potentials_of functions.values.items; dead_ends = potentials_of functions.dead_ends; tables = (certificate_of cert.now).tables }) }
 {
+    let Widened { values, dead_ends } = functions;
     let count = values.len() as u32 + 1;
     let tables = IndexedTables::index(alloc, grounded.width(), count, &cert.evidence().tables)?;
     Ok(TableFunctions::new(values, dead_ends, tables))

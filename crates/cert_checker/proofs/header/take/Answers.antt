@@ -24,7 +24,7 @@ use Rattle.cert_checker.proofs.header.take.Goals as goal
 
 pub returns-in-Claim-clause-taken : goal.returns-in-Claim-clause-taken
 returns-in-Claim-clause-taken c =
-    let task = task_of c.args.task.now in
+    let task = task_of c.args.reading.now.task.now in
     let header = c.args.header.now in
     subst (λ line. (before : List TextLine) → BeginCertificate (before ++ text_line_of line ∷ []) → HasTaken task before header
     → IsTaken task before (text_line_of line) (record { version = header.version; claim = c.in-Claim.claim; exchanges = header.exchanges; atoms = header.atoms; evidence = header.evidence }) None)
@@ -41,7 +41,7 @@ constants_taken task header constants given after same evidence_is before begun 
 
 pub returns-in_ok-take_constants-in-Constant-clause-taken : goal.returns-in_ok-take_constants-in-Constant-clause-taken
 returns-in_ok-take_constants-in-Constant-clause-taken c =
-    let task = task_of c.args.task.now in
+    let task = task_of c.args.reading.now.task.now in
     let header = c.args.header.now in
     let after = c.take_constants.new.evidence in
     subst (λ line. (before : List TextLine) → BeginCertificate (before ++ text_line_of line ∷ []) → HasTaken task before header
@@ -53,7 +53,7 @@ returns-in_ok-take_constants-in-Constant-clause-taken c =
 
 pub returns-in_ok-take_exchange-in-Swap-clause-taken : goal.returns-in_ok-take_exchange-in-Swap-clause-taken
 returns-in_ok-take_exchange-in-Swap-clause-taken c =
-    let task = task_of c.args.task.now in
+    let task = task_of c.args.reading.now.task.now in
     let header = c.args.header.now in
     let old : List Exchange = map exchange_in header.exchanges.items in
     let names : List (List ℕ) = map name_of c.in-Swap.objects.items in
@@ -70,31 +70,24 @@ returns-in_ok-take_exchange-in-Swap-clause-taken c =
 
 pub returns-in_ok-add_atom-in-Weight-clause-taken : goal.returns-in_ok-add_atom-in-Weight-clause-taken
 returns-in_ok-add_atom-in-Weight-clause-taken c =
-    let task = task_of c.args.task.now in
-    let named : List ℤ → TextLine = λ weights. atom (record { weights = weights; atom = named_atom_of (record { predicate = c.in-Weight.predicate; objects = c.in-Weight.objects }) }) in
+    let task = task_of c.args.reading.now.task.now in
     subst (λ line. (before : List TextLine) → BeginCertificate (before ++ text_line_of line ∷ []) → HasTaken task before c.args.header.now → IsTaken task before (text_line_of line) c.add_atom.new.header None)
-    (sym c.in-Weight.is) (λ before begun reported. (
-      subst (λ weights. BeginCertificate (before ++ named weights ∷ []) → HasTaken task before c.args.header.now → HasTaken task (before ++ named weights ∷ []) c.add_atom.new.header)
-          c.deref-in-Weight.ensures.value (c.in_ok-add_atom-in-Weight.ensures.reported before) begun reported,
-      refl,
-    ))
+    (sym c.in-Weight.is) (λ before begun reported. (c.in_ok-add_atom-in-Weight.ensures.reported before begun reported, refl))
 
 pub returns-in_err-add_atom-in-Weight-clause-wrong : goal.returns-in_err-add_atom-in-Weight-clause-wrong
 returns-in_err-add_atom-in-Weight-clause-wrong c =
-    let task = task_of c.args.task.now in
+    let task = task_of c.args.reading.now.task.now in
     let header = c.args.header.now in
-    let named : List ℤ → TextLine = λ weights. atom (record { weights = weights; atom = named_atom_of (record { predicate = c.in-Weight.predicate; objects = c.in-Weight.objects }) }) in
     passed_on (λ refusal. (before : List TextLine) → BeginCertificate (before ++ text_line_of c.args.line ∷ []) → c.args.number ≡ length before + 1 → HasTaken task before header
     → IsWrongNow task before (text_line_of c.args.line) refusal)
     c.from_residual-in_err-add_atom-in-Weight.result c.in_err-add_atom-in-Weight.field-0.0 c.from_residual-in_err-add_atom-in-Weight.ensures.1
     (subst (λ line. (before : List TextLine) → BeginCertificate (before ++ text_line_of line ∷ []) → c.args.number ≡ length before + 1 → HasTaken task before header
     → IsWrongNow task before (text_line_of line) c.in_err-add_atom-in-Weight.field-0.0)
-    (sym c.in-Weight.is) (λ before begun at reported.
-    subst (λ weights. IsWrongNow task before (named weights) c.in_err-add_atom-in-Weight.field-0.0) c.deref-in-Weight.ensures.value (c.in_err-add_atom-in-Weight.ensures.wrong before at reported)))
+    (sym c.in-Weight.is) (λ before begun at reported. c.in_err-add_atom-in-Weight.ensures.wrong before at reported))
 
 pub returns-in-Head-clause-taken : goal.returns-in-Head-clause-taken
 returns-in-Head-clause-taken c =
-    let task = task_of c.args.task.now in
+    let task = task_of c.args.reading.now.task.now in
     let header = c.args.header.now in
     subst (λ line. (before : List TextLine) → BeginCertificate (before ++ text_line_of line ∷ []) → HasTaken task before header
     → IsTaken task before (text_line_of line) (record { version = c.in-Head.version; claim = header.claim; exchanges = header.exchanges; atoms = header.atoms; evidence = header.evidence }) None)
@@ -107,7 +100,7 @@ take_part-requires c = record { fit = subst (λ line. IsFitHead c.args.header.no
 
 pub returns-in_ok-take_part-in-Part-clause-taken : goal.returns-in_ok-take_part-in-Part-clause-taken
 returns-in_ok-take_part-in-Part-clause-taken c =
-    let task = task_of c.args.task.now in
+    let task = task_of c.args.reading.now.task.now in
     let header = c.args.header.now in
     let after = c.take_part.new.evidence in
     subst (λ line. (before : List TextLine) → BeginCertificate (before ++ text_line_of line ∷ []) → HasTaken task before header
@@ -119,7 +112,7 @@ returns-in_ok-take_part-in-Part-clause-weighed c = λ before begun reported weig
 
 pub returns-in_err-take_part-in-Part-clause-wrong : goal.returns-in_err-take_part-in-Part-clause-wrong
 returns-in_err-take_part-in-Part-clause-wrong c =
-    let task = task_of c.args.task.now in
+    let task = task_of c.args.reading.now.task.now in
     let header = c.args.header.now in
     let e = c.in_err-take_part-in-Part.field-0.0 in
     passed_on (λ refusal. (before : List TextLine) → BeginCertificate (before ++ text_line_of c.args.line ∷ []) → c.args.number ≡ length before + 1 → HasTaken task before header
@@ -134,7 +127,7 @@ returns-in_err-take_part-in-Part-clause-wrong c =
 
 pub returns-in_ok-take_constants-in-Constant-clause-weighed : goal.returns-in_ok-take_constants-in-Constant-clause-weighed
 returns-in_ok-take_constants-in-Constant-clause-weighed c =
-    let task = task_of c.args.task.now in
+    let task = task_of c.args.reading.now.task.now in
     let header = c.args.header.now in
     let after = c.take_constants.new.evidence in
     let constants = c.in-Constant.constants.items in
@@ -145,12 +138,10 @@ returns-in_ok-take_constants-in-Constant-clause-weighed c =
 
 pub returns-in_ok-add_atom-in-Weight-clause-weighed : goal.returns-in_ok-add_atom-in-Weight-clause-weighed
 returns-in_ok-add_atom-in-Weight-clause-weighed c =
-    let task = task_of c.args.task.now in
+    let task = task_of c.args.reading.now.task.now in
     let header = c.args.header.now in
     let after = c.add_atom.new.header in
-    let named : List ℤ → TextLine = λ weights. atom (record { weights = weights; atom = named_atom_of (record { predicate = c.in-Weight.predicate; objects = c.in-Weight.objects }) }) in
     subst (λ line. (before : List TextLine) → BeginCertificate (before ++ text_line_of line ∷ []) → HasTaken task before header → AreWeighed header.evidence → AreWeighed after.evidence)
     (sym c.in-Weight.is) (λ before begun reported weighed.
-    weighed_early task before (named c.in-Weight.weights.items) after refl begun
-    (subst (λ weights. BeginCertificate (before ++ named weights ∷ []) → HasTaken task before header → HasTaken task (before ++ named weights ∷ []) after)
-    c.deref-in-Weight.ensures.value (c.in_ok-add_atom-in-Weight.ensures.reported before) begun reported))
+    weighed_early task before (atom (record { weights = c.in-Weight.weights.items; atom = named_atom_of (record { predicate = c.in-Weight.predicate; objects = c.in-Weight.objects }) })) after refl begun
+    (c.in_ok-add_atom-in-Weight.ensures.reported before begun reported))

@@ -21,7 +21,7 @@ use Rattle.cert_checker.proofs.checker.values.over_tables.Goals.{After-deref, Af
 few : (c : After-len) → c.len.result ≤ 32
 few c =
     let cert = certificate_of c.args.cert.now in
-    omega (arith, few_values cert.version (length cert.values) (limits_of cert c.args.cert.now.within_limits).value_count, c.requires.as_many, c.len.ensures, c.args.values.ok.0)
+    omega (arith, few_values cert.version (length cert.values) (limits_of cert c.args.cert.now.within_limits).value_count, c.requires.as_many, c.len.ensures, c.args.functions.values.ok.0)
 
 pub overflow_cast-count : goal.overflow_cast-count
 overflow_cast-count c = omega (arith, few (goal.at.overflow_cast-count c).After-len)
@@ -41,7 +41,7 @@ index-requires-clause-few c =
 pub index-requires-clause-counts : goal.index-requires-clause-counts
 index-requires-clause-counts c =
     let cert = certificate_of c.args.cert.now in
-    let same : length cert.values + 1 ≡ c.len.result + 1 = omega (arith, c.requires.as_many, c.len.ensures, c.args.values.ok.0) in
+    let same : length cert.values + 1 ≡ c.len.result + 1 = omega (arith, c.requires.as_many, c.len.ensures, c.args.functions.values.ok.0) in
     subst (All (λ (t : Table). weight_count_of t ≡ c.len.result + 1)) (sym (same_tables c)) (λ k d below. c.requires.counted k d below ∙ same)
 
 pub index-requires-clause-range : goal.index-requires-clause-range
@@ -67,9 +67,9 @@ new-requires c =
     let atoms = c.args.grounded.now.numbering.few_atoms in
     let numbered = length-map c.args.grounded.now.numbering.atoms.keys atom_of in
     record {
-      counts = c.in_ok-tables.ensures.count ∙ omega (arith, c.len.ensures, c.args.values.ok.0);
+      counts = c.in_ok-tables.ensures.count ∙ omega (arith, c.len.ensures, c.args.functions.values.ok.0);
       widths = λ k d below. c.requires.values k d below ∙ sym c.requires.dead_ends;
-      few_values = omega (arith, many, c.len.ensures, c.args.values.ok.0);
+      few_values = omega (arith, many, c.len.ensures, c.args.functions.values.ok.0);
       few = omega (arith, c.requires.dead_ends, atoms, numbered);
       scopes = subst (λ n. IsTrue (are_over n (tables_of c.in_ok-tables.tables))) (sym c.requires.dead_ends)
           (subst (λ those. IsTrue (are_over (length (atoms_in c.args.grounded.now)) those)) (sym c.in_ok-tables.ensures.tables) (scopes (goal.at.new-requires c).After-deref));

@@ -11,7 +11,7 @@ use Rattle.certificate.specs.CertificateParts.{listed_of}
 use Rattle.certificate.proofs.SetsLemmas.{rise_below}
 use Rattle.cert_checker.proofs.ListedLemmas.{both_reported}
 use Rattle.cert_checker.proofs.PlacedLemmas.{last_reports}
-use Rattle.cert_checker.proofs.listed_states.take_line.Goals as goal
+use Rattle.cert_checker.proofs.listed_states.StateLines.take_line.Goals as goal
 
 pub take-requires-clause-below : goal.take-requires-clause-below
 take-requires-clause-below c =
@@ -20,7 +20,7 @@ take-requires-clause-below c =
 
 pub returns-in-Listed-clause-taken : goal.returns-in-Listed-clause-taken
 returns-in-Listed-clause-taken c =
-    let claim = claim_of c.args.claim in
+    let claim = claim_of c.args.self.now.claim in
     let states = c.args.states.now in
     let after = c.take.new.states in
     subst (λ line. OnOk c.take.result ((task : Task) (before : List TextLine) (heading : Heading) → heading.claim ≡ claim → IsTrue (is_body (text_line_of line))
@@ -32,7 +32,7 @@ returns-in-Listed-clause-taken c =
 
 pub returns-in-Listed-clause-wrong : goal.returns-in-Listed-clause-wrong
 returns-in-Listed-clause-wrong c =
-    let claim = claim_of c.args.claim in
+    let claim = claim_of c.args.self.now.claim in
     let states = c.args.states.now in
     subst (λ line. IfErr c.take.result (λ refusal. (task : Task) (before : List TextLine) (heading : Heading) → heading.claim ≡ claim → c.args.number ≡ length before + 1
     → HaveGiven task before heading → HaveListed before claim (pooled_width states.sets) (map listed_of states.marks.items) (pooled_states states.sets)
@@ -44,6 +44,6 @@ returns c =
     record {
       width = refl;
       taken = λ task before heading claim_is body reported have.
-          last_reports task before heading (claim_of c.args.claim) (pooled_width states.sets) (map listed_of states.marks.items) (pooled_states states.sets) c.args.line c.in_default.not-Listed body reported have;
+          last_reports task before heading (claim_of c.args.self.now.claim) (pooled_width states.sets) (map listed_of states.marks.items) (pooled_states states.sets) c.args.line c.in_default.not-Listed body reported have;
       wrong = tt;
     }
