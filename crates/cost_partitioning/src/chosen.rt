@@ -1,6 +1,6 @@
 //! Chooses several values, whose maximum counts: each value kept exceeds the others in some state (diversification; Seipp, Keller
 //! & Helmert 2020, "Saturated Cost Partitioning for Optimal Classical Planning").
-ghost use Rattle.std.specs.Prelude.{◌≡◌, IfOk, Some, map, slice_get};
+ghost use Rattle.std.specs.Prelude.{◌≡◌, IfOk, IfSome, Some, map, slice_get};
 ghost use Rattle.potentials.specs.Potentials.{potentials_of};
 ghost use Rattle.cost_partitioning.specs.ValuePotentials.{potentials_in_value};
 
@@ -27,6 +27,9 @@ const MAX_CANDIDATES: u64 = 20;
 const TRIALS: u32 = 400;
 
 const TRIALS_OF_STATE: u32 = 12;
+
+/// A draft goes on if one sample of this many gains by its first order.
+const SAMPLES_FOR_A_GAIN: usize = 16;
 
 /// Work limits, in arcs: for dropping tables from the initial state's order, for improving it, and for the orders of all other
 /// states.
@@ -74,12 +77,17 @@ pub(crate) struct Choosing<'a> {
 }
 
 impl Choosing<'_> {
-    /// The values: the potentials alone, and others that raise the value of some state.
-    pub(crate) fn values(&self, tables: &mut Tables) -> Result<Vec<Value>, NoMemory>
-        ensures { IfOk result (λ values. slice_get (map potentials_in_value values.items) 0 ≡ Some (potentials_of self.now.potentials.now)) }
+    /// The values: the potentials alone, and others that raise the value of some state. `None` if hardly any state gains.
+    pub(crate) fn values(&self, tables: &mut Tables) -> Result<Option<Vec<Value>>, NoMemory>
+        ensures { IfOk result (λ o. IfSome o (λ values. slice_get (map potentials_in_value values.items) 0 ≡ Some (potentials_of self.now.potentials.now))) }
     {
-        let candidates = self.candidates(tables)?;
-        self.chosen(candidates)
+        match self.candidates(tables)? {
+            Some(candidates) => {
+                let values = self.chosen(candidates)?;
+                Ok(Some(values))
+            }
+            None => Ok(None),
+        }
     }
 
     /// The limit at this effort.
@@ -87,8 +95,9 @@ impl Choosing<'_> {
         self.effort.part_of(count, self.costs.left().len())
     }
 
-    /// The candidates: by an order for the initial state, and by orders for other states.
-    fn candidates(&self, tables: &mut Tables) -> Result<Vec<Candidate>, NoMemory> {
+    /// The candidates: by an order for the initial state, and by orders for other states. `None` if hardly any state gains by the
+    /// first order.
+    fn candidates(&self, tables: &mut Tables) -> Result<Option<Vec<Candidate>>, NoMemory> {
         let states = self.sampled.rows.len();
         let mut candidates = Candidates {
             divider: Divider::new(self.alloc, self.graphs, self.costs, self.sampled.rows)?,
@@ -97,8 +106,12 @@ impl Choosing<'_> {
             most_by_tables: vec![in self.alloc; 0; states]?,
             rests: 0,
         };
+        let order = candidates.divider.better_order()?;
+        if !self.is_promising(tables, &order, &mut candidates.divider)? {
+            return Ok(None);
+        }
         candidates.divider.allow(MAX_WORK_OF_PRUNING);
-        let order = candidates.divider.best_order()?;
+        let order = candidates.divider.without_idle(&order)?;
         candidates.divider.allow(self.part_of(MAX_WORK));
         let order = candidates.divider.improved(order, TRIALS)?;
         self.add(tables, &order, &mut candidates)?;
@@ -112,7 +125,34 @@ impl Choosing<'_> {
             self.add(tables, &order, &mut candidates)?;
         }
         let Candidates { all, .. } = candidates;
-        Ok(all)
+        Ok(Some(all))
+    }
+
+    /// Whether enough samples gain by the partition in this order, or are shown to be dead ends.
+    fn is_promising(
+        &self,
+        tables: &mut Tables,
+        order: &Order,
+        divider: &mut Divider<'_>,
+    ) -> Result<bool, NoMemory> {
+        let division = divider.divide(order)?;
+        let Some(potentials) = potentials_of_rest(self.alloc, tables, &division.left)? else {
+            return Ok(true);
+        };
+        let mut gaining = 0usize;
+        for (rows, atoms) in self.sampled.rows.iter().zip(self.sampled.atoms) {
+            let gains = match division.value(rows) {
+                Some(value) => {
+                    let sum = value.saturating_add(score(&potentials, atoms));
+                    sum > score(self.potentials, atoms).max(0)
+                }
+                None => true,
+            };
+            if gains {
+                gaining = gaining.saturating_add(1);
+            }
+        }
+        Ok(gaining.saturating_mul(SAMPLES_FOR_A_GAIN) >= self.sampled.rows.len())
     }
 
     /// Adds the partition by this order, with potentials for the remaining costs, if its tables alone raise the value of some

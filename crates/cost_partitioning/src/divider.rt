@@ -159,15 +159,21 @@ impl<'a> Divider<'a> {
     }
 
     /// An order that gives the initial state a great value, and among equals one with a great sum over all states: the better of
-    /// two orders, without tables that add little.
-    pub(crate) fn best_order(&mut self) -> Result<Order, NoMemory> {
+    /// two orders.
+    pub(crate) fn better_order(&mut self) -> Result<Order, NoMemory> {
         let mut best = self.ranked(self.greedy(0)?, 0)?;
         let other = Order::by_given(self.alloc, self.worths(0)?)?;
         let other = self.ranked(other, 0)?;
         if other.merit > best.merit {
             best = other;
         }
-        let Ranked { order, .. } = self.pruned(&best.order, 0)?;
+        let Ranked { order, .. } = best;
+        Ok(order)
+    }
+
+    /// The order without tables that add little to the initial state and to all states.
+    pub(crate) fn without_idle(&mut self, order: &Order) -> Result<Order, NoMemory> {
+        let Ranked { order, .. } = self.pruned(order, 0)?;
         Ok(order)
     }
 

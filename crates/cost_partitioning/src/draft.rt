@@ -212,7 +212,9 @@ impl Subject<'_, '_> {
             potentials: wanted.potentials,
             effort: wanted.effort,
         };
-        let values = choosing.values(tables)?;
+        let Some(values) = choosing.values(tables)? else {
+            return Ok(None);
+        };
         let Some(written) = self.tables_of_use(known, &values, sampled)? else {
             return Ok(None);
         };
