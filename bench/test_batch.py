@@ -38,7 +38,7 @@ if words[0] == "check":
     if do[0] == "wrong":
         print('{{"code":51,"name":"CutWeak","result":"not accepted"}}')
         sys.exit(12)
-    print('{{"command":"check","cost":%s,"result":"%s"}}' % (do[-1], "at least" if do[0] in ("limit", "time") else "optimal"))
+    print('{{"command":"check","cost":%s,"result":"%s"}}' % (do[-1], "at least" if do[0] == "limit" else "optimal"))
     sys.exit(0)
 if words[0] == "explain":
     print(words[1] + ":3:8: fault 7 Unexpected (columns count bytes)\\n   3 | a. b\\n     | ^")
@@ -58,9 +58,8 @@ if do[0] == "fault":
     sys.exit(20)
 open(named("--cert"), "w").write("pddl-cert 3\\nswap a b\\nswap c d\\ntable 0\\nopen 0\\nend 3\\n")
 print("progress=end listed=3 expanded=2", file=sys.stderr)
-if do[0] in ("limit", "time"):
-    reason = "states" if do[0] == "limit" else "time"
-    print('{{"bound":%s,"command":"solve","reason":"%s","result":"unknown"}}' % (do[1], reason))
+if do[0] == "limit":
+    print('{{"bound":%s,"command":"solve","reason":"states","result":"unknown"}}' % do[1])
     sys.exit(11)
 open(named("--plan"), "w").write("(a)\\n")
 print('{{"command":"solve","cost":%s,"result":"plan","steps":["(a)"]}}' % do[1])
@@ -281,13 +280,12 @@ class Told(unittest.TestCase):
 
 class Runs(Room):
     def test_each_result_has_its_line(self):
-        self.tasks(plan="plan 3", wrong="wrong 3", spin="spin 1", grow="grow 1", fault="fault 1", kill="kill 1", limit="limit 5",
-                   time="time 6")
+        self.tasks(plan="plan 3", wrong="wrong 3", spin="spin 1", grow="grow 1", fault="fault 1", kill="kill 1", limit="limit 5")
         ran = self.batch("--check", "--seconds", "1")
         found = self.lines()
         self.assertEqual({name[4:]: it.result.value for name, it in found.items()},
                          {"plan": "plan", "wrong": "plan", "spin": "out of time", "grow": "out of memory",
-                          "fault": "refused", "kill": "failed", "limit": "out of states", "time": "out of time"}, ran)
+                          "fault": "refused", "kill": "failed", "limit": "out of states"}, ran)
         plan = found["a b/plan"]
         self.assertEqual((plan.status, plan.cost, plan.steps, plan.states, plan.check.accepted), (0, 3, 1, 3, True))
         self.assertEqual((plan.instances, plan.atoms, plan.start_value, plan.expanded, plan.reached), (4, 5, 3, 2, None))
@@ -298,8 +296,6 @@ class Runs(Room):
         self.assertRegex(spin.fault, "ended by signal")
         limit = found["a b/limit"]
         self.assertEqual((limit.status, limit.cost, limit.bound, limit.states, limit.check.accepted), (11, None, 5, 3, True))
-        over = found["a b/time"]
-        self.assertEqual((over.status, over.bound, over.reached, over.states, over.check.accepted), (11, 6, None, 3, True))
         self.assertIs(found["a b/wrong"].check.accepted, False)
         self.assertEqual(found["a b/wrong"].check.verdict, "not accepted 51 CutWeak")
         self.assertEqual(found["a b/fault"].fault, "fault 7 Unexpected in problem at 0..5")
@@ -307,7 +303,7 @@ class Runs(Room):
         self.assertEqual(found["a b/fault"].explained, Explained(domain, 3, 8, "`a. b` may not stand here."))
         self.assertEqual((found["a b/kill"].status, found["a b/kill"].fault), (137, "ended by signal 9"))
         for it in ("1 task met the limit of 16,777,216 states: --states sets none that is greater",
-                   "2 tasks met the limit of 1 s: --seconds raises it, to 1,000,000 at most", "1 task met the limit of 2,000 MB: --memory raises it",
+                   "1 task met the limit of 1 s: --seconds raises it", "1 task met the limit of 2,000 MB: --memory raises it",
                    f"--left-by {self.run_folder} --into OTHER --seconds N --memory N"):
             self.assertIn(it, ran.stdout)
         self.assertEqual(ran.returncode, 1)

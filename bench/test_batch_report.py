@@ -65,8 +65,7 @@ class Limits(unittest.TestCase):
                           f"{again} --states N"])
         self.assertEqual(self.told(Result.INSTANCES, 1), ["1 task met the limit of 5 instances: --instances raises it, "
                                                           "to 16,777,216 at most", f"{again} --instances N"])
-        self.assertEqual(self.told(Result.TIME, 1), ["1 task met the limit of 300 s: --seconds raises it, to 1,000,000 at most",
-                                                     f"{again} --seconds N"])
+        self.assertEqual(self.told(Result.TIME, 1), ["1 task met the limit of 300 s: --seconds raises it", f"{again} --seconds N"])
 
     def test_a_limit_that_no_option_raises_is_told(self):
         self.assertEqual(self.told(Result.STATES, 2**24),

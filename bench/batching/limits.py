@@ -9,9 +9,8 @@ from typing import Iterable
 from batching.lines import Line, Result
 from batching.runs import Settings
 
-# The greatest limit of states, and of instances, that the program takes, and of seconds (docs/usage.md).
+# The greatest limit of states, and of instances, that the program takes (docs/usage.md).
 MOST = 2**24
-MOST_SECONDS = 10**6
 
 
 @dataclass(frozen=True)
@@ -41,7 +40,7 @@ def limits_of(settings: Settings) -> list[Limit]:
     return [
         Limit(Result.STATES, "--states", f"{settings.states:,} states", MOST, settings.states < MOST),
         Limit(Result.INSTANCES, "--instances", f"{settings.instances:,} instances", MOST, settings.instances < MOST),
-        Limit(Result.TIME, "--seconds", f"{settings.seconds:,} s", MOST_SECONDS, settings.seconds < MOST_SECONDS),
+        Limit(Result.TIME, "--seconds", f"{settings.seconds:,} s", None, True),
         Limit(Result.MEMORY, "--memory", f"{settings.megabytes:,} MB", None, True),
     ]
 

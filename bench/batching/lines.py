@@ -68,7 +68,7 @@ class Line:
     cost: int | float | None = None
     # How many steps the plan has.
     steps: int | None = None
-    # Where a limit of states or of time was met: what each plan costs at least, if the program tells that.
+    # Where the limit of states was met: what each plan costs at least, if the program tells that.
     bound: int | float | None = None
     # Where the process was ended by a limit of time or memory: the greatest bound that it told before, of which there is no
     # certificate.

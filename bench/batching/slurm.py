@@ -19,7 +19,6 @@ from batching.here import ONE
 from batching.lines import Line, Result
 from batching.progress import Progress
 from batching.runs import Run, Settings, put
-from batching.unit import backstop
 
 # How often the queue is looked at, in seconds.
 PAUSE = 2
@@ -74,11 +73,10 @@ def states_of(job: str) -> dict[int, str]:
 
 
 def limit_words(settings: Settings) -> list[str]:
-    """The limits of an element: room beside what a process may take, and half as much time again as they may take on a processor."""
+    """The limits of an element: room beside what a process may take, and twice the time that they may take on a processor."""
     processes = 2 if settings.checker else 1
     memory = math.ceil(settings.megabytes * 1_000_000 / 2**20) + BESIDE
-    seconds = backstop(settings.seconds) + (processes - 1) * settings.seconds
-    minutes = math.ceil(1.5 * seconds / 60) + 1
+    minutes = math.ceil(2 * processes * (settings.seconds + 1) / 60) + 1
     return ["--cpus-per-task=1", f"--mem={memory}M", f"--time={minutes}"]
 
 

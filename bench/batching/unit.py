@@ -43,7 +43,7 @@ PLACE_OF_TOOL = re.compile(r"(.*?):(\d+):(\d+): (.*)")
 SENTENCE = re.compile(r"(?:`[^`]*`|[^`])*?\.(?= |$)")
 # The keys of a line that are costs.
 COSTS = ("cost", "bound", "reached", "start_value")
-BY_REASON = {"states": Result.STATES, "instances": Result.INSTANCES, "atoms": Result.ATOMS, "time": Result.TIME}
+BY_REASON = {"states": Result.STATES, "instances": Result.INSTANCES, "atoms": Result.ATOMS}
 
 
 def end_with_parent() -> None:
@@ -51,21 +51,15 @@ def end_with_parent() -> None:
     LIBC.prctl(PR_SET_PDEATHSIG, signal.SIGKILL)
 
 
-def backstop(seconds: int) -> int:
-    """Where the system ends a search that was to end by itself: it has a part of a draft to end then, and a certificate to write."""
-    return 2 * seconds + 5
-
-
-def within_limits(words: list[str], settings: Settings, seconds: int | None = None) -> Ended:
-    """Runs a command within the limits of memory and of time, which are so many seconds if they are given."""
-    most = seconds or settings.seconds
+def within_limits(words: list[str], settings: Settings) -> Ended:
+    """Runs a command within the limits of time and memory."""
 
     def prepare() -> None:
         end_with_parent()
         memory = settings.megabytes * 1_000_000
         resource.setrlimit(resource.RLIMIT_AS, (memory, memory))
         # The first signal comes at the limit; the one a second later cannot be held off.
-        resource.setrlimit(resource.RLIMIT_CPU, (most, most + 1))
+        resource.setrlimit(resource.RLIMIT_CPU, (settings.seconds, settings.seconds + 1))
         resource.setrlimit(resource.RLIMIT_CORE, (0, 0))
 
     return ended(words, prepare)
@@ -196,16 +190,16 @@ def outcome(task: Task, settings: Settings, folder: str) -> Line:
 
 def solved(task: Task, settings: Settings, plan: str, cert: str) -> dict:
     """Has the program solve a task, with its answer in these files: what a line tells of that."""
-    limits = ["--states", str(settings.states), "--instances", str(settings.instances), "--seconds", str(settings.seconds)]
+    limits = ["--states", str(settings.states), "--instances", str(settings.instances)]
     end = within_limits([settings.program.path, "solve", task.domain, task.problem, *limits,
-                         "--plan", plan, "--cert", cert, "--json", "--progress"], settings, backstop(settings.seconds))
-    result, cost = answer_of(end, backstop(settings.seconds))
+                         "--plan", plan, "--cert", cert, "--json", "--progress"], settings)
+    result, cost = answer_of(end, settings.seconds)
     claim, has_plan = claim_of(end, result, cost), result is Result.PLAN
     if not all(map(os.path.isfile, [cert] * (claim is not None) + [plan] * has_plan)):
         result, claim = Result.FAILED, None
     keys = {"result": result, "status": end.status, "cost": cost, "seconds": round(end.seconds, 3),
             "clock_seconds": round(end.clock, 3), "peak_bytes": end.peak, **told_on_the_way(end.errors)}
-    if claim or result not in (Result.TIME, Result.MEMORY):
+    if result not in (Result.TIME, Result.MEMORY):
         # What was told on the way counts where nothing came at the end.
         keys.pop("reached", None)
     if has_plan:
@@ -230,13 +224,13 @@ def empty(folder: str) -> tuple[str, str]:
 
 
 def claim_of(end: Ended, result: Result, cost: int | None) -> dict | None:
-    """What the certificate of an answer is to show, or that of a bound at a limit of states or of time; None where there is none."""
+    """What the certificate of an answer is to show, or that of a bound at the limit of states; None where there is none."""
     if result is Result.PLAN:
         return {"result": "optimal", "cost": cost}
     if result is Result.UNSOLVABLE:
         return {"result": "unsolvable"}
     bound = told(end).get("bound")
-    return {"result": "at least", "cost": bound} if result in (Result.STATES, Result.TIME) and bound is not None else None
+    return {"result": "at least", "cost": bound} if result is Result.STATES and bound is not None else None
 
 
 def judged(task: Task, settings: Settings, claim: dict, plan: str | None, cert: str) -> dict:

@@ -69,8 +69,6 @@ pub struct Case<'a> {
     pub out: Stream,
     /// The standard error.
     pub err: Stream,
-    /// How many questions for the time are answered by 0. Later it is over.
-    pub clock: u32,
     /// The expected exit status.
     pub status: u32,
     /// A further run over the files that are left, if any.
@@ -86,7 +84,6 @@ impl<'a> Case<'a> {
             holdings: Holdings::new(alloc),
             out: Stream::new(alloc),
             err: Stream::new(alloc),
-            clock: u32::MAX,
             status: 0,
             then: None,
         }
@@ -112,7 +109,6 @@ impl<'a> Case<'a> {
             "run" => self.take_words(alloc, section.words),
             "status" => read_number(section.words, &mut self.status),
             "then" => self.take_follow_up(alloc, section),
-            "clock" => read_number(section.words, &mut self.clock),
             "reads" => read_number(section.words, &mut self.files.piece),
             "file" => expect_file(alloc, &mut self.holdings, section),
             "no" => expect_no_file(&mut self.holdings, section),

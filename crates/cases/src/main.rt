@@ -2,7 +2,6 @@
 #![tactic(auto)]
 
 mod case;
-mod clock;
 mod each;
 mod files;
 mod follow_up;

@@ -1,8 +1,6 @@
 //! The actual results of a case, compared with the expected ones.
 use crate::case::{Case, CaseFault};
-use crate::clock::CaseClock;
 use crate::stream::StreamDevice;
-use devices_clock::Timed;
 use std::alloc::{AllocError, Global};
 
 /// The texts of a case, and the byte that it is run for, if it lists some.
@@ -21,7 +19,7 @@ pub struct CaseText<'a> {
 struct Ended {
     status: u8,
     out: StreamDevice,
-    err: Timed<StreamDevice, CaseClock>,
+    err: StreamDevice,
 }
 
 /// How a case fails; `None` if it passes.
@@ -47,10 +45,7 @@ fn run(alloc: Global, case: &mut Case<'_>) -> Result<Option<String>, CaseFault> 
         return Err(CaseFault::NothingRun);
     };
     let mut out = case.out.device(alloc);
-    let mut err = Timed {
-        sink: case.err.device(alloc),
-        clock: CaseClock::new(case.clock),
-    };
+    let mut err = case.err.device(alloc);
     let status = planner_main::run(alloc, words, &mut case.files, &mut out, &mut err);
     let ended = Ended { status, out, err };
     Ok(reported_difference(alloc, case, &ended)?)
@@ -93,7 +88,7 @@ fn stream_difference(
     case: &Case<'_>,
     ended: &Ended,
 ) -> Result<Option<String>, AllocError> {
-    match case.err.difference(alloc, "stderr", &ended.err.sink)? {
+    match case.err.difference(alloc, "stderr", &ended.err)? {
         None => case.out.difference(alloc, "stdout", &ended.out),
         found => Ok(found),
     }

@@ -11,7 +11,6 @@ are_read = record {
   a_certificate = (refl, refl);
   states = (refl, refl);
   instances = (refl, refl);
-  seconds = (refl, refl);
   in_json = (refl, refl);
   progress = (refl, refl);
   in_one_word = (refl, refl);
@@ -42,7 +41,5 @@ are_read = record {
   twice = refl;
   none = refl;
   one_too_many = refl;
-  no_second = refl;
-  one_second_too_many = refl;
   no_number = refl;
 }

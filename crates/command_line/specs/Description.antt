@@ -5,7 +5,7 @@ use Rattle.clap.specs.Walk.{Rule, Text}
 use Rattle.clap.specs.Simple.{App, Shape, new_rule, new_shape}
 use Rattle.clap.specs.declared.builder.action.ArgAction.TheVariants.{SetTrue}
 use Rattle.clap.specs.declared.builder.value_parser.ValueParser.TheVariants.{Unsigned}
-use Rattle.command_line.specs.Limit.{most, most_seconds}
+use Rattle.command_line.specs.Limit.{most}
 
 -- a required file name
 abbrev pub file : Text → Rule
@@ -22,10 +22,6 @@ option name = record (new_rule name) { long = Some name; value_names = 1 }
 -- an option whose value is a limit, with 1,000,000 as the default
 abbrev pub limit : Text → Rule
 limit name = record (option name) { parser = Some (Unsigned 1 most); defaults = codes "1000000" ∷ [] }
-
--- the option whose value is the limit of seconds, without a default
-abbrev pub seconds : Rule
-seconds = record (option (codes "seconds")) { parser = Some (Unsigned 1 most_seconds) }
 
 -- a flag, such as `--json`
 abbrev pub flag : Text → Rule
@@ -45,7 +41,7 @@ subcommand name rules = record (new_shape name) { rules = rules }
 abbrev pub solve : Shape
 solve = subcommand (codes "solve")
     (file (codes "DOMAIN") ∷ file (codes "PROBLEM") ∷ option (codes "plan") ∷ option (codes "cert")
-    ∷ limit (codes "states") ∷ limit (codes "instances") ∷ seconds ∷ json ∷ progress ∷ [])
+    ∷ limit (codes "states") ∷ limit (codes "instances") ∷ json ∷ progress ∷ [])
 
 abbrev pub validate : Shape
 validate = subcommand (codes "validate")

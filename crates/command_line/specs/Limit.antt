@@ -5,9 +5,5 @@ use Rattle.std.specs.Prelude.{ℕ, Bool, ◌&&◌, nat_le}
 abbrev pub most : ℕ
 most = 16777216
 
--- the maximum number of seconds
-abbrev pub most_seconds : ℕ
-most_seconds = 1000000
-
 abbrev pub is_limit : ℕ → Bool
 is_limit number = nat_le 1 number && nat_le number most

@@ -1,6 +1,6 @@
 -- The order given by the words of a command line.
 use Rattle.std.specs.Prelude.{◌≡◌, ℕ, Bool, false, List, [], codes, Option, Some, None, if◌then◌else◌, option_and_then}
-use Rattle.std.specs.Option.{option_map, option_map_or}
+use Rattle.std.specs.Option.{option_map_or}
 use Rattle.std.specs.Str.{bytes_eq}
 use Rattle.std.specs.Str.Parse.{without_leading_plus, digits_value}
 use Rattle.clap.specs.Walk.{Row, Text, first_of}
@@ -10,12 +10,11 @@ use Rattle.clap.specs.ValueTests.{is_unsigned_in}
 use Rattle.command_line.specs.Description.{optplan}
 use Rattle.command_line.specs.Limit.{most}
 
--- the options of `solve`: the limits of states, of instances and, if there is one, of seconds, the files to write the plan and the certificate to, if any, whether
+-- the options of `solve`: the limits of states and instances, the files to write the plan and the certificate to, if any, whether
 -- the answer is printed as JSON, and whether the progress of the search is reported
 pub record Asked : Type 0 where
   pub states : ℕ
   pub instances : ℕ
-  pub seconds : Option ℕ
   pub plan : Option Text
   pub cert : Option Text
   pub json : Bool
@@ -51,10 +50,6 @@ limit_of text = if is_unsigned_in 1 most text then Some (digits_value 10 (withou
 abbrev pub limit_in : Text → List Row → Option ℕ
 limit_in name rows = option_and_then limit_of (first_of name rows)
 
--- the limit of seconds: there is none where the option is not given
-abbrev pub seconds_in : List Row → Option (Option ℕ)
-seconds_in rows = option_map_or (λ text. option_map Some (limit_of text)) (first_of (codes "seconds") rows) (Some None)
-
 -- the flag is given: `clap` then gives it the value `true`, and otherwise `false`
 abbrev pub is_given : Text → List Row → Bool
 is_given name rows = option_map_or (λ value. bytes_eq value (codes "true")) (first_of name rows) false
@@ -71,11 +66,9 @@ solve_in rows = do
   problem ← first_of (codes "PROBLEM") rows
   states ← limit_in (codes "states") rows
   instances ← limit_in (codes "instances") rows
-  seconds ← seconds_in rows
   Some (to_solve domain problem (record {
     states = states;
     instances = instances;
-    seconds = seconds;
     plan = first_of (codes "plan") rows;
     cert = first_of (codes "cert") rows;
     json = is_given (codes "json") rows;

@@ -1,10 +1,9 @@
 -- The code's orders, in the definitions' terms.
-use Rattle.std.specs.Prelude.{ℕ, List, map, Option}
+use Rattle.std.specs.Prelude.{List, map, Option}
 use Rattle.std.specs.Borrow.{Bor}
 use Rattle.std.specs.Option.{option_map}
 use Rattle.clap.specs.Walk.{Text}
 use Rattle.command_line.specs.Orders.{Wanted, to_solve, to_validate, to_check, to_explain}
-use Rattle.command_line.specs.declared.max_count.MaxCount.{MaxCount}
 use Rattle.command_line.specs.declared.order.Order.{Order}
 use Rattle.command_line.specs.declared.order.Order.TheVariants.{Solve, Validate, Check, Explain}
 use Rattle.command_line.specs.declared.fault.WordsFault.{WordsFault}
@@ -14,18 +13,14 @@ use Rattle.command_line.specs.declared.fault.WordsFault.TheVariants.{Words, NoMe
 abbrev pub text_in : Option (Bor Text) → Option Text
 text_in = option_map (λ (text : Bor Text). text.now)
 
--- the number of the limit, if there is one
-abbrev pub number_in : Option MaxCount → Option ℕ
-number_in = option_map (λ (limit : MaxCount). limit.number)
-
 -- the words of the command line
 abbrev pub texts : List (Bor Text) → List Text
 texts = map (λ (word : Bor Text). word.now)
 
 -- the order
 abbrev pub wanted_of : Order → Wanted
-wanted_of (Solve domain problem plan cert states instances seconds json progress) =
-    to_solve domain.now problem.now (record { states = states.number; instances = instances.number; seconds = number_in seconds; plan = text_in plan; cert = text_in cert; json = json; progress = progress })
+wanted_of (Solve domain problem plan cert states instances json progress) =
+    to_solve domain.now problem.now (record { states = states.number; instances = instances.number; plan = text_in plan; cert = text_in cert; json = json; progress = progress })
 wanted_of (Validate domain problem plan json) = to_validate domain.now problem.now plan.now json
 wanted_of (Check domain problem cert plan instances json progress) =
     to_check domain.now problem.now cert.now (record { instances = instances.number; plan = text_in plan; json = json; progress = progress })

@@ -6,7 +6,7 @@ ghost use Rattle.command_line.specs.Described.{AddsShape, HasRule, HaveRules, Ha
 ghost use Rattle.command_line.specs.Description as description;
 ghost use Rattle.command_line.specs.Description.{optplan, subcommand};
 
-use crate::max_count::{MAX_LIMIT, MAX_SECONDS};
+use crate::max_count::MAX_LIMIT;
 use clap::builder::ValueParser;
 use clap::{Arg, ArgAction, Command};
 use std::alloc::{AllocError, Global};
@@ -15,13 +15,12 @@ const ABOUT: &str =
     "A cost-optimal planner, plan validator and certificate checker for classical PDDL.";
 
 const USAGE: &str =
-    "optplan solve DOMAIN PROBLEM [--plan FILE] [--cert FILE] [--states N] [--instances N] [--seconds N] [--json] [--progress]
+    "optplan solve DOMAIN PROBLEM [--plan FILE] [--cert FILE] [--states N] [--instances N] [--json] [--progress]
        optplan validate DOMAIN PROBLEM PLAN [--json]
        optplan check DOMAIN PROBLEM CERT [--plan FILE] [--instances N] [--json] [--progress]
        optplan explain DOMAIN PROBLEM [PLAN] [--instances N] [--json]";
 
-const PROGRAM_HELP: &str =
-    "N is a number from 1 to 16777216; the default is 1000000. Of --seconds it is at most 1000000; by default the time is not limited.
+const PROGRAM_HELP: &str = "N is a number from 1 to 16777216; the default is 1000000.
 
 Example:
   optplan solve domain.pddl problem.pddl --plan plan.txt --cert cert.txt
@@ -32,7 +31,7 @@ Status:
    0  a cheapest plan was found, the plan solves the task, the certificate is accepted, or the files have no fault
    2  the command line is wrong, or asks for help
   10  there is no plan
-  11  a limit was exceeded; if it was that of states or of time, no plan costs less than the printed bound
+  11  a limit was exceeded; if it was the limit of states, no plan costs less than the printed bound
   12  the plan does not solve the task, or the certificate is not accepted
   20  a file has a fault
   21  a file or the standard output could not be opened, read or written
@@ -114,7 +113,6 @@ fn add_solve<'a>(alloc: Global, commands: &mut Vec<Command<'a>>) -> Result<(), A
         ),
         limit(alloc, "states", "List at most N states, 1 to 16777216",),
         limit(alloc, "instances", INSTANCES_HELP),
-        seconds(alloc),
         json(alloc),
         progress(alloc, "Say on the standard error how far the search is"),
     ]?;
@@ -254,19 +252,6 @@ fn limit<'a>(alloc: Global, name: &'a str, help: &'a str) -> Arg<'a>
     option(alloc, name, "N", help)
         .value_parser(ValueParser::unsigned(1, MAX_LIMIT as u64))
         .default_value("1000000")
-}
-
-/// The option for the limit of seconds.
-fn seconds<'a>(alloc: Global) -> Arg<'a>
-    ensures { HasRule result description.seconds }
-{
-    option(
-        alloc,
-        "seconds",
-        "N",
-        "Stop after N seconds, 1 to 1000000, with the bound by then",
-    )
-    .value_parser(ValueParser::unsigned(1, MAX_SECONDS))
 }
 
 /// The option for answers as JSON.

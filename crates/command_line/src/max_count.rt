@@ -5,9 +5,6 @@ ghost use Rattle.command_line.specs.Limit.{is_limit};
 /// The maximum value of a limit.
 pub const MAX_LIMIT: u32 = 16_777_216;
 
-/// The maximum number of seconds.
-pub(crate) const MAX_SECONDS: u64 = 1_000_000;
-
 /// A number from 1 to 16,777,216.
 #[derive(Clone, Copy, Debug, PartialEq, Eq)]
 pub struct MaxCount {

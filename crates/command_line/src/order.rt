@@ -18,8 +18,6 @@ pub enum Order<'a> {
         states: MaxCount,
         /// The maximum number of instances that may be kept.
         instances: MaxCount,
-        /// The maximum number of seconds that the search may take, at most 1,000,000; if none is given, the time is not limited.
-        seconds: Option<MaxCount>,
         /// Whether the answer is printed as JSON.
         json: bool,
         /// Whether the progress of the search is reported.

@@ -12,7 +12,6 @@ ghost use Rattle.model.specs.PlanWriting.{has_names};
 
 use crate::files::{FileFault, TaskFiles, task_of_files};
 use devices::{Sink, Unheard};
-use devices_clock::Clock;
 use faults::NoMemory;
 use solver::{Answer, Limits, solve_and_say};
 use std::alloc::Global;
@@ -31,8 +30,8 @@ pub struct Solved {
 /// Finds an optimal plan for the task of two files, or shows that there is none.
 ///
 /// The domain is scanned and parsed, then the problem; then both are typed together. The first fault ends the call. If the state
-/// limit is exceeded, the answer still has a claim: each plan costs at least its bound, and its certificate shows that. It is the same if
-/// the time is over. At the other two limits nothing is claimed about plans.
+/// limit is exceeded, the answer still has a claim: each plan costs at least its bound, and its certificate shows that. At the
+/// other two limits nothing is claimed about plans.
 ///
 /// ```
 /// let Some(limits) = Limits::new(1_000_000, 1_000_000) else { return Ok(()) };
@@ -40,14 +39,13 @@ pub struct Solved {
 ///     Answer::Plan { cost, .. } => println!(rt; "no plan costs less than {cost}")?,
 ///     Answer::Unsolvable { .. } => println!(rt; "there is no plan")?,
 ///     Answer::Unknown(Exceeded::States { bound, .. }) => println!(rt; "each plan costs {bound} or more")?,
-///     Answer::Unknown(Exceeded::Time { bound, .. }) => println!(rt; "each plan costs {bound} or more")?,
 ///     Answer::Unknown(Exceeded::Instances | Exceeded::Atoms) => println!(rt; "the task is too large")?,
 /// }
 /// ```
 pub fn solve_files(alloc: Global, files: TaskFiles<'_>, limits: Limits) -> Result<Solved, FileFault>
     // The task is that of the two texts, and the answer is correct for it.
     ensures task { IfOk result (λ s. IsTaskOf files.entry.domain.now files.entry.problem.now (task_of s.task)) }
-    ensures answer { IfOk result (λ s. IsTrueAnswer (task_of s.task) limits.seconds limits.states limits.instances s.answer) }
+    ensures answer { IfOk result (λ s. IsTrueAnswer (task_of s.task) limits.states limits.instances s.answer) }
     ensures names { IfOk result (λ s. IsTrue (has_names (task_of s.task))) }
     ensures refused { IfErr result (λ fault. IfSome (reported_in fault) (IsTaskFault files.entry.domain.now files.entry.problem.now)) }
 
@@ -58,16 +56,15 @@ pub fn solve_files(alloc: Global, files: TaskFiles<'_>, limits: Limits) -> Resul
 }
 
 /// The same, with progress reports as by `solve_and_say`: each line is true of the task of the two files, and if the answer has a
-/// certificate, the last line describes its listing. If a text is refused, nothing is reported. If the time is limited, it is that of
-/// the clock beside the sink.
-pub fn solve_files_and_say<E: Sink + Clock>(
+/// certificate, the last line describes its listing. If a text is refused, nothing is reported.
+pub fn solve_files_and_say<E: Sink>(
     alloc: Global,
     files: TaskFiles<'_>,
     limits: Limits,
     err: &mut E,
 ) -> Result<Solved, FileFault>
     ensures task { IfOk result (λ s. IsTaskOf files.entry.domain.now files.entry.problem.now (task_of s.task)) }
-    ensures answer { IfOk result (λ s. IsTrueAnswer (task_of s.task) limits.seconds limits.states limits.instances s.answer) }
+    ensures answer { IfOk result (λ s. IsTrueAnswer (task_of s.task) limits.states limits.instances s.answer) }
     ensures names { IfOk result (λ s. IsTrue (has_names (task_of s.task))) }
     ensures refused { IfErr result (λ fault. IfSome (reported_in fault) (IsTaskFault files.entry.domain.now files.entry.problem.now)) }
     ensures taken { (task : model.Task) → IsTaskOf files.entry.domain.now files.entry.problem.now task → IfErr result (λ fault. reported_in fault ≡ None) }
@@ -81,7 +78,7 @@ pub fn solve_files_and_say<E: Sink + Clock>(
 }
 
 /// The task with the planner's answer. The only error is running out of memory.
-fn solve_task<E: Sink + Clock>(
+fn solve_task<E: Sink>(
     alloc: Global,
     task: Task,
     limits: Limits,
@@ -89,7 +86,7 @@ fn solve_task<E: Sink + Clock>(
 ) -> Result<Solved, FileFault>
     requires { IsTrue (has_names (task_of task)) }
     ensures task { (domain problem : List ℕ) → IsTaskOf domain problem (task_of task) → IfOk result (λ s. IsTaskOf domain problem (task_of s.task)) }
-    ensures answer { IfOk result (λ s. IsTrueAnswer (task_of s.task) limits.seconds limits.states limits.instances s.answer) }
+    ensures answer { IfOk result (λ s. IsTrueAnswer (task_of s.task) limits.states limits.instances s.answer) }
     ensures memory { IfErr result (λ fault. reported_in fault ≡ None) }
     ensures said { (domain problem : List ℕ) → IsTaskOf domain problem (task_of task)
         → GoesOn (IsTrueLineOf domain problem) E.wants_memory (E.failures err.old) (E.taken err.old) (E.failures err.new) (E.taken err.new) }

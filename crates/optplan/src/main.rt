@@ -5,7 +5,6 @@ mod looks;
 
 use crate::looks::{look_at, look_line};
 use devices::{Device, Sink, write_all};
-use devices_clock::{SystemClock, Timed};
 use planner_main::{Order, SystemFiles, read_words, report_no_memory, run};
 use std::alloc::AllocError;
 use std::process::ExitCode;
@@ -15,7 +14,6 @@ use std::{env, io};
 const DEVICE: u8 = 21;
 
 fn main(rt: HostRuntime) -> ExitCode {
-    let clock = SystemClock::start(&rt);
     let arguments = arguments(&rt);
     let words: Result<Vec<&str>, AllocError> = match &arguments {
         Ok(arguments) => arguments
@@ -26,10 +24,7 @@ fn main(rt: HostRuntime) -> ExitCode {
     };
     let mut files = SystemFiles::new(&rt);
     let mut out = Device::new(rt.stdout());
-    let mut err = Timed {
-        sink: Device::new(rt.stderr()),
-        clock,
-    };
+    let mut err = Device::new(rt.stderr());
     let status = match words {
         Ok(words) => {
             let status = run(rt.alloc(), &words, &mut files, &mut out, &mut err);

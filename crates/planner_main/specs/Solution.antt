@@ -5,7 +5,7 @@ use Rattle.formulas.specs.State.{plan_of}
 use Rattle.task.specs.Task.{task_of}
 use Rattle.solver.specs.declared.answer.Answer.{Answer}
 use Rattle.solver.specs.declared.answer.Answer.TheVariants.{Plan, Unsolvable, Unknown}
-use Rattle.solver.specs.declared.answer.Exceeded.TheVariants.{Instances, Atoms, States, Time}
+use Rattle.solver.specs.declared.answer.Exceeded.TheVariants.{Instances, Atoms, States}
 use Rattle.certificate.specs.declared.cert.Cert.{Cert}
 use Rattle.certificate.specs.Certificate.{certificate_of}
 use Rattle.certificate_definitions.specs.CertificateNames.{certificate_text}
@@ -17,14 +17,13 @@ use Rattle.printed_answers.specs.declared.reports.Report.TheVariants as report
 use Rattle.model.specs.Task.{Task}
 use Rattle.model.specs.PlanWriting as plans
 
--- the certificate of an answer: of a plan, of unsolvability, or at the limit of states or of time of a lower bound of plan costs
+-- the certificate of an answer: of a plan, of unsolvability, or at the state limit of a lower bound of plan costs
 abbrev pub cert_of : Answer → Option Cert
 cert_of (Plan steps cost cert) = Some cert
 cert_of (Unsolvable cert) = Some cert
 cert_of (Unknown Instances) = None
 cert_of (Unknown Atoms) = None
 cert_of (Unknown (States least cert)) = Some cert
-cert_of (Unknown (Time least cert)) = Some cert
 
 -- the text of a result's certificate, if it has one, as an answer to a task does
 abbrev pub cert_text : Report → Option (List ℕ)

@@ -1,7 +1,7 @@
 //! The program.
 ghost use Rattle.std.specs.Prelude.{◌≡◌, ℕ, ◌⊎◌, IfErr, IfOk, IfSome, IsTrue, List, false};
 ghost use Rattle.command_line.specs.Orders.{IsCommand};
-ghost use Rattle.command_line.specs.View.{number_in, texts, wanted_of};
+ghost use Rattle.command_line.specs.View.{texts, wanted_of};
 ghost use Rattle.planner_main.specs.Failures.{device_line, is_failure, no_memory_line};
 ghost use Rattle.planner_main.specs.Program.{Reports, ReportsFor, ReportsPartly, ReportsPartlyFor, Refuses, HasFailed, HasNotFailed, CountsEither, CountsFailure, NamesInput, NamesText, IsFaultFor, IsFound, IsOneOf, IsUnread, SaysOfWords, fault_in, inputs_of, texts_of};
 ghost use Rattle.devices.specs.Texts.{AreKept};
@@ -22,7 +22,6 @@ use crate::failures::{Failure, report_failure, report_words};
 use acceptance::{CheckAsked, InputNames, report_of_check};
 use command_line::{MaxCount, Order, read_words};
 use devices::{Files, Sink};
-use devices_clock::Clock;
 use explaining::{ExplainAsked, report_of_explain};
 use inputs::PairNames;
 use outputs::outputs_of;
@@ -37,9 +36,8 @@ use writing::write_report;
 /// and returns the exit status. The words are parsed by `read_words`.
 ///
 /// `solve` prints an optimal plan, or that there is none. The numbers of listed states and of kept instances (those not
-/// statically inapplicable) are limited, and the time may be, by the clock beside `err`. If the state limit is exceeded or the time is
-/// over, it prints a lower bound of all plan costs; at the other limits nothing is claimed about plans. The certificate of the answer,
-/// also of such a bound, is written to the file
+/// statically inapplicable) are limited. If the state limit is exceeded, it prints a lower bound of all plan costs; at the other
+/// limits nothing is claimed about plans. The certificate of the answer, also for an exceeded state limit, is written to the file
 /// of `--cert`, then a plan's text to the file of `--plan`, then the answer to standard output; if one of them fails, the later
 /// ones are not touched, and neither is a file for which there is nothing to write. `validate` judges whether the plan solves the
 /// task. `check` prints what the certificate shows: with a plan, read from the file of `--plan`, that it is optimal; otherwise
@@ -53,7 +51,6 @@ use writing::write_report;
 /// | a cheapest plan | its steps, a line each, and `; cost = N` | | 0 |
 /// | there is no plan | `unsolvable` | | 10 |
 /// | the limit of states is exceeded: each plan costs N or more | `unknown states, at least N` | | 11 |
-/// | the time is over: each plan costs N or more | `unknown time, at least N` | | 11 |
 /// | another limit is exceeded | `unknown instances` or `unknown atoms` | | 11 |
 /// | the plan solves the task | `valid cost N` | | 0 |
 /// | it does not | `not applicable step N` or `goal missed` | | 12 |
@@ -80,7 +77,7 @@ use writing::write_report;
 /// let status = run(alloc, &words, &mut files, &mut out, &mut err);
 /// // 0, and `out` has the plan: "(go a b)\n(go b c)\n; cost = 2\n"
 /// ```
-pub fn run<F: Files, O: Sink, E: Sink + Clock>(
+pub fn run<F: Files, O: Sink, E: Sink>(
     alloc: Global,
     words: &[&str],
     files: &mut F,
@@ -133,7 +130,7 @@ pub fn run<F: Files, O: Sink, E: Sink + Clock>(
 }
 
 /// Carries out the order: computes the result, then prints it. Returns the exit status.
-fn carry_out<F: Files, O: Sink, E: Sink + Clock>(
+fn carry_out<F: Files, O: Sink, E: Sink>(
     alloc: Global,
     order: Order<'_>,
     files: &mut F,
@@ -156,7 +153,7 @@ fn carry_out<F: Files, O: Sink, E: Sink + Clock>(
 }
 
 /// Computes the result of the order.
-fn report_of<F: Files, E: Sink + Clock>(
+fn report_of<F: Files, E: Sink>(
     alloc: Global,
     order: Order<'_>,
     files: &mut F,
@@ -184,11 +181,10 @@ fn report_of<F: Files, E: Sink + Clock>(
             problem,
             states,
             instances,
-            seconds,
             progress,
             ..
         } => {
-            let limits = limits_of(states, instances, seconds);
+            let limits = limits_of(states, instances);
             let names = PairNames { domain, problem };
             let asked = SolveAsked {
                 names,
@@ -239,14 +235,9 @@ fn report_of<F: Files, E: Sink + Clock>(
 }
 
 /// The limits of a search.
-fn limits_of(states: MaxCount, instances: MaxCount, seconds: Option<MaxCount>) -> Limits
+fn limits_of(states: MaxCount, instances: MaxCount) -> Limits
     ensures states { result.states ≡ states.number }
     ensures instances { result.instances ≡ instances.number }
-    ensures seconds { result.seconds ≡ number_in seconds }
 {
-    let limits = Limits::new(states.number(), instances.number()).unwrap();
-    match seconds {
-        Some(most) => limits.within_seconds(most.number()),
-        None => limits,
-    }
+    Limits::new(states.number(), instances.number()).unwrap()
 }

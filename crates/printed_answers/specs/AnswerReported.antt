@@ -5,16 +5,15 @@ use Rattle.formulas.specs.State.{plan_of}
 use Rattle.solver.specs.declared.answer.Answer.{Answer}
 use Rattle.solver.specs.declared.answer.Answer.TheVariants.{Plan, Unsolvable, Unknown}
 use Rattle.solver.specs.declared.answer.Exceeded.{Exceeded}
-use Rattle.solver.specs.declared.answer.Exceeded.TheVariants.{Instances, Atoms, States, Time}
+use Rattle.solver.specs.declared.answer.Exceeded.TheVariants.{Instances, Atoms, States}
 use Rattle.model.specs.Task.{Task}
 use Rattle.model.specs.PlanWriting.{plan_text}
 
--- the line for an exceeded limit; for those of states and of time it includes the lower bound of plan costs
+-- the line for an exceeded limit; for the state limit it includes the lower bound of plan costs
 abbrev pub limit_line : Exceeded → List ℕ
 limit_line Instances = codes "unknown instances\n"
 limit_line Atoms = codes "unknown atoms\n"
 limit_line (States least cert) = codes "unknown states, at least " ++ (decimal least ++ codes "\n")
-limit_line (Time least cert) = codes "unknown time, at least " ++ (decimal least ++ codes "\n")
 
 -- the text of an answer
 abbrev pub text_of : Task → Answer → List ℕ

@@ -32,7 +32,7 @@ of_verdict (valid cost) = command (codes "validate") ∷ member (codes "cost") (
 of_verdict (not_applicable step) = command (codes "validate") ∷ result (codes "not applicable") ∷ member (codes "step") (number step) ∷ []
 of_verdict goal_missed = command (codes "validate") ∷ result (codes "goal missed") ∷ []
 
--- the limit with this name is exceeded; for those of states and of time it includes the lower bound of plan costs
+-- the limit with this name is exceeded; for the state limit it includes the lower bound of plan costs
 abbrev of_limit : List ℕ → List Member
 of_limit name = command (codes "solve") ∷ member (codes "reason") (text name) ∷ result (codes "unknown") ∷ []
 
@@ -40,7 +40,6 @@ abbrev pub of_exceeded : Exceeded → List Member
 of_exceeded exceeded.Instances = of_limit (codes "instances")
 of_exceeded exceeded.Atoms = of_limit (codes "atoms")
 of_exceeded (exceeded.States least cert) = member (codes "bound") (number least) ∷ of_limit (codes "states")
-of_exceeded (exceeded.Time least cert) = member (codes "bound") (number least) ∷ of_limit (codes "time")
 
 -- a plan and its cost, with steps in plan syntax
 abbrev pub of_plan : Task → List Instance → (cost : ℕ) → List Member

@@ -14,7 +14,7 @@ use std::alloc::{AllocError, Global};
 use task::Task;
 
 /// The text of an answer: the plan and its cost, `unsolvable`, or the exceeded limit, with a lower bound of plan costs if it is
-/// that of states or of time. The only error, here and in the functions below, is that an allocation failed.
+/// the state limit. The only error, here and in the functions below, is that an allocation failed.
 pub(crate) fn answer_text(
     alloc: Global,
     task: &Task,
@@ -39,7 +39,6 @@ fn limit_line(alloc: Global, limit: &Exceeded) -> Result<String, AllocError>
         Exceeded::States { bound, .. } => {
             format!(in alloc; "unknown states, at least {bound}\n")
         }
-        Exceeded::Time { bound, .. } => { format!(in alloc; "unknown time, at least {bound}\n") }
     }
 }
 

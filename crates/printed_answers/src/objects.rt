@@ -114,11 +114,6 @@ fn limit_object(alloc: Global, limit: &Exceeded) -> Result<String, AllocError>
             let reason = Member::text("reason", "states");
             object_text(alloc, &[bound, command, reason, result])
         }
-        Exceeded::Time { bound, .. } => {
-            let least = Member::number("bound", *bound);
-            let reason = Member::text("reason", "time");
-            object_text(alloc, &[least, command, reason, result])
-        }
     }
 }
 

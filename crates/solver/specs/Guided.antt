@@ -1,5 +1,5 @@
 -- What a search may go by, if its certificate is to have it, and what it came to.
-use Rattle.std.specs.Prelude.{◌≡◌, ℕ, ◌≤◌, Bool, IsTrue, List, is_some, length, map}
+use Rattle.std.specs.Prelude.{◌≡◌, ℕ, ◌≤◌, Bool, IsTrue, List, length, map}
 use Rattle.ground_listings.specs.GroundListing.{listed_states}
 use Rattle.ground_listings.specs.declared.ground_listing.GroundListing.{GroundListing}
 use Rattle.grounding.specs.Ground.{task_in, atoms_in}
@@ -10,16 +10,12 @@ use Rattle.lower_bounds.specs.Settled.{initial_value}
 use Rattle.search.specs.Estimates.{IsAdmissible}
 use Rattle.search.specs.DeadEnds.{ReportsDeadEnds}
 use Rattle.search.specs.Outcome as search
-use Rattle.search.specs.Outcome.{AreEstimates, AreMarked, IsAtLimit, IsCut, IsTrueOutcome, is_marked_dead}
+use Rattle.search.specs.Outcome.{AreEstimates, AreMarked, IsCut, IsTrueOutcome, is_marked_dead}
 use Rattle.search.specs.declared.best.Outcome.{Outcome}
 use Rattle.search.specs.declared.best.Outcome.TheVariants.{Found, Exhausted, States}
 use Rattle.search.specs.declared.nodes.FoundStates.{FoundStates}
 use Rattle.search.specs.declared.nodes.Node.{Node}
 use Rattle.solver.specs.Guidance.{Guidance, CanBeWritten, AreFairBy, estimate_by, first_value, values_by, version_by}
-use Rattle.solver.specs.declared.limits.Limits.{Limits}
-use Rattle.solver.specs.declared.searched.Ending.{Ending}
-use Rattle.solver.specs.declared.searched.Ending.TheVariants.{Complete, OutOfTime}
-use Rattle.solver.specs.declared.searched.Halted.{Halted}
 use Rattle.solver.specs.Improved.{AreSettledOrHigh, AreDeadSettledOrHigh}
 use Rattle.ground_listings.specs.SearchSpace.{class_in, ground_in, exchanges_in, system_of}
 use Rattle.ground_listings.specs.declared.search_space.SearchSpace.{SearchSpace}
@@ -66,14 +62,3 @@ pub record IsSearched (space : SearchSpace) (estimate : List Bool → ℕ) (is_d
   pub marked : AreMarksOf estimate is_dead (found_in outcome) marks
   pub admissible : IsAdmissible (system_of space) estimate
   pub reports : ReportsDeadEnds (system_of space) is_dead
-
--- A search of the ground task was stopped at a pause. Its found states, with these marks, say what they would say at a limit of as many.
-pub record IsHalted (space : SearchSpace) (estimate : List Bool → ℕ) (is_dead : List Bool → Bool) (max_states : ℕ) (halted : Halted) : Type 0 where
-  pub within_limit : length (listed_states halted.states.store) ≤ max_states
-  pub at_limit : IsAtLimit (system_of space) (class_in space) estimate is_dead (length (listed_states halted.states.store)) halted.bound (listed_states halted.states.store) halted.states.nodes.items
-  pub marked : AreMarksOf estimate is_dead halted.states halted.marks.items
-
--- A search within these limits ended by itself, or since its time is over, which was limited.
-abbrev pub IsEnding : SearchSpace → (List Bool → ℕ) → (List Bool → Bool) → Limits → Ending → Type 0
-IsEnding space estimate is_dead limits (Complete searched) = IsSearched space estimate is_dead limits.states searched.outcome searched.marks.items
-IsEnding space estimate is_dead limits (OutOfTime halted) = IsTrue (is_some limits.seconds) × IsHalted space estimate is_dead limits.states halted

@@ -18,7 +18,7 @@ use Rattle.certificate.specs.Certificate.{certificate_of}
 use Rattle.certificate.specs.ListedSets.{Marked, marked}
 use Rattle.solver.specs.declared.answer.Answer.{Answer}
 use Rattle.solver.specs.declared.answer.Answer.TheVariants.{Plan, Unsolvable, Unknown}
-use Rattle.solver.specs.declared.answer.Exceeded.TheVariants.{Instances, Atoms, States, Time}
+use Rattle.solver.specs.declared.answer.Exceeded.TheVariants.{Instances, Atoms, States}
 
 -- the line of a report: `key=value`, with a space between two
 abbrev pub line_of : Report → List ℕ
@@ -28,7 +28,6 @@ line_of (Search bound listed expanded) =
     codes "progress=search bound=" ++ (decimal bound ++ (codes " listed=" ++ (decimal listed ++ (codes " expanded=" ++ (decimal expanded ++ codes "\n")))))
 line_of (Limit raised_by.States) = codes "progress=limit raise=--states\n"
 line_of (Limit raised_by.Instances) = codes "progress=limit raise=--instances\n"
-line_of (Limit raised_by.Seconds) = codes "progress=limit raise=--seconds\n"
 line_of (End listed expanded) =
     codes "progress=end listed=" ++ (decimal listed ++ (codes " expanded=" ++ (decimal expanded ++ codes "\n")))
 
@@ -68,4 +67,3 @@ HasEnded wants_memory failures taken (Unsolvable cert) = EndsBy wants_memory fai
 HasEnded wants_memory failures taken (Unknown Instances) = ⊤
 HasEnded wants_memory failures taken (Unknown Atoms) = ⊤
 HasEnded wants_memory failures taken (Unknown (States least cert)) = EndsBy wants_memory failures taken (certificate_of cert)
-HasEnded wants_memory failures taken (Unknown (Time least cert)) = EndsBy wants_memory failures taken (certificate_of cert)

@@ -16,7 +16,7 @@ use Rattle.solver.specs.declared.parts.Parts.TheVariants.{ByTables, ByGuide}
 use Rattle.solver.specs.declared.limits.Limits.{Limits}
 use Rattle.ground_listings.specs.SearchSpace.{class_in, ground_in, system_of}
 use Rattle.ground_listings.specs.declared.search_space.SearchSpace.{SearchSpace}
-use Rattle.solver.specs.Guided.{IsEnding}
+use Rattle.solver.specs.Guided.{IsSearched}
 use Rattle.solver.specs.Solver.{IsTrueAnswer}
 
 module _ {R : Type 0} (space : SearchSpace) (estimate : List Bool → ℕ) (is_dead : List Bool → Bool) (fits : R → Type 0) where
@@ -26,9 +26,9 @@ module _ {R : Type 0} (space : SearchSpace) (estimate : List Bool → ℕ) (is_d
       under_way.IsUnderWay (system_of space) (class_in space) estimate is_dead fits listed_states listed_class listed_width (length (atoms_in (ground_in space))) max_states s
 
   -- to its end, or to a pause
-  abbrev pub IsStretch : (pause : ℕ) → Limits → Stretch R → Type 0
-  IsStretch pause limits (Ended ending) = IsEnding space estimate is_dead limits ending
-  IsStretch pause limits (Paused s) = IsUnderWay limits.states s × (pause ≤ length (listed_states (under_way.store_in s)))
+  abbrev pub IsStretch : (pause max_states : ℕ) → Stretch R → Type 0
+  IsStretch pause max_states (Ended searched) = IsSearched space estimate is_dead max_states searched.outcome searched.marks.items
+  IsStretch pause max_states (Paused s) = IsUnderWay max_states s × (pause ≤ length (listed_states (under_way.store_in s)))
 
 -- what such a search keeps true of what it found: the successors of each expanded state are found, and each state that waits is in the open list
 abbrev pub IsBetweenTurns : {R : Type 0} (space : SearchSpace) (estimate : List Bool → ℕ) (is_dead : List Bool → Bool) → Search GroundListing R → Type 0
@@ -38,8 +38,8 @@ IsBetweenTurns space estimate is_dead s =
 
 -- an answer by tables, or what the search came to
 abbrev pub IsTrueEnd : (space : SearchSpace) (estimate : List Bool → ℕ) (is_dead : List Bool → Bool) → Limits → Parts → Type 0
-IsTrueEnd space estimate is_dead limits (ByTables answer) = IsTrueAnswer (task_in (ground_in space)) limits.seconds limits.states limits.instances answer
-IsTrueEnd space estimate is_dead limits (ByGuide ending) = IsEnding space estimate is_dead limits ending
+IsTrueEnd space estimate is_dead limits (ByTables answer) = IsTrueAnswer (task_in (ground_in space)) limits.states limits.instances answer
+IsTrueEnd space estimate is_dead limits (ByGuide searched) = IsSearched space estimate is_dead limits.states searched.outcome searched.marks.items
 
 -- such an end, or a search to go on with
 abbrev pub IsTruePart : {R : Type 0} (space : SearchSpace) (estimate : List Bool → ℕ) (is_dead : List Bool → Bool) (fits : R → Type 0) → Limits → Part R → Type 0

@@ -1,11 +1,11 @@
 //! The answer to a task, and how it is found.
-ghost use Rattle.std.specs.Prelude.{◌≡◌, [], count_by, is_some, IfOk, IsTrue, OnOk, map, Option, ℕ};
+ghost use Rattle.std.specs.Prelude.{◌≡◌, [], count_by, IfOk, IsTrue, OnOk, map, ℕ};
 ghost use Rattle.task.specs.Task.{task_of};
 ghost use Rattle.grounding.specs.Ground.{task_in, atoms_in, IsGroundOf};
 ghost use Rattle.potentials_improved.specs.FairPotentials as fair;
 ghost use Rattle.potentials_improved.specs.FairPotentials.{potentials_in};
 ghost use Rattle.solver.specs.Guidance.{estimate_by, reports_dead};
-ghost use Rattle.solver.specs.Guided.{IsEnding, IsGuidanceFor, IsHalted, IsSearched};
+ghost use Rattle.solver.specs.Guided.{IsGuidanceFor, IsSearched};
 ghost use Rattle.ground_listings.specs.Exchanges.{AreExchangesFor};
 ghost use Rattle.symmetries.specs.Exchange.{exchange_of};
 ghost use Rattle.solver.specs.Improved.{AreSettledOrHigh, AreDeadSettledOrHigh};
@@ -28,11 +28,10 @@ use crate::limits::Limits;
 use crate::listing::cert_of;
 use crate::parts::{Given, Parts, search_in_parts};
 use crate::reports::{RaisedBy, Report, say};
-use crate::searched::{Ending, Halted, Searched};
+use crate::searched::Searched;
 use crate::setting::{Session, Setting};
 use certificate::{Cert, Claim, Listed, Mark};
 use devices::{Sink, Unheard};
-use devices_clock::Clock;
 use faults::{NoMemory, Refused};
 use formulas::Plan;
 use ground_listings::{SearchSpace, exchanges_of, plan_of};
@@ -64,7 +63,7 @@ pub enum Answer {
     Unknown(Exceeded),
 }
 
-/// An exceeded limit. Only the last two tell something of plans.
+/// An exceeded limit. Only the last one tells something of plans.
 #[derive(Drop)]
 pub enum Exceeded {
     /// The limit of kept instances: those that are not statically inapplicable.
@@ -73,13 +72,6 @@ pub enum Exceeded {
     Atoms,
     /// The limit of listed states.
     States {
-        /// A lower bound of every plan's cost.
-        bound: u64,
-        /// Shows that no plan costs less.
-        cert: Cert,
-    },
-    /// The limit of time.
-    Time {
         /// A lower bound of every plan's cost.
         bound: u64,
         /// Shows that no plan costs less.
@@ -115,17 +107,13 @@ pub enum Exceeded {
 /// certificate of 100,000. Its bound is the least sum of cost and value of a state that waits to be expanded. No open state has a
 /// greater sum, and the bound is at least the initial state's value.
 ///
-/// If the time is limited (`Limits::within_seconds`), it is looked at before the search, whenever 5,000 more states are listed, and between
-/// the parts of a draft of tables. If it is over, the answer is `Unknown(Exceeded::Time { .. })`, which says of the states that are
-/// listed by then what it would say at a limit of as many. No time passes for `solve`.
-///
 /// Two limits are reported before potentials are made: `Unknown(Exceeded::Instances)` exactly if the task has more than 10,000 kept
 /// instances, and `Unknown(Exceeded::Atoms)` exactly if it has no more, but more than 1,048,576 numbered atoms.
 ///
 /// # Errors
 /// Memory is refused.
 pub fn solve(alloc: Global, task: &Task, limits: Limits) -> Result<Answer, NoMemory>
-    ensures { IfOk result (IsTrueAnswer (task_of task.now) limits.seconds limits.states limits.instances) }
+    ensures { IfOk result (IsTrueAnswer (task_of task.now) limits.states limits.instances) }
 {
     solve_and_say(alloc, task, limits, &mut Unheard)
 }
@@ -136,13 +124,13 @@ pub fn solve(alloc: Global, task: &Task, limits: Limits) -> Result<Answer, NoMem
 ///
 /// # Errors
 /// Memory is refused, also for a line.
-pub fn solve_and_say<E: Sink + Clock>(
+pub fn solve_and_say<E: Sink>(
     alloc: Global,
     task: &Task,
     limits: Limits,
     err: &mut E,
 ) -> Result<Answer, NoMemory>
-    ensures answer { IfOk result (IsTrueAnswer (task_of task.now) limits.seconds limits.states limits.instances) }
+    ensures answer { IfOk result (IsTrueAnswer (task_of task.now) limits.states limits.instances) }
     ensures said { GoesOn (IsTrueLine (task_of task.now)) E.wants_memory (E.failures err.old) (E.taken err.old) (E.failures err.new) (E.taken err.new) }
     ensures ended { IfOk result (HasEnded E.wants_memory (E.failures err.new) (E.taken err.new)) }
 {
@@ -159,7 +147,7 @@ pub fn solve_and_say<E: Sink + Clock>(
 
 /// Reports the end: the option that raises the exceeded limit, and the size of the answer's certificate, if there are such.
 fn say_end<E: Sink>(alloc: Global, answer: &Answer, err: &mut E) -> Result<(), NoMemory>
-    ensures said { (task : model.Task) (seconds : Option ℕ) (states instances : ℕ) → IsTrueAnswer task seconds states instances answer.now → GoesOn (IsTrueLine task) E.wants_memory (E.failures err.old) (E.taken err.old) (E.failures err.new) (E.taken err.new) }
+    ensures said { (task : model.Task) (states instances : ℕ) → IsTrueAnswer task states instances answer.now → GoesOn (IsTrueLine task) E.wants_memory (E.failures err.old) (E.taken err.old) (E.failures err.new) (E.taken err.new) }
     ensures ended { OnOk result (HasEnded E.wants_memory (E.failures err.new) (E.taken err.new) answer.now) }
 {
     match answer {
@@ -171,16 +159,12 @@ fn say_end<E: Sink>(alloc: Global, answer: &Answer, err: &mut E) -> Result<(), N
 
 /// Reports the end where a limit is exceeded.
 fn say_limit<E: Sink>(alloc: Global, limit: &Exceeded, err: &mut E) -> Result<(), NoMemory>
-    ensures said { (task : model.Task) (seconds : Option ℕ) (states instances : ℕ) → IsTrueAnswer task seconds states instances (Unknown limit.now) → GoesOn (IsTrueLine task) E.wants_memory (E.failures err.old) (E.taken err.old) (E.failures err.new) (E.taken err.new) }
+    ensures said { (task : model.Task) (states instances : ℕ) → IsTrueAnswer task states instances (Unknown limit.now) → GoesOn (IsTrueLine task) E.wants_memory (E.failures err.old) (E.taken err.old) (E.failures err.new) (E.taken err.new) }
     ensures ended { OnOk result (HasEnded E.wants_memory (E.failures err.new) (E.taken err.new) (Unknown limit.now)) }
 {
     match limit {
         Exceeded::States { cert, .. } => {
             say(alloc, Report::Limit(RaisedBy::States), err)?;
-            say(alloc, end_of(cert), err)
-        }
-        Exceeded::Time { cert, .. } => {
-            say(alloc, Report::Limit(RaisedBy::Seconds), err)?;
             say(alloc, end_of(cert), err)
         }
         Exceeded::Instances => say(alloc, Report::Limit(RaisedBy::Instances), err),
@@ -212,7 +196,7 @@ fn open_in(marks: &[Listed]) -> usize
 }
 
 /// Solves the ground task, and reports its size and the end.
-fn solve_ground<E: Sink + Clock>(
+fn solve_ground<E: Sink>(
     alloc: Global,
     ground: &Ground<'_>,
     limits: Limits,
@@ -220,7 +204,7 @@ fn solve_ground<E: Sink + Clock>(
 ) -> Result<Answer, NoMemory>
     requires typed { IsTrue (is_task (task_in ground.now)) }
     requires ground { IsGroundOf (task_in ground.now) [] limits.instances ground.now }
-    ensures answer { IfOk result (IsTrueAnswer (task_in ground.now) limits.seconds limits.states limits.instances) }
+    ensures answer { IfOk result (IsTrueAnswer (task_in ground.now) limits.states limits.instances) }
     ensures said { GoesOn (IsTrueLine (task_in ground.now)) E.wants_memory (E.failures err.old) (E.taken err.old) (E.failures err.new) (E.taken err.new) }
     ensures ended { IfOk result (HasEnded E.wants_memory (E.failures err.new) (E.taken err.new)) }
 {
@@ -243,7 +227,7 @@ fn ground_report(ground: &Ground<'_>) -> Report
 }
 
 /// Solves the ground task modulo these exchanges. The caller reports size and end.
-fn solve_by_exchanges<E: Sink + Clock>(
+fn solve_by_exchanges<E: Sink>(
     alloc: Global,
     ground: &Ground<'_>,
     exchanges: &[Exchange],
@@ -253,7 +237,7 @@ fn solve_by_exchanges<E: Sink + Clock>(
     requires typed { IsTrue (is_task (task_in ground.now)) }
     requires ground { IsGroundOf (task_in ground.now) [] limits.instances ground.now }
     requires exchanges { AreExchangesFor ground.now (map exchange_of exchanges.now) }
-    ensures answer { IfOk result (IsTrueAnswer (task_in ground.now) limits.seconds limits.states limits.instances) }
+    ensures answer { IfOk result (IsTrueAnswer (task_in ground.now) limits.states limits.instances) }
     ensures said { GoesOn (IsTrueLine (task_in ground.now)) E.wants_memory (E.failures err.old) (E.taken err.old) (E.failures err.new) (E.taken err.new) }
 {
     if exchanges.is_empty() {
@@ -268,7 +252,7 @@ fn solve_by_exchanges<E: Sink + Clock>(
 }
 
 /// Improves potentials, and solves the ground task by them in this search space.
-fn solve_listed<E: Sink + Clock>(
+fn solve_listed<E: Sink>(
     alloc: Global,
     space: SearchSpace<'_, '_>,
     limits: Limits,
@@ -276,7 +260,7 @@ fn solve_listed<E: Sink + Clock>(
 ) -> Result<Answer, NoMemory>
     requires space { IsSearchSpace space }
     requires ground { IsGroundOf (task_in (ground_in space)) [] limits.instances (ground_in space) }
-    ensures answer { IfOk result (IsTrueAnswer (task_in (ground_in space.entry)) limits.seconds limits.states limits.instances) }
+    ensures answer { IfOk result (IsTrueAnswer (task_in (ground_in space.entry)) limits.states limits.instances) }
     ensures said { GoesOn (IsTrueLine (task_in (ground_in space.entry))) E.wants_memory (E.failures err.old) (E.taken err.old) (E.failures err.new) (E.taken err.new) }
 {
     let ground = space.ground();
@@ -293,7 +277,7 @@ fn solve_listed<E: Sink + Clock>(
 }
 
 /// Solves the ground task by these potentials, or by tables if better ones are found during the search.
-fn solve_by_potentials<E: Sink + Clock>(
+fn solve_by_potentials<E: Sink>(
     setting: Setting<'_, '_>,
     estimate: &Fair<'_, '_>,
     dead_ends: &DeadFair<'_, '_>,
@@ -305,7 +289,7 @@ fn solve_by_potentials<E: Sink + Clock>(
     requires improved { AreSettledOrHigh (task_in (ground_in setting.space)) (atoms_in (ground_in setting.space)) (potentials_in estimate.now) }
     requires dead_ends { fair.ground_in dead_ends.now ≡ ground_in setting.space }
     requires dead_ends_improved { AreDeadSettledOrHigh (task_in (ground_in setting.space)) (atoms_in (ground_in setting.space)) (potentials_in dead_ends.now) }
-    ensures answer { IfOk result (IsTrueAnswer (task_in (ground_in setting.entry.space)) setting.entry.limits.seconds setting.entry.limits.states setting.entry.limits.instances) }
+    ensures answer { IfOk result (IsTrueAnswer (task_in (ground_in setting.entry.space)) setting.entry.limits.states setting.entry.limits.instances) }
     ensures said { GoesOn (IsTrueLine (task_in (ground_in setting.entry.space))) E.wants_memory (E.failures err.old) (E.taken err.old) (E.failures err.new) (E.taken err.new) }
 {
     let guide = EstimateWithDeadEnds::new(estimate, dead_ends);
@@ -319,7 +303,7 @@ fn solve_by_potentials<E: Sink + Clock>(
     };
     match search_in_parts(&session, given, err)? {
         Parts::ByTables(answer) => Ok(answer),
-        Parts::ByGuide(ending) => answer_by_potentials(setting, given, ending),
+        Parts::ByGuide(searched) => answer_by_potentials(setting, given, searched),
     }
 }
 
@@ -327,65 +311,24 @@ fn solve_by_potentials<E: Sink + Clock>(
 fn answer_by_potentials(
     setting: Setting<'_, '_>,
     given: Given<'_>,
-    ending: Ending<'_, '_>,
+    searched: Searched<'_, '_>,
 ) -> Result<Answer, NoMemory>
     requires space { IsSearchSpace setting.space }
     requires ground { IsGroundOf (task_in (ground_in setting.space)) [] setting.limits.instances (ground_in setting.space) }
     requires guidance { IsGuidanceFor setting.space (by_potentials_of setting.space (potentials_of given.potentials.now) (potentials_of given.dead_ends.now)) }
-    requires ending { IsEnding setting.space
+    requires searched { IsSearched setting.space
         (estimate_by (by_potentials_of setting.space (potentials_of given.potentials.now) (potentials_of given.dead_ends.now)))
         (reports_dead (by_potentials_of setting.space (potentials_of given.potentials.now) (potentials_of given.dead_ends.now)))
-        setting.limits ending }
-    ensures { IfOk result (IsTrueAnswer (task_in (ground_in setting.entry.space)) setting.entry.limits.seconds setting.entry.limits.states setting.entry.limits.instances) }
+        setting.limits.states searched.outcome searched.marks.items }
+    ensures { IfOk result (IsTrueAnswer (task_in (ground_in setting.entry.space)) setting.entry.limits.states setting.entry.limits.instances) }
 {
     let Setting { alloc, space, .. } = setting;
     let guidance = guidance_by(alloc, space, given.potentials, given.dead_ends)?;
-    answer_of(setting, guidance, ending)
+    answer_of(setting, guidance, searched)
 }
 
 /// The answer of a search by this guidance, with its certificate.
 pub(crate) fn answer_of(
-    setting: Setting<'_, '_>,
-    guidance: Guidance,
-    ending: Ending<'_, '_>,
-) -> Result<Answer, NoMemory>
-    requires space { IsSearchSpace setting.space }
-    requires ground { IsGroundOf (task_in (ground_in setting.space)) [] setting.limits.instances (ground_in setting.space) }
-    requires guidance { IsGuidanceFor setting.space (guidance_of guidance) }
-    requires ending { IsEnding setting.space (estimate_by (guidance_of guidance)) (reports_dead (guidance_of guidance)) setting.limits ending }
-    ensures { IfOk result (IsTrueAnswer (task_in (ground_in setting.entry.space)) setting.entry.limits.seconds setting.entry.limits.states setting.entry.limits.instances) }
-{
-    match ending {
-        Ending::Complete(searched) => answer_of_search(setting, guidance, searched),
-        Ending::OutOfTime(halted) => answer_in_time(setting, guidance, halted),
-    }
-}
-
-/// The answer of a search by this guidance whose time is over.
-fn answer_in_time(
-    setting: Setting<'_, '_>,
-    guidance: Guidance,
-    halted: Halted<'_, '_>,
-) -> Result<Answer, NoMemory>
-    requires space { IsSearchSpace setting.space }
-    requires ground { IsGroundOf (task_in (ground_in setting.space)) [] setting.limits.instances (ground_in setting.space) }
-    requires guidance { IsGuidanceFor setting.space (guidance_of guidance) }
-    requires halted { IsHalted setting.space (estimate_by (guidance_of guidance)) (reports_dead (guidance_of guidance)) setting.limits.states halted }
-    requires limited { IsTrue (is_some setting.limits.seconds) }
-    ensures { IfOk result (IsTrueAnswer (task_in (ground_in setting.entry.space)) setting.entry.limits.seconds setting.entry.limits.states setting.entry.limits.instances) }
-{
-    let Setting { alloc, space, .. } = setting;
-    let Halted {
-        bound,
-        states,
-        marks,
-    } = halted;
-    let cert = cert_of(alloc, space, guidance, Claim::Bound(bound), marks, states)?;
-    Ok(Answer::Unknown(Exceeded::Time { bound, cert }))
-}
-
-/// The answer of a search by this guidance that ended by itself.
-fn answer_of_search(
     setting: Setting<'_, '_>,
     guidance: Guidance,
     searched: Searched<'_, '_>,
@@ -394,7 +337,7 @@ fn answer_of_search(
     requires ground { IsGroundOf (task_in (ground_in setting.space)) [] setting.limits.instances (ground_in setting.space) }
     requires guidance { IsGuidanceFor setting.space (guidance_of guidance) }
     requires searched { IsSearched setting.space (estimate_by (guidance_of guidance)) (reports_dead (guidance_of guidance)) setting.limits.states searched.outcome searched.marks.items }
-    ensures { IfOk result (IsTrueAnswer (task_in (ground_in setting.entry.space)) setting.entry.limits.seconds setting.entry.limits.states setting.entry.limits.instances) }
+    ensures { IfOk result (IsTrueAnswer (task_in (ground_in setting.entry.space)) setting.entry.limits.states setting.entry.limits.instances) }
 {
     let Setting { alloc, space, .. } = setting;
     let Searched { outcome, marks } = searched;

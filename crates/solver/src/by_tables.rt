@@ -14,7 +14,7 @@ ghost use Rattle.lower_bounds.specs.Settled.{initial_value};
 ghost use Rattle.potentials.specs.Potentials.{potentials_of};
 ghost use Rattle.solver.specs.Attempts.{IfDone};
 ghost use Rattle.solver.specs.Guidance.{by_tables, estimate_by, first_value, reports_dead};
-ghost use Rattle.solver.specs.Guided.{IsEnding};
+ghost use Rattle.solver.specs.Guided.{IsSearched};
 ghost use Rattle.solver.specs.Improved.{AreSettledOrHigh, AreDeadSettledOrHigh};
 ghost use Rattle.ground_listings.specs.SearchSpace.{ground_in, IsSearchSpace};
 ghost use Rattle.solver.specs.SeveralOver.{several_over};
@@ -31,13 +31,12 @@ ghost use Rattle.tables.specs.Several.{several_of, width_of};
 use crate::answer::{Answer, answer_of};
 use crate::attempt::Attempt;
 use crate::guidance::{Guidance, potential_of};
-use crate::searched::{Ending, search_by};
+use crate::searched::{Searched, search_by};
 use crate::setting::Setting;
 use crate::stopped::Stopped;
 use certificate::{Bounds, Potential, Version};
 use cost_partitioning::{DraftedTables, Wanted, drafted_tables};
 use devices::Sink;
-use devices_clock::Clock;
 use faults::NoMemory;
 use ground_listings::SearchSpace;
 use grounding::Ground;
@@ -64,7 +63,7 @@ struct ValuesOver<'a> {
 }
 
 /// The answer by tables, if better ones than the potentials of the paused search are found.
-pub(crate) fn solve_by_tables<E: Sink + Clock>(
+pub(crate) fn solve_by_tables<E: Sink>(
     setting: Setting<'_, '_>,
     stopped: &Stopped<'_, '_, '_>,
     err: &mut E,
@@ -76,13 +75,10 @@ pub(crate) fn solve_by_tables<E: Sink + Clock>(
     requires width { length (potentials_of stopped.now.potentials.now).weights ≡ length (atoms_in (ground_in setting.space)) }
     requires improved { AreSettledOrHigh (task_in (ground_in setting.space)) (atoms_in (ground_in setting.space)) (potentials_of stopped.now.potentials.now) }
     requires dead_ends_improved { AreDeadSettledOrHigh (task_in (ground_in setting.space)) (atoms_in (ground_in setting.space)) (potentials_of stopped.now.dead_ends.now) }
-    ensures answer { IfOk result (IfDone (IsTrueAnswer (task_in (ground_in setting.entry.space)) setting.entry.limits.seconds setting.entry.limits.states setting.entry.limits.instances)) }
+    ensures answer { IfOk result (IfDone (IsTrueAnswer (task_in (ground_in setting.entry.space)) setting.entry.limits.states setting.entry.limits.instances)) }
     ensures said { GoesOn (IsTrueLine (task_in (ground_in setting.entry.space))) E.wants_memory (E.failures err.old) (E.taken err.old) (E.failures err.new) (E.taken err.new) }
 {
     let Setting { alloc, space, .. } = setting;
-    if setting.limits.are_over(err) {
-        return Ok(Attempt::InVain);
-    }
     let Some(draft) = drafted(alloc, space, stopped)? else {
         return Ok(Attempt::InVain);
     };
@@ -142,7 +138,7 @@ fn written(alloc: Global, values: &[Potentials]) -> Result<Vec<Potential>, NoMem
 }
 
 /// The answer by this draft, if its values are fair and better than the potentials of the paused search.
-fn answer_by_tables<E: Sink + Clock>(
+fn answer_by_tables<E: Sink>(
     setting: Setting<'_, '_>,
     draft: Draft,
     stopped: &Stopped<'_, '_, '_>,
@@ -159,7 +155,7 @@ fn answer_by_tables<E: Sink + Clock>(
     requires width { length (potentials_of stopped.now.potentials.now).weights ≡ length (atoms_in (ground_in setting.space)) }
     requires improved { AreSettledOrHigh (task_in (ground_in setting.space)) (atoms_in (ground_in setting.space)) (potentials_of stopped.now.potentials.now) }
     requires dead_ends_improved { AreDeadSettledOrHigh (task_in (ground_in setting.space)) (atoms_in (ground_in setting.space)) (bounds_of draft.bounds).dead_ends }
-    ensures answer { IfOk result (IfDone (IsTrueAnswer (task_in (ground_in setting.entry.space)) setting.entry.limits.seconds setting.entry.limits.states setting.entry.limits.instances)) }
+    ensures answer { IfOk result (IfDone (IsTrueAnswer (task_in (ground_in setting.entry.space)) setting.entry.limits.states setting.entry.limits.instances)) }
     ensures said { GoesOn (IsTrueLine (task_in (ground_in setting.entry.space))) E.wants_memory (E.failures err.old) (E.taken err.old) (E.failures err.new) (E.taken err.new) }
 {
     let Draft {
@@ -174,9 +170,9 @@ fn answer_by_tables<E: Sink + Clock>(
     };
     let attempt = search_by_tables(setting, over, stopped, err)?;
     match attempt {
-        Attempt::Done(ending) => {
+        Attempt::Done(searched) => {
             let guidance = Guidance::Tables(bounds);
-            let answer = answer_of(setting, guidance, ending)?;
+            let answer = answer_of(setting, guidance, searched)?;
             Ok(Attempt::Done(answer))
         }
         Attempt::Promising => Ok(Attempt::Promising),
@@ -186,12 +182,12 @@ fn answer_by_tables<E: Sink + Clock>(
 
 /// Searches by these values, if they are fair and better. Whether they are better is tested first, which takes less time than the test
 /// of fairness.
-fn search_by_tables<'l, 't, E: Sink + Clock>(
+fn search_by_tables<'l, 't, E: Sink>(
     setting: Setting<'l, 't>,
     over: ValuesOver<'_>,
     stopped: &Stopped<'_, '_, '_>,
     err: &mut E,
-) -> Result<Attempt<Ending<'l, 't>>, NoMemory>
+) -> Result<Attempt<Searched<'l, 't>>, NoMemory>
     requires space { IsSearchSpace setting.space }
     requires within_limits { IsTrue (are_bounds three (length (atoms_in (ground_in setting.space))) (bounds_of over.bounds.now)) }
     requires values { map potentials_of over.values.items ≡ (bounds_of over.bounds.now).values }
@@ -201,7 +197,7 @@ fn search_by_tables<'l, 't, E: Sink + Clock>(
     requires width { length (potentials_of stopped.now.potentials.now).weights ≡ length (atoms_in (ground_in setting.space)) }
     ensures fair { IfOk result (IfDone (λ _. AreFair (task_in (ground_in setting.entry.space)) (atoms_in (ground_in setting.entry.space)) (bounds_of over.entry.bounds.now))) }
     ensures no_lower { IfOk result (IfDone (λ _. initial_value (task_in (ground_in setting.entry.space)) (atoms_in (ground_in setting.entry.space)) (potentials_of stopped.now.potentials.now) ≤ estimate_by (by_tables (bounds_of over.entry.bounds.now)) (ground_system (task_in (ground_in setting.entry.space)) (atoms_in (ground_in setting.entry.space))).initial)) }
-    ensures ending { IfOk result (IfDone (IsEnding setting.entry.space (estimate_by (by_tables (bounds_of over.entry.bounds.now))) (reports_dead (by_tables (bounds_of over.entry.bounds.now))) setting.entry.limits)) }
+    ensures searched { IfOk result (IfDone (λ s. IsSearched setting.entry.space (estimate_by (by_tables (bounds_of over.entry.bounds.now))) (reports_dead (by_tables (bounds_of over.entry.bounds.now))) setting.entry.limits.states s.outcome s.marks.items)) }
     ensures said { GoesOn (IsTrueLine (task_in (ground_in setting.entry.space))) E.wants_memory (E.failures err.old) (E.taken err.old) (E.failures err.new) (E.taken err.new) }
 {
     let alloc = setting.alloc;
@@ -215,9 +211,6 @@ fn search_by_tables<'l, 't, E: Sink + Clock>(
         return Ok(Attempt::InVain);
     };
     if !starts_no_lower(alloc, ground, &functions, stopped.potentials)? {
-        return Ok(Attempt::InVain);
-    }
-    if setting.limits.are_over(err) {
         return Ok(Attempt::InVain);
     }
     let saving = stopped.saving_by(alloc, &functions)?;
@@ -248,26 +241,23 @@ fn starts_no_lower(
 }
 
 /// Searches by these values, if they are fair.
-fn search_if_fair<'l, 't, E: Sink + Clock>(
+fn search_if_fair<'l, 't, E: Sink>(
     setting: Setting<'l, 't>,
     functions: TableFunctions<'_>,
     err: &mut E,
-) -> Result<Attempt<Ending<'l, 't>>, NoMemory>
+) -> Result<Attempt<Searched<'l, 't>>, NoMemory>
     requires space { IsSearchSpace setting.space }
     requires width { width_of functions ≡ length (atoms_in (ground_in setting.space)) }
     ensures fair { IfOk result (IfDone (λ _. AreFair (task_in (ground_in setting.entry.space)) (atoms_in (ground_in setting.entry.space)) (several_of functions.entry))) }
-    ensures ending { IfOk result (IfDone (IsEnding setting.entry.space (estimate_by (by_tables (several_of functions.entry))) (reports_dead (by_tables (several_of functions.entry))) setting.entry.limits)) }
+    ensures searched { IfOk result (IfDone (λ s. IsSearched setting.entry.space (estimate_by (by_tables (several_of functions.entry))) (reports_dead (by_tables (several_of functions.entry))) setting.entry.limits.states s.outcome s.marks.items)) }
     ensures said { GoesOn (IsTrueLine (task_in (ground_in setting.entry.space))) E.wants_memory (E.failures err.old) (E.taken err.old) (E.failures err.new) (E.taken err.new) }
 {
-    if setting.limits.are_over(err) {
-        return Ok(Attempt::InVain);
-    }
     let ground = setting.space.ground();
     match functions.fairness(setting.alloc, ground)? {
         ValuesFairness::Fair => {
             let guide = FairTables::new(functions, ground);
-            let ending = search_by(setting, &guide, err)?;
-            Ok(Attempt::Done(ending))
+            let searched = search_by(setting, &guide, err)?;
+            Ok(Attempt::Done(searched))
         }
         _ => Ok(Attempt::InVain),
     }

@@ -1,27 +1,24 @@
 //! The limits of a search.
-ghost use Rattle.std.specs.Prelude.{◌≡◌, IsTrue, is_some};
+ghost use Rattle.std.specs.Prelude.{◌≡◌, IsTrue};
 ghost use Rattle.solver.specs.Limit.{is_limit};
-
-use devices_clock::Clock;
 
 /// The greatest value of a limit.
 pub const MAX_LIMIT: u32 = 16_777_216;
 
-/// The limits of listed states and of kept instances, each from 1 to 16,777,216, and of seconds, if the time is limited. An instance is
-/// kept unless it is statically inapplicable.
+/// The limits of listed states and of kept instances, each from 1 to 16,777,216. An instance is kept unless it is statically
+/// inapplicable.
 #[derive(Clone, Copy, Debug, PartialEq, Eq)]
 pub struct Limits {
     states: u32,
     instances: u32,
-    seconds: Option<u32>,
     ghost states_within: { IsTrue (is_limit states) },
     ghost instances_within: { IsTrue (is_limit instances) },
 }
 
 impl Limits {
-    ghost use Rattle.std.specs.Prelude.{◌&&◌, is_some, IfSome, None, Some};
+    ghost use Rattle.std.specs.Prelude.{◌&&◌, is_some, IfSome};
 
-    /// These limits, with no limit of time, or `None` if one is out of range.
+    /// These limits, or `None` if one is out of range.
     ///
     /// ```text
     /// Limits::new(100_000, 10_000)        // Some: 100,000 states and 10,000 instances
@@ -33,44 +30,11 @@ impl Limits {
         ensures within { is_some result ≡ (is_limit states && is_limit instances) }
         ensures states { IfSome result (λ l. l.states ≡ states) }
         ensures instances { IfSome result (λ l. l.instances ≡ instances) }
-        ensures seconds { IfSome result (λ l. l.seconds ≡ None) }
     {
         if is_limit(states) && is_limit(instances) {
-            Some(Limits {
-                states,
-                instances,
-                seconds: None,
-            })
+            Some(Limits { states, instances })
         } else {
             None
-        }
-    }
-
-    /// The same limits, with this one of time.
-    pub fn within_seconds(self, seconds: u32) -> Limits
-        ensures states { result.states ≡ self.states }
-        ensures instances { result.instances ≡ self.instances }
-        ensures seconds { result.seconds ≡ Some seconds }
-    {
-        let Limits {
-            states,
-            instances,
-            ..
-        } = self;
-        Limits {
-            states,
-            instances,
-            seconds: Some(seconds),
-        }
-    }
-
-    /// Whether the clock shows that the time is over.
-    pub(crate) fn are_over<C: Clock>(&self, clock: &C) -> bool
-        ensures { IsTrue result → IsTrue (is_some self.now.seconds) }
-    {
-        match self.seconds {
-            Some(most) => u64::from(most) <= clock.seconds(),
-            None => false,
         }
     }
 

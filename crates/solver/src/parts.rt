@@ -13,15 +13,14 @@ ghost use Rattle.solver.specs.Solver.{IsTrueAnswer};
 ghost use Rattle.solver.specs.Stopped.{IsStopped};
 ghost use Rattle.solver.specs.Stretches.{IsTrueEnd, IsTruePart, IsUnderWay};
 
-use crate::answer::{Answer, Exceeded};
+use crate::answer::Answer;
 use crate::attempt::Attempt;
 use crate::by_tables::solve_by_tables;
-use crate::searched::{Ending, Stretch, begin_by, finish_by, go_on_by, stop_by};
+use crate::searched::{Searched, Stretch, begin_by, finish_by, go_on_by};
 use crate::setting::{Session, Setting};
 use crate::stopped::Stopped;
 use cost_partitioning::Effort;
 use devices::Sink;
-use devices_clock::Clock;
 use faults::NoMemory;
 use ground_listings::GroundListing;
 use potentials::Potentials;
@@ -69,7 +68,7 @@ pub(crate) enum Parts<'l, 't> {
     /// An answer by tables that were drafted at a pause.
     ByTables(Answer),
     /// The search's own end.
-    ByGuide(Ending<'l, 't>),
+    ByGuide(Searched<'l, 't>),
 }
 
 /// The end of a part: of the search up to a pause, and the attempt with tables there.
@@ -84,7 +83,7 @@ enum Part<'l, 't, R> {
 }
 
 /// Searches the ground task by the guide, which is that of these potentials. At each pause it tries to switch to tables.
-pub(crate) fn search_in_parts<'l, 't, G: Guide, E: Sink + Clock>(
+pub(crate) fn search_in_parts<'l, 't, G: Guide, E: Sink>(
     session: &Session<'_, 'l, 't, G>,
     given: Given<'_>,
     err: &mut E,
@@ -112,7 +111,7 @@ pub(crate) fn search_in_parts<'l, 't, G: Guide, E: Sink + Clock>(
 }
 
 /// Continues the search after the first pause.
-fn search_on<'l, 't, G: Guide, E: Sink + Clock>(
+fn search_on<'l, 't, G: Guide, E: Sink>(
     session: &Session<'_, 'l, 't, G>,
     search: Search<GroundListing<'l, 't>, G::Scratch>,
     given: Given<'_>,
@@ -141,7 +140,7 @@ fn search_on<'l, 't, G: Guide, E: Sink + Clock>(
 }
 
 /// Continues the search after the last pause.
-fn search_to_end<'l, 't, G: Guide, E: Sink + Clock>(
+fn search_to_end<'l, 't, G: Guide, E: Sink>(
     session: &Session<'_, 'l, 't, G>,
     search: Search<GroundListing<'l, 't>, G::Scratch>,
     err: &mut E,
@@ -153,12 +152,12 @@ fn search_to_end<'l, 't, G: Guide, E: Sink + Clock>(
     ensures end { IfOk result (IsTrueEnd session.now.setting.space (G.estimate_of session.now.guide.now) (G.is_dead session.now.guide.now) session.now.setting.limits) }
     ensures said { GoesOn (IsTrueLine (task_in (ground_in session.now.setting.space))) E.wants_memory (E.failures err.old) (E.taken err.old) (E.failures err.new) (E.taken err.new) }
 {
-    let ending = finish_by(session, search, err)?;
-    Ok(Parts::ByGuide(ending))
+    let searched = finish_by(session, search, err)?;
+    Ok(Parts::ByGuide(searched))
 }
 
 /// Continues the search to a pause, and tries to switch to tables there. There is no pause at the limit of states.
-fn search_to_pause<'l, 't, G: Guide, E: Sink + Clock>(
+fn search_to_pause<'l, 't, G: Guide, E: Sink>(
     session: &Session<'_, 'l, 't, G>,
     search: Search<GroundListing<'l, 't>, G::Scratch>,
     drafting: Drafting<'_>,
@@ -180,17 +179,10 @@ fn search_to_pause<'l, 't, G: Guide, E: Sink + Clock>(
         return Ok(Part::InVain(search));
     }
     match go_on_by(session, search, pause, err)? {
-        Stretch::Ended(ending) => Ok(Part::Ended(Parts::ByGuide(ending))),
+        Stretch::Ended(searched) => Ok(Part::Ended(Parts::ByGuide(searched))),
         Stretch::Paused(search) => {
             match solve_at_pause(session.setting, &search, drafting, err)? {
-                Attempt::Done(answer) => {
-                    // A search by tables that ran out of time may not have come as far as this one.
-                    if is_outdone(&answer, search.bound()) && session.setting.limits.are_over(err) {
-                        let ending = stop_by(session, search)?;
-                        return Ok(Part::Ended(Parts::ByGuide(ending)));
-                    }
-                    Ok(Part::Ended(Parts::ByTables(answer)))
-                }
+                Attempt::Done(answer) => Ok(Part::Ended(Parts::ByTables(answer))),
                 Attempt::Promising => Ok(Part::Promising(search)),
                 Attempt::InVain => Ok(Part::InVain(search)),
             }
@@ -198,16 +190,8 @@ fn search_to_pause<'l, 't, G: Guide, E: Sink + Clock>(
     }
 }
 
-/// Whether the answer tells no more than that the time is over, and a lower bound than this one.
-fn is_outdone(answer: &Answer, bound: Option<u64>) -> bool {
-    match (answer, bound) {
-        (Answer::Unknown(Exceeded::Time { bound, .. }), Some(known)) => *bound < known,
-        _ => false,
-    }
-}
-
 /// The answer by tables, if better ones than the potentials of this search are found.
-fn solve_at_pause<R, E: Sink + Clock>(
+fn solve_at_pause<R, E: Sink>(
     setting: Setting<'_, '_>,
     search: &Search<GroundListing<'_, '_>, R>,
     drafting: Drafting<'_>,
@@ -220,7 +204,7 @@ fn solve_at_pause<R, E: Sink + Clock>(
     requires width { length (potentials_of drafting.given.potentials.now).weights ≡ length (atoms_in (ground_in setting.space)) }
     requires improved { AreSettledOrHigh (task_in (ground_in setting.space)) (atoms_in (ground_in setting.space)) (potentials_of drafting.given.potentials.now) }
     requires dead_ends_improved { AreDeadSettledOrHigh (task_in (ground_in setting.space)) (atoms_in (ground_in setting.space)) (potentials_of drafting.given.dead_ends.now) }
-    ensures answer { IfOk result (IfDone (IsTrueAnswer (task_in (ground_in setting.entry.space)) setting.entry.limits.seconds setting.entry.limits.states setting.entry.limits.instances)) }
+    ensures answer { IfOk result (IfDone (IsTrueAnswer (task_in (ground_in setting.entry.space)) setting.entry.limits.states setting.entry.limits.instances)) }
     ensures said { GoesOn (IsTrueLine (task_in (ground_in setting.entry.space))) E.wants_memory (E.failures err.old) (E.taken err.old) (E.failures err.new) (E.taken err.new) }
 {
     let Some(bound) = search.bound() else {

@@ -1,9 +1,8 @@
 //! The pauses at which a search reports progress, and whether there is news to report.
 //!
 //! A line for each new bound would slow down a search with many bounds. So the search pauses whenever its listing has grown by a
-//! sixteenth, or by 5,000 states, and has news only where it has grown by a sixteenth: at most a dozen lines for each doubling. The time
-//! is looked at in each pause.
-ghost use Rattle.std.specs.Prelude.{◌<◌, ◌≤◌, ◌+◌, ◌*◌, ◌/◌, ◌⊎◌, ◌↔◌, IsTrue};
+//! sixteenth: at most a dozen lines for each doubling.
+ghost use Rattle.std.specs.Prelude.{◌<◌, ◌≤◌, ◌*◌, ◌⊎◌, ◌↔◌, IsTrue};
 
 use ground_listings::GroundListing;
 use search::{Search, StateListing};
@@ -13,9 +12,6 @@ const FIRST_PAUSE: u32 = 1_024;
 
 /// The search pauses when the listing has grown by one part in this many.
 const PART: u32 = 16;
-
-/// It lists at most this many states between two pauses, and those of one expansion.
-const MOST: u32 = 5_000;
 
 /// The progress of a search that is reported.
 #[derive(Clone, Copy)]
@@ -38,20 +34,11 @@ impl Milestone {
         }
     }
 
-    /// Whether this is news after the last report: the bound has risen and the listing has grown by a sixteenth, or that has doubled.
+    /// Whether this is news after the last report: the bound has risen, or the listing has doubled.
     fn is_news_after(self, last: Milestone) -> bool
-        ensures { IsTrue result ↔ (((last.bound < self.bound) × (last.listed + last.listed / 16 ≤ self.listed)) ⊎ (last.listed * 2 ≤ self.listed)) }
+        ensures { IsTrue result ↔ ((last.bound < self.bound) ⊎ (last.listed * 2 ≤ self.listed)) }
     {
-        last.bound < self.bound && self.has_grown_since(last) || last.listed <= self.listed / 2
-    }
-}
-
-impl Milestone {
-    /// Whether the listing has grown by a sixteenth.
-    fn has_grown_since(self, last: Milestone) -> bool
-        ensures { IsTrue result ↔ (last.listed + last.listed / 16 ≤ self.listed) }
-    {
-        last.listed <= self.listed && last.listed / 16 <= self.listed - last.listed
+        last.bound < self.bound || last.listed <= self.listed / 2
     }
 }
 
@@ -71,6 +58,6 @@ pub(crate) fn next_pause(listed: usize, last: u32) -> u32
     ensures within { result ≤ last }
 {
     let listed = listed as u32;
-    let next = listed.saturating_add((listed / PART).min(MOST));
+    let next = listed.saturating_add(listed / PART);
     next.max(FIRST_PAUSE).min(last).max(listed + 1)
 }

@@ -47,8 +47,6 @@ pub enum RaisedBy {
     States,
     /// The limit of kept instances.
     Instances,
-    /// The limit of time.
-    Seconds,
 }
 
 impl Report {
@@ -74,9 +72,6 @@ impl Report {
             }
             Report::Limit(RaisedBy::Instances) => {
                 format!(in alloc; "progress=limit raise=--instances\n")
-            }
-            Report::Limit(RaisedBy::Seconds) => {
-                format!(in alloc; "progress=limit raise=--seconds\n")
             }
             Report::End { listed, expanded } => {
                 format!(in alloc; "progress=end listed={listed} expanded={expanded}\n")

@@ -2,11 +2,11 @@
 //!
 //! Marks are made where the search ends, from the estimates that it tells. So the guide is not asked again, and its tables can move into
 //! the certificate without a copy.
-ghost use Rattle.std.specs.Prelude.{◌≡◌, ℕ, Bool, List, count_by, length, is_some, IfOk, IsTrue};
+ghost use Rattle.std.specs.Prelude.{◌≡◌, ℕ, Bool, List, count_by, length, IfOk};
 ghost use Rattle.grounding.specs.Ground.{task_in, atoms_in};
 ghost use Rattle.search.specs.Outcome.{is_expanded};
 ghost use Rattle.solver.specs.Guided as guided;
-ghost use Rattle.solver.specs.Guided.{AreMarksOf, CanBeMarked, IsEnding, IsMarkOf};
+ghost use Rattle.solver.specs.Guided.{AreMarksOf, CanBeMarked, IsMarkOf, IsSearched};
 ghost use Rattle.ground_listings.specs.SearchSpace.{ground_in, system_of, IsSearchSpace};
 ghost use Rattle.devices.specs.Progress.{GoesOn};
 ghost use Rattle.solver.specs.Said.{IsTrueLine};
@@ -17,12 +17,10 @@ use crate::reports::{Report, say};
 use crate::setting::{Session, Setting};
 use certificate::{Basis, Listed, Mark};
 use devices::Sink;
-use devices_clock::Clock;
 use faults::NoMemory;
 use ground_listings::{GroundListing, GroundSystem};
 use search::{
-    FoundStates, Guide, Halt, Node, NodeStatus, Outcome, Search, StateListing, Stop, begin, go_on,
-    stop_at_pause,
+    FoundStates, Guide, Halt, Node, NodeStatus, Outcome, Search, StateListing, begin, go_on,
 };
 use std::alloc::Global;
 
@@ -33,29 +31,11 @@ pub(crate) struct Searched<'l, 't> {
     pub(crate) marks: Vec<Listed>,
 }
 
-/// A search that was stopped at a pause: its bound, the found states, and the certificate's mark of each, in order.
-#[derive(Drop)]
-pub(crate) struct Halted<'l, 't> {
-    /// A lower bound of every plan's cost.
-    pub(crate) bound: u64,
-    pub(crate) states: FoundStates<GroundListing<'l, 't>>,
-    pub(crate) marks: Vec<Listed>,
-}
-
-/// How a search ended.
-#[derive(Drop)]
-pub(crate) enum Ending<'l, 't> {
-    /// By itself.
-    Complete(Searched<'l, 't>),
-    /// Its time is over.
-    OutOfTime(Halted<'l, 't>),
-}
-
 /// How far a search has come.
 #[derive(Drop)]
 pub(crate) enum Stretch<'l, 't, R> {
     /// To its end.
-    Ended(Ending<'l, 't>),
+    Ended(Searched<'l, 't>),
     /// To a pause.
     Paused(Search<GroundListing<'l, 't>, R>),
 }
@@ -84,7 +64,7 @@ fn stretch_by<'l, 't, G: Guide>(
     requires system { G.system_of session.now.guide.now ≡ system_of session.now.setting.space }
     requires width { G.width_of session.now.guide.now ≡ length (atoms_in (ground_in session.now.setting.space)) }
     requires under_way { IsUnderWay session.now.setting.space (G.estimate_of session.now.guide.now) (G.is_dead session.now.guide.now) (G.fits session.now.guide.now) session.now.setting.limits.states search }
-    ensures { IfOk result (IsStretch session.now.setting.space (G.estimate_of session.now.guide.now) (G.is_dead session.now.guide.now) (G.fits session.now.guide.now) pause session.now.setting.limits) }
+    ensures { IfOk result (IsStretch session.now.setting.space (G.estimate_of session.now.guide.now) (G.is_dead session.now.guide.now) (G.fits session.now.guide.now) pause session.now.setting.limits.states) }
 {
     let Setting {
         alloc,
@@ -96,43 +76,15 @@ fn stretch_by<'l, 't, G: Guide>(
     match go_on(alloc, &system, guide, search, pause, limits.states())? {
         Halt::Ended(outcome) => {
             let marks = marks(alloc, found_in(&outcome))?;
-            Ok(Stretch::Ended(Ending::Complete(Searched { outcome, marks })))
+            Ok(Stretch::Ended(Searched { outcome, marks }))
         }
         Halt::Paused(search) => Ok(Stretch::Paused(search)),
     }
 }
 
-/// Stops the search: its time is over.
-pub(crate) fn stop_by<'l, 't, G: Guide>(
-    session: &Session<'_, 'l, 't, G>,
-    search: Search<GroundListing<'l, 't>, G::Scratch>,
-) -> Result<Ending<'l, 't>, NoMemory>
-    requires space { IsSearchSpace session.now.setting.space }
-    requires system { G.system_of session.now.guide.now ≡ system_of session.now.setting.space }
-    requires under_way { IsUnderWay session.now.setting.space (G.estimate_of session.now.guide.now) (G.is_dead session.now.guide.now) (G.fits session.now.guide.now) session.now.setting.limits.states search }
-    requires limited { IsTrue (is_some session.now.setting.limits.seconds) }
-    ensures { IfOk result (IsEnding session.now.setting.space (G.estimate_of session.now.guide.now) (G.is_dead session.now.guide.now) session.now.setting.limits) }
-{
-    let alloc = session.setting.alloc;
-    match stop_at_pause(alloc, session.guide, search)? {
-        Stop::Ended(outcome) => {
-            let marks = marks(alloc, found_in(&outcome))?;
-            Ok(Ending::Complete(Searched { outcome, marks }))
-        }
-        Stop::Waiting { bound, states } => {
-            let marks = marks(alloc, &states)?;
-            Ok(Ending::OutOfTime(Halted {
-                bound,
-                states,
-                marks,
-            }))
-        }
-    }
-}
-
-/// Continues the search until it ends, its time is over or `pause` states are listed, and reports progress: now, and whenever the bound
-/// has risen or the listing has doubled.
-pub(crate) fn go_on_by<'l, 't, G: Guide, E: Sink + Clock>(
+/// Continues the search until it ends or `pause` states are listed, and reports progress: now, and whenever the bound has risen or the
+/// listing has doubled.
+pub(crate) fn go_on_by<'l, 't, G: Guide, E: Sink>(
     session: &Session<'_, 'l, 't, G>,
     search: Search<GroundListing<'l, 't>, G::Scratch>,
     pause: u32,
@@ -142,19 +94,16 @@ pub(crate) fn go_on_by<'l, 't, G: Guide, E: Sink + Clock>(
     requires system { G.system_of session.now.guide.now ≡ system_of session.now.setting.space }
     requires width { G.width_of session.now.guide.now ≡ length (atoms_in (ground_in session.now.setting.space)) }
     requires under_way { IsUnderWay session.now.setting.space (G.estimate_of session.now.guide.now) (G.is_dead session.now.guide.now) (G.fits session.now.guide.now) session.now.setting.limits.states search }
-    ensures stretch { IfOk result (IsStretch session.now.setting.space (G.estimate_of session.now.guide.now) (G.is_dead session.now.guide.now) (G.fits session.now.guide.now) pause session.now.setting.limits) }
+    ensures stretch { IfOk result (IsStretch session.now.setting.space (G.estimate_of session.now.guide.now) (G.is_dead session.now.guide.now) (G.fits session.now.guide.now) pause session.now.setting.limits.states) }
     ensures said { GoesOn (IsTrueLine (task_in (ground_in session.now.setting.space))) E.wants_memory (E.failures err.old) (E.taken err.old) (E.failures err.new) (E.taken err.new) }
 {
     let mut search = search;
     let mut said = None;
     'stretches: while search.store().len() < pause as usize {
-        if session.setting.limits.are_over(err) {
-            return Ok(Stretch::Ended(stop_by(session, search)?));
-        }
         let next = next_pause(search.store().len(), pause);
         said = say_news(session, &search, said, err)?;
         match stretch_by(session, search, next)? {
-            Stretch::Ended(ending) => return Ok(Stretch::Ended(ending)),
+            Stretch::Ended(searched) => return Ok(Stretch::Ended(searched)),
             Stretch::Paused(paused) => search = paused,
         }
     }
@@ -219,34 +168,34 @@ fn expanded_in(nodes: &[Node]) -> usize
 }
 
 /// Continues the search to its end, and reports progress.
-pub(crate) fn finish_by<'l, 't, G: Guide, E: Sink + Clock>(
+pub(crate) fn finish_by<'l, 't, G: Guide, E: Sink>(
     session: &Session<'_, 'l, 't, G>,
     search: Search<GroundListing<'l, 't>, G::Scratch>,
     err: &mut E,
-) -> Result<Ending<'l, 't>, NoMemory>
+) -> Result<Searched<'l, 't>, NoMemory>
     requires space { IsSearchSpace session.now.setting.space }
     requires system { G.system_of session.now.guide.now ≡ system_of session.now.setting.space }
     requires width { G.width_of session.now.guide.now ≡ length (atoms_in (ground_in session.now.setting.space)) }
     requires under_way { IsUnderWay session.now.setting.space (G.estimate_of session.now.guide.now) (G.is_dead session.now.guide.now) (G.fits session.now.guide.now) session.now.setting.limits.states search }
-    ensures ending { IfOk result (IsEnding session.now.setting.space (G.estimate_of session.now.guide.now) (G.is_dead session.now.guide.now) session.now.setting.limits) }
+    ensures searched { IfOk result (λ s. IsSearched session.now.setting.space (G.estimate_of session.now.guide.now) (G.is_dead session.now.guide.now) session.now.setting.limits.states s.outcome s.marks.items) }
     ensures said { GoesOn (IsTrueLine (task_in (ground_in session.now.setting.space))) E.wants_memory (E.failures err.old) (E.taken err.old) (E.failures err.new) (E.taken err.new) }
 {
     match go_on_by(session, search, u32::MAX, err)? {
-        Stretch::Ended(ending) => Ok(ending),
+        Stretch::Ended(searched) => Ok(searched),
         Stretch::Paused(_) => unreachable!(),
     }
 }
 
 /// Searches the ground task by the guide, and reports progress.
-pub(crate) fn search_by<'l, 't, G: Guide, E: Sink + Clock>(
+pub(crate) fn search_by<'l, 't, G: Guide, E: Sink>(
     setting: Setting<'l, 't>,
     guide: &G,
     err: &mut E,
-) -> Result<Ending<'l, 't>, NoMemory>
+) -> Result<Searched<'l, 't>, NoMemory>
     requires space { IsSearchSpace setting.space }
     requires system { G.system_of guide.now ≡ system_of setting.space }
     requires width { G.width_of guide.now ≡ length (atoms_in (ground_in setting.space)) }
-    ensures ending { IfOk result (IsEnding setting.entry.space (G.estimate_of guide.now) (G.is_dead guide.now) setting.entry.limits) }
+    ensures searched { IfOk result (λ s. IsSearched setting.entry.space (G.estimate_of guide.now) (G.is_dead guide.now) setting.entry.limits.states s.outcome s.marks.items) }
     ensures said { GoesOn (IsTrueLine (task_in (ground_in setting.entry.space))) E.wants_memory (E.failures err.old) (E.taken err.old) (E.failures err.new) (E.taken err.new) }
 {
     let session = Session { setting, guide };

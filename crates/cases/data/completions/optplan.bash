@@ -8,7 +8,7 @@ _optplan() {
         return
     fi
     case $command in
-        solve) options='--plan --cert --states --instances --seconds --json --progress --help' ;;
+        solve) options='--plan --cert --states --instances --json --progress --help' ;;
         validate) options='--json --help' ;;
         check) options='--plan --instances --json --progress --help' ;;
         explain) options='--instances --json --help' ;;
@@ -16,7 +16,7 @@ _optplan() {
         *) return ;;
     esac
     case $previous in
-        --states|--instances|--seconds) return ;;
+        --states|--instances) return ;;
         --plan|--cert) COMPREPLY=($(compgen -f -- "$current")); return ;;
     esac
     if [[ $current == -* ]]; then

@@ -12,7 +12,6 @@ complete -c optplan -n '__fish_seen_subcommand_from solve' -r -l plan -d 'Also w
 complete -c optplan -n '__fish_seen_subcommand_from solve' -r -l cert -d 'Write the certificate of the answer to this file'
 complete -c optplan -n '__fish_seen_subcommand_from solve' -x -l states -d 'List at most this many states'
 complete -c optplan -n '__fish_seen_subcommand_from solve' -x -l instances -d 'Keep at most this many action instances'
-complete -c optplan -n '__fish_seen_subcommand_from solve' -x -l seconds -d 'Stop after this many seconds, with the bound by then'
 complete -c optplan -n '__fish_seen_subcommand_from solve' -l json -d 'Print the answer as a line of JSON'
 complete -c optplan -n '__fish_seen_subcommand_from solve' -l progress -d 'Say on the standard error how far the search is'
 

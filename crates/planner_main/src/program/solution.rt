@@ -14,8 +14,7 @@ ghost use Rattle.solver.specs.Solver.{IsTrueAnswer};
 use crate::failures::Failure;
 use crate::program::inputs::{PairNames, TaskTexts, read_pair};
 use devices::{Files, Sink};
-use devices_clock::{Clock, Quiet};
-use file_answers::{FileFault, Solved, TaskFiles, solve_files_and_say};
+use file_answers::{FileFault, Solved, TaskFiles, solve_files, solve_files_and_say};
 use printed_answers::Report;
 use solver::Limits;
 use std::alloc::Global;
@@ -33,13 +32,13 @@ pub(super) struct SolveAsked<'a> {
 
 /// An optimal plan for the task of two files, that there is none, or the limit that is exceeded. If progress is asked for, the
 /// progress of the search is reported.
-pub(super) fn report_of_solve<F: Files, E: Sink + Clock>(
+pub(super) fn report_of_solve<F: Files, E: Sink>(
     alloc: Global,
     asked: SolveAsked<'_>,
     files: &mut F,
     err: &mut E,
 ) -> Result<Report, Failure>
-    ensures report { IfOk result (IsSolutionOn (F.contents files.old) asked.entry.names.domain.now asked.entry.names.problem.now asked.entry.limits.seconds asked.entry.limits.states asked.entry.limits.instances) }
+    ensures report { IfOk result (IsSolutionOn (F.contents files.old) asked.entry.names.domain.now asked.entry.names.problem.now asked.entry.limits.states asked.entry.limits.instances) }
     ensures refused { IfErr result (λ failure. IfSome (fault_in failure) (λ fault.
         OnTwo (F.contents files.old) asked.entry.names.domain.now asked.entry.names.problem.now (λ d p. IsTaskFault d p fault))) }
     ensures kept { AreKept (F.contents files.old) (F.contents files.new) }
@@ -56,14 +55,14 @@ pub(super) fn report_of_solve<F: Files, E: Sink + Clock>(
 }
 
 /// The answer to the task of two texts.
-fn solved<E: Sink + Clock>(
+fn solved<E: Sink>(
     alloc: Global,
     pair: &TaskTexts,
     asked: SolveAsked<'_>,
     err: &mut E,
 ) -> Result<Solved, FileFault>
     ensures task { IfOk result (λ s. IsTaskOf pair.now.domain.items pair.now.problem.items (task_of s.task)) }
-    ensures answer { IfOk result (λ s. IsTrueAnswer (task_of s.task) asked.entry.limits.seconds asked.entry.limits.states asked.entry.limits.instances s.answer) }
+    ensures answer { IfOk result (λ s. IsTrueAnswer (task_of s.task) asked.entry.limits.states asked.entry.limits.instances s.answer) }
     ensures refused { IfErr result (λ fault. IfSome (reported_in fault) (IsTaskFault pair.now.domain.items pair.now.problem.items)) }
     ensures progress { AreSaid (λ line. IsTrue asked.entry.progress × IsTrueLineOf pair.now.domain.items pair.now.problem.items line) E.wants_memory (stream (E.failures err.old) (E.taken err.old)) (stream (E.failures err.new) (E.taken err.new)) }
     ensures ended { IfOk result (λ s. IsTrue asked.entry.progress → HasEnded E.wants_memory (E.failures err.new) (E.taken err.new) s.answer) }
@@ -75,7 +74,6 @@ fn solved<E: Sink + Clock>(
     if asked.progress {
         solve_files_and_say(alloc, files, asked.limits, err)
     } else {
-        let mut quiet = Quiet(err);
-        solve_files_and_say(alloc, files, asked.limits, &mut quiet)
+        solve_files(alloc, files, asked.limits)
     }
 }

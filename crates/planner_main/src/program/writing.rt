@@ -219,7 +219,6 @@ fn cert_of(answer: &Answer) -> Option<&Cert>
         Answer::Plan { cert, .. } => Some(cert),
         Answer::Unsolvable { cert } => Some(cert),
         Answer::Unknown(Exceeded::States { cert, .. }) => Some(cert),
-        Answer::Unknown(Exceeded::Time { cert, .. }) => Some(cert),
         Answer::Unknown(Exceeded::Instances | Exceeded::Atoms) => None,
     }
 }

@@ -27,11 +27,3 @@ pub returns-in-States : goal.returns-in-States
 returns-in-States c =
     let same : members_of (c.number-bound.result ∷ c.text-command.result ∷ c.text-reason-in-States.result ∷ c.text-result.result ∷ []) ≡ of_exceeded c.args.limit.now = rw (c.number-bound.ensures, c.text-command.ensures, c.text-reason-in-States.ensures, c.text-result.ensures, c.in-States.is) refl in
     reported_as_meant c.object_text-in-States.result (members_of (c.number-bound.result ∷ c.text-command.result ∷ c.text-reason-in-States.result ∷ c.text-result.result ∷ [])) (of_exceeded c.args.limit.now) same c.object_text-in-States.ensures.text
-
-pub object_text-requires-in-Time : goal.object_text-requires-in-Time
-object_text-requires-in-Time c = rw (c.number-least.ensures, c.text-command.ensures, c.text-reason-in-Time.ensures, c.text-result.ensures) refl
-
-pub returns-in-Time : goal.returns-in-Time
-returns-in-Time c =
-    let same : members_of (c.number-least.result ∷ c.text-command.result ∷ c.text-reason-in-Time.result ∷ c.text-result.result ∷ []) ≡ of_exceeded c.args.limit.now = rw (c.number-least.ensures, c.text-command.ensures, c.text-reason-in-Time.ensures, c.text-result.ensures, c.in-Time.is) refl in
-    reported_as_meant c.object_text-in-Time.result (members_of (c.number-least.result ∷ c.text-command.result ∷ c.text-reason-in-Time.result ∷ c.text-result.result ∷ [])) (of_exceeded c.args.limit.now) same c.object_text-in-Time.ensures.text

@@ -22,5 +22,5 @@ returns-in-Unknown-clause-ended g c =
     subst (λ (a : Answer). OnOk c.say_limit.result (HasEnded g.E.Sink.wants_memory (g.E.Sink.failures c.say_limit.new.err) (g.E.Sink.taken c.say_limit.new.err) a)) (sym c.in-Unknown.is) c.say_limit.ensures.ended
 
 pub returns-in-Unknown-clause-said : goal.returns-in-Unknown-clause-said
-returns-in-Unknown-clause-said g c = λ task seconds states instances is.
-    c.say_limit.ensures.said task seconds states instances (subst (IsTrueAnswer task seconds states instances) c.in-Unknown.is is)
+returns-in-Unknown-clause-said g c = λ task states instances is.
+    c.say_limit.ensures.said task states instances (subst (IsTrueAnswer task states instances) c.in-Unknown.is is)

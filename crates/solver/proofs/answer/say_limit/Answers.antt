@@ -11,8 +11,3 @@ pub returns-in_ok-say-in-States-clause-ended : goal.returns-in_ok-say-in-States-
 returns-in_ok-say-in-States-clause-ended g c =
     subst (λ (l : Exceeded). OnOk c.say-in-States.result (HasEnded g.E.Sink.wants_memory (g.E.Sink.failures c.say-in-States.new.err) (g.E.Sink.taken c.say-in-States.new.err) (Unknown l))) (sym c.in-States.is)
     (ends_by c.say-in-States.result _ _ _ _ _ c.end_of.result (certificate_of c.in-States.cert) c.end_of.ensures c.say-in-States.ensures.written)
-
-pub returns-in_ok-say-in-Time-clause-ended : goal.returns-in_ok-say-in-Time-clause-ended
-returns-in_ok-say-in-Time-clause-ended g c =
-    subst (λ (l : Exceeded). OnOk c.say-in-Time-2.result (HasEnded g.E.Sink.wants_memory (g.E.Sink.failures c.say-in-Time-2.new.err) (g.E.Sink.taken c.say-in-Time-2.new.err) (Unknown l))) (sym c.in-Time.is)
-    (ends_by c.say-in-Time-2.result _ _ _ _ _ c.end_of-in-Time.result (certificate_of c.in-Time.cert) c.end_of-in-Time.ensures c.say-in-Time-2.ensures.written)

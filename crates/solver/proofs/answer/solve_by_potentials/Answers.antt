@@ -9,7 +9,7 @@ use Rattle.potentials_improved.specs.Potentials.{potentials_of}
 use Rattle.potentials_improved.specs.FairPotentials.{potentials_in}
 use Rattle.search.specs.Estimates.{value_by}
 use Rattle.solver.specs.Guidance.{reports_dead}
-use Rattle.solver.specs.Guided.{IsEnding, IsGuidanceFor}
+use Rattle.solver.specs.Guided.{IsGuidanceFor, IsSearched}
 use Rattle.solver.specs.Stretches.{IsTrueEnd}
 use Rattle.solver.specs.Written.{by_potentials_of}
 use Rattle.solver.proofs.PotentialGuidance.{AreGood, guides_by_potentials, same_estimates, same_reports}
@@ -52,17 +52,18 @@ answer_by_potentials-requires-clause-guidance g c =
     subst (λ (r : PotentialFunction). IsGuidanceFor space (by_potentials_of space r (potentials_of c.potentials-2.result.now))) (sym c.potentials.ensures)
     (subst (λ (r : PotentialFunction). IsGuidanceFor space (by_potentials_of space p r)) (sym c.potentials-2.ensures) (guides_by_potentials space c.requires.space p q good))
 
-pub answer_by_potentials-requires-clause-ending : goal.answer_by_potentials-requires-clause-ending
-answer_by_potentials-requires-clause-ending g c =
+pub answer_by_potentials-requires-clause-searched : goal.answer_by_potentials-requires-clause-searched
+answer_by_potentials-requires-clause-searched g c =
     let space = c.args.setting.space in
     let guide = c.new-guide.result in
-    let ending = c.in-ByGuide.ending in
+    let outcome = c.in-ByGuide.searched.outcome in
+    let marks = c.in-ByGuide.searched.marks.items in
     let value = potentials_of c.potentials.result.now in
     let dead = potentials_of c.potentials-2.result.now in
     let values : potentials_in guide.estimate.now ≡ value = ap potentials_in c.new-guide.ensures.estimate ∙ sym c.potentials.ensures in
     let dead_ends : potentials_in guide.dead_ends.now ≡ dead = ap potentials_in c.new-guide.ensures.dead_ends ∙ sym c.potentials-2.ensures in
     let estimates = value_by-value (score (potentials_in guide.estimate.now)) value (ap score values) ∙ sym (same_estimates space value dead) in
     let reports = ap is_dead_by dead_ends ∙ sym (same_reports space value dead) in
-    subst (λ (e : List Bool → ℕ). IsEnding space e (reports_dead (by_potentials_of space value dead)) c.args.setting.limits ending) estimates
-    (subst (λ (r : List Bool → Bool). IsEnding space (value_by (score (potentials_in guide.estimate.now))) r c.args.setting.limits ending) reports
+    subst (λ (e : List Bool → ℕ). IsSearched space e (reports_dead (by_potentials_of space value dead)) c.args.setting.limits.states outcome marks) estimates
+    (subst (λ (r : List Bool → Bool). IsSearched space (value_by (score (potentials_in guide.estimate.now))) r c.args.setting.limits.states outcome marks) reports
     (subst (IsTrueEnd space (value_by (score (potentials_in guide.estimate.now))) (is_dead_by (potentials_in guide.dead_ends.now)) c.args.setting.limits) c.in-ByGuide.is c.in_ok-answer.ensures.end))

@@ -6,10 +6,10 @@ use Rattle.lower_bounds.specs.PotentialFunctions.{PotentialFunction}
 use Rattle.lower_bounds.specs.Settled.{initial_value}
 use Rattle.potentials.specs.Potentials.{potentials_of}
 use Rattle.lower_bounds.specs.FairTables.{AreFair}
-use Rattle.solver.specs.declared.searched.Ending.{Ending}
+use Rattle.solver.specs.declared.searched.Searched.{Searched}
 use Rattle.solver.specs.Attempts.{IfDone}
 use Rattle.solver.specs.Guidance.{by_tables, estimate_by, reports_dead}
-use Rattle.solver.specs.Guided.{IsEnding}
+use Rattle.solver.specs.Guided.{IsSearched}
 use Rattle.ground_listings.specs.SearchSpace.{ground_in}
 use Rattle.solver.specs.Improved.{AreSettledOrHigh}
 use Rattle.solver.proofs.TablesLemmas.{tables-written}
@@ -25,14 +25,14 @@ answer_of-requires-clause-guidance g c =
     record {
       written = tables-written (length atoms) c.args.draft.bounds c.requires.within_limits;
       exchanges = c.requires.space.written;
-      fair = subst (IfDone (λ (s : Ending). AreFair task atoms values)) c.in-Done.is c.in_ok-attempt.ensures.fair;
+      fair = subst (IfDone (λ (s : Searched). AreFair task atoms values)) c.in-Done.is c.in_ok-attempt.ensures.fair;
       improved = subst (AreSettledOrHigh task atoms) (sym c.requires.first) c.requires.improved;
       dead_ends_improved = c.requires.dead_ends_improved;
       no_lower = subst (λ (p : PotentialFunction). initial_value task atoms p ≤ start) (sym c.requires.first)
-          (subst (IfDone (λ (s : Ending). initial_value task atoms (potentials_of c.args.stopped.now.potentials.now) ≤ start)) c.in-Done.is c.in_ok-attempt.ensures.no_lower);
+          (subst (IfDone (λ (s : Searched). initial_value task atoms (potentials_of c.args.stopped.now.potentials.now) ≤ start)) c.in-Done.is c.in_ok-attempt.ensures.no_lower);
     }
 
-pub answer_of-requires-clause-ending : goal.answer_of-requires-clause-ending
-answer_of-requires-clause-ending g c =
+pub answer_of-requires-clause-searched : goal.answer_of-requires-clause-searched
+answer_of-requires-clause-searched g c =
     let guidance = by_tables (bounds_of c.args.draft.bounds) in
-    subst (IfDone (IsEnding c.args.setting.space (estimate_by guidance) (reports_dead guidance) c.args.setting.limits)) c.in-Done.is c.in_ok-attempt.ensures.ending
+    subst (IfDone (λ (s : Searched). IsSearched c.args.setting.space (estimate_by guidance) (reports_dead guidance) c.args.setting.limits.states s.outcome s.marks.items)) c.in-Done.is c.in_ok-attempt.ensures.searched

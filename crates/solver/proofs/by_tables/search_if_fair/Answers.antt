@@ -10,7 +10,7 @@ use Rattle.table_guides.proofs.GuideLemmas.{all_numbered}
 use Rattle.table_guides.specs.FairTables.{functions_in}
 use Rattle.tables.specs.Several.{several_of, ReportsValues}
 use Rattle.solver.specs.Guidance.{by_tables, estimate_by, reports_dead}
-use Rattle.solver.specs.Guided.{IsEnding}
+use Rattle.solver.specs.Guided.{IsSearched}
 use Rattle.ground_listings.specs.SearchSpace.{ground_in}
 use Rattle.solver.proofs.by_tables.search_if_fair.Goals as goal
 
@@ -28,11 +28,11 @@ returns-in-Fair-clause-fair g c =
     subst (AreFair (task_in known) (atoms_in known)) c.new-guide.ensures.functions
     (subst (λ (g : Ground). AreFair (task_in g) (atoms_in g) (functions_in guide)) (c.new-guide.ensures.ground ∙ c.ground-ground.ensures) guide.fair)
 
-pub returns-in-Fair-clause-ending : goal.returns-in-Fair-clause-ending
-returns-in-Fair-clause-ending g c =
-    let ending = c.in_ok-ending-in-Fair.ending in
-    subst (λ (s : SeveralValues). IsEnding c.args.setting.space (estimate_by (by_tables s)) (reports_dead (by_tables s)) c.args.setting.limits ending)
-    c.new-guide.ensures.functions c.in_ok-ending-in-Fair.ensures.ending
+pub returns-in-Fair-clause-searched : goal.returns-in-Fair-clause-searched
+returns-in-Fair-clause-searched g c =
+    let searched = c.in_ok-searched-in-Fair.searched in
+    subst (λ (s : SeveralValues). IsSearched c.args.setting.space (estimate_by (by_tables s)) (reports_dead (by_tables s)) c.args.setting.limits.states searched.outcome searched.marks.items)
+    c.new-guide.ensures.functions c.in_ok-searched-in-Fair.ensures.searched
 
 abbrev means : Ground → System (List Bool) ℕ
 means k = ground_system (task_in k) (atoms_in k)
