@@ -221,11 +221,11 @@ values_from : (k : List ℤ) (atoms : List WeightedAtom) (a : WeightedAtom) (pla
 values_from k atoms a place zero = refl
 values_from k atoms a place (suc count) = λ i. value_more k atoms a place i ∷ values_from k atoms a (place + 1) count i
 
-given_more : (v : Version) (k : List ℤ) (atoms : List WeightedAtom) (a : WeightedAtom) (bounds : SeveralValues) → AreGiven v k atoms bounds → AreGiven v k (atoms ++ a ∷ []) (with_weights bounds a.weights)
-given_more v k atoms a bounds given = record {
+given_more : (v : Version) (k : List ℤ) (atoms : List WeightedAtom) (a : WeightedAtom) (evidence : SeveralValues) → AreGiven v k atoms evidence → AreGiven v k (atoms ++ a ∷ []) (with_weights evidence a.weights)
+given_more v k atoms a evidence given = record {
   values = ap (with_weights_from 0 a.weights) given.values ∙ sym (values_from k atoms a 0 (value_count v (length k)));
   dead_ends =
-      let count : length bounds.values ≡ value_count v (length k) =
+      let count : length evidence.values ≡ value_count v (length k) =
       ap length given.values ∙ length-map (range_with_len 0 (value_count v (length k))) (value_given k atoms) ∙ length-range_with_len 0 (value_count v (length k)) in
       (λ i. with_weight (given.dead_ends i) (weight_said (count i) a.weights)) ∙ sym (value_more k atoms a (value_count v (length k)));
 }
@@ -234,7 +234,7 @@ given_more v k atoms a bounds given = record {
 abbrev pub nothing_said : SeveralValues
 nothing_said = record { values = []; dead_ends = record { constant = pos 0; weights = [] }; tables = [] }
 
-pub reported_nothing : (task : Task) → HaveGiven task [] (record { version = one; claim = bound 0; exchanges = []; atoms = []; bounds = nothing_said })
+pub reported_nothing : (task : Task) → HaveGiven task [] (record { version = one; claim = bound 0; exchanges = []; atoms = []; evidence = nothing_said })
 reported_nothing task = record {
   one_version = λ v there. absurd (Contains-none (version v) there);
   one_claim = λ c there. absurd (Contains-none (claims c) there);
@@ -295,13 +295,13 @@ module _ (task : Task) (before : List TextLine) (heading : Heading) (reported : 
       none_more (listed l) is = refl
       none_more (last count) is = refl
 
-  tabled_still : (line : TextLine) → table_in line ≡ None → flat_map table_lines heading.bounds.tables ≡ tables_given (before ++ line ∷ [])
+  tabled_still : (line : TextLine) → table_in line ≡ None → flat_map table_lines heading.evidence.tables ≡ tables_given (before ++ line ∷ [])
   tabled_still line none_in = reported.tables ∙ sym (no_table_more line none_in)
 
-  given_still : (line : TextLine) → atom_in line ≡ None → (k : List ℤ) → Contains before (constant k) → AreGiven heading.version k (atoms_given (before ++ line ∷ [])) heading.bounds
-  given_still line none_in k there = subst (λ atoms. AreGiven heading.version k atoms heading.bounds) (sym (no_atom_more line none_in)) (reported.given k there)
+  given_still : (line : TextLine) → atom_in line ≡ None → (k : List ℤ) → Contains before (constant k) → AreGiven heading.version k (atoms_given (before ++ line ∷ [])) heading.evidence
+  given_still line none_in k there = subst (λ atoms. AreGiven heading.version k atoms heading.evidence) (sym (no_atom_more line none_in)) (reported.given k there)
 
-  not_given_still : (line : TextLine) → ((k : List ℤ) → Contains (before ++ line ∷ []) (constant k) → ⊥) → AreNotGiven heading.bounds
+  not_given_still : (line : TextLine) → ((k : List ℤ) → Contains (before ++ line ∷ []) (constant k) → ⊥) → AreNotGiven heading.evidence
   not_given_still line absent = reported.not_given (λ k there. absent k (Contains-append_left before (line ∷ []) (constant k) there))
 
   -- what was given by a line is still given if the next one is of another kind
@@ -309,7 +309,7 @@ module _ (task : Task) (before : List TextLine) (heading : Heading) (reported : 
   among_more line other differs there = ⊎_elim (λ earlier. earlier) (λ same. absurd (differs same)) (Contains-push_cases before line other there)
 
   pub reported_version : (v : Version) → BeginCertificate (before ++ version v ∷ [])
-      → HaveGiven task (before ++ version v ∷ []) (record { version = v; claim = heading.claim; exchanges = heading.exchanges; atoms = heading.atoms; bounds = heading.bounds })
+      → HaveGiven task (before ++ version v ∷ []) (record { version = v; claim = heading.claim; exchanges = heading.exchanges; atoms = heading.atoms; evidence = heading.evidence })
   reported_version v begun = record {
     one_version = λ w there. ⊎_elim (λ earlier. absurd (nothing_first before v (version w) begun earlier)) (λ same. version_same w same) (Contains-push_cases before (version v) (version w) there);
     one_claim = λ d there. reported.one_claim d (among_more (version v) (claims d) (λ same. cc same) there);
@@ -328,7 +328,7 @@ module _ (task : Task) (before : List TextLine) (heading : Heading) (reported : 
       version_same w same = cc same
 
   pub reported_claim : (c : Claim) → BeginCertificate (before ++ claims c ∷ [])
-      → HaveGiven task (before ++ claims c ∷ []) (record { version = heading.version; claim = c; exchanges = heading.exchanges; atoms = heading.atoms; bounds = heading.bounds })
+      → HaveGiven task (before ++ claims c ∷ []) (record { version = heading.version; claim = c; exchanges = heading.exchanges; atoms = heading.atoms; evidence = heading.evidence })
   reported_claim c begun = record {
     one_version = λ v there. reported.one_version v (among_more (claims c) (version v) (λ same. cc same) there);
     one_claim = λ d there. ⊎_elim (λ earlier. absurd (only_claim before c d begun earlier)) (λ same. claim_same d same) (Contains-push_cases before (claims c) (claims d) there);
@@ -347,12 +347,12 @@ module _ (task : Task) (before : List TextLine) (heading : Heading) (reported : 
       claim_same d same = cc same
 
   pub reported_constant : (k : List ℤ) → BeginCertificate (before ++ constant k ∷ [])
-      → HaveGiven task (before ++ constant k ∷ []) (record { version = heading.version; claim = heading.claim; exchanges = heading.exchanges; atoms = heading.atoms; bounds = begun_with heading.version k heading.bounds })
+      → HaveGiven task (before ++ constant k ∷ []) (record { version = heading.version; claim = heading.claim; exchanges = heading.exchanges; atoms = heading.atoms; evidence = begun_with heading.version k heading.evidence })
   reported_constant k begun = record {
     one_version = λ v there. reported.one_version v (among_more (constant k) (version v) (λ same. cc same) there);
     one_claim = λ d there. reported.one_claim d (among_more (constant k) (claims d) (λ same. cc same) there);
     none_occurs = λ none_is. Contains-append_left before (constant k ∷ []) (claims none) (reported.none_occurs none_is);
-    given = λ d there. subst (λ d. AreGiven heading.version d (atoms_given (before ++ constant k ∷ [])) (begun_with heading.version k heading.bounds)) (constant_is d there) begun_given;
+    given = λ d there. subst (λ d. AreGiven heading.version d (atoms_given (before ++ constant k ∷ [])) (begun_with heading.version k heading.evidence)) (constant_is d there) begun_given;
     not_given = λ absent. absurd (absent k (Contains-push before (constant k)));
     exchanged = exchanged_still (constant k) refl;
     tables = tabled_still (constant k) refl;
@@ -368,14 +368,14 @@ module _ (task : Task) (before : List TextLine) (heading : Heading) (reported : 
       constant_is : (d : List ℤ) → Contains (before ++ constant k ∷ []) (constant d) → k ≡ d
       constant_is d there = ⊎_elim (λ earlier. absurd (only_constant before k d begun earlier)) (λ same. constant_same d same) (Contains-push_cases before (constant k) (constant d) there)
 
-      none_before : AreNotGiven heading.bounds
+      none_before : AreNotGiven heading.evidence
       none_before = reported.not_given (λ d there. only_constant before k d begun there)
 
       no_atoms : atoms_given (before ++ constant k ∷ []) ≡ []
       no_atoms = no_atom_more (constant k) refl ∙ no_atom_first before k begun
 
-      begun_given : AreGiven heading.version k (atoms_given (before ++ constant k ∷ [])) (begun_with heading.version k heading.bounds)
-      begun_given = subst (λ atoms. AreGiven heading.version k atoms (begun_with heading.version k heading.bounds)) (sym no_atoms) (record {
+      begun_given : AreGiven heading.version k (atoms_given (before ++ constant k ∷ [])) (begun_with heading.version k heading.evidence)
+      begun_given = subst (λ atoms. AreGiven heading.version k atoms (begun_with heading.version k heading.evidence)) (sym no_atoms) (record {
         values = ap (λ values. values ++ values_given heading.version k []) none_before.values;
         dead_ends = λ i. record { constant = weight_said (value_count heading.version (length k)) k; weights = none_before.dead_ends i };
       })
@@ -386,7 +386,7 @@ module _ (task : Task) (before : List TextLine) (heading : Heading) (reported : 
     claim = heading.claim;
     exchanges = heading.exchanges ++ exchange_said task names ∷ [];
     atoms = heading.atoms;
-    bounds = heading.bounds;
+    evidence = heading.evidence;
   })
   reported_exchange names = record {
     one_version = λ v there. reported.one_version v (among_more (swapped names) (version v) (λ same. cc same) there);
@@ -423,7 +423,7 @@ module _ (task : Task) (before : List TextLine) (heading : Heading) (reported : 
 
   -- a line of a table
   pub reported_tables : (t : TableLine) (tables : List Table) → flat_map table_lines tables ≡ tables_given before ++ t ∷ [] → ((number : ℕ) → IsWrongAfter task before (part (tabled t)) number → ⊥)
-      → HaveGiven task (before ++ part (tabled t) ∷ []) (record { version = heading.version; claim = heading.claim; exchanges = heading.exchanges; atoms = heading.atoms; bounds = with_tables heading.bounds tables })
+      → HaveGiven task (before ++ part (tabled t) ∷ []) (record { version = heading.version; claim = heading.claim; exchanges = heading.exchanges; atoms = heading.atoms; evidence = with_tables heading.evidence tables })
   reported_tables t tables are is_right = record {
     one_version = λ v there. reported.one_version v (among_more (part (tabled t)) (version v) (λ same. cc same) there);
     one_claim = λ d there. reported.one_claim d (among_more (part (tabled t)) (claims d) (λ same. cc same) there);
@@ -465,15 +465,15 @@ module _ (task : Task) (before : List TextLine) (heading : Heading) (reported : 
       claim = heading.claim;
       exchanges = heading.exchanges;
       atoms = heading.atoms ++ a ∷ [];
-      bounds = with_weights heading.bounds said.weights;
+      evidence = with_weights heading.evidence said.weights;
     })
     reported_new_atom new begun = record {
       one_version = λ v there. reported.one_version v (among_more (atom said) (version v) (λ same. cc same) there);
       one_claim = λ d there. reported.one_claim d (among_more (atom said) (claims d) (λ same. cc same) there);
       none_occurs = λ none_is. Contains-append_left before (atom said ∷ []) (claims none) (reported.none_occurs none_is);
       given = λ k there.
-          subst (λ atoms. AreGiven heading.version k atoms (with_weights heading.bounds said.weights)) (sym (atoms_more before said))
-          (given_more heading.version k (atoms_given before) said heading.bounds (reported.given k (among_more (atom said) (constant k) (λ same. cc same) there)));
+          subst (λ atoms. AreGiven heading.version k atoms (with_weights heading.evidence said.weights)) (sym (atoms_more before said))
+          (given_more heading.version k (atoms_given before) said heading.evidence (reported.given k (among_more (atom said) (constant k) (λ same. cc same) there)));
       not_given = λ absent. let (k, there) = constant_first before said begun in absurd (absent k (Contains-append_left before (atom said ∷ []) (constant k) there));
       exchanged = exchanged_still (atom said) refl;
       tables = tabled_still (atom said) refl;

@@ -36,6 +36,7 @@ pub mod GroundSuccessors
 pub mod PackedLinesLemmas
 pub mod PackedListingLemmas
 pub mod ValuesLemmas
+pub mod EvidenceLemmas
 pub mod MadeLemmas
 pub mod AcceptLemmas
 pub mod CheckProgressLemmas

@@ -29,7 +29,8 @@ use Rattle.cert_checker.proofs.TableParts.{as_parts, tables_of_parts}
 use Rattle.cert_checker.specs.Given.{atoms_given, is_body, names_given, states_given, swaps_given, values_given, dead_ends_given}
 use Rattle.certificate.specs.declared.states.Listed.{Listed}
 use Rattle.cert_checker.specs.Listed.{HaveListed, IsFit}
-use Rattle.certificate.specs.CertificateParts.{listed_of, bounds_of, exchange_in}
+use Rattle.certificate.specs.CertificateParts.{listed_of, exchange_in}
+use Rattle.certificate.specs.Evidence.{evidence_of}
 use Rattle.certificate.specs.declared.header.Header.{Header}
 use Rattle.cert_checker.specs.Taking.{HasTaken}
 use Rattle.cert_checker.specs.Reading.{IsAt, IsBegun, IsListedSoFar, IsRead}
@@ -118,9 +119,9 @@ module _ {R : Type 0} (remaining : R → Option (List ℕ)) (task : Task) (first
       claim = claim;
       exchanges = map exchange_in header.exchanges.items;
       atoms = atoms;
-      values = (bounds_of header.bounds).values;
-      dead_ends = (bounds_of header.bounds).dead_ends;
-      tables = (bounds_of header.bounds).tables;
+      values = (evidence_of header.evidence).values;
+      dead_ends = (evidence_of header.evidence).dead_ends;
+      tables = (evidence_of header.evidence).tables;
       lines = lines_with marks sets;
     }
 
@@ -135,7 +136,7 @@ module _ {R : Type 0} (remaining : R → Option (List ℕ)) (task : Task) (first
             let version_is = reported.one_version c.version (subst (λ lines. Contains lines (version c.version)) are (version_occurs c)) in
             let given = reported.given c.constants (subst (λ lines. Contains lines (constant c.constants)) are (constant_occurs c)) in
             let atoms_are : atoms_given lines ≡ c.atoms = ap atoms_given (sym are) ∙ atoms_of_text c in
-            let tables = header.bounds.tables.items in
+            let tables = header.evidence.tables.items in
             let is_text : IsTextOf task (text_of lines) certificate = record {
               said = c;
               text = record { within = keeps; lines = ap text_of (sym are) };

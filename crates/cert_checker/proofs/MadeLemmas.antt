@@ -4,8 +4,8 @@ use Rattle.std.specs.Prelude.{All, IsTrue, ◌==◌, nat_le}
 use Rattle.std.specs.List.{list_all}
 use Rattle.std.proofs.lemmas.Bool.{and_parts, eqb-true, leb-true}
 use Rattle.std.proofs.lemmas.List.Elements.{All-cons}
-use Rattle.certificate.specs.declared.header.Potential.{Potential}
-use Rattle.certificate.specs.CertificateParts.{potential_of}
+use Rattle.certificate.specs.declared.evidence.Potential.{Potential}
+use Rattle.certificate.specs.Evidence.{potential_of}
 use Rattle.certificate_definitions.specs.Certificates.{Version, one, two, three, is_value_count, are_potentials, are_tables, are_weights, has_tables, is_row, is_table, is_weight, rise}
 use Rattle.lower_bounds.specs.PotentialFunctions.{PotentialFunction, AreInRange, IsInRange}
 use Rattle.potentials.specs.declared.potentials.Potentials.{Potentials}

@@ -25,7 +25,7 @@ use Rattle.certificate_definitions.proofs.Machine.{ComesBefore, IsBody, Keeps, b
 use Rattle.certificate_definitions.proofs.PartLemmas.{none_yet}
 use Rattle.certificate_definitions.specs.CertificateLines.{parts_given}
 use Rattle.certificate.specs.declared.header.Header.{Header}
-use Rattle.certificate.specs.CertificateParts.{potential_of}
+use Rattle.certificate.specs.Evidence.{potential_of}
 use Rattle.cert_checker.specs.declared.refusal.Refusal.{Refusal}
 use Rattle.cert_checker.specs.declared.refusal.Refusal.TheVariants as refusal
 use Rattle.cert_checker.specs.declared.refusal.RefusalCode.TheVariants.{CertForm, Repeated}
@@ -81,14 +81,14 @@ module _ (task : Task) (before : List TextLine) (heading : Heading) (reported : 
     abbrev further : List TextLine
     further = body_lines opening.swaps opening.atoms opening.parts opening.states
 
-    lines_of_tables : opening.parts ≡ as_parts (flat_map table_lines heading.bounds.tables)
+    lines_of_tables : opening.parts ≡ as_parts (flat_map table_lines heading.evidence.tables)
     lines_of_tables = sym (parts_of_body opening.swaps opening.atoms opening.parts opening.states) ∙ sym (ap parts_given at.lines_are) ∙ sym (tables_of_parts before) ∙ ap as_parts (sym reported.tables)
 
     count_is : is_weight_count opening.version (length opening.constants) ≡ true
     count_is = (and_parts (is_weight_count opening.version (length opening.constants)) (list_all is_weight opening.constants) at.keeps.constants_are).0
 
     -- there is a constant for each value and one for dead ends
-    as_many_values : length heading.bounds.values + 1 ≡ length opening.constants
+    as_many_values : length heading.evidence.values + 1 ≡ length opening.constants
     as_many_values =
         let v = opening.version in
         let k = opening.constants in
@@ -97,7 +97,7 @@ module _ (task : Task) (before : List TextLine) (heading : Heading) (reported : 
         (Contains-there (version v) (claims opening.claim ∷ constant k ∷ further) (constant k)
         (Contains-there (claims opening.claim) (constant k ∷ further) (constant k) (Contains-here (constant k) further))) in
         let count = value_count heading.version (length k) in
-        let many : length heading.bounds.values ≡ count = ap length (reported.given k there).values ∙ length-map (range_with_len 0 count) (value_given k (atoms_given before)) ∙ length-range_with_len 0 count in
+        let many : length heading.evidence.values ≡ count = ap length (reported.given k there).values ∙ length-map (range_with_len 0 count) (value_given k (atoms_given before)) ∙ length-range_with_len 0 count in
         ap (λ n. n + 1) (many ∙ ap (λ v. value_count v (length k)) version_is)
         ∙ one_constant_more v (length k) (and_parts (has_tables v) (is_table_line (format_in opening) t) at.line_is).0 count_is
 
@@ -112,16 +112,16 @@ module _ (task : Task) (before : List TextLine) (heading : Heading) (reported : 
   scope_is_right s line number (cut_not_allowed l new cut there) same = absurd (cc same)
 
   pub reported_scope : (s : List ℕ)
-      → HaveGiven task (before ++ part (tabled (scope s)) ∷ []) (record { version = heading.version; claim = heading.claim; exchanges = heading.exchanges; atoms = heading.atoms; bounds = with_scope heading.bounds s })
+      → HaveGiven task (before ++ part (tabled (scope s)) ∷ []) (record { version = heading.version; claim = heading.claim; exchanges = heading.exchanges; atoms = heading.atoms; evidence = with_scope heading.evidence s })
   reported_scope s =
       let table : model.Table = record { scope = s; rows = [] } in
-      reported_tables task before heading reported (scope s) (heading.bounds.tables ++ table ∷ [])
-      (flat_map-append table_lines heading.bounds.tables (table ∷ []) ∙ ap (λ lines. lines ++ scope s ∷ []) reported.tables)
+      reported_tables task before heading reported (scope s) (heading.evidence.tables ++ table ∷ [])
+      (flat_map-append table_lines heading.evidence.tables (table ∷ []) ∙ ap (λ lines. lines ++ scope s ∷ []) reported.tables)
       (λ number wrong. scope_is_right s (part (tabled (scope s))) number wrong refl)
 
   -- ---- a row
 
-  module _ (front : List model.Table) (t : model.Table) (tables_are : heading.bounds.tables ≡ front ++ t ∷ []) where
+  module _ (front : List model.Table) (t : model.Table) (tables_are : heading.evidence.tables ≡ front ++ t ∷ []) where
     abbrev lines : List TableLine
     lines = flat_map table_lines front
 
@@ -183,15 +183,15 @@ module _ (task : Task) (before : List TextLine) (heading : Heading) (reported : 
           ∙ ap (λ rows. lines ++ scope t.scope ∷ rows) (map-append row t.rows (r ∷ []))
           ∙ sym (append_assoc lines (scope t.scope ∷ map row t.rows) (row r ∷ [])) ∙ ap (λ lines. lines ++ row r ∷ []) (sym given_end)
 
-  pub reported_row : (r : Row) (tables : List model.Table) → IsAddedToLast heading.bounds.tables tables r New
-      → HaveGiven task (before ++ part (tabled (row r)) ∷ []) (record { version = heading.version; claim = heading.claim; exchanges = heading.exchanges; atoms = heading.atoms; bounds = with_tables heading.bounds tables })
+  pub reported_row : (r : Row) (tables : List model.Table) → IsAddedToLast heading.evidence.tables tables r New
+      → HaveGiven task (before ++ part (tabled (row r)) ∷ []) (record { version = heading.version; claim = heading.claim; exchanges = heading.exchanges; atoms = heading.atoms; evidence = with_tables heading.evidence tables })
   reported_row r tables it =
       let differs : (q : Row) → Contains it.before.rows q → q.atoms ≡ r.atoms → ⊥ = λ q there same. All-contains (λ (q : Row). q.atoms ≡ r.atoms → ⊥) it.before.rows q it.added.differs there same in
       reported_tables task before heading reported (row r) tables
       (ap (flat_map table_lines) (it.new_are ∙ ap (λ t. it.front ++ t ∷ []) it.added.put) ∙ lines_more it.front it.before it.old_are r it.added.of_scope differs)
       (λ number wrong. row_is_right it.front it.before it.old_are r it.added.of_scope differs (part (tabled (row r))) number wrong refl)
 
-  pub row_is_wrong : (r : Row) (number : ℕ) → BeginCertificate (before ++ part (tabled (row r)) ∷ []) → number ≡ length before + 1 → (e : Refusal) → IsRowRefused heading.bounds.tables r number e
+  pub row_is_wrong : (r : Row) (number : ℕ) → BeginCertificate (before ++ part (tabled (row r)) ∷ []) → number ≡ length before + 1 → (e : Refusal) → IsRowRefused heading.evidence.tables r number e
       → IsWrongNow task before (part (tabled (row r))) e
   row_is_wrong r number begun at (refusal.Line CertForm line) (line_is, tables, it) =
       (line_is ∙ at, not_of_scope r it.before.scope it.before.rows (end_in_table it.front it.before it.old_are (row r) (follows_tables before (row r) begun)) it.added.not_of_scope)
@@ -206,16 +206,16 @@ module _ (task : Task) (before : List TextLine) (heading : Heading) (reported : 
 -- ---- any part
 
 module _ (task : Task) (before : List TextLine) (heading : Heading) (reported : HaveGiven task before heading) where
-  pub reported_part : (p : Part) (bounds : SeveralValues) → IsPartTaken heading.bounds bounds p
-      → HaveGiven task (before ++ part p ∷ []) (record { version = heading.version; claim = heading.claim; exchanges = heading.exchanges; atoms = heading.atoms; bounds = bounds })
-  reported_part (tabled (scope s)) bounds is =
-      subst (λ bounds. HaveGiven task (before ++ part (tabled (scope s)) ∷ []) (record { version = heading.version; claim = heading.claim; exchanges = heading.exchanges; atoms = heading.atoms; bounds = bounds })) (sym is)
+  pub reported_part : (p : Part) (evidence : SeveralValues) → IsPartTaken heading.evidence evidence p
+      → HaveGiven task (before ++ part p ∷ []) (record { version = heading.version; claim = heading.claim; exchanges = heading.exchanges; atoms = heading.atoms; evidence = evidence })
+  reported_part (tabled (scope s)) evidence is =
+      subst (λ evidence. HaveGiven task (before ++ part (tabled (scope s)) ∷ []) (record { version = heading.version; claim = heading.claim; exchanges = heading.exchanges; atoms = heading.atoms; evidence = evidence })) (sym is)
       (reported_scope task before heading reported s)
-  reported_part (tabled (row r)) bounds it =
-      subst (λ bounds. HaveGiven task (before ++ part (tabled (row r)) ∷ []) (record { version = heading.version; claim = heading.claim; exchanges = heading.exchanges; atoms = heading.atoms; bounds = bounds })) (sym it.bounds)
+  reported_part (tabled (row r)) evidence it =
+      subst (λ evidence. HaveGiven task (before ++ part (tabled (row r)) ∷ []) (record { version = heading.version; claim = heading.claim; exchanges = heading.exchanges; atoms = heading.atoms; evidence = evidence })) (sym it.evidence)
       (reported_row task before heading reported r it.tables it.added)
 
-  pub part_is_wrong : (p : Part) (number : ℕ) → BeginCertificate (before ++ part p ∷ []) → number ≡ length before + 1 → (e : Refusal) → IsPartRefused heading.bounds.tables p number e
+  pub part_is_wrong : (p : Part) (number : ℕ) → BeginCertificate (before ++ part p ∷ []) → number ≡ length before + 1 → (e : Refusal) → IsPartRefused heading.evidence.tables p number e
       → IsWrongNow task before (part p) e
   part_is_wrong (tabled (row r)) number begun at e wrong = row_is_wrong task before heading reported r number begun at e wrong
   part_is_wrong (tabled (scope s)) number begun at refusal.NoMemory wrong = tt
@@ -224,10 +224,10 @@ module _ (task : Task) (before : List TextLine) (heading : Heading) (reported : 
 -- ---- lines that fit
 
 module _ (task : Task) (before : List TextLine) (header : Header) (reported : HasTaken task before header) where
-  values_length : length (heading_of header).bounds.values ≡ length header.bounds.values.items
-  values_length = length-map header.bounds.values.items potential_of
+  values_length : length (heading_of header).evidence.values ≡ length header.evidence.values.items
+  values_length = length-map header.evidence.values.items potential_of
 
-  pub fit_head : (line : TextLine) → AreWeighed header.bounds → BeginCertificate (before ++ line ∷ []) → IsFitHead header.bounds line
+  pub fit_head : (line : TextLine) → AreWeighed header.evidence → BeginCertificate (before ++ line ∷ []) → IsFitHead header.evidence line
   fit_head (version v) weighed begun = tt
   fit_head (claims claim) weighed begun = tt
   fit_head (constant k) weighed begun = tt
@@ -248,7 +248,7 @@ module _ (task : Task) (before : List TextLine) (header : Header) (reported : Ha
   fit_head (part (tabled (row r))) weighed begun =
       let at = follows_tables before (row r) begun in
       let n = length at.beginning.atoms in
-      let tables = header.bounds.tables.items in
+      let tables = header.evidence.tables.items in
       let many : ℕ = length at.beginning.constants in
       let (_, is) = and_parts (has_tables at.beginning.version) (is_table_line (format_in at.beginning) (row r)) at.line_is in
       let (weights, rises) = and_parts (are_weights many r.weights) (rise n 0 r.atoms) is in
@@ -260,7 +260,7 @@ module _ (task : Task) (before : List TextLine) (header : Header) (reported : Ha
       let begun_is = ltb-true 0 (counts_after no_parts at.beginning.parts).tables at.follows in
       let room_is = ltb-true (counts_after no_parts at.beginning.parts).rows most_rows at.room in
       let values = as_many_values task before (heading_of header) reported (row r) at in
-      let same : length header.bounds.values.items + 1 ≡ length r.weights = omega (arith, values, values_length, long) in
+      let same : length header.evidence.values.items + 1 ≡ length r.weights = omega (arith, values, values_length, long) in
       record {
         some = omega (arith, some, begun_is);
         rising = rising_from n 0 r.atoms rises;
@@ -327,7 +327,7 @@ no_tables_there (t ∷ tables) none = absurd (cc none)
 
 -- before there are tables, rows may have any number of weights
 pub weighed_early : (task : Task) (before : List TextLine) (line : TextLine) (header : Header) → is_early line ≡ true → BeginCertificate (before ++ line ∷ []) → HasTaken task (before ++ line ∷ []) header
-    → AreWeighed header.bounds
+    → AreWeighed header.evidence
 weighed_early task before line header early begun reported =
-    let count = length header.bounds.values.items + 1 in
-    subst (HaveWeights count) (sym (no_tables_there header.bounds.tables.items (reported.tables ∙ none_given before line early begun))) (All-nil (λ (t : Table). weight_count_of t ≡ count))
+    let count = length header.evidence.values.items + 1 in
+    subst (HaveWeights count) (sym (no_tables_there header.evidence.tables.items (reported.tables ∙ none_given before line early begun))) (All-nil (λ (t : Table). weight_count_of t ≡ count))

@@ -20,14 +20,6 @@ use Rattle.cert_checker.proofs.LimitsLemmas.{limits_of}
 use Rattle.cert_checker.proofs.PackedListingLemmas.{packs, value_there}
 use Rattle.cert_checker.proofs.TablesLemmas.{are_widened, dead_ends_alike, functions_alike, greatest_alike, value_alike}
 use Rattle.cert_checker.proofs.VersionLemmas.{dead_end_as, no_tables, of_three, one_for_each, one_value, value_as}
-use Rattle.certificate_definitions.specs.Evidence as evidence
-use Rattle.certificate_reader.specs.declared.line.Basis.{Basis}
-use Rattle.certificate_reader.specs.declared.line.Basis.TheVariants.{OfAll}
-use Rattle.certificate_reader.specs.Lines.{basis_of}
-
--- a line rests on the values of all states
-pub only_basis : (by : Basis) → evidence.of_all ≡ basis_of by
-only_basis OfAll = refl
 
 -- ---- without tables
 

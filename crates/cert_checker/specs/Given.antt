@@ -64,27 +64,27 @@ pub record Heading : Type 0 where
   pub claim : Claim
   pub exchanges : List Exchange
   pub atoms : List Atom
-  pub bounds : SeveralValues
+  pub evidence : SeveralValues
 
 -- there are as many values as the constants give, with the weights of the atoms
-pub record AreGiven (v : Version) (constants : List ℤ) (atoms : List WeightedAtom) (bounds : SeveralValues) : Type 0 where
-  pub values : bounds.values ≡ values_given v constants atoms
-  pub dead_ends : bounds.dead_ends ≡ dead_ends_given v constants atoms
+pub record AreGiven (v : Version) (constants : List ℤ) (atoms : List WeightedAtom) (evidence : SeveralValues) : Type 0 where
+  pub values : evidence.values ≡ values_given v constants atoms
+  pub dead_ends : evidence.dead_ends ≡ dead_ends_given v constants atoms
 
 -- there are no values before the constants
-pub record AreNotGiven (bounds : SeveralValues) : Type 0 where
-  pub values : bounds.values ≡ []
-  pub dead_ends : bounds.dead_ends.weights ≡ []
+pub record AreNotGiven (evidence : SeveralValues) : Type 0 where
+  pub values : evidence.values ≡ []
+  pub dead_ends : evidence.dead_ends.weights ≡ []
 
 -- The lines give this header, as far as they go, and each of them is right.
 pub record HaveGiven (task : Task) (lines : List TextLine) (heading : Heading) : Type 0 where
   pub one_version : (v : Version) → Contains lines (version v) → heading.version ≡ v
   pub one_claim : (c : Claim) → Contains lines (claims c) → heading.claim ≡ c
   pub none_occurs : heading.claim ≡ none → Contains lines (claims none)
-  pub given : (k : List ℤ) → Contains lines (constant k) → AreGiven heading.version k (atoms_given lines) heading.bounds
-  pub not_given : ((k : List ℤ) → Contains lines (constant k) → ⊥) → AreNotGiven heading.bounds
+  pub given : (k : List ℤ) → Contains lines (constant k) → AreGiven heading.version k (atoms_given lines) heading.evidence
+  pub not_given : ((k : List ℤ) → Contains lines (constant k) → ⊥) → AreNotGiven heading.evidence
   pub exchanged : heading.exchanges ≡ map (exchange_said task) (swaps_given lines)
-  pub tables : flat_map table_lines heading.bounds.tables ≡ tables_given lines
+  pub tables : flat_map table_lines heading.evidence.tables ≡ tables_given lines
   pub named : AllName task (names_given lines) heading.atoms
   pub fluent : All (λ (a : Atom). IsTrue (is_atom task a && is_fluent task a.predicate)) heading.atoms
   pub distinct : AllPairs (λ (a b : Atom). a ≢ b) heading.atoms

@@ -9,7 +9,7 @@ use Rattle.model.specs.Task.{Atom, Task}
 use Rattle.model.specs.Meaning.{State}
 use Rattle.certificate_definitions.specs.Certificates.{Certificate}
 use Rattle.tables.specs.declared.known_state.KnownState.{KnownState}
-use Rattle.tables.specs.Several.{Knows}
+use Rattle.cert_checker.specs.GroundEvidence.{IsKnownBy}
 use Rattle.model.specs.Grounding.{state_of_bits}
 
 abbrev pub task_at : PackedListing → Task
@@ -29,6 +29,6 @@ IsPacked listing packed = length (bits_of packed) ≡ length (atoms_at listing)
 abbrev pub state_at : PackedListing → Packed → State
 state_at listing packed = state_of_bits (task_at listing) (atoms_at listing) (bits_of packed)
 
--- the evaluation is one by the listing's values
+-- the evaluation is one by what the lines rest on
 abbrev pub IsKnownIn : PackedListing → KnownState → Type 0
-IsKnownIn listing known = Knows listing.values known
+IsKnownIn listing known = IsKnownBy listing.evidence known

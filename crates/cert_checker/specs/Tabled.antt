@@ -10,7 +10,7 @@ use Rattle.table_rows.specs.declared.by_atoms.Added.TheVariants.{New, OutsideSco
 use Rattle.table_rows.specs.declared.table.Table.{Table}
 use Rattle.certificate_definitions.specs.CertificateText.{Part, TextLine, version, claims, constant, swapped, atom, scope, row, tabled, part, listed, last}
 use Rattle.certificate.specs.declared.cert.Cert.{Cert}
-use Rattle.certificate.specs.declared.header.Bounds.{Bounds}
+use Rattle.certificate.specs.declared.evidence.Evidence.{Evidence}
 use Rattle.certificate.specs.Certificate.{certificate_of, tables_in}
 use Rattle.cert_checker.specs.declared.refusal.Refusal.{Refusal}
 use Rattle.cert_checker.specs.declared.refusal.Refusal.TheVariants as refusal
@@ -21,8 +21,8 @@ abbrev pub HaveWeights : ℕ → List Table → Type 0
 HaveWeights count tables = All (λ (t : Table). weight_count_of t ≡ count) tables
 
 -- each has one for each value and, last, one for dead ends
-abbrev pub AreWeighed : Bounds → Type 0
-AreWeighed bounds = HaveWeights (length bounds.values.items + 1) bounds.tables.items
+abbrev pub AreWeighed : Evidence → Type 0
+AreWeighed evidence = HaveWeights (length evidence.values.items + 1) evidence.tables.items
 
 -- the same for the tables of this certificate in memory
 abbrev pub AreWeighedIn : Cert → Type 0
@@ -31,10 +31,10 @@ AreWeighedIn cert = HaveWeights (length (certificate_of cert).values + 1) (table
 -- ---- lines that fit
 
 -- the atoms ascend, and their number and that of the values are within limits
-pub record IsFitScope (bounds : Bounds) (atoms : List ℕ) : Type 0 where
+pub record IsFitScope (evidence : Evidence) (atoms : List ℕ) : Type 0 where
   pub rising : IsTrue (are_rising atoms)
   pub few : length atoms < 2 ^ 32
-  pub few_values : length bounds.values.items < 33
+  pub few_values : length evidence.values.items < 33
 
 -- the atoms ascend, and there is a table to which one more row may belong, with as many weights as its rows have
 pub record IsFitRow (tables : List Table) (r : Row) : Type 0 where
@@ -43,20 +43,20 @@ pub record IsFitRow (tables : List Table) (r : Row) : Type 0 where
   pub weights : HaveWeights (length r.weights) tables
   pub room : All (λ (t : Table). length (table_of t).rows < 16777216) tables
 
-abbrev pub IsFitPart : Bounds → Part → Type 0
-IsFitPart bounds (tabled (scope atoms)) = IsFitScope bounds atoms
-IsFitPart bounds (tabled (row r)) = IsFitRow bounds.tables.items r
+abbrev pub IsFitPart : Evidence → Part → Type 0
+IsFitPart evidence (tabled (scope atoms)) = IsFitScope evidence atoms
+IsFitPart evidence (tabled (row r)) = IsFitRow evidence.tables.items r
 
 -- if the line is a part, it may be taken
-abbrev pub IsFitHead : Bounds → TextLine → Type 0
-IsFitHead bounds (version v) = Unit {0}
-IsFitHead bounds (claims claim) = Unit {0}
-IsFitHead bounds (constant k) = Unit {0}
-IsFitHead bounds (swapped names) = Unit {0}
-IsFitHead bounds (atom a) = Unit {0}
-IsFitHead bounds (part p) = IsFitPart bounds p
-IsFitHead bounds (listed l) = Unit {0}
-IsFitHead bounds (last count) = Unit {0}
+abbrev pub IsFitHead : Evidence → TextLine → Type 0
+IsFitHead evidence (version v) = Unit {0}
+IsFitHead evidence (claims claim) = Unit {0}
+IsFitHead evidence (constant k) = Unit {0}
+IsFitHead evidence (swapped names) = Unit {0}
+IsFitHead evidence (atom a) = Unit {0}
+IsFitHead evidence (part p) = IsFitPart evidence p
+IsFitHead evidence (listed l) = Unit {0}
+IsFitHead evidence (last count) = Unit {0}
 
 -- ---- their effect
 
@@ -81,7 +81,7 @@ pub record IsAddedToLast (old new : List model.Table) (r : Row) (a : Added) : Ty
 pub record IsRowTaken (old new : SeveralValues) (r : Row) : Type 0 where
   pub tables : List model.Table
   pub added : IsAddedToLast old.tables tables r New
-  pub bounds : new ≡ with_tables old tables
+  pub evidence : new ≡ with_tables old tables
 
 -- the refusal at this line says why it is not; or an allocation failed
 abbrev pub IsRowRefused : List model.Table → Row → ℕ → Refusal → Type 0

@@ -23,6 +23,7 @@ ghost use Rattle.devices.specs.Progress.{AreSaid, stream};
 
 mod answer;
 mod classes;
+mod evidence;
 mod packed;
 mod steps;
 mod symmetry;

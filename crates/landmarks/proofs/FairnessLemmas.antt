@@ -18,7 +18,7 @@ use Rattle.landmark_functions.specs.FairLandmarks.{charge, charges, AreFairAt, I
 use Rattle.landmark_functions.specs.LandmarkLines.{Share, NumberedLandmarks, share_count}
 use Rattle.landmark_zones.specs.declared.values.Share as in_memory
 use Rattle.landmark_zones.specs.Landmarks.{share_of}
-use Rattle.landmarks.specs.declared.cut_index.Allowance.TheVariants.{Cost, Nothing}
+use Rattle.potentials.specs.declared.allowance.Allowance.TheVariants.{Cost, Nothing}
 use Rattle.landmarks.specs.declared.testing.Fairness.{Fairness}
 use Rattle.landmarks.specs.declared.testing.Fairness.TheVariants.{DeadFair, Fair, Unfair}
 use Rattle.landmarks.specs.CutIndex.{allowed_at, total_at, AreAllWithin, IsSomeBeyond}

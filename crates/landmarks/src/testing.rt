@@ -11,9 +11,10 @@ ghost use Rattle.landmarks.specs.Fairness.{AreAsked, IsFairness, IsFirstNotDead,
 
 use crate::breaking::has_any;
 use crate::counters::Counters;
-use crate::cut_index::{Allowance, CutIndex};
+use crate::cut_index::CutIndex;
 use grounding::NumberedLiteral;
 use landmark_zones::{Landmarks, Share};
+use potentials::Allowance;
 
 /// Whether a value is fair.
 #[derive(Clone, Copy, Debug, PartialEq, Eq)]

@@ -29,7 +29,7 @@ const NOTHING: f64 = 1e-9;
 #[derive(Drop)]
 pub struct DeadDrafts<'a> {
     tables: &'a Tables,
-    program: LinearProgram,
+    program: LinearProgram<'a>,
     vertex: Vertex,
     /// The true atoms of the initial state and then of the sampled states.
     states: &'a [Vec<u32>],
@@ -52,7 +52,7 @@ impl<'a> DeadDrafts<'a> {
         let width = tables.width();
         let aims = Aims::new(Aim::none(alloc, width)?, Aim::all(alloc, width, states)?);
         let program = LinearProgram::new(alloc, tables, &aims)?;
-        let vertex = Vertex::new(alloc, tables, &program, Allowance::Nothing, MAX_WORK)?;
+        let vertex = Vertex::new(alloc, &program, Allowance::Nothing, MAX_WORK)?;
         Ok(DeadDrafts {
             tables,
             program,
@@ -118,10 +118,7 @@ impl<'a> DeadDrafts<'a> {
         };
         let width = self.tables.width();
         let aims = Aims::new(Aim::one(alloc, width, atoms)?, Aim::none(alloc, width)?);
-        let Some(along) = self
-            .vertex
-            .unbounded_ray(self.tables, &self.program, &aims)?
-        else {
+        let Some(along) = self.vertex.unbounded_ray(&self.program, &aims)? else {
             return Ok(None);
         };
         let weights = self.program.weights(alloc, along)?;

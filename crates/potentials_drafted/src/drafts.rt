@@ -25,10 +25,10 @@ pub fn drafted_weights(
 ) -> Result<Vec<i64>, NoMemory> {
     let aims = aims(alloc, tables)?;
     let program = LinearProgram::new(alloc, tables, &aims)?;
-    let mut vertex = Vertex::new(alloc, tables, &program, Allowance::Cost, MAX_WORK)?;
+    let mut vertex = Vertex::new(alloc, &program, Allowance::Cost, MAX_WORK)?;
     let mut mending = Mending::new(alloc, tables, &aims, weights)?;
     for share in SHARES {
-        if vertex.climb(tables, &program, &aims, share)? {
+        if vertex.climb(&program, &aims, share)? {
             let grown = vertex.grown(alloc, tables)?;
             let solution = program.weights(alloc, &grown)?;
             mending.take(tables, &aims, &solution)?;

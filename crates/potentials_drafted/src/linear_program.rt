@@ -18,27 +18,29 @@ struct WeightVariables {
 
 /// The variables of the program, with an index by atom.
 #[derive(Drop)]
-pub(crate) struct LinearProgram {
+pub(crate) struct LinearProgram<'a> {
+    tables: &'a Tables,
     /// The move of a weight that each variable stands for.
     variables: Vec<Move>,
     pairs: Vec<WeightVariables>,
 }
 
-impl LinearProgram {
+impl<'a> LinearProgram<'a> {
     /// The program for these tables. A variable is left out if no state gains by it and no instance loses less.
     pub(crate) fn new(
         alloc: Global,
-        tables: &Tables,
+        tables: &'a Tables,
         aims: &Aims,
-    ) -> Result<LinearProgram, NoMemory> {
+    ) -> Result<LinearProgram<'a>, NoMemory> {
         let mut program = LinearProgram {
+            tables,
             variables: Vec::new(alloc),
             pairs: Vec::new(alloc),
         };
         for atom in 0..tables.width() {
             let pair = WeightVariables {
-                below: program.add(tables, aims, Move { atom, by: -1 })?,
-                above: program.add(tables, aims, Move { atom, by: 1 })?,
+                below: program.add(aims, Move { atom, by: -1 })?,
+                above: program.add(aims, Move { atom, by: 1 })?,
             };
             program.pairs.push(pair)?;
         }
@@ -46,7 +48,8 @@ impl LinearProgram {
     }
 
     /// Adds the variable for this move if it is useful. Returns its index.
-    fn add(&mut self, tables: &Tables, aims: &Aims, step: Move) -> Result<Option<usize>, NoMemory> {
+    fn add(&mut self, aims: &Aims, step: Move) -> Result<Option<usize>, NoMemory> {
+        let tables = self.tables;
         let is_of_use = aims.shared_gain(tables, step, 1.0) > 0.0
             || tables
                 .instances_of(step.atom)
@@ -58,6 +61,11 @@ impl LinearProgram {
         let place = self.variables.len();
         self.variables.push(step)?;
         Ok(Some(place))
+    }
+
+    /// The data that the program is made of.
+    pub(crate) fn tables(&self) -> &'a Tables {
+        self.tables
     }
 
     /// The move of a weight that each variable stands for.

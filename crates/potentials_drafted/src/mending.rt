@@ -23,6 +23,15 @@ const NEAR: f64 = 0.01;
 /// The rounding modes: each is an offset added to a weight before rounding to the nearest integer.
 const LIFTS: [f64; 5] = [0.48, 0.25, 0.0, -0.25, -0.48];
 
+/// Where moves may lead.
+#[derive(Clone, Copy)]
+enum Direction {
+    /// Toward zero, and away from it.
+    Any,
+    /// Toward zero.
+    TowardZero,
+}
+
 /// The weights under repair, and the best weights so far.
 #[derive(Drop)]
 pub(crate) struct Mending {
@@ -30,6 +39,8 @@ pub(crate) struct Mending {
     /// The slack of each instance, and the instances with negative slack.
     slacks: Vec<i64>,
     unfair: Vec<u32>,
+    /// Where moves may lead now.
+    direction: Direction,
     work: u64,
     best: Vec<i64>,
     gain: Gain,
@@ -47,6 +58,7 @@ impl Mending {
             weights: Vec::new(alloc),
             slacks: Vec::new(alloc),
             unfair: Vec::new(alloc),
+            direction: Direction::Any,
             work: 0,
             best: Vec::from_slice(alloc, weights)?,
             gain: aims.gain_of_all(tables, weights),
@@ -124,8 +136,8 @@ impl Mending {
                 return Ok(true);
             };
             if self.slack_of(number) < 0 {
-                let may_lead_away = moves < MAX_MOVES_AWAY && self.work <= MAX_WORK_AWAY;
-                let Some(step) = self.best_move(tables, aims, number, may_lead_away) else {
+                self.choose_direction(moves);
+                let Some(step) = self.best_move(tables, aims, number) else {
                     return Ok(false);
                 };
                 if self.work > MAX_WORK {
@@ -138,14 +150,17 @@ impl Mending {
         Ok(false)
     }
 
+    /// Moves lead away from zero only at first: as long as few were made, with little work.
+    fn choose_direction(&mut self, moves: u32) {
+        self.direction = if moves < MAX_MOVES_AWAY && self.work <= MAX_WORK_AWAY {
+            Direction::Any
+        } else {
+            Direction::TowardZero
+        };
+    }
+
     /// The best move that reduces the loss of the instance; the first of equal ones.
-    fn best_move(
-        &mut self,
-        tables: &Tables,
-        aims: &Aims,
-        number: u32,
-        may_lead_away: bool,
-    ) -> Option<Move> {
+    fn best_move(&mut self, tables: &Tables, aims: &Aims, number: u32) -> Option<Move> {
         let mut best = None;
         let mut most = i64::MIN;
         for touch in tables.atoms_of(number) {
@@ -154,7 +169,7 @@ impl Mending {
                     atom: touch.number,
                     by,
                 };
-                if self.is_of_use(*touch, by, may_lead_away) {
+                if self.is_of_use(*touch, by) {
                     let score = self.score(tables, aims, step);
                     if best.is_none() || score > most {
                         best = Some(step);
@@ -166,12 +181,15 @@ impl Mending {
         best
     }
 
-    /// Whether the move reduces the loss of an instance with this touch, and leads toward zero or may lead away from it.
-    fn is_of_use(&self, touch: IncidenceEntry, by: i64, may_lead_away: bool) -> bool {
+    /// Whether the move reduces the loss of an instance with this touch, and leads where it may.
+    fn is_of_use(&self, touch: IncidenceEntry, by: i64) -> bool {
         let before = self.weight(touch.number);
         let after = before.saturating_add(by);
-        let leads_away = after.saturating_abs() > before.saturating_abs();
-        touch.loss(after) < touch.loss(before) && (may_lead_away || !leads_away)
+        let may_be_made = match self.direction {
+            Direction::Any => true,
+            Direction::TowardZero => after.saturating_abs() <= before.saturating_abs(),
+        };
+        may_be_made && touch.loss(after) < touch.loss(before)
     }
 
     /// The score of the move: the gain of the initial state and the reduction of unfairness.

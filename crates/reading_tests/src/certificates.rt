@@ -1,5 +1,5 @@
 //! Tests of the limits of certificates that are made in memory.
-use certificate::{Basis, Bounds, Cert, Claim, Header, Mark, Potential, StateLine, Version};
+use certificate::{Basis, Cert, Claim, Evidence, Header, Mark, Potential, StateLine, Version};
 use faults::NoMemory;
 use indexmap::IndexSet;
 use std::alloc::{AllocError, Global};
@@ -79,14 +79,14 @@ pub(crate) fn atoms(alloc: Global, rows: &[Application]) -> Result<IndexSet<Atom
     Ok(atoms)
 }
 
-/// The bounds with these weights of one value and of dead ends, without tables.
-pub(crate) fn bounds(
+/// The evidence with these weights of one value and of dead ends, without tables.
+pub(crate) fn evidence(
     alloc: Global,
     value: &Weights,
     dead_ends: &Weights,
-) -> Result<Bounds, NoMemory> {
+) -> Result<Evidence, NoMemory> {
     let values = vec![in alloc; potential(alloc, value)?]?;
-    Ok(Bounds {
+    Ok(Evidence {
         values,
         dead_ends: potential(alloc, dead_ends)?,
         tables: Vec::new(alloc),
@@ -101,7 +101,7 @@ fn header(alloc: Global, row: &Row) -> Result<Header, NoMemory> {
         claim: row.1,
         exchanges: Vec::new(alloc),
         atoms,
-        bounds: bounds(alloc, &row.2, &row.3)?,
+        evidence: evidence(alloc, &row.2, &row.3)?,
     })
 }
 

@@ -17,7 +17,7 @@ use Rattle.model.proofs.GroundTaskLemmas.{initial-numbered, packs_states}
 use Rattle.search.specs.declared.nodes.Node.{Node}
 use Rattle.symmetries_definitions.specs.Exchanges.{Exchange}
 use Rattle.certificate_definitions.specs.Certificates.{Version, two, three, is_value_count, is_weight, is_mark, are_potentials, is_dead_end_weight, are_tables, are_weights, has_tables, is_row, is_table, rows_of, rise, value_of, is_dead_end_of, AreFairFor}
-use Rattle.certificate.specs.CertificateParts.{are_bounds}
+use Rattle.certificate.specs.Evidence.{is_evidence}
 use Rattle.lower_bounds.specs.PotentialFunctions.{PotentialFunction, score, given, IsInRange, AreInRange}
 use Rattle.lower_bounds.specs.FairPotentials as potentials
 use Rattle.lower_bounds.proofs.PotentialFalls.{or_zero-most}
@@ -42,7 +42,7 @@ pub record AreLimits (version : Version) (count : ℕ) (s : SeveralValues) : Typ
   pub few_tables : nat_le (length s.tables) 4194304 ≡ true
   pub few_rows : nat_le (length (rows_of s.tables)) 4194304 ≡ true
 
-pub limits_of : (version : Version) (count : ℕ) (s : SeveralValues) → are_bounds version count s ≡ true → AreLimits version count s
+pub limits_of : (version : Version) (count : ℕ) (s : SeveralValues) → is_evidence version count s ≡ true → AreLimits version count s
 limits_of version count s are =
     let value_count = is_value_count version (length s.values) in
     let values = list_all (are_potentials is_weight count) s.values in
@@ -158,7 +158,7 @@ module _ (count weight_count : ℕ) (tables : List Table) (are : are_tables thre
       let rest = greatest-most (suc place) values more in
       omega arith
 
-pub estimate-most : (count : ℕ) (guidance : Guidance) → are_bounds (version_by guidance) count (values_by guidance) ≡ true → (bits : List Bool) → length bits ≤ 1048576 → estimate_by guidance bits ≤ most_value
+pub estimate-most : (count : ℕ) (guidance : Guidance) → is_evidence (version_by guidance) count (values_by guidance) ≡ true → (bits : List Bool) → length bits ≤ 1048576 → estimate_by guidance bits ≤ most_value
 estimate-most count (by_potentials p dead_ends) are bits short =
     let limits = limits_of two count (values_by (by_potentials p dead_ends)) are in
     let here = (and_parts (are_potentials is_weight count p) true limits.values).0 in

@@ -1,7 +1,7 @@
 -- What a search goes by, as a certificate has it.
 use Rattle.std.specs.Prelude.{ℕ, Bool, IsTrue, List, [], ◌∷◌, All, AllPairs, ◌≢◌, pos, get_or}
 use Rattle.model.specs.Task.{Task, Atom}
-use Rattle.certificate.specs.CertificateParts.{are_bounds}
+use Rattle.certificate.specs.Evidence.{is_evidence}
 use Rattle.certificate_definitions.specs.Certificates.{Version, two, three}
 use Rattle.lower_bounds.specs.PotentialFunctions as potential
 use Rattle.lower_bounds.specs.PotentialFunctions.{PotentialFunction}
@@ -48,7 +48,7 @@ first_value guidance = get_or (values_by guidance).values 0 (record { constant =
 
 -- A certificate of so many atoms can have them.
 pub record CanBeWritten (atom_count : ℕ) (guidance : Guidance) : Type 0 where
-  pub within_limits : IsTrue (are_bounds (version_by guidance) atom_count (values_by guidance))
+  pub within_limits : IsTrue (is_evidence (version_by guidance) atom_count (values_by guidance))
   pub rows_are_distinct : All (λ (t : Table). AllPairs (λ (q r : Row). q.atoms ≢ r.atoms) t.rows) (values_by guidance).tables
 
 -- The values are fair for the ground task of these atoms, and that of dead ends is dead-fair.

@@ -2,12 +2,12 @@
 ghost use Rattle.std.proofs.Props.{props};
 ghost use Rattle.tables.specs.Together.{FitTogether};
 
-use crate::fairness::{Allowance, TableValue};
+use crate::fairness::TableValue;
 use crate::tables::IndexedTables;
 use crate::unfair::Unfair;
 use faults::NoMemory;
 use grounding::Ground;
-use potentials::Potentials;
+use potentials::{Allowance, Potentials};
 use std::alloc::Global;
 
 /// Several values over the same tables, of which the greatest counts, and one for dead ends. A row has a weight for each value, in

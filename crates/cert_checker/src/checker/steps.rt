@@ -26,9 +26,9 @@ ghost use Rattle.certificate_definitions.specs.CertificateRefusals.{state_line};
 ghost use Rattle.cert_checker.specs.declared.refusal.Refusal.TheVariants as Refusal;
 
 use crate::checker::classes::classes_by;
+use crate::checker::evidence::GroundEvidence;
 use crate::checker::packed::PackedListing;
 use crate::checker::symmetry::symmetric_exchanges;
-use crate::checker::values::fair_values;
 use crate::refusal::{Refusal, RefusalCode};
 use certificate::{Basis, Cert, Claim, Mark};
 use grounding::{Ground, GroundFault};
@@ -112,9 +112,9 @@ fn check_symmetric(
     ensures wrong { IfErr result (IsTrueAnyway (task_in grounded.now) (certificate_of cert.now)) }
     ensures first { IfErr result (IsFirstGrounded (task_in grounded.now) (certificate_of cert.now)) }
 {
-    let values = fair_values(alloc, cert, grounded)?;
+    let evidence = GroundEvidence::fair(alloc, cert, grounded)?;
     let classes = classes_by(alloc, grounded, cert, exchanges)?;
-    let packed = PackedListing::new(grounded, cert, values, classes);
+    let packed = PackedListing::new(grounded, cert, evidence, classes);
     check_packed(alloc, &packed)
 }
 
@@ -352,7 +352,7 @@ fn check_dead(
     ensures first { IfErr result (λ e. (plan : Option (List model_task.Instance)) (most : ℕ) → IsRightUpTo (task_at listing.now) (certificate_at listing.now) most line.place
         → IsFirstRefusal (task_at listing.now) (certificate_at listing.now) plan most e) }
 {
-    if listing.is_dead_end(line.by, state, known) {
+    if listing.shows_dead_end(line.by, state, known) {
         Ok(())
     } else {
         Err(state_line(RefusalCode::NotDead, listing.cert, line.place))

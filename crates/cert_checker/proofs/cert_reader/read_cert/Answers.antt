@@ -10,7 +10,8 @@ use Rattle.certificate_reader.specs.Reader.{lines_read, source_of}
 use Rattle.std.specs.Option.{option_map_or}
 use Rattle.certificate_definitions.specs.Certificates.{Certificate}
 use Rattle.certificate.specs.Certificate.{certificate_of, tables_in}
-use Rattle.certificate.specs.CertificateParts.{listed_of, potential_of}
+use Rattle.certificate.specs.CertificateParts.{listed_of}
+use Rattle.certificate.specs.Evidence.{potential_of}
 use Rattle.cert_checker.specs.CertFaults.{refusal_of}
 use Rattle.cert_checker.specs.Tabled.{HaveWeights}
 use Rattle.cert_checker.specs.Taking.{heading_of}
@@ -134,11 +135,11 @@ from_parts-requires-clause-marked g c =
 
 pub returns-clause-weighed : goal.returns-clause-weighed
 returns-clause-weighed g c =
-    let bounds = c.in_ok-header.header.bounds in
+    let evidence = c.in_ok-header.header.evidence in
     let cert = c.from_parts.result in
-    let count : length (certificate_of cert).values + 1 ≡ length bounds.values.items + 1 =
-    ap (λ (k : Certificate). length k.values + 1) c.from_parts.ensures.certificate ∙ ap (λ n. n + 1) (length-map bounds.values.items potential_of) in
-    subst (λ n. HaveWeights n (tables_in cert)) (sym count) (subst (HaveWeights (length bounds.values.items + 1)) (sym c.from_parts.ensures.tables) c.in_ok-header.ensures.weighed)
+    let count : length (certificate_of cert).values + 1 ≡ length evidence.values.items + 1 =
+    ap (λ (k : Certificate). length k.values + 1) c.from_parts.ensures.certificate ∙ ap (λ n. n + 1) (length-map evidence.values.items potential_of) in
+    subst (λ n. HaveWeights n (tables_in cert)) (sym count) (subst (HaveWeights (length evidence.values.items + 1)) (sym c.from_parts.ensures.tables) c.in_ok-header.ensures.weighed)
 
 pub returns-clause-read : goal.returns-clause-read
 returns-clause-read g c =

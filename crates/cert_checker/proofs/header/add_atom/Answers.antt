@@ -27,7 +27,7 @@ returns-clause-reported c = λ before begun reported.
     let task = task_of c.args.task.now in
     let header = c.args.header.now in
     let said : WeightedAtom = record { weights = c.args.weights.now; atom = named_atom_of c.args.name.now } in
-    subst (λ bounds. HaveGiven task (before ++ atom said ∷ []) (record { version = version_of header.version; claim = claim_of header.claim; exchanges = map exchange_in header.exchanges.items; atoms = map atom_of c.insert.new.self.keys; bounds = bounds }))
+    subst (λ evidence. HaveGiven task (before ++ atom said ∷ []) (record { version = version_of header.version; claim = claim_of header.claim; exchanges = map exchange_in header.exchanges.items; atoms = map atom_of c.insert.new.self.keys; evidence = evidence }))
     (sym c.in_ok-take_weights.ensures)
     (new_is_reported task before (heading_of header) header.atoms.keys refl reported said c.in-Some.atom
     c.in-Some.ensures.names c.in-Some.ensures.typed c.in-Some.ensures.fluent c.in_ok-insert.field-0 c.in_ok-insert.ensures.added c.if-not-branch.false begun c.insert.new.self.keys c.in_ok-insert.ensures.keys)

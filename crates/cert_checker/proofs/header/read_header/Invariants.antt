@@ -14,7 +14,7 @@ invariant-lines g l = record {
   lines : List TextLine;
   at : IsAt g.R.Source.remaining l.initial.reader l.reader lines;
   reported : HasTaken (task_of l.task) lines l.header;
-  weighed : AreWeighed l.header.bounds;
+  weighed : AreWeighed l.header.evidence;
   no_state : states_given lines ≡ [];
   failures : g.R.Source.failures (source_of l.reader) ≡ g.R.Source.failures (source_of l.initial.reader);
 }

@@ -26,16 +26,16 @@ classes_by-requires-clause-kept c =
     subst (λ atoms. list_all (keeps_atoms atoms) (map exchange_of c.args.exchanges.now) ≡ true) (sym c.requires.numbered)
     (subst (λ exchanges. list_all (keeps_atoms (numbered_atoms (task_in g) cert.atoms)) exchanges ≡ true) (sym c.requires.exchanges) (all_keep_atoms (task_in g) cert c.requires.symmetric))
 
-pub returns-in_err-values-clause-first : goal.returns-in_err-values-clause-first
-returns-in_err-values-clause-first c =
-    passed_on (IsFirstGrounded (task_in c.args.grounded.now) (certificate_of c.args.cert.now)) c.from_residual.result c.in_err-values.field-0.0
-    c.from_residual.ensures.1 (c.in_err-values.ensures.first c.requires.symmetric)
+pub returns-in_err-evidence-clause-first : goal.returns-in_err-evidence-clause-first
+returns-in_err-evidence-clause-first c =
+    passed_on (IsFirstGrounded (task_in c.args.grounded.now) (certificate_of c.args.cert.now)) c.from_residual.result c.in_err-evidence.field-0.0
+    c.from_residual.ensures.1 (c.in_err-evidence.ensures.first c.requires.symmetric)
 
 pub check_packed-requires : goal.check_packed-requires
 check_packed-requires c =
     let packed = c.new-packed.result in
     along AreFairFor (task_in c.args.grounded.now) (task_at packed) (certificate_of c.args.cert.now) (certificate_at packed)
-    (sym c.new-packed.ensures.same.0) (sym c.new-packed.ensures.same.1) c.in_ok-values.ensures.fair
+    (sym c.new-packed.ensures.same.0) (sym c.new-packed.ensures.same.1) c.in_ok-evidence.ensures.fair
 
 pub returns-clause-right : goal.returns-clause-right
 returns-clause-right c =
