@@ -1,4 +1,3 @@
 pub mod Candidates
-pub mod FirstLines
 pub mod WantedWords
 pub mod WrongLemmas
