@@ -1,5 +1,5 @@
 //! Sampled states that tables show to be dead ends.
-use crate::divider::StateRows;
+use crate::partitioner::StateRows;
 use crate::goal_distances::NO_WAY;
 use abstractions::place_of;
 use faults::NoMemory;

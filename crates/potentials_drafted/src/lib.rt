@@ -12,10 +12,10 @@ mod linear_program;
 mod mending;
 mod samples;
 mod simplex;
-mod tables;
+mod program_input;
 
 pub use dead_drafts::DeadDrafts;
 pub use drafts::drafted_weights;
 pub use incidence::{Incidence, IncidenceEntry};
 pub use samples::Chance;
-pub use tables::Tables;
+pub use program_input::ProgramInput;

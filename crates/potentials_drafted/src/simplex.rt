@@ -8,7 +8,7 @@
 use crate::aims::Aims;
 use crate::linear_program::LinearProgram;
 use crate::samples::Chance;
-use crate::tables::Tables;
+use crate::program_input::ProgramInput;
 use faults::NoMemory;
 use std::alloc::Global;
 use std::num::nearest_i64_to_f64;
@@ -110,8 +110,8 @@ impl Vertex {
         allowance: Allowance,
         max_work: u64,
     ) -> Result<Vertex, NoMemory> {
-        let tables = program.tables();
-        let instances = tables.costs().len();
+        let input = program.input();
+        let instances = input.costs().len();
         let variables = program.variables().len();
         let mut vertex = Vertex {
             edges: Vec::new(alloc),
@@ -123,7 +123,7 @@ impl Vertex {
             work: 0,
             max_work,
         };
-        vertex.fill_slacks(tables.costs(), allowance)?;
+        vertex.fill_slacks(input.costs(), allowance)?;
         for variable in 0..variables {
             vertex.add_edge(alloc, variable)?;
         }
@@ -258,12 +258,12 @@ impl Vertex {
 
     /// Computes the rate at which each constraint approaches along the edge.
     fn fill_rates(&mut self, program: &LinearProgram<'_>, edge: &Edge) -> Result<(), NoMemory> {
-        let tables = program.tables();
+        let input = program.input();
         let mut constraint = self.instances;
         for (step, far) in program.variables().iter().zip(&edge.along) {
             if *far != 0.0 {
                 self.add_rate(constraint, -*far)?;
-                for touch in tables.instances_of(step.atom) {
+                for touch in input.instances_of(step.atom) {
                     let loss = touch.loss(step.by);
                     if loss != 0 {
                         self.add_rate(touch.number as usize, nearest_i64_to_f64(loss) * *far)?;
@@ -338,7 +338,7 @@ impl Vertex {
             }
         }
         let read = program
-            .tables()
+            .input()
             .atoms_at(by.constraint)
             .len()
             .saturating_add(1);
@@ -349,10 +349,10 @@ impl Vertex {
     }
 
     /// The value of each variable, for the unperturbed costs.
-    pub(crate) fn grown(&self, alloc: Global, tables: &Tables) -> Result<Vec<f64>, NoMemory> {
+    pub(crate) fn grown(&self, alloc: Global, input: &ProgramInput) -> Result<Vec<f64>, NoMemory> {
         let mut grown = vec![in alloc; 0.0; self.variables]?;
         for edge in &self.edges {
-            if let Some(cost) = tables.costs().get(edge.constraint) {
+            if let Some(cost) = input.costs().get(edge.constraint) {
                 let back = nearest_i64_to_f64(*cost);
                 for (sum, far) in grown.iter_mut().zip(&edge.along) {
                     *sum -= back * *far;
@@ -379,12 +379,12 @@ impl Edge {
     /// Computes the gain along the edge.
     fn aim_at(&mut self, program: &LinearProgram<'_>, aims: &Aims, share: f64) {
         self.gain = match program.variables().get(self.alone) {
-            Some(step) if self.along.is_empty() => aims.shared_gain(program.tables(), *step, share),
+            Some(step) if self.along.is_empty() => aims.shared_gain(program.input(), *step, share),
             _ => 0.0,
         };
         for (step, far) in program.variables().iter().zip(&self.along) {
             if *far != 0.0 {
-                self.gain += *far * aims.shared_gain(program.tables(), *step, share);
+                self.gain += *far * aims.shared_gain(program.input(), *step, share);
             }
         }
     }
@@ -410,7 +410,7 @@ impl Edge {
     /// The rate at which the loss of the instance at this index grows along the edge.
     fn rate_of_instance(&self, program: &LinearProgram<'_>, place: usize) -> f64 {
         let mut rate = 0.0;
-        for touch in program.tables().atoms_at(place) {
+        for touch in program.input().atoms_at(place) {
             for by in [-1, 1] {
                 if let Some(variable) = program.variable(touch.number, by) {
                     rate += nearest_i64_to_f64(touch.loss(by)) * self.growth(variable);

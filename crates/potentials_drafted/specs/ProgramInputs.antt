@@ -4,8 +4,8 @@ use Rattle.grounding.specs.declared.ground.Ground.{Ground}
 use Rattle.grounding.specs.Ground.{task_in, atoms_in}
 use Rattle.model.specs.StaticallyFalse.{kept_instances}
 use Rattle.potentials_drafted.specs.Incidence.{IsIncidence}
-use Rattle.potentials_drafted.specs.declared.tables.Tables.{Tables}
+use Rattle.potentials_drafted.specs.declared.program_input.ProgramInput.{ProgramInput}
 
 -- for each atom they list the instances of this ground task that touch it
-abbrev pub AreTablesOf : Ground → Tables → Type 0
-AreTablesOf g t = IsIncidence (task_in g) (atoms_in g) (length (kept_instances (task_in g))) t.incidence
+abbrev pub IsInputOf : Ground → ProgramInput → Type 0
+IsInputOf g t = IsIncidence (task_in g) (atoms_in g) (length (kept_instances (task_in g))) t.incidence

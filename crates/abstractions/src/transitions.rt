@@ -4,7 +4,7 @@ use faults::NoMemory;
 use grounding::{CountingChange, NumberedLiteral};
 use std::alloc::Global;
 
-/// The target of a move.
+/// The target of a transition.
 #[derive(Clone, Copy, PartialEq, Eq, PartialOrd, Ord)]
 pub(crate) enum Target {
     /// This value.
@@ -13,9 +13,9 @@ pub(crate) enum Target {
     NoValue,
 }
 
-/// A move of a variable from one value.
+/// A transition of a variable from one value.
 #[derive(Clone, Copy, PartialEq, Eq, PartialOrd, Ord)]
-pub(crate) struct Move {
+pub(crate) struct Transition {
     pub(crate) from: u32,
     pub(crate) to: Target,
 }
@@ -52,18 +52,18 @@ pub(crate) struct InstancePart<'a, 't> {
 }
 
 impl InstancePart<'_, '_> {
-    /// The moves from each value that the literals allow, in ascending order of these values.
-    pub(crate) fn moves(&self, alloc: Global) -> Result<Vec<Move>, NoMemory> {
-        let mut moves = Vec::new(alloc);
+    /// The transitions from each value that the literals allow, in ascending order of these values.
+    pub(crate) fn transitions(&self, alloc: Global) -> Result<Vec<Transition>, NoMemory> {
+        let mut transitions = Vec::new(alloc);
         for from in self.first_value()..self.variables.value_count(self.variable) {
             if self.allows(self.literals, from) {
-                self.add_moves(from, &mut moves)?;
+                self.add_transitions(from, &mut transitions)?;
                 if self.wants_atom() {
-                    return Ok(moves);
+                    return Ok(transitions);
                 }
             }
         }
-        Ok(moves)
+        Ok(transitions)
     }
 
     /// The first value that the literals may allow.
@@ -101,22 +101,22 @@ impl InstancePart<'_, '_> {
         })
     }
 
-    /// Adds the moves from this value.
-    fn add_moves(&self, from: u32, moves: &mut Vec<Move>) -> Result<(), NoMemory> {
+    /// Adds the transitions from this value.
+    fn add_transitions(&self, from: u32, transitions: &mut Vec<Transition>) -> Result<(), NoMemory> {
         let certain = self.certain_target(from);
         let Target::Value(value) = certain else {
-            moves.push(Move { from, to: certain })?;
+            transitions.push(Transition { from, to: certain })?;
             return Ok(());
         };
-        moves.push(Move { from, to: certain })?;
+        transitions.push(Transition { from, to: certain })?;
         if value > 0
             && !self.makes(Kind::SureAdd, value, from)
             && self.makes(Kind::PossibleDelete, value, from)
         {
             let to = Target::Value(0);
-            moves.push(Move { from, to })?;
+            transitions.push(Transition { from, to })?;
         }
-        self.add_uncertain_adds(from, value, moves)
+        self.add_uncertain_adds(from, value, transitions)
     }
 
     /// The target of the unconditional changes from this value.
@@ -138,12 +138,12 @@ impl InstancePart<'_, '_> {
         Target::Value(value)
     }
 
-    /// Adds the moves in which a change under a `when` adds an atom, given the target of the others.
+    /// Adds the transitions in which a change under a `when` adds an atom, given the target of the others.
     fn add_uncertain_adds(
         &self,
         from: u32,
         value: u32,
-        moves: &mut Vec<Move>,
+        transitions: &mut Vec<Transition>,
     ) -> Result<(), NoMemory> {
         let mut first = value;
         for change in self.changes {
@@ -151,12 +151,12 @@ impl InstancePart<'_, '_> {
                 if let Some(added) = self.value_of(change.atom) {
                     if first > 0 && first != added {
                         let to = Target::NoValue;
-                        moves.push(Move { from, to })?;
+                        transitions.push(Transition { from, to })?;
                         return Ok(());
                     }
                     if first != added {
                         let to = Target::Value(added);
-                        moves.push(Move { from, to })?;
+                        transitions.push(Transition { from, to })?;
                     }
                     first = added;
                 }
@@ -180,21 +180,21 @@ impl InstancePart<'_, '_> {
     }
 }
 
-/// The moves from this value.
-pub(crate) fn moves_from(moves: &[Move], from: u32) -> &[Move] {
-    let start = moves.partition_point(|it| it.from < from);
-    let end = moves.partition_point(|it| it.from <= from);
-    match moves.get(start..end) {
+/// The transitions from this value.
+pub(crate) fn transitions_from(transitions: &[Transition], from: u32) -> &[Transition] {
+    let start = transitions.partition_point(|it| it.from < from);
+    let end = transitions.partition_point(|it| it.from <= from);
+    match transitions.get(start..end) {
         Some(those) => those,
         None => &[],
     }
 }
 
-/// The number of values that have moves.
-pub(crate) fn source_count(moves: &[Move]) -> u32 {
+/// The number of values that have transitions.
+pub(crate) fn source_count(transitions: &[Transition]) -> u32 {
     let mut count = 0u32;
     let mut last = None;
-    for it in moves {
+    for it in transitions {
         if last != Some(it.from) {
             count = count.saturating_add(1);
         }

@@ -1,6 +1,6 @@
 //! Data of a ground task that drafts of potentials read repeatedly.
 ghost use Rattle.std.specs.Prelude.{◌≡◌, IfOk};
-ghost use Rattle.potentials_drafted.specs.Tables.{AreTablesOf};
+ghost use Rattle.potentials_drafted.specs.ProgramInputs.{IsInputOf};
 
 use crate::incidence::{Incidence, IncidenceEntry};
 use crate::samples::{sampled, true_atoms};
@@ -23,7 +23,7 @@ pub(crate) struct AtGoal {
 /// The data that drafts read, for values and for dead ends alike: for each atom what the goal requires of it and the instances
 /// that touch it, for each instance its cost and the atoms that it touches, and states sampled by random walks.
 #[derive(Drop)]
-pub struct Tables {
+pub struct ProgramInput {
     width: u32,
     at_goal: Vec<AtGoal>,
     costs: Vec<i64>,
@@ -58,12 +58,12 @@ impl AtGoal {
     }
 }
 
-impl Tables {
+impl ProgramInput {
     /// The data of the ground task with this initial state.
-    pub fn new(alloc: Global, ground: &Ground<'_>, initial: &Packed) -> Result<Tables, NoMemory>
-        ensures { IfOk result (AreTablesOf ground.now) }
+    pub fn new(alloc: Global, ground: &Ground<'_>, initial: &Packed) -> Result<ProgramInput, NoMemory>
+        ensures { IfOk result (IsInputOf ground.now) }
     {
-        Ok(Tables {
+        Ok(ProgramInput {
             width: ground.width(),
             at_goal: reported_at_goal(alloc, ground)?,
             costs: costs(alloc, ground)?,

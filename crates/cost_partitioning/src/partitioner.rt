@@ -1,6 +1,6 @@
 //! The search for orders that give states great values.
 use crate::costs::Costs;
-use crate::division::Division;
+use crate::cost_partition::CostPartition;
 use crate::goal_distances::{NO_WAY, distance_of, distances, taken};
 use crate::orders::{Order, Worth};
 use abstractions::RowGraph;
@@ -16,7 +16,7 @@ pub(crate) type StateRows = Vec<u32>;
 
 /// The search for orders: tables, costs of instances, and the states whose values are to be raised.
 #[derive(Drop)]
-pub(crate) struct Divider<'a> {
+pub(crate) struct Partitioner<'a> {
     alloc: Global,
     graphs: &'a [RowGraph],
     costs: &'a Costs,
@@ -54,15 +54,15 @@ impl Merit {
     }
 }
 
-impl<'a> Divider<'a> {
+impl<'a> Partitioner<'a> {
     /// A search for these tables, costs and states.
     pub(crate) fn new(
         alloc: Global,
         graphs: &'a [RowGraph],
         costs: &'a Costs,
         states: &'a [StateRows],
-    ) -> Result<Divider<'a>, NoMemory> {
-        let mut divider = Divider {
+    ) -> Result<Partitioner<'a>, NoMemory> {
+        let mut partitioner = Partitioner {
             alloc,
             graphs,
             costs,
@@ -74,9 +74,9 @@ impl<'a> Divider<'a> {
             max_work: 0,
         };
         for (table, graph) in graphs.iter().enumerate() {
-            divider.add(table, graph)?;
+            partitioner.add(table, graph)?;
         }
-        Ok(divider)
+        Ok(partitioner)
     }
 
     /// Records the values and the saturated costs of the table if it comes first.
@@ -140,20 +140,20 @@ impl<'a> Divider<'a> {
     }
 
     /// The partition by this order.
-    pub(crate) fn divide(&mut self, order: &Order) -> Result<Division, NoMemory> {
+    pub(crate) fn divide(&mut self, order: &Order) -> Result<CostPartition, NoMemory> {
         for table in order.tables() {
             if let Some(graph) = self.graphs.get(*table) {
                 self.count(graph);
             }
         }
-        Division::new(self.alloc, self.graphs, order, self.costs)
+        CostPartition::new(self.alloc, self.graphs, order, self.costs)
     }
 
     /// The value of each state by the partition; 0 if the state is a known dead end.
-    pub(crate) fn values(&self, division: &Division) -> Result<Vec<i64>, NoMemory> {
+    pub(crate) fn values(&self, partition: &CostPartition) -> Result<Vec<i64>, NoMemory> {
         let mut values = Vec::with_capacity(self.alloc, self.states.len())?;
         for rows in self.states {
-            values.push(division.value(rows).unwrap_or(0))?;
+            values.push(partition.value(rows).unwrap_or(0))?;
         }
         Ok(values)
     }
@@ -187,8 +187,8 @@ impl<'a> Divider<'a> {
     /// The order without tables that add little: after them the state at this index has no lower value, and all states have
     /// nearly as much. It drops halves, then quarters, and at last single tables, those from the end first.
     fn pruned(&mut self, order: &Order, state: usize) -> Result<Ranked, NoMemory> {
-        let division = self.divide(order)?;
-        let order = division.order(self.alloc)?;
+        let partition = self.divide(order)?;
+        let order = partition.order(self.alloc)?;
         let mut best = self.ranked(order, state)?;
         let mut size = best.order.tables().len();
         for _ in 0..usize::BITS {
@@ -246,10 +246,10 @@ impl<'a> Divider<'a> {
 
     /// The order with its quality for the state at this index and for all states.
     fn ranked(&mut self, order: Order, state: usize) -> Result<Ranked, NoMemory> {
-        let division = self.divide(&order)?;
+        let partition = self.divide(&order)?;
         let mut merit = Merit { first: 0, all: 0 };
         for (place, rows) in self.states.iter().enumerate() {
-            let value = division.value(rows).unwrap_or(0);
+            let value = partition.value(rows).unwrap_or(0);
             merit.all = merit.all.saturating_add(value);
             if place == state {
                 merit.first = value;

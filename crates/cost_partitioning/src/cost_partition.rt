@@ -17,38 +17,38 @@ pub(crate) struct Part {
 
 /// A cost partition over tables.
 #[derive(Drop)]
-pub(crate) struct Division {
+pub(crate) struct CostPartition {
     /// The parts, in the order of the tables. Tables in which all distances are 0 are left out.
     pub(crate) parts: Vec<Part>,
     /// The remaining costs.
     pub(crate) left: Costs,
 }
 
-impl Division {
+impl CostPartition {
     /// The partition in which the tables take their saturated costs in this order.
     pub(crate) fn new(
         alloc: Global,
         graphs: &[RowGraph],
         order: &Order,
         costs: &Costs,
-    ) -> Result<Division, NoMemory> {
-        let mut division = Division {
+    ) -> Result<CostPartition, NoMemory> {
+        let mut partition = CostPartition {
             parts: Vec::new(alloc),
             left: costs.copied(alloc)?,
         };
         for table in order.tables() {
             if let Some(graph) = graphs.get(*table) {
-                let distances = distances(alloc, graph, &division.left)?;
+                let distances = distances(alloc, graph, &partition.left)?;
                 if distances.iter().any(|distance| *distance != 0) {
-                    take(alloc, graph, &distances, &mut division.left)?;
-                    division.parts.push(Part {
+                    take(alloc, graph, &distances, &mut partition.left)?;
+                    partition.parts.push(Part {
                         table: *table,
                         distances,
                     })?;
                 }
             }
         }
-        Ok(division)
+        Ok(partition)
     }
 
     /// The order of the tables that have a part.
