@@ -14,11 +14,11 @@ mod goals;
 mod groups;
 mod growing;
 mod mentioned;
-mod transitions;
 mod numbers;
 mod reached;
 mod row_graph;
 mod steps;
+mod transitions;
 mod variables;
 
 pub use goals::GoalValues;

@@ -1,6 +1,6 @@
 //! The effects of all instances on each variable.
-use crate::transitions::{InstancePart, Transition, transitions_from, source_count};
 use crate::numbers::{number_of, place_of};
+use crate::transitions::{InstancePart, Transition, source_count, transitions_from};
 use crate::variables::Variables;
 use faults::NoMemory;
 use grounding::{CountingChange, Ground, NumberedLiteral};
@@ -119,7 +119,10 @@ impl Drafts<'_> {
 
 impl VariableSteps {
     /// The steps for these lists of transitions, each distinct list once, and the instances that take them.
-    fn new(alloc: Global, mut drafts: Vec<(Vec<Transition>, u32)>) -> Result<VariableSteps, NoMemory> {
+    fn new(
+        alloc: Global,
+        mut drafts: Vec<(Vec<Transition>, u32)>,
+    ) -> Result<VariableSteps, NoMemory> {
         drafts.sort_unstable();
         let mut of_variable = VariableSteps {
             steps: Vec::new(alloc),

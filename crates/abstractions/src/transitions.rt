@@ -102,7 +102,11 @@ impl InstancePart<'_, '_> {
     }
 
     /// Adds the transitions from this value.
-    fn add_transitions(&self, from: u32, transitions: &mut Vec<Transition>) -> Result<(), NoMemory> {
+    fn add_transitions(
+        &self,
+        from: u32,
+        transitions: &mut Vec<Transition>,
+    ) -> Result<(), NoMemory> {
         let certain = self.certain_target(from);
         let Target::Value(value) = certain else {
             transitions.push(Transition { from, to: certain })?;

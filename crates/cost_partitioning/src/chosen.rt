@@ -4,11 +4,11 @@ ghost use Rattle.std.specs.Prelude.{◌≡◌, IfOk, Some, map, slice_get};
 ghost use Rattle.potentials.specs.Potentials.{potentials_of};
 ghost use Rattle.cost_partitioning.specs.ValuePotentials.{potentials_in_value};
 
-use crate::costs::Costs;
-use crate::partitioner::Partitioner;
 use crate::cost_partition::CostPartition;
+use crate::costs::Costs;
 use crate::draft::Effort;
 use crate::orders::Order;
+use crate::partitioner::Partitioner;
 use crate::rests::{left_by, potentials_of_rest, score};
 use crate::states::Sampled;
 use abstractions::RowGraph;
@@ -103,7 +103,9 @@ impl Choosing<'_> {
         let order = candidates.partitioner.improved(order, TRIALS)?;
         self.add(input, &order, &mut candidates)?;
         self.add_after_potentials(input, &order, &mut candidates)?;
-        candidates.partitioner.allow(self.part_of(MAX_WORK_OF_STATES));
+        candidates
+            .partitioner
+            .allow(self.part_of(MAX_WORK_OF_STATES));
         for state in 1..states {
             if candidates.partitioner.is_done() {
                 break;
@@ -165,7 +167,11 @@ impl Choosing<'_> {
     }
 
     /// Adds the value if it raises the value of some state.
-    fn push(&self, value: PartitionedValue, candidates: &mut CandidateValues<'_>) -> Result<(), NoMemory> {
+    fn push(
+        &self,
+        value: PartitionedValue,
+        candidates: &mut CandidateValues<'_>,
+    ) -> Result<(), NoMemory> {
         let given = self.given(&value)?;
         if raise(&mut candidates.most, &given) {
             candidates.all.push(CandidateValue { value, given })?;

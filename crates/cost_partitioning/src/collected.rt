@@ -129,7 +129,11 @@ impl Collecting<'_, '_> {
     }
 
     /// The sets, extended by one variable related to one of theirs.
-    fn grown(&self, links: &Links, candidates: &[CandidateTable]) -> Result<Vec<Vec<u32>>, NoMemory> {
+    fn grown(
+        &self,
+        links: &Links,
+        candidates: &[CandidateTable],
+    ) -> Result<Vec<Vec<u32>>, NoMemory> {
         let mut level: Vec<Vec<u32>> = Vec::new(self.alloc);
         for candidate in candidates {
             for variable in &candidate.variables {

@@ -9,14 +9,14 @@
 
 mod chosen;
 mod collected;
+mod cost_partition;
 mod costs;
 mod dead_ends;
-mod partitioner;
-mod cost_partition;
 mod draft;
 mod goal_distances;
 mod links;
 mod orders;
+mod partitioner;
 mod rests;
 mod states;
 mod written;

@@ -1,6 +1,6 @@
 //! The search for orders that give states great values.
-use crate::costs::Costs;
 use crate::cost_partition::CostPartition;
+use crate::costs::Costs;
 use crate::goal_distances::{NO_WAY, distance_of, distances, taken};
 use crate::orders::{Order, Worth};
 use abstractions::RowGraph;

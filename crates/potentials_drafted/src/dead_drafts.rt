@@ -5,8 +5,8 @@
 use crate::aims::{Aim, Aims};
 use crate::linear_program::LinearProgram;
 use crate::mending::is_whole;
-use crate::simplex::{Allowance, Vertex};
 use crate::program_input::ProgramInput;
+use crate::simplex::{Allowance, Vertex};
 use faults::NoMemory;
 use std::alloc::Global;
 use std::num::{nearest_i64_to_f64, saturating_f64_to_i64};

@@ -2,8 +2,8 @@
 use crate::aims::{Aim, Aims};
 use crate::linear_program::LinearProgram;
 use crate::mending::Mending;
-use crate::simplex::{Allowance, Vertex};
 use crate::program_input::ProgramInput;
+use crate::simplex::{Allowance, Vertex};
 use faults::NoMemory;
 use std::alloc::Global;
 

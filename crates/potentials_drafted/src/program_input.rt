@@ -60,7 +60,11 @@ impl AtGoal {
 
 impl ProgramInput {
     /// The data of the ground task with this initial state.
-    pub fn new(alloc: Global, ground: &Ground<'_>, initial: &Packed) -> Result<ProgramInput, NoMemory>
+    pub fn new(
+        alloc: Global,
+        ground: &Ground<'_>,
+        initial: &Packed,
+    ) -> Result<ProgramInput, NoMemory>
         ensures { IfOk result (IsInputOf ground.now) }
     {
         Ok(ProgramInput {

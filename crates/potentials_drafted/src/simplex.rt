@@ -7,8 +7,8 @@
 //! (Charnes 1952).
 use crate::aims::Aims;
 use crate::linear_program::LinearProgram;
-use crate::samples::Chance;
 use crate::program_input::ProgramInput;
+use crate::samples::Chance;
 use faults::NoMemory;
 use std::alloc::Global;
 use std::num::nearest_i64_to_f64;
