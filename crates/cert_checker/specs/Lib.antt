@@ -2,6 +2,7 @@ pub mod RefusalCode
 pub mod CertFaults
 pub mod Given
 pub mod GroundEvidence
+pub mod LandmarkFaults
 pub mod Listed
 pub mod Tabled
 pub mod Taking

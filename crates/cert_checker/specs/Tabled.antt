@@ -1,4 +1,4 @@
--- Lines of tables: which of them fit what was read before, and their effect.
+-- Parts: which of them fit what was read before, and their effect.
 use Rattle.std.specs.Prelude.{◌≡◌, ℕ, ◌+◌, ◌<◌, ◌^◌, IsTrue, List, [], ◌∷◌, ◌++◌, length, All}
 use Rattle.lower_bounds.specs.TableFunctions as model
 use Rattle.lower_bounds.specs.TableFunctions.{Row, SeveralValues}
@@ -8,10 +8,13 @@ use Rattle.table_rows.specs.Adding.{IsAdded}
 use Rattle.table_rows.specs.declared.by_atoms.Added.{Added}
 use Rattle.table_rows.specs.declared.by_atoms.Added.TheVariants.{New, OutsideScope, Repeated}
 use Rattle.table_rows.specs.declared.table.Table.{Table}
-use Rattle.certificate_definitions.specs.CertificateText.{Part, TextLine, version, claims, constant, swapped, atom, scope, row, tabled, part, listed, last}
+use Rattle.landmark_functions.specs.LandmarkLines.{zone, value}
+use Rattle.landmark_zones.specs.Landmarks.{landmarks_of, with_value, with_zone}
+use Rattle.certificate_definitions.specs.CertificateText.{Part, TextLine, version, claims, constant, swapped, atom, scope, row, tabled, landmark_line, part, listed, last}
 use Rattle.certificate.specs.declared.cert.Cert.{Cert}
 use Rattle.certificate.specs.declared.evidence.Evidence.{Evidence}
 use Rattle.certificate.specs.Certificate.{certificate_of, tables_in}
+use Rattle.certificate.specs.Evidence.{evidence_of}
 use Rattle.cert_checker.specs.declared.refusal.Refusal.{Refusal}
 use Rattle.cert_checker.specs.declared.refusal.Refusal.TheVariants as refusal
 use Rattle.cert_checker.specs.declared.refusal.RefusalCode.TheVariants.{CertForm, Repeated as RepeatedRow}
@@ -46,6 +49,7 @@ pub record IsFitRow (tables : List Table) (r : Row) : Type 0 where
 abbrev pub IsFitPart : Evidence → Part → Type 0
 IsFitPart evidence (tabled (scope atoms)) = IsFitScope evidence atoms
 IsFitPart evidence (tabled (row r)) = IsFitRow evidence.tables.items r
+IsFitPart evidence (landmark_line l) = Unit {0}
 
 -- if the line is a part, it may be taken
 abbrev pub IsFitHead : Evidence → TextLine → Type 0
@@ -92,11 +96,16 @@ IsRowRefused tables r number _ = ⊥
 
 -- ---- any part
 
-abbrev pub IsPartTaken : (old new : SeveralValues) → Part → Type 0
-IsPartTaken old new (tabled (scope atoms)) = new ≡ with_scope old atoms
-IsPartTaken old new (tabled (row r)) = IsRowTaken old new r
+-- a line of a table leaves landmark values as they are, and a line of those leaves the tables
+abbrev pub IsPartTaken : (old new : Evidence) → Part → Type 0
+IsPartTaken old new (tabled (scope atoms)) = (evidence_of new ≡ with_scope (evidence_of old) atoms) × (landmarks_of new.landmarks ≡ landmarks_of old.landmarks)
+IsPartTaken old new (tabled (row r)) = IsRowTaken (evidence_of old) (evidence_of new) r × (landmarks_of new.landmarks ≡ landmarks_of old.landmarks)
+IsPartTaken old new (landmark_line (zone z)) = (evidence_of new ≡ evidence_of old) × (landmarks_of new.landmarks ≡ with_zone (landmarks_of old.landmarks) z)
+IsPartTaken old new (landmark_line (value shares)) = (evidence_of new ≡ evidence_of old) × (landmarks_of new.landmarks ≡ with_value (landmarks_of old.landmarks) shares)
 
 abbrev pub IsPartRefused : List model.Table → Part → ℕ → Refusal → Type 0
 IsPartRefused tables (tabled (row r)) number e = IsRowRefused tables r number e
 IsPartRefused tables (tabled (scope atoms)) number refusal.NoMemory = Unit {0}
 IsPartRefused tables (tabled (scope atoms)) number _ = ⊥
+IsPartRefused tables (landmark_line l) number refusal.NoMemory = Unit {0}
+IsPartRefused tables (landmark_line l) number _ = ⊥

@@ -13,6 +13,7 @@ use Rattle.cert_checker.specs.RefusalCode.{number_of}
 use Rattle.cert_checker.specs.Given.{Heading, HaveGiven, is_body, state_in}
 use Rattle.certificate.specs.CertificateParts.{exchange_in}
 use Rattle.certificate.specs.Evidence.{evidence_of}
+use Rattle.landmark_zones.specs.Landmarks.{landmarks_of}
 
 abbrev pub heading_of : Header → Heading
 heading_of header = record {
@@ -21,6 +22,7 @@ heading_of header = record {
   exchanges = map exchange_in header.exchanges.items;
   atoms = map atom_of header.atoms.keys;
   evidence = evidence_of header.evidence;
+  landmarks = landmarks_of header.evidence.landmarks;
 }
 
 -- the header is what these lines give

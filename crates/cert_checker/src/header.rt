@@ -17,7 +17,9 @@ use crate::exchanges::take_exchange;
 use crate::named_atoms::fluent_atom_named;
 use crate::part_lines::take_part;
 use crate::refusal::{Refusal, RefusalCode};
-use certificate::{CertLine, CertReader, Claim, Evidence, Header, NamedAtom, Potential, Version};
+use certificate::{
+    CertLine, CertReader, Claim, Evidence, Header, Landmarks, NamedAtom, Potential, Version,
+};
 use devices::Source;
 use faults::NoMemory;
 use formulas::FluentPredicates;
@@ -39,6 +41,7 @@ fn nothing_reported(alloc: Global) -> Header
             values: Vec::new(alloc),
             dead_ends: of_no_atoms(alloc, 0),
             tables: Vec::new(alloc),
+            landmarks: Landmarks::none(alloc),
         },
     }
 }
@@ -69,7 +72,7 @@ fn value_count(version: Version, constant_count: usize) -> usize
 {
     match version {
         Version::One => constant_count,
-        Version::Two | Version::Three => constant_count.saturating_sub(1),
+        Version::Two | Version::Three | Version::Four => constant_count.saturating_sub(1),
     }
 }
 
@@ -80,7 +83,8 @@ fn take_constants(
     version: Version,
     constants: &[i64],
 ) -> Result<(), NoMemory>
-    ensures { OnOk result (evidence_of evidence.new ≡ begun_with (version_of version) constants.now (evidence_of evidence.old)) }
+    ensures taken { OnOk result (evidence_of evidence.new ≡ begun_with (version_of version) constants.now (evidence_of evidence.old)) }
+    ensures landmarks { evidence.new.landmarks ≡ evidence.old.landmarks }
 {
     let count = value_count(version, constants.len());
     for place in 0..count {
@@ -93,7 +97,8 @@ fn take_constants(
 
 /// Takes the weights of the next atom: one for each value, in order, then the one for dead ends.
 fn take_weights(evidence: &mut Evidence, weights: &[i64]) -> Result<(), NoMemory>
-    ensures { OnOk result (evidence_of evidence.new ≡ with_weights (evidence_of evidence.old) weights.now) }
+    ensures taken { OnOk result (evidence_of evidence.new ≡ with_weights (evidence_of evidence.old) weights.now) }
+    ensures landmarks { evidence.new.landmarks ≡ evidence.old.landmarks }
 {
     let count = evidence.values.len();
     for place in 0..count {

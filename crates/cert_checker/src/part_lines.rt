@@ -4,6 +4,7 @@ ghost use Rattle.certificate_reader.specs.Parts.{part_of};
 ghost use Rattle.certificate.specs.Evidence.{evidence_of};
 ghost use Rattle.cert_checker.specs.Tabled.{AreWeighed, IsFitPart, IsPartRefused, IsPartTaken};
 
+use crate::landmark_lines::{take_value, take_zone};
 use crate::refusal::Refusal;
 use crate::table_lines::{take_row, take_scope};
 use certificate::{Evidence, PartLine};
@@ -17,7 +18,7 @@ pub(crate) fn take_part(
     number: u64,
 ) -> Result<(), Refusal>
     requires fit { IsFitPart evidence.old (part_of part) }
-    ensures taken { OnOk result (IsPartTaken (evidence_of evidence.old) (evidence_of evidence.new) (part_of part)) }
+    ensures taken { OnOk result (IsPartTaken evidence.old evidence.new (part_of part)) }
     ensures wrong { IfErr result (IsPartRefused (evidence_of evidence.old).tables (part_of part) number) }
     ensures weighed { OnOk result (AreWeighed evidence.old → AreWeighed evidence.new) }
 {
@@ -27,5 +28,13 @@ pub(crate) fn take_part(
             Ok(())
         }
         PartLine::Row { weights, atoms } => take_row(alloc, evidence, &atoms, &weights, number),
+        PartLine::Zone { atoms, negated } => {
+            take_zone(evidence, &atoms, &negated)?;
+            Ok(())
+        }
+        PartLine::Landmark { shares } => {
+            take_value(evidence, &shares)?;
+            Ok(())
+        }
     }
 }

@@ -19,6 +19,7 @@ pub(crate) fn take_scope(
 ) -> Result<(), NoMemory>
     requires fit { IsFitScope evidence.old scope.items }
     ensures taken { OnOk result (evidence_of evidence.new ≡ with_scope (evidence_of evidence.old) scope.items) }
+    ensures landmarks { evidence.new.landmarks ≡ evidence.old.landmarks }
     ensures weighed { OnOk result (AreWeighed evidence.old → AreWeighed evidence.new) }
 {
     let count = evidence.values.len() as u32 + 1;
@@ -37,6 +38,7 @@ pub(crate) fn take_row(
 ) -> Result<(), Refusal>
     requires fit { IsFitRow evidence.old.tables.items (record { atoms = atoms.now; weights = weights.now }) }
     ensures taken { OnOk result (IsRowTaken (evidence_of evidence.old) (evidence_of evidence.new) (record { atoms = atoms.now; weights = weights.now })) }
+    ensures landmarks { evidence.new.landmarks ≡ evidence.old.landmarks }
     ensures wrong { IfErr result (IsRowRefused (map table_of evidence.old.tables.items) (record { atoms = atoms.now; weights = weights.now }) number) }
     ensures weighed { OnOk result (AreWeighed evidence.old → AreWeighed evidence.new) }
 {

@@ -38,7 +38,7 @@ impl<'a, 't> PackedListing<'a, 't> {
     ghost use Rattle.packed_state.specs.PooledView.{pooled_width};
     ghost use Rattle.cert_checker.specs.FluentAtoms.{AreFluent};
     ghost use Rattle.cert_checker.specs.CheckedLines.{HasCost, IsCheapestAt, IsLeastCost, IsListedBy};
-    ghost use Rattle.cert_checker.specs.PackedListing.{task_at, certificate_at, state_at, IsPacked, IsKnownIn};
+    ghost use Rattle.cert_checker.specs.PackedListing.{task_at, certificate_at, has_basis_at, state_at, IsPacked, IsKnownIn};
     ghost use Rattle.model.specs.NumberedAtoms.{numbered_atoms};
     ghost use Rattle.certificate_definitions.specs.Certificates.{is_dead_end_by, lines_of, value_by, AreAlikeFor};
     ghost use Rattle.certificate_definitions.specs.CertificateRefusals.{IsListed};
@@ -121,6 +121,7 @@ impl<'a, 't> PackedListing<'a, 't> {
         known: &mut KnownState,
     ) -> bool
         requires state { IsPacked self.now state.now }
+        requires basis { IsTrue (has_basis_at self.now (basis_of by)) }
         requires known { IsKnownIn self.now known.old }
         ensures worth { IsTrue result ↔ (least ≤ value_by (task_at self.now) (certificate_at self.now) (basis_of by) (state_at self.now state.now)) }
         ensures known { IsKnownIn self.now known.new }
@@ -131,6 +132,7 @@ impl<'a, 't> PackedListing<'a, 't> {
     /// Whether this basis shows that the state is a dead end.
     pub(super) fn shows_dead_end(&self, by: Basis, state: &Packed, known: &mut KnownState) -> bool
         requires state { IsPacked self.now state.now }
+        requires basis { IsTrue (has_basis_at self.now (basis_of by)) }
         requires known { IsKnownIn self.now known.old }
         ensures dead { result ≡ is_dead_end_by (task_at self.now) (certificate_at self.now) (basis_of by) (state_at self.now state.now) }
         ensures known { IsKnownIn self.now known.new }

@@ -41,7 +41,7 @@ pub(super) fn fair_values<'a>(
 {
     match cert.version() {
         Version::One | Version::Two => fair_without_tables(alloc, cert, grounded),
-        Version::Three => fair_with_tables(alloc, cert, grounded),
+        Version::Three | Version::Four => fair_with_tables(alloc, cert, grounded),
     }
 }
 
@@ -67,7 +67,7 @@ fn fair_without_tables<'a>(
     Ok(functions)
 }
 
-/// The values of version 3, over tables.
+/// The values of versions 3 and 4, over tables.
 fn fair_with_tables<'a>(
     alloc: Global,
     cert: &'a Cert,
