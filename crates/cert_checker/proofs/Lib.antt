@@ -37,6 +37,7 @@ pub mod PackedLinesLemmas
 pub mod PackedListingLemmas
 pub mod ValuesLemmas
 pub mod EvidenceLemmas
+pub mod LandmarkFaultsLemmas
 pub mod MadeLemmas
 pub mod AcceptLemmas
 pub mod CheckProgressLemmas

@@ -45,7 +45,7 @@ module _ (task : Task) (atoms : List Atom) (c : Certificate) (store : PooledStor
   state = state_of_bits task atoms bits
 
   -- the state's fluent atoms have numbers, and its bits are these
-  packed_value : (f : List Bool → ℕ) → f bits ≡ in_state task (numbered_atoms task c.atoms) f state
+  pub packed_value : (f : List Bool → ℕ) → f bits ≡ in_state task (numbered_atoms task c.atoms) f state
   packed_value f =
       let there = packs task atoms c store listed in
       subst (λ those. f bits ≡ in_state task those f state) listed.numbered
@@ -66,7 +66,7 @@ module _ (task : Task) (atoms : List Atom) (c : Certificate) (store : PooledStor
   by_tables : has_tables c.version ≡ true → greatest_value (functions_of made) bits ≡ value_of task c state
   by_tables with_tables =
       greatest_alike c.tables (functions_of made) (functions_of (several_of c)) (functions_alike (several_of c) (length atoms) made have) bits
-      ∙ of_three (λ v. greatest_value (functions_of (several_of c)) bits ≡ value_in v task c state) c.version with_tables (packed_value (greatest_value (functions_of (several_of c))))
+      ∙ of_three (λ v. greatest_value (functions_of (several_of c)) bits ≡ value_in v task c state) c.version with_tables (λ p. p) (packed_value (greatest_value (functions_of (several_of c))))
 
   pub value_packed : greatest_value (functions_of made) bits ≡ value_of task c state
   value_packed =
@@ -89,7 +89,7 @@ module _ (task : Task) (atoms : List Atom) (c : Certificate) (store : PooledStor
   dead_by_tables with_tables =
       let h = dead_ends_of (several_of c) in
       ap (nat_le 1) (value_alike c.tables (dead_ends_of made) h (dead_ends_alike (several_of c) (length atoms) made have) bits)
-      ∙ of_three (λ v. nat_le 1 (value h bits) ≡ is_dead_end_in v task c state) c.version with_tables (ap (nat_le 1) (packed_value (value h)))
+      ∙ of_three (λ v. nat_le 1 (value h bits) ≡ is_dead_end_in v task c state) c.version with_tables (λ p. p) (ap (nat_le 1) (packed_value (value h)))
 
   pub dead_packed : is_dead_by (dead_ends_of made) bits ≡ is_dead_end_of task c state
   dead_packed =

@@ -1,5 +1,6 @@
 -- The worked lines.
 use Rattle.std.proofs.Common.{[], ◌∷◌, ◌++◌, refl, arith}
+use Rattle.std.specs.Fmt.{digits}
 use Rattle.std.specs.Prelude.{pos}
 use Rattle.lower_bounds.specs.PotentialExamples.{minus}
 use Rattle.certificate_definitions.specs.CertificateText.{scope, tabled, part}
@@ -7,6 +8,7 @@ use Rattle.certificate_definitions.specs.CertificateChecking.{not_of_scope, repe
 use Rattle.certificate_definitions.specs.CertificateTextExamples.{AreTextsJudged, first_lines, zeros}
 
 pub texts_judged : AreTextsJudged
+unfolding digits
 texts_judged = record {
   whole = refl;
   without_tables = refl;

@@ -7,7 +7,7 @@ use Rattle.model.specs.Claims.{Claim, bound, none}
 use Rattle.certificate_definitions.specs.Evidence.{of_all, landmark, LineMark, opened, cut, dead}
 use Rattle.landmark_functions.specs.LandmarkLines.{cut_by_text, dead_by_text}
 use Rattle.certificate_definitions.specs.Certificates.{Version, one, two, three, four, StateLine, has_basis, is_number, is_weight, is_claim, is_state_line, are_weights, has_exchanges}
-pub use Rattle.certificate_definitions.specs.Parts.{after_blank, weights_text, numbers_text, Format, TableLine, scope, row, Part, tabled, landmark_line, part_text, is_part, PartCounts, no_parts, counts_after, may_follow, has_room, are_in_order}
+pub use Rattle.certificate_definitions.specs.Parts.{longest_line, after_blank, weights_text, numbers_text, Format, TableLine, scope, row, Part, tabled, landmark_line, part_text, is_part, PartCounts, no_parts, counts_after, may_follow, has_room, are_in_order}
 use Rattle.model.specs.Resolution.{is_same}
 use Rattle.model.specs.PlanWriting.{is_lower_name}
 
@@ -97,10 +97,6 @@ most_swaps = 1048576
 
 abbrev pub most_states : ℕ
 most_states = 16777216
-
--- the maximum length of a line, in bytes without LF
-abbrev pub longest_line : ℕ
-longest_line = 16777216
 
 -- the allowed number of constants: one in version 1, two in version 2, from 2 to 33 in version 3
 abbrev pub is_weight_count : Version → ℕ → Bool

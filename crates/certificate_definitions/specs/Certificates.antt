@@ -1,5 +1,5 @@
 -- Certificates, and when they are closed for a task.
-use Rattle.std.specs.Prelude.{◌≡◌, ◌≢◌, ℕ, zero, ◌+◌, ◌==◌, ◌≤◌, Bool, true, false, ◌&&◌, ◌||◌, Option, None, Some, nat_lt, nat_le, ℤ, pos, negsuc, IsTrue, List, [], ◌∷◌, ◌++◌, map, length, get_or, All, AllPairs, slice_get}
+use Rattle.std.specs.Prelude.{◌≡◌, ◌≢◌, ℕ, zero, ◌+◌, ◌==◌, ◌≤◌, Bool, true, false, ◌&&◌, ◌||◌, Option, None, Some, nat_lt, nat_le, ℤ, pos, negsuc, IsTrue, List, [], ◌++◌, map, length, get_or, All, AllPairs, slice_get}
 use Rattle.std.specs.List.{list_all, filter_map, flat_map}
 use Rattle.std.specs.FinSet.{from_list}
 use Rattle.model.specs.Task.{Atom, Task}

@@ -52,6 +52,10 @@ most_rows = 4194304
 
 -- ---- parts
 
+-- the maximum length of a line, in bytes without LF
+abbrev pub longest_line : ℕ
+longest_line = 16777216
+
 -- a part, by its kind
 pub data Part : Type 0 where
   tabled : TableLine → Part
@@ -62,11 +66,11 @@ abbrev pub part_text : Part → List ℕ
 part_text (tabled t) = table_line_text t
 part_text (landmark_line l) = line_text l
 
--- The part by itself is within the limits, in a text of this format.
+-- The part by itself is within the limits, in a text of this format. Of a landmark value, whose line may be long, that is one of them.
 abbrev pub is_part : Format → Part → Bool
 is_part f (tabled t) = has_tables f.version && is_table_line f t
 is_part f (landmark_line (zone z)) = has_landmarks f.version && is_zone f.atoms z
-is_part f (landmark_line (value shares)) = has_landmarks f.version && is_value most_zones shares
+is_part f (landmark_line (value shares)) = has_landmarks f.version && is_value most_zones shares && nat_le (length (line_text (value shares))) longest_line
 
 -- the numbers of parts so far, and of the literals of all zones and the shares of all landmark values
 pub record PartCounts : Type 0 where

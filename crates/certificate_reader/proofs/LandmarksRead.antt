@@ -1,5 +1,5 @@
 -- The lines of zones and landmark values, by what follows their first word.
-use Rattle.std.proofs.Common.{◌≡◌, ◌≢◌, ℕ, ◌+◌, ◌<◌, ◌≤◌, true, false, not, List, [], ◌∷◌, ◌++◌, codes, map, length, Option, None, Some, refl, sym, ap, ◌∙◌, arith}
+use Rattle.std.proofs.Common.{◌≡◌, ◌≢◌, ℕ, ◌+◌, ◌<◌, ◌≤◌, true, false, not, List, [], ◌∷◌, ◌++◌, codes, map, length, Option, None, Some, refl, sym, ap, subst, ◌∙◌, arith}
 use Rattle.std.specs.Prelude.{◌&&◌, Err, IfNone, IfOk, IfSome, IsTrue, Ok, Result, is_some, nat_le, nat_lt}
 use Rattle.std.specs.Borrow.{Bor}
 use Rattle.std.specs.Fmt.{decimal}
@@ -10,15 +10,20 @@ use Rattle.std.proofs.lemmas.Bool.{and_parts, leb-true, le-leb, ltb-true, lt-ltb
 use Rattle.std.proofs.lemmas.Str.Parse.{tells_digits}
 use Rattle.lower_bounds.specs.TableFunctions.{is_among}
 use Rattle.landmark_functions.specs.LandmarkFunctions.{Zone}
-use Rattle.landmark_functions.specs.LandmarkLines.{Share, zone, value, is_zone, is_share, is_value, most_zones}
+use Rattle.landmark_functions.specs.LandmarkLines.{Share, zone, value, is_zone, is_share, is_value, line_text, most_zones}
 use Rattle.certificate_definitions.specs.Certificates.{has_landmarks, is_number, rise}
-use Rattle.certificate_definitions.specs.CertificateText.{scope, row, tabled, landmark_line, Part, Format, most_atoms}
+use Rattle.certificate_definitions.specs.CertificateText.{scope, row, tabled, landmark_line, Part, Format, is_part, longest_line, most_atoms, part}
 use Rattle.certificate_reader.specs.Words.{AreLeading, IsFirstWord, IsPartReadAs, IsShareFirst, may_be_share, numbers_then, shares_then, text_in, then_negated, then_numbers, then_words, with_rest}
 use Rattle.certificate_reader.proofs.NumberLemmas.{numbers_are_digits}
 use Rattle.certificate_reader.proofs.WordLemmas.{one_first}
-use Rattle.certificate_reader.proofs.LineLemmas.{number_is_word, some_same}
+use Rattle.certificate_reader.proofs.LineLemmas.{line_splits, number_is_word, some_same}
 use Rattle.certificate_reader.proofs.NumbersRead.{bytes_left, few_are_numbers, fewer_left, one_leading_numbers, one_then_numbers, rise_parts, same_number}
 use Rattle.certificate_reader.proofs.LinesRead.{unlike}
+
+-- a landmark value of a text is one of a version that has them
+pub value_within : (f : Format) (shares : List Share) → IsTrue (is_part f (landmark_line (value shares))) → (has_landmarks f.version ≡ true) × (is_value most_zones shares ≡ true)
+value_within f shares is =
+    and_parts (has_landmarks f.version) (is_value most_zones shares) (and_parts (has_landmarks f.version && is_value most_zones shares) (nat_le (length (line_text (value shares))) longest_line) is).0
 
 -- ---- zones
 
@@ -129,7 +134,7 @@ module _ (rest : List ℕ) (f : Format) where
   no_zones none = only_zone (λ z read. absurd (cc (sym none ∙ (and_parts (has_landmarks f.version) (is_zone f.atoms z) read.within).0)))
 
   pub no_marks : has_landmarks f.version ≡ false → (p : Part) → IsPartReadAs (codes "marks") rest f p → ⊥
-  no_marks none = only_marks (λ shares read. absurd (cc (sym none ∙ (and_parts (has_landmarks f.version) (is_value most_zones shares) read.within).0)))
+  no_marks none = only_marks (λ shares read. absurd (cc (sym none ∙ (value_within f shares read.within).0)))
 
   module _ (few : f.atoms ≤ most_atoms) (atoms : List ℕ) (left : Option (List ℕ)) (are : AreLeading (Some rest) f.atoms atoms left) where
     zone_is : (z : Zone) → IsPartReadAs (codes "zone") rest f (landmark_line (zone z)) → IsTrue (is_zone f.atoms z) × (atoms ≡ z.atoms) × (left ≡ then_negated z.negated)
@@ -287,13 +292,16 @@ one_value a b a_is b_is same = same_shares a b (value_may_be a a_is) (value_may_
 module _ (rest : List ℕ) (f : Format) where
   pub no_shares_in_marks : ((shares : List Share) → IsTrue (list_all may_be_share shares) → shares_then shares None ≢ Some rest) → (p : Part) → IsPartReadAs (codes "marks") rest f p → ⊥
   no_shares_in_marks never = only_marks rest f (λ shares read.
-      never shares (value_may_be shares (and_parts (has_landmarks f.version) (is_value most_zones shares) read.within).1) read.following)
+      never shares (value_may_be shares (value_within f shares read.within).1) read.following)
 
   pub no_value : (own : List Share) → IsTrue (list_all may_be_share own) → shares_then own None ≡ Some rest → is_value most_zones own ≡ false → (p : Part) → IsPartReadAs (codes "marks") rest f p → ⊥
   no_value own may splits other = only_marks rest f (λ shares read.
-      let is = (and_parts (has_landmarks f.version) (is_value most_zones shares) read.within).1 in
+      let is = (value_within f shares read.within).1 in
       absurd (cc (sym other ∙ ap (is_value most_zones) (same_shares own shares may (value_may_be shares is) (splits ∙ sym read.following)) ∙ is)))
 
-  pub marks_are_read : has_landmarks f.version ≡ true → (shares : List Share) → shares_then shares None ≡ Some rest → is_value most_zones shares ≡ true
+  pub marks_are_read : has_landmarks f.version ≡ true → (shares : List Share) → shares_then shares None ≡ Some rest → is_value most_zones shares ≡ true → length (with_rest (codes "marks") (Some rest)) ≤ longest_line
       → IsPartReadAs (codes "marks") rest f (landmark_line (value shares))
-  marks_are_read has shares splits is = record { head = refl; following = splits; within = (λ i. has i && is i) }
+  marks_are_read has shares splits is short =
+      let text : line_text (value shares) ≡ with_rest (codes "marks") (Some rest) = line_splits (part (landmark_line (value shares))) ∙ ap (with_rest (codes "marks")) splits in
+      let fits : nat_le (length (line_text (value shares))) longest_line ≡ true = le-leb (length (line_text (value shares))) longest_line (subst (λ text. length text ≤ longest_line) (sym text) short) in
+      record { head = refl; following = splits; within = (λ i. has i && is i && fits i) }

@@ -18,7 +18,7 @@ use Rattle.certificate_reader.proofs.LineLemmas.{all_words, head_is_word, line_s
 use Rattle.certificate_reader.proofs.WeightsRead.{leading_alone, one_leading}
 use Rattle.certificate_reader.proofs.NumbersRead.{numbers_are_words, one_then_numbers, rising_are_numbers, same_number, same_numbers, version_is_number}
 use Rattle.certificate_reader.proofs.NamesRead.{names_are_words}
-use Rattle.certificate_reader.proofs.LandmarksRead.{one_value, one_zone}
+use Rattle.certificate_reader.proofs.LandmarksRead.{one_value, one_zone, value_within}
 use Rattle.certificate_reader.proofs.LinesRead.{is_no_part, cut_by_of, cut_of, dead_by_of, few_constants, marks_cut, marks_cut_by, marks_dead, marks_dead_by, marks_open, one_basis, same_weights, dead_parts, open_parts, atom_text, inner_of, is_no_mark, same_inner, unlike}
 
 -- ---- claims
@@ -150,7 +150,7 @@ one_part f few (landmark_line (value a)) (tabled (scope t)) h g heads rests = ab
 one_part f few (landmark_line (value a)) (tabled (row r)) h g heads rests = absurd (unlike (codes "marks") (codes "row") refl heads)
 one_part f few (landmark_line (value a)) (landmark_line (zone z)) h g heads rests = absurd (unlike (codes "marks") (codes "zone") refl heads)
 one_part f few (landmark_line (value a)) (landmark_line (value b)) h g heads rests =
-    ap (λ shares. landmark_line (value shares)) (one_value a b (and_parts (has_landmarks f.version) (is_value most_zones a) h).1 (and_parts (has_landmarks f.version) (is_value most_zones b) g).1 rests)
+    ap (λ shares. landmark_line (value shares)) (one_value a b (value_within f a h).1 (value_within f b g).1 rests)
 
 part_is_no_mark : (p : Part) (mark : LineMark) → part_head p ≡ mark_head mark → ⊥
 part_is_no_mark (tabled (scope s)) mark heads = is_no_mark (codes "table") refl mark (sym heads)

@@ -26,7 +26,7 @@ use Rattle.certificate_reader.proofs.NumberLemmas.{is_below}
 use Rattle.certificate_reader.proofs.NumbersRead.{few_are_numbers, rise_parts}
 use Rattle.certificate_reader.proofs.WordLemmas.{same_head, same_tail}
 use Rattle.certificate_reader.specs.Stages.{IsWithin}
-use Rattle.certificate_reader.proofs.LandmarksRead.{share_numbers, value_may_be, zone_rises}
+use Rattle.certificate_reader.proofs.LandmarksRead.{share_numbers, value_may_be, value_within, zone_rises}
 use Rattle.certificate_reader.proofs.LinesRead.{dead_by_allowed, is_small}
 use Rattle.certificate_reader.proofs.OneLine.{one_line}
 use Rattle.certificate_reader.proofs.PlaceRead.{few_atoms, leads_line}
@@ -158,7 +158,7 @@ part_in_one f few (landmark_line (zone z)) is =
     both (codes "zone") (landmarks.numbers_text z.atoms ++ negated_text z.negated) refl
     (both (landmarks.numbers_text z.atoms) (negated_text z.negated) (numbers_in_one f.atoms 0 z.atoms few rises) (negated_in_one f.atoms z.negated few negated))
 part_in_one f few (landmark_line (value shares)) is =
-    both (codes "marks") (flat_map share_text shares) refl (shares_in_one shares (value_may_be shares (and_parts (has_landmarks f.version) (is_value most_zones shares) is).1))
+    both (codes "marks") (flat_map share_text shares) refl (shares_in_one shares (value_may_be shares (value_within f shares is).1))
 
 pub line_in_one : (f : Format) → f.atoms ≤ most_atoms → (line : TextLine) → IsTrue (is_line f line) → is_one_line (line_text line) ≡ true
 line_in_one f few (version w) is = version_in_one w

@@ -22,6 +22,7 @@ use Rattle.certificate_reader.specs.declared.fault.NextFault.TheVariants.{Text, 
 use Rattle.certificate_reader.specs.declared.fault.TextFault.TheVariants as fault
 use Rattle.certificate_reader.specs.Parsing.{IsParsed, IsParsedAfter}
 use Rattle.certificate_reader.specs.Words.{IsFirstWord, IsReadAs, atom_rest, numbers_then, shares_then, then_negated, then_numbers, then_weights, then_words, line_head, line_rest, part_rest, text_in, with_rest}
+use Rattle.certificate_reader.proofs.LandmarksRead.{value_within}
 use Rattle.certificate_reader.proofs.WordLemmas.{one_first}
 use Rattle.certificate_reader.proofs.LineLemmas.{head_is_word, line_splits, some_same}
 use Rattle.certificate_reader.proofs.LinesRead.{is_no_mark, is_no_part, no_atom, unlike}
@@ -141,7 +142,7 @@ part_has_rest f some (landmark_line (zone z)) is none =
     let literals = (and_parts (rise f.atoms 0 z.atoms && rise f.atoms 0 z.negated) (nat_le 1 (length z.atoms + length z.negated)) (and_parts (rise f.atoms 0 z.atoms && rise f.atoms 0 z.negated && nat_le 1 (length z.atoms + length z.negated)) (list_all (λ number. not (is_among z.atoms number)) z.negated) (and_parts (has_landmarks f.version) (is_zone f.atoms z) is).1).0).1 in
     some_literals z.atoms z.negated (leb-true 1 (length z.atoms + length z.negated) literals) none
 part_has_rest f some (landmark_line (value shares)) is none =
-    let front = (and_parts (rise most_zones 0 (map (λ (s : Share). s.zone) shares) && nat_le 1 (length shares)) (list_all is_share shares) (and_parts (has_landmarks f.version) (is_value most_zones shares) is).1).0 in
+    let front = (and_parts (rise most_zones 0 (map (λ (s : Share). s.zone) shares) && nat_le 1 (length shares)) (list_all is_share shares) (value_within f shares is).1).0 in
     some_shares shares (leb-true 1 (length shares) (and_parts (rise most_zones 0 (map (λ (s : Share). s.zone) shares)) (nat_le 1 (length shares)) front).1) none
 
 -- each line has another word after its first one

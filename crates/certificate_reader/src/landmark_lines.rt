@@ -1,13 +1,13 @@
 //! Parsers for the lines of landmark values: zones, and values over them.
-ghost use Rattle.std.specs.Prelude.{◌≡◌, ◌≢◌, ℕ, ◌≤◌, codes, IfNone, IfOk, IfSome, IsTrue, List, None, Option, Some, map};
+ghost use Rattle.std.specs.Prelude.{◌≡◌, ◌≢◌, ℕ, ◌≤◌, codes, IfNone, IfOk, IfSome, IsTrue, List, None, Option, Some, length, map};
 ghost use Rattle.std.specs.List.{list_all};
 ghost use Rattle.landmark_functions.specs.LandmarkLines as lines;
 ghost use Rattle.landmark_zones.specs.Landmarks.{share_of};
 ghost use Rattle.certificate_definitions.specs.Certificates.{rise};
-ghost use Rattle.certificate_definitions.specs.CertificateText.{most_atoms};
+ghost use Rattle.certificate_definitions.specs.CertificateText.{longest_line, most_atoms};
 ghost use Rattle.certificate_reader.specs.Parts.{IsPartParsed};
 ghost use Rattle.certificate_reader.specs.Stages.{format_of};
-ghost use Rattle.certificate_reader.specs.Words.{IsShareFirst, may_be_share, shares_then, text_in, then_negated};
+ghost use Rattle.certificate_reader.specs.Words.{IsShareFirst, may_be_share, shares_then, text_in, then_negated, with_rest};
 
 use crate::fault::{NextFault, TextFault};
 use crate::first_word::{first_word, is};
@@ -64,6 +64,7 @@ fn negated(
 
 /// Parses a landmark value from what follows `marks`. Which zones there are is not known here.
 pub(crate) fn marks_line(alloc: Global, rest: &[u8], format: Format) -> Result<PartLine, NextFault>
+    requires short { length (with_rest (codes "marks") (Some rest.now)) ≤ longest_line }
     ensures { IsPartParsed (codes "marks") rest.now (format_of format) result }
 {
     if !has_landmarks(format.version) {

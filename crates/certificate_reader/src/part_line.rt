@@ -1,14 +1,15 @@
 //! The parts of a certificate's text: the lines between its atoms and its states, which give what state lines rest on. Each kind
 //! of evidence has its variants here.
-ghost use Rattle.std.specs.Prelude.{◌≡◌, ◌==◌, ◌≤◌, ◌+◌, ℕ, codes, IsTrue, List, length, map};
+ghost use Rattle.std.specs.Prelude.{◌≡◌, ◌==◌, ◌≤◌, ◌+◌, ℕ, codes, IsTrue, List, Some, length, map};
 ghost use Rattle.lower_bounds.specs.TableFunctions.{Row};
 ghost use Rattle.landmark_functions.specs.LandmarkFunctions.{Zone};
 ghost use Rattle.landmark_functions.specs.LandmarkLines.{zone, value};
 ghost use Rattle.landmark_zones.specs.Landmarks.{share_of};
-ghost use Rattle.certificate_definitions.specs.CertificateText.{most_atoms};
+ghost use Rattle.certificate_definitions.specs.CertificateText.{longest_line, most_atoms};
 ghost use Rattle.certificate_definitions.specs.Parts.{are_few, how_many, landmark_line, no_parts, row, scope, tabled};
 ghost use Rattle.certificate_reader.specs.Parts.{IsCounted, IsPartParsed, counts_of, part_of};
 ghost use Rattle.certificate_reader.specs.Stages.{format_of};
+ghost use Rattle.certificate_reader.specs.Words.{with_rest};
 
 use crate::fault::{NextFault, TextFault};
 use crate::first_word::is;
@@ -180,6 +181,7 @@ pub(crate) fn parse_part(
     format: Format,
 ) -> Result<PartLine, NextFault>
     requires few { format.atoms ≤ most_atoms }
+    requires short { length (with_rest word.now (Some rest.now)) ≤ longest_line }
     ensures { IsPartParsed word.now rest.now (format_of format) result }
 {
     if is(word, b"row") {

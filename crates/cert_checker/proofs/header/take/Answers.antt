@@ -10,6 +10,8 @@ use Rattle.symmetries_definitions.specs.Exchanges.{Exchange}
 use Rattle.certificate_definitions.specs.CertificateNames.{exchange_said}
 use Rattle.model.specs.Task.{Task}
 use Rattle.lower_bounds.specs.TableFunctions.{SeveralValues}
+use Rattle.landmark_zones.specs.Landmarks.{landmarks_of}
+use Rattle.landmark_zones.specs.declared.landmarks.Landmarks.{Landmarks}
 use Rattle.certificate.specs.declared.evidence.Evidence.{Evidence}
 use Rattle.certificate.specs.declared.header.Header.{Header}
 use Rattle.certificate.specs.CertificateParts.{exchange_in}
@@ -32,12 +34,22 @@ returns-in-Claim-clause-taken c =
 
 -- together with the constants the lines have given this evidence
 constants_taken : (task : Task) (header : Header) (constants given : List ℤ) (after : Evidence) → given ≡ constants → evidence_of after ≡ begun_with (version_of header.version) given (evidence_of header.evidence)
+    → after.landmarks ≡ header.evidence.landmarks
     → (before : List TextLine) → BeginCertificate (before ++ constant constants ∷ []) → HasTaken task before header
     → HasTaken task (before ++ constant constants ∷ []) (record { version = header.version; claim = header.claim; exchanges = header.exchanges; atoms = header.atoms; evidence = after })
-constants_taken task header constants given after same evidence_is before begun reported =
-    let heading : SeveralValues → Heading = λ evidence. record { version = version_of header.version; claim = claim_of header.claim; exchanges = map exchange_in header.exchanges.items; atoms = map atom_of header.atoms.keys; evidence = evidence } in
-    subst (λ evidence. HaveGiven task (before ++ constant constants ∷ []) (heading evidence)) (sym (evidence_is ∙ ap (λ k. begun_with (version_of header.version) k (evidence_of header.evidence)) same))
-    (reported_constant task before (heading_of header) reported constants begun)
+constants_taken task header constants given after same evidence_is landmarks_are before begun reported =
+    let heading : SeveralValues → Landmarks → Heading =
+    λ evidence landmarks. record {
+      version = version_of header.version;
+      claim = claim_of header.claim;
+      exchanges = map exchange_in header.exchanges.items;
+      atoms = map atom_of header.atoms.keys;
+      evidence = evidence;
+      landmarks = landmarks_of landmarks;
+    } in
+    subst (λ landmarks. HaveGiven task (before ++ constant constants ∷ []) (heading (evidence_of after) landmarks)) (sym landmarks_are)
+    (subst (λ evidence. HaveGiven task (before ++ constant constants ∷ []) (heading evidence header.evidence.landmarks)) (sym (evidence_is ∙ ap (λ k. begun_with (version_of header.version) k (evidence_of header.evidence)) same))
+    (reported_constant task before (heading_of header) reported constants begun))
 
 pub returns-in_ok-take_constants-in-Constant-clause-taken : goal.returns-in_ok-take_constants-in-Constant-clause-taken
 returns-in_ok-take_constants-in-Constant-clause-taken c =
@@ -47,7 +59,7 @@ returns-in_ok-take_constants-in-Constant-clause-taken c =
     subst (λ line. (before : List TextLine) → BeginCertificate (before ++ text_line_of line ∷ []) → HasTaken task before header
     → IsTaken task before (text_line_of line) (record { version = header.version; claim = header.claim; exchanges = header.exchanges; atoms = header.atoms; evidence = after }) None)
     (sym c.in-Constant.is) (λ before begun reported. (
-      constants_taken task header c.in-Constant.constants.items c.deref.result.now after c.deref.ensures.value c.in_ok-take_constants-in-Constant.ensures before begun reported,
+      constants_taken task header c.in-Constant.constants.items c.deref.result.now after c.deref.ensures.value c.in_ok-take_constants-in-Constant.ensures.taken c.take_constants.ensures.landmarks before begun reported,
       refl,
     ))
 
@@ -58,7 +70,7 @@ returns-in_ok-take_exchange-in-Swap-clause-taken c =
     let old : List Exchange = map exchange_in header.exchanges.items in
     let names : List (List ℕ) = map name_of c.in-Swap.objects.items in
     let heading : List Exchange → Heading =
-    λ exchanges. record { version = version_of header.version; claim = claim_of header.claim; exchanges = exchanges; atoms = map atom_of header.atoms.keys; evidence = evidence_of header.evidence } in
+    λ exchanges. record { version = version_of header.version; claim = claim_of header.claim; exchanges = exchanges; atoms = map atom_of header.atoms.keys; evidence = evidence_of header.evidence; landmarks = landmarks_of header.evidence.landmarks } in
     subst (λ line. (before : List TextLine) → BeginCertificate (before ++ text_line_of line ∷ []) → HasTaken task before header
     → IsTaken task before (text_line_of line) (record { version = header.version; claim = header.claim; exchanges = c.take_exchange.new.exchanges; atoms = header.atoms; evidence = header.evidence }) None)
     (sym c.in-Swap.is) (λ before begun reported. (
@@ -112,7 +124,7 @@ returns-in_ok-take_part-in-Part-clause-taken c =
     let after = c.take_part.new.evidence in
     subst (λ line. (before : List TextLine) → BeginCertificate (before ++ text_line_of line ∷ []) → HasTaken task before header
     → IsTaken task before (text_line_of line) (record { version = header.version; claim = header.claim; exchanges = header.exchanges; atoms = header.atoms; evidence = after }) None)
-    (sym c.in-Part.is) (λ before begun reported. (reported_part task before (heading_of header) reported (part_of c.in-Part.part) (evidence_of after) c.in_ok-take_part-in-Part.ensures.taken, refl))
+    (sym c.in-Part.is) (λ before begun reported. (reported_part task before header reported (part_of c.in-Part.part) after c.in_ok-take_part-in-Part.ensures.taken, refl))
 
 pub returns-in_ok-take_part-in-Part-clause-weighed : goal.returns-in_ok-take_part-in-Part-clause-weighed
 returns-in_ok-take_part-in-Part-clause-weighed c = λ before begun reported weighed. c.in_ok-take_part-in-Part.ensures.weighed weighed
@@ -141,7 +153,7 @@ returns-in_ok-take_constants-in-Constant-clause-weighed c =
     subst (λ line. (before : List TextLine) → BeginCertificate (before ++ text_line_of line ∷ []) → HasTaken task before header → AreWeighed header.evidence → AreWeighed after)
     (sym c.in-Constant.is) (λ before begun reported weighed.
     weighed_early task before (constant constants) (record { version = header.version; claim = header.claim; exchanges = header.exchanges; atoms = header.atoms; evidence = after }) refl begun
-    (constants_taken task header constants c.deref.result.now after c.deref.ensures.value c.in_ok-take_constants-in-Constant.ensures before begun reported))
+    (constants_taken task header constants c.deref.result.now after c.deref.ensures.value c.in_ok-take_constants-in-Constant.ensures.taken c.take_constants.ensures.landmarks before begun reported))
 
 pub returns-in_ok-add_atom-in-Weight-clause-weighed : goal.returns-in_ok-add_atom-in-Weight-clause-weighed
 returns-in_ok-add_atom-in-Weight-clause-weighed c =

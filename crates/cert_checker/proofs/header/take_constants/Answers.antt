@@ -27,4 +27,5 @@ loop-place-preserved c =
           ∙ ap (λ n. before ++ map (value_given constants []) (range_with_len 0 n)) next;
       dead_ends = c.loop-place.invariant.dead_ends;
       tables = c.loop-place.invariant.tables;
+      landmarks = c.loop-place.invariant.landmarks;
     }

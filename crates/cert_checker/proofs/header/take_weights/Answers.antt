@@ -39,10 +39,11 @@ loop-place-preserved c =
           ∙ ap (λ n. pushed_to 0 n weights (map potential_of before)) next;
       dead_ends = c.loop-place.invariant.dead_ends;
       tables = c.loop-place.invariant.tables;
+      landmarks = c.loop-place.invariant.landmarks;
     }
 
-pub returns : goal.returns
-returns c =
+pub returns-clause-taken : goal.returns-clause-taken
+returns-clause-taken c =
     let before = c.args.evidence.now.values.items in
     let weights = c.args.weights.now in
     let place = c.loop-place.place in

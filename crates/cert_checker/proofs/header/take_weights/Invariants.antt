@@ -8,4 +8,5 @@ invariant-loop-place l = record {
   values : map potential_of l.evidence.values.items ≡ pushed_to 0 l.place l.weights (map potential_of l.initial.evidence.values.items);
   dead_ends : l.evidence.dead_ends ≡ l.initial.evidence.dead_ends;
   tables : l.evidence.tables ≡ l.initial.evidence.tables;
+  landmarks : l.evidence.landmarks ≡ l.initial.evidence.landmarks;
 }

@@ -19,4 +19,4 @@ pub returns : goal.returns
 returns c =
     let (_, splits) = rw c.in-Some.is at c.in_ok-shares.ensures.some in
     marks_are_read c.args.rest.now (format_of c.args.format) (sym c.has_landmarks.ensures ∙ c.if-not-has_landmarks.false) (map share_of c.in-Some.shares.items) splits
-    (search rules)
+    (search rules) c.requires.short

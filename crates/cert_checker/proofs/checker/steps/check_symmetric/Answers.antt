@@ -8,7 +8,7 @@ use Rattle.model.specs.Task.{Task}
 use Rattle.model.specs.NumberedAtoms.{numbered_atoms}
 use Rattle.symmetries_definitions.specs.Orbits.{keeps_atoms}
 use Rattle.symmetries.specs.Exchange.{exchange_of}
-use Rattle.certificate_definitions.specs.Certificates.{Certificate, AreFairFor}
+use Rattle.certificate_definitions.specs.Certificates.{Certificate, AreFairFor, AreLandmarksFair}
 use Rattle.cert_checker.specs.CheckedLines.{IsFirstGrounded, IsRightGrounded, IsTrueAnyway}
 use Rattle.cert_checker.specs.PackedListing.{task_at, certificate_at}
 use Rattle.cert_checker.proofs.SymmetriesLemmas.{all_keep_atoms}
@@ -34,8 +34,9 @@ returns-in_err-evidence-clause-first c =
 pub check_packed-requires : goal.check_packed-requires
 check_packed-requires c =
     let packed = c.new-packed.result in
-    along AreFairFor (task_in c.args.grounded.now) (task_at packed) (certificate_of c.args.cert.now) (certificate_at packed)
-    (sym c.new-packed.ensures.same.0) (sym c.new-packed.ensures.same.1) c.in_ok-evidence.ensures.fair
+    let there : (P : Task → Certificate → Type 0) → P (task_in c.args.grounded.now) (certificate_of c.args.cert.now) → P (task_at packed) (certificate_at packed)
+    = λ P. along P (task_in c.args.grounded.now) (task_at packed) (certificate_of c.args.cert.now) (certificate_at packed) (sym c.new-packed.ensures.same.0) (sym c.new-packed.ensures.same.1) in
+    record { fair = there AreFairFor c.in_ok-evidence.ensures.fair; landmarks = there AreLandmarksFair c.in_ok-evidence.ensures.landmarks }
 
 pub returns-clause-right : goal.returns-clause-right
 returns-clause-right c =
