@@ -312,8 +312,7 @@ module _ (task : Task) (claim : Claim) (most : ℕ) (exchanges : List Exchange) 
           (all_pass states nodes found_width small_value (λ k node at. omega (arith, found.cheap k node at, found.within_limit, few))) in
           let limits = limits_of (version_by guidance) (length atoms) (values_by guidance) written.within_limits in
           let few_enough = le-leb (length exchanges) 1048576 few_exchanges in
-          let within = λ i. (((((((listed i && limits.value_count i) && limits.values i) && limits.dead_ends i) && limits.tables i) && limits.few_tables i) && limits.few_rows i) && exchanges_written i) && few_enough i in
-          λ i. (within i && limits.landmarks i) && have_bases 0 lines i
+          λ i. (((((((((listed i && limits.value_count i) && limits.values i) && limits.dead_ends i) && limits.tables i) && limits.few_tables i) && limits.few_rows i) && exchanges_written i) && few_enough i) && limits.landmarks i) && have_bases 0 lines i
         where
           all_pass : (ss : List (List Bool)) (ns : List Node) → ((k : ℕ) (bits : List Bool) → slice_get ss k ≡ Some bits → length bits ≡ length atoms)
               → ((k : ℕ) (bits : List Bool) → slice_get ss k ≡ Some bits → estimate_by guidance bits ≤ most_value)
