@@ -6,7 +6,7 @@
 ghost use Rattle.std.specs.Prelude.{◌≡◌, ◌==◌, ◌≤◌, [], IfOk, IfSome, IsTrue, Some, length, map, slice_get};
 ghost use Rattle.std.specs.List.{list_all};
 ghost use Rattle.certificate.specs.Evidence.{is_evidence, evidence_of, potential_of};
-ghost use Rattle.certificate_definitions.specs.Certificates.{three};
+ghost use Rattle.certificate_definitions.specs.Certificates.{no_landmarks, three};
 ghost use Rattle.grounding.specs.Ground.{task_in, atoms_in, IsGroundOf};
 ghost use Rattle.model.specs.Grounding.{ground_system};
 ghost use Rattle.ground_listings.specs.GroundListing.{listed_width};
@@ -34,7 +34,7 @@ use crate::guidance::{Guidance, potential_of};
 use crate::searched::{Ending, search_by};
 use crate::setting::Setting;
 use crate::stopped::Stopped;
-use certificate::{Evidence, Potential, Version};
+use certificate::{Evidence, Landmarks, Potential, Version};
 use cost_partitioning::{DraftedTables, Wanted, drafted_tables};
 use devices::Sink;
 use devices_clock::Clock;
@@ -95,6 +95,7 @@ pub(crate) fn solve_by_tables<E: Sink + Clock>(
         values: written(alloc, &values)?,
         dead_ends: potential_of(alloc, &dead_ends)?,
         tables,
+        landmarks: Landmarks::none(alloc),
     };
     if !evidence.keep_limits(Version::Three, space.ground().width() as usize) {
         return Ok(Attempt::InVain);
@@ -150,7 +151,7 @@ fn answer_by_tables<E: Sink + Clock>(
 ) -> Result<Attempt<Answer>, NoMemory>
     requires space { IsSearchSpace setting.space }
     requires ground { IsGroundOf (task_in (ground_in setting.space)) [] setting.limits.instances (ground_in setting.space) }
-    requires within_limits { IsTrue (is_evidence three (length (atoms_in (ground_in setting.space))) (evidence_of draft.evidence)) }
+    requires within_limits { IsTrue (is_evidence three (length (atoms_in (ground_in setting.space))) (evidence_of draft.evidence) no_landmarks) }
     requires values { map potentials_of draft.values.items ≡ (evidence_of draft.evidence).values }
     requires dead_ends { potentials_of draft.dead_ends ≡ (evidence_of draft.evidence).dead_ends }
     requires first { first_value (by_tables (evidence_of draft.evidence)) ≡ potentials_of stopped.now.potentials.now }
@@ -193,7 +194,7 @@ fn search_by_tables<'l, 't, E: Sink + Clock>(
     err: &mut E,
 ) -> Result<Attempt<Ending<'l, 't>>, NoMemory>
     requires space { IsSearchSpace setting.space }
-    requires within_limits { IsTrue (is_evidence three (length (atoms_in (ground_in setting.space))) (evidence_of over.evidence.now)) }
+    requires within_limits { IsTrue (is_evidence three (length (atoms_in (ground_in setting.space))) (evidence_of over.evidence.now) no_landmarks) }
     requires values { map potentials_of over.values.items ≡ (evidence_of over.evidence.now).values }
     requires dead_ends { potentials_of over.dead_ends ≡ (evidence_of over.evidence.now).dead_ends }
     requires stopped { IsStopped stopped.now.listing.now stopped.now.nodes.now }
@@ -281,7 +282,7 @@ fn functions_over<'a>(
     values: Vec<Potentials>,
     dead_ends: Potentials,
 ) -> Result<Option<TableFunctions<'a>>, NoMemory>
-    requires within_limits { IsTrue (is_evidence three (length (atoms_in ground.now)) (several_over values.items dead_ends tables.now)) }
+    requires within_limits { IsTrue (is_evidence three (length (atoms_in ground.now)) (several_over values.items dead_ends tables.now) no_landmarks) }
     ensures { IfOk result (λ o. IfSome o (λ f. several_of f ≡ several_over values.items dead_ends tables.now)) }
 {
     let count = values.len() as u32 + 1;

@@ -1,12 +1,14 @@
 //! The values that guide a search, as its certificate has them.
 ghost use Rattle.std.specs.Prelude.{◌≡◌, IfOk};
 ghost use Rattle.certificate.specs.Evidence as parts;
+ghost use Rattle.certificate_definitions.specs.Certificates.{no_landmarks};
 ghost use Rattle.certificate_reader.specs.Lines.{version_of};
+ghost use Rattle.landmark_zones.specs.Landmarks.{landmarks_of};
 ghost use Rattle.potentials_improved.specs.Potentials.{potentials_of};
 ghost use Rattle.solver.specs.Guidance as guidance;
 ghost use Rattle.solver.specs.Written.{guidance_of, by_potentials_of};
 
-use certificate::{Evidence, Potential, Version};
+use certificate::{Evidence, Landmarks, Potential, Version};
 use faults::NoMemory;
 use ground_listings::SearchSpace;
 use potentials_improved::Potentials;
@@ -37,13 +39,18 @@ impl Guidance {
         }
     }
 
-    /// The values and tables of the certificate.
+    /// The evidence of the certificate: the values and tables. It has no landmark values, since each line rests on the values of
+    /// all states.
     pub(crate) fn into_evidence(self, alloc: Global) -> Result<Evidence, NoMemory>
-        ensures { IfOk result (λ evidence. parts.evidence_of evidence ≡ guidance.values_by (guidance_of self)) }
+        ensures values { IfOk result (λ evidence. parts.evidence_of evidence ≡ guidance.values_by (guidance_of self)) }
+        ensures landmarks { IfOk result (λ evidence. landmarks_of evidence.landmarks ≡ no_landmarks) }
     {
         match self {
             Guidance::Potentials { value, dead_ends } => evidence_of(alloc, value, dead_ends),
-            Guidance::Tables(evidence) => Ok(evidence),
+            Guidance::Tables(evidence) => Ok(Evidence {
+                landmarks: Landmarks::none(alloc),
+                ..evidence
+            }),
         }
     }
 }
@@ -68,9 +75,10 @@ pub(crate) fn guidance_by(
     }
 }
 
-/// One value, one for dead ends, and no tables.
+/// One value, one for dead ends, and neither tables nor landmark values.
 fn evidence_of(alloc: Global, value: Potential, dead_ends: Potential) -> Result<Evidence, NoMemory>
-    ensures { IfOk result (λ evidence. parts.evidence_of evidence ≡ guidance.values_by (guidance.by_potentials (parts.potential_of value) (parts.potential_of dead_ends))) }
+    ensures values { IfOk result (λ evidence. parts.evidence_of evidence ≡ guidance.values_by (guidance.by_potentials (parts.potential_of value) (parts.potential_of dead_ends))) }
+    ensures landmarks { IfOk result (λ evidence. landmarks_of evidence.landmarks ≡ no_landmarks) }
 {
     let mut values = Vec::new(alloc);
     values.push(value)?;
@@ -78,6 +86,7 @@ fn evidence_of(alloc: Global, value: Potential, dead_ends: Potential) -> Result<
         values,
         dead_ends,
         tables: Vec::new(alloc),
+        landmarks: Landmarks::none(alloc),
     })
 }
 

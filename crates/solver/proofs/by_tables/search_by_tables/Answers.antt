@@ -1,7 +1,7 @@
 use Rattle.std.proofs.Common.{◌≡◌, ◌∙◌, ◌≤◌, length, map, Option, Result, Ok, Err, sym, ap, subst}
 use Rattle.std.specs.Prelude.{IfOk, IfSome, IsTrue}
 use Rattle.certificate.specs.Evidence.{is_evidence, evidence_of}
-use Rattle.certificate_definitions.specs.Certificates.{three}
+use Rattle.certificate_definitions.specs.Certificates.{no_landmarks, three}
 use Rattle.faults.specs.declared.refused.NoMemory.{NoMemory}
 use Rattle.grounding.specs.declared.ground.Ground.{Ground}
 use Rattle.grounding.specs.Ground.{task_in, atoms_in}
@@ -32,8 +32,8 @@ same g c = λ i. record { values = c.requires.values i; dead_ends = c.requires.d
 
 pub functions_over-requires : goal.functions_over-requires
 functions_over-requires g c = record {
-  within_limits = subst (λ (s : SeveralValues). IsTrue (is_evidence three (length (atoms_in c.ground-ground.result.now)) s)) (sym (same g (goal.at.functions_over-requires g c).After-deref))
-      (subst (λ (k : Ground). IsTrue (is_evidence three (length (atoms_in k)) (evidence_of c.args.over.evidence.now))) (sym c.ground-ground.ensures) c.requires.within_limits);
+  within_limits = subst (λ (s : SeveralValues). IsTrue (is_evidence three (length (atoms_in c.ground-ground.result.now)) s no_landmarks)) (sym (same g (goal.at.functions_over-requires g c).After-deref))
+      (subst (λ (k : Ground). IsTrue (is_evidence three (length (atoms_in k)) (evidence_of c.args.over.evidence.now) no_landmarks)) (sym c.ground-ground.ensures) c.requires.within_limits);
 }
 
 -- and so are those in memory

@@ -32,9 +32,9 @@ made c =
     let nodes = c.args.found.nodes.items in
     let atoms = c.in_ok-copied.ensures ∙ ap (map atom_of) c.as_slice.ensures.keys ∙ c.atoms.ensures ∙ ap atoms_in c.ground.ensures in
     let lines = (λ i. lines_with (c.requires.marks i) (c.in_ok-sets.ensures i)) ∙ lines_of_marks (estimate_by guidance) (reports_dead guidance) states nodes in
-    let evidence = c.in_ok-into_evidence.ensures in
+    let evidence = c.in_ok-into_evidence.ensures.values in
     let exchanges = c.in_ok-written_exchanges.ensures in
-    λ i. record { version = c.version.ensures i; claim = claim_of c.args.claim; exchanges = exchanges i; atoms = atoms i; values = (evidence i).values; dead_ends = (evidence i).dead_ends; tables = (evidence i).tables; lines = lines i }
+    λ i. record { version = c.version.ensures i; claim = claim_of c.args.claim; exchanges = exchanges i; atoms = atoms i; values = (evidence i).values; dead_ends = (evidence i).dead_ends; tables = (evidence i).tables; landmarks = c.in_ok-into_evidence.ensures.landmarks i; lines = lines i }
 
 pub from_parts-requires-clause-limits : goal.from_parts-requires-clause-limits
 from_parts-requires-clause-limits c =
