@@ -1,7 +1,7 @@
 -- What packed states have by what lines rest on is what the certificate gives to the states that they stand for. Each kind of
 -- evidence has its arms here.
 use Rattle.std.proofs.Common.{◌≡◌, ◌∙◌, ℕ, ◌<◌, Bool, false, true, List, [], length, map, get_or, Some, ap, sym, subst, refl}
-use Rattle.std.specs.Prelude.{if◌then◌else◌, nat_le, slice_get, sum_by}
+use Rattle.std.specs.Prelude.{if◌then◌else◌, nat_le, nat_lt, slice_get, sum_by}
 use Rattle.std.specs.List.{filter_map}
 use Rattle.std.proofs.lemmas.Option.{get_or_from_slice_get}
 use Rattle.packed_state.specs.declared.pooled.PooledStore.{PooledStore}
@@ -10,13 +10,14 @@ use Rattle.model.specs.Grounding.{state_of_bits}
 use Rattle.lower_bounds.specs.TableFunctions.{Table, has_rows}
 use Rattle.landmark_functions.specs.LandmarkFunctions.{LandmarkFunction, gives, value}
 use Rattle.landmark_functions.specs.LandmarkLines.{NumberedLandmarks, Share, functions_of, landmark_of}
+use Rattle.landmark_zones.specs.Landmarks.{landmarks_of}
 use Rattle.tables.specs.Several.{several_of}
 use Rattle.certificate_definitions.specs.Evidence.{Basis, of_all, landmark}
 use Rattle.certificate_definitions.specs.Certificates.{Certificate, is_dead_end_by, keeps_limits, landmark_function, value_by}
 use Rattle.cert_checker.specs.declared.checker.evidence.GroundEvidence.{GroundEvidence}
-use Rattle.cert_checker.specs.GroundEvidence.{is_dead_at, landmark_in, value_at, IsEvidenceOf}
+use Rattle.cert_checker.specs.GroundEvidence.{has_basis, is_dead_at, landmark_in, value_at, IsEvidenceOf}
 use Rattle.cert_checker.specs.PackedLines.{IsPackedListing}
-use Rattle.cert_checker.proofs.CertCheckerLemmas.{slice_get-map}
+use Rattle.cert_checker.proofs.CertCheckerLemmas.{has_value, slice_get-map}
 use Rattle.cert_checker.proofs.ValuesLemmas.{dead_packed, packed_value, value_packed}
 
 -- ---- landmark values
@@ -35,6 +36,11 @@ value_rows h bits all = ap (λ b. if b then sum_by (gives bits) h.landmarks else
 
 pub value_none : (h : LandmarkFunction) (bits : List Bool) → has_rows h.tables bits ≡ false → value h bits ≡ 0
 value_none h bits none = ap (λ b. if b then sum_by (gives bits) h.landmarks else 0) none
+
+-- a value of the certificate is one in its ground task
+pub basis_there : (c : Certificate) (e : GroundEvidence) → landmarks_of e.landmarks.now ≡ c.landmarks → (basis : Basis) → has_value (length c.landmarks.values) basis ≡ true → has_basis e basis ≡ true
+basis_there c e same of_all has = refl
+basis_there c e same (landmark number) has = ap (λ (l : NumberedLandmarks). nat_lt number (length l.values)) same ∙ has
 
 -- ---- each basis
 

@@ -1,8 +1,8 @@
 -- What was found of each landmark value says which of them are fair, and which dead ends rest on one that is not dead-fair.
-use Rattle.std.proofs.Common.{◌≡◌, ◌∙◌, ℕ, ◌<◌, true, false, List, [], length, map, get_or, None, Option, Some, ap, refl, sym, subst, arith}
-use Rattle.std.specs.Prelude.{All, Contains, IsTrue, nat_lt, not, slice_get}
+use Rattle.std.proofs.Common.{◌≡◌, ◌∙◌, ℕ, ◌+◌, ◌<◌, ◌≤◌, true, false, List, [], ◌∷◌, length, map, get_or, None, Option, Some, ap, refl, sym, subst, arith}
+use Rattle.std.specs.Prelude.{◌&&◌, ◌||◌, All, Bool, Contains, IsTrue, nat_le, nat_lt, not, slice_get}
 use Rattle.std.specs.List.{list_all}
-use Rattle.std.proofs.lemmas.Bool.{false≢true, ltb-true}
+use Rattle.std.proofs.lemmas.Bool.{and_parts, false≢true, leb-true, lt-ltb, ltb-true}
 use Rattle.std.proofs.lemmas.List.{get_or-map, length-map}
 use Rattle.std.proofs.lemmas.List.Elements.{All-contains_itself}
 use Rattle.std.proofs.lemmas.Option.{get_or_from_slice_get, slice_get-get_or, slice_get_within}
@@ -10,15 +10,17 @@ use Rattle.model.specs.Task.{Task}
 use Rattle.model.specs.NumberedAtoms.{numbered_atoms}
 use Rattle.model.proofs.ListLemmas.{Contains-place, filter_map-Contains}
 use Rattle.model.proofs.Tests.{passes_got}
-use Rattle.landmark_functions.specs.LandmarkFunctions.{LandmarkFunction}
-use Rattle.landmark_functions.specs.LandmarkLines.{Share, functions_of as landmark_functions}
+use Rattle.lower_bounds.specs.TableFunctions.{is_among}
+use Rattle.landmark_functions.specs.LandmarkFunctions.{LandmarkFunction, Zone}
+use Rattle.landmark_functions.specs.LandmarkLines.{Share, functions_of as landmark_functions, is_value, is_zone, keep_limits, literal_count, most_entries, most_values, most_zones, share_count}
+use Rattle.landmark_functions.specs.Laws.{is_zone_over}
 use Rattle.landmark_functions.specs.FairLandmarks.{IsDeadFair, IsFair}
 use Rattle.landmarks.specs.declared.testing.Fairness.{Fairness}
 use Rattle.landmarks.specs.declared.testing.Fairness.TheVariants.{Unfair}
 use Rattle.landmarks.specs.Fairness.{AreFairness, is_dead_fair, is_unfair}
 use Rattle.landmarks.proofs.FairnessLemmas.{dead-of, fair-of, undead-of, unfair-of}
 use Rattle.certificate_definitions.specs.Evidence.{Basis, of_all, landmark, LineMark, opened, cut, dead}
-use Rattle.certificate_definitions.specs.Certificates.{Certificate, StateLine, AreLandmarksFair, dead_by, has_basis, is_dead_by_landmark, keeps_limits, landmark_function}
+use Rattle.certificate_definitions.specs.Certificates.{Certificate, StateLine, AreLandmarksFair, dead_by, has_basis, has_landmarks, is_dead_by_landmark, keeps_limits, landmark_function, rise}
 use Rattle.cert_checker.specs.LandmarkFaults.{IsFirstWhere, rests_on_another}
 use Rattle.cert_checker.proofs.CertCheckerLemmas.{got_mapped, slice_get-map}
 use Rattle.cert_checker.proofs.EvidenceLemmas.{function_of}
@@ -155,3 +157,50 @@ module _ (c : Certificate) (keeps : IsTrue (keeps_limits c)) where
         by_mark (cut basis rest) same rests = absurd (false≢true rests)
         by_mark (dead of_all) same rests = absurd (false≢true rests)
         by_mark (dead (landmark number)) same rests = (number, same)
+
+-- ---- limits
+
+record KeptParts (c : Certificate) : Type 0 where
+  zones_each : list_all (is_zone (length c.atoms)) c.landmarks.zones ≡ true
+  shares_few : nat_le (share_count c.landmarks.values) most_entries ≡ true
+
+pub landmarks_keep_limits : (c : Certificate) → IsTrue (keeps_limits c) → IsTrue (keep_limits (length c.atoms) c.landmarks)
+landmarks_keep_limits c keeps =
+    (and_parts (has_landmarks c.version || (nat_le (length c.landmarks.zones) 0 && nat_le (length c.landmarks.values) 0)) (keep_limits (length c.atoms) c.landmarks) (limits_of c keeps).landmarks).1
+
+kept_parts : (c : Certificate) → IsTrue (keeps_limits c) → KeptParts c
+kept_parts c keeps =
+    let l = c.landmarks in
+    let zones_are = list_all (is_zone (length c.atoms)) l.zones && nat_le (length l.zones) most_zones in
+    let values_are = list_all (is_value (length l.zones)) l.values && nat_le (length l.values) most_values in
+    let (zones, values) = and_parts (zones_are && nat_le (literal_count l.zones) most_entries) (values_are && nat_le (share_count l.values) most_entries) (landmarks_keep_limits c keeps) in
+    record {
+      zones_each = (and_parts (list_all (is_zone (length c.atoms)) l.zones) (nat_le (length l.zones) most_zones) (and_parts zones_are (nat_le (literal_count l.zones) most_entries) zones).0).0;
+      shares_few = (and_parts values_are (nat_le (share_count l.values) most_entries) values).1;
+    }
+
+-- the zones are over numbered atoms
+pub zones_over : (c : Certificate) (width : ℕ) → IsTrue (keeps_limits c) → length c.atoms ≤ width → IsTrue (list_all (is_zone_over width) c.landmarks.zones)
+zones_over c width keeps after = all_over (length c.atoms) width after c.landmarks.zones (kept_parts c keeps).zones_each
+  where
+    numbers_below : (count most least : ℕ) → count ≤ most → (numbers : List ℕ) → rise count least numbers ≡ true → list_all (λ number. nat_lt number most) numbers ≡ true
+    numbers_below count most least few [] rises = refl
+    numbers_below count most least few (n ∷ numbers) rises =
+        let (here, more) = and_parts (nat_le least n && nat_lt n count) (rise count (n + 1) numbers) rises in
+        let below = ltb-true n count (and_parts (nat_le least n) (nat_lt n count) here).1 in
+        λ i. lt-ltb n most (omega (arith, below, few)) i && numbers_below count most (n + 1) few numbers more i
+
+    all_over : (count most : ℕ) → count ≤ most → (zones : List Zone) → list_all (is_zone count) zones ≡ true → list_all (is_zone_over most) zones ≡ true
+    all_over count most few [] all = refl
+    all_over count most few (z ∷ zones) all =
+        let (here, more) = and_parts (is_zone count z) (list_all (is_zone count) zones) all in
+        let apart = list_all (λ number. not (is_among z.atoms number)) z.negated in
+        let some = nat_le 1 (length z.atoms + length z.negated) in
+        let both = (and_parts (rise count 0 z.atoms && rise count 0 z.negated) some (and_parts (rise count 0 z.atoms && rise count 0 z.negated && some) apart here).0).0 in
+        let (atoms, negated) = and_parts (rise count 0 z.atoms) (rise count 0 z.negated) both in
+        λ i. (numbers_below count most 0 few z.atoms atoms i && numbers_below count most 0 few z.negated negated i) && all_over count most few zones more i
+
+-- there are not too many shares
+pub few_shares : (c : Certificate) → IsTrue (keeps_limits c) → share_count c.landmarks.values ≤ 67108864
+few_shares c keeps = leb-true (share_count c.landmarks.values) most_entries (kept_parts c keeps).shares_few
+

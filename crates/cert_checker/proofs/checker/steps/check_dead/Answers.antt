@@ -3,10 +3,19 @@ use Rattle.certificate_reader.specs.Lines.{basis_of}
 use Rattle.cert_checker.specs.PackedListing.{task_at, certificate_at, state_at}
 use Rattle.cert_checker.specs.declared.refusal.RefusalCode.TheVariants.{NotDead}
 use Rattle.certificate_definitions.specs.CertificateRefusals.{not_dead, state_line}
+use Rattle.cert_checker.proofs.CertCheckerLemmas.{dead_has_basis}
+use Rattle.cert_checker.proofs.EvidenceLemmas.{basis_there}
 use Rattle.cert_checker.proofs.OrderLemmas.{first_in_line}
 use Rattle.cert_checker.proofs.FirstLemmas.{reported_first}
 use Rattle.cert_checker.proofs.RefusalsLemmas.{reported, wrong_dead}
 use Rattle.cert_checker.proofs.checker.steps.check_dead.Goals as goal
+
+-- the line rests on a value that there is
+pub shows_dead_end-requires-clause-basis : goal.shows_dead_end-requires-clause-basis
+shows_dead_end-requires-clause-basis c =
+    let listing = c.args.listing.now in
+    basis_there (certificate_at listing) listing.evidence listing.valued.landmarks (basis_of c.args.line.by)
+    (dead_has_basis (task_at listing) (certificate_at listing) c.args.line.place (state_at listing c.args.state.now) c.requires.listed.0 (basis_of c.args.line.by) listing.cert.now.within_limits c.requires.listed.1)
 
 pub returns-then-shows_dead_end-clause-right : goal.returns-then-shows_dead_end-clause-right
 returns-then-shows_dead_end-clause-right c = sym c.shows_dead_end.ensures.dead ∙ c.if-shows_dead_end.true
