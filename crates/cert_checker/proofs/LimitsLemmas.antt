@@ -17,6 +17,7 @@ use Rattle.landmark_functions.specs.LandmarkLines.{LandmarkLine, zone, value, Sh
 use Rattle.certificate_definitions.specs.Parts.{no_parts, counts_after, are_in_order, is_table_line, most_rows, most_tables}
 use Rattle.certificate_definitions.specs.CertificateNames.{AllName, IsTextOf, dead_ends_said, exchange_said, parts_of, table_lines, value_count, value_said, values_said, weight_said}
 use Rattle.certificate_reader.specs.Words.{are_lower}
+use Rattle.certificate_reader.proofs.LandmarksRead.{value_within}
 use Rattle.certificate_reader.proofs.OneText as one_text
 use Rattle.cert_checker.specs.Given.{shares_in, table_line_in, zone_in}
 use Rattle.cert_checker.proofs.TableParts.{AreFew, as_landmarks, as_parts, counts_of_parts, counts_with, few_of_ordered, tables_of_parts, values_of_ordered, values_of_parts, zones_of_parts}
@@ -290,7 +291,7 @@ landmarks_had : (f : Format) (zones : List Zone) (values : List (List Share)) �
 landmarks_had f [] [] all = or_right (has_landmarks f.version) (true && true) refl
 landmarks_had f [] (s ∷ values) all =
     let here = (and_parts (is_line f (part (landmark_line (value s)))) (list_all (is_line f) (map (λ p. part p) (as_landmarks (map value values)))) all).0 in
-    or_left (has_landmarks f.version) (true && nat_le (length (s ∷ values)) 0) (and_parts (has_landmarks f.version) (is_value most_zones s) here).0
+    or_left (has_landmarks f.version) (true && nat_le (length (s ∷ values)) 0) (value_within f s here).0
 landmarks_had f (z ∷ zones) values all =
     let here = (and_parts (is_line f (part (landmark_line (zone z)))) (list_all (is_line f) (map (λ p. part p) (as_landmarks (map zone zones ++ map value values)))) all).0 in
     or_left (has_landmarks f.version) (nat_le (length (z ∷ zones)) 0 && nat_le (length values) 0) (and_parts (has_landmarks f.version) (is_zone f.atoms z) here).0
