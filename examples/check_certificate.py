@@ -21,16 +21,18 @@ sys.dont_write_bytecode = True
 sys.path.insert(0, os.path.dirname(os.path.realpath(__file__)))
 
 from exchanges import Exchanges  # noqa: E402
+from landmark_values import is_fair, worth  # noqa: E402
 from pddl_task import Task, lists_of  # noqa: E402
 
 MOST_SWAPS, MOST_ATOMS, MOST_TABLES, MOST_ROWS, MOST_STATES, LONGEST_LINE = 1048576, 1048576, 4194304, 4194304, 16777216, 16777216
 # How many numbers the line of the constants has at least and at most, by the version.
-CONSTANTS = {1: (1, 1), 2: (2, 2), 3: (2, 33)}
+CONSTANTS = {1: (1, 1), 2: (2, 2), 3: (2, 33), 4: (2, 33)}
+MOST_ZONES, MOST_VALUES, MOST_ENTRIES, MOST_WEIGHT = 16777216, 16777216, 67108864, 2147483647
 NAME = r"[a-z][a-z0-9_-]{0,254}"
 NAMES = {40: "CertForm", 41: "CertVersion", 42: "Truncated", 43: "NotFluent", 44: "Repeated", 45: "NoInitial",
          46: "Unfair", 47: "UnfairGoal", 48: "GoalOpen", 49: "SuccessorMissing", 50: "SuccessorDearer", 51: "CutWeak", 52: "CutNotAllowed",
          53: "PlanInvalid", 54: "PlanDearer", 55: "Limit", 56: "DeadUnfair", 57: "DeadUnfairGoal", 58: "NotDead",
-         59: "NotSymmetry"}
+         59: "NotSymmetry", 62: "ValueUnfair", 63: "ValueNotDead"}
 
 
 class Refused(Exception):
@@ -208,6 +210,22 @@ def look_whether_fair(said, goal, instances, fairness):
             raise Refused(57 if at == dead else 47)
 
 
+def look_whether_landmarks_are_fair(said, goal, instances, fairness):
+    """Refused where a landmark value is not fair, or one that a dead end rests on is not dead-fair."""
+    asked = [it for it in instances if not fairness.is_shut_out(it)] if said.values else []
+    for line, value in said.values:
+        if not is_fair(value, goal, [(it, it.cost) for it in asked], fairness.numbered):
+            raise Refused(62, line)
+    are_dead_fair = {}
+    for line, kind, *_ in said.states:
+        by = said.bases.get(line)
+        if kind == "dead" and by is not None:
+            if by not in are_dead_fair:
+                are_dead_fair[by] = is_fair(said.values[by][1], goal, [(it, 0) for it in asked], fairness.numbered)
+            if not are_dead_fair[by]:
+                raise Refused(63, line)
+
+
 # ---- reading a certificate
 
 @functools.lru_cache(1 << 16)
@@ -246,7 +264,8 @@ class Certificate:
         self.version = self.claim = None
         self.constants, self.swaps, self.atoms, self.weights = [], [], [], {}
         self.tables, self.rows, self.places = [], 0, {}
-        self.states, self.listed = [], {}
+        self.zones, self.values, self.literals, self.marks = [], [], 0, 0
+        self.states, self.listed, self.bases = [], {}, {}
 
     def read_constants(self, words):
         least, most = CONSTANTS[self.version]
@@ -314,7 +333,35 @@ class Certificate:
         table.add(bits, weights)
         self.rows += 1
 
+    def read_zone(self, words):
+        """A zone: literals, each the name of an atom and whether it is true."""
+        at = words.index("not") if "not" in words else len(words)
+        atoms, others = (self.read_atom_numbers(it) for it in (words[:at], words[at + 1:]))
+        if not atoms + others or at < len(words) and not others or not set(atoms).isdisjoint(others):
+            raise ValueError
+        self.literals += len(atoms) + len(others)
+        if len(self.zones) == MOST_ZONES or self.literals > MOST_ENTRIES:
+            raise Refused(55)
+        self.zones.append(frozenset((self.atoms[it], is_true) for these, is_true in ((atoms, True), (others, False)) for it in these))
+
+    def read_value(self, count, words):
+        """A landmark value: the line, and the zones with their weights."""
+        numbers, weights = ([number(word) for word in words[at::2]] for at in (0, 1))
+        if not numbers or len(numbers) != len(weights) or any(a >= b for a, b in zip(numbers, numbers[1:])):
+            raise ValueError
+        if numbers[-1] >= len(self.zones) or not all(1 <= it <= MOST_WEIGHT for it in weights):
+            raise ValueError
+        self.marks += len(numbers)
+        if len(self.values) == MOST_VALUES or self.marks > MOST_ENTRIES:
+            raise Refused(55)
+        self.values.append((count, [(self.zones[it], weight) for it, weight in zip(numbers, weights)]))
+
     def read_state(self, count, kind, words):
+        by = None
+        if kind.endswith("-by"):
+            kind, by, words = kind.removesuffix("-by"), number(words[0]), words[1:]
+            if by >= len(self.values):
+                raise ValueError
         cost, rest, words = number(words[0]), None, words[1:]
         if kind == "cut":
             rest, words = number(words[0]), words[1:]
@@ -328,6 +375,8 @@ class Certificate:
             raise Refused(52, count)
         self.listed[state] = cost
         self.states.append((count, kind, cost, rest, state))
+        if by is not None:
+            self.bases[count] = by
 
     def bits_of(self, atoms):
         """Of each table that has some of the atoms in its scope, their bits."""
@@ -345,11 +394,20 @@ class Certificate:
             return [0] * len(self.constants)
         return list(map(sum, zip(self.constants, *(self.weights[atom] for atom in state if atom in self.weights), *rows)))
 
-    def value(self, state):
-        return max(0, *self.sums(state)[:-1])
+    def has_rows(self, state):
+        bits = self.bits_of(state)
+        return all(bits.get(at, 0) in table.rows for at, table in enumerate(self.tables))
 
-    def second_value(self, state):
-        return max(0, self.sums(state)[-1])
+    def landmark_value(self, by, state):
+        """What the landmark value with this number gives a state, and 0 where a table has no row for it."""
+        return worth(self.values[by][1], state) if self.has_rows(state) else 0
+
+    def value(self, state, by=None):
+        """What a state's cut rests on: a landmark value, or all values, of which the greatest counts."""
+        return max(0, *self.sums(state)[:-1]) if by is None else self.landmark_value(by, state)
+
+    def second_value(self, state, by=None):
+        return max(0, self.sums(state)[-1]) if by is None else self.landmark_value(by, state)
 
 
 def read_line(task, said, count, text):
@@ -365,22 +423,29 @@ def read_line(task, said, count, text):
         said.claim = None if text == "claim none" else number(re.fullmatch("claim bound (.*)", text)[1])
     elif count == 3 and kind == "constant":
         said.read_constants(words)
-    elif count > 3 and kind == "swap" and words and said.version == 3 and not (said.atoms or said.tables or said.states):
+    elif count > 3 and kind == "swap" and words and said.version >= 3 and not (said.atoms or said.tables or said.zones or said.states):
         said.read_swap(count, words)
-    elif count > 3 and kind == "atom" and not said.tables and not said.states:
+    elif count > 3 and kind == "atom" and not (said.tables or said.zones or said.states):
         said.read_atom(task, count, text)
-    elif count > 3 and kind == "table" and said.version == 3 and not said.states:
+    elif count > 3 and kind == "table" and said.version >= 3 and not (said.zones or said.states):
         said.read_table(words)
-    elif count > 3 and kind == "row" and said.tables and not said.states:
+    elif count > 3 and kind == "row" and said.tables and not (said.zones or said.states):
         said.read_row(count, words)
-    elif count > 3 and (kind in ("open", "cut") or kind == "dead" and said.version != 1):
+    elif count > 3 and kind == "zone" and said.version == 4 and not (said.values or said.states):
+        said.read_zone(words)
+    elif count > 3 and kind == "marks" and said.version == 4 and not said.states:
+        said.read_value(count, words)
+    elif count > 3 and (kind in ("open", "cut") or kind == "dead" and said.version != 1 or kind in ("cut-by", "dead-by") and said.version == 4):
         said.read_state(count, kind, words)
     else:
         raise ValueError
 
 
 def read_certificate(task, data):
-    """The certificate of these bytes. Its states are (line, kind, cost, rest, which is None but of a cut, atoms)."""
+    """The certificate of these bytes. Its states are (line, kind, cost, rest, which is None but of a cut, atoms).
+
+    What the line of a state rests on, where that is a landmark value, is its number, by line in `bases`.
+    """
     said = Certificate()
     for count, text, behind in lines_of(data):
         try:
@@ -460,12 +525,13 @@ def look_at_states(task, said, listing, instances):
     """Refused where the line of a state is wrong: the first such line."""
     instances = by_wanted_atom(instances)
     for line, kind, cost, rest, state in said.states:
+        by = said.bases.get(line)
         if kind == "open":
             look_at_open(task, said, listing, instances, line, cost, state)
         elif kind == "cut":
-            if rest > said.value(state) or cost + rest < said.claim:
+            if rest > said.value(state, by) or cost + rest < said.claim:
                 raise Refused(51, line)
-        elif said.second_value(state) < 1:
+        elif said.second_value(state, by) < 1:
             raise Refused(58, line)
 
 
@@ -473,7 +539,9 @@ def check(task, data, plan, limit):
     said = read_certificate(task, data)
     instances, numbered = kept_instances(task, said, limit)
     exchanges = exchanges_of(task, said, numbered)
-    look_whether_fair(said, task.sure(task.goal, {}), instances, Fairness(said, numbered))
+    goal, fairness = task.sure(task.goal, {}), Fairness(said, numbered)
+    look_whether_fair(said, goal, instances, fairness)
+    look_whether_landmarks_are_fair(said, goal, instances, fairness)
     listing = Listing(said, exchanges)
     if listing.least_cost(task.initial) != 0:
         raise Refused(45)
