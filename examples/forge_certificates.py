@@ -1,12 +1,13 @@
 #!/usr/bin/env python3
-"""Makes certificates of version 3 from those of versions 1 and 2, and forges certificates, at random.
+"""Makes certificates of versions 3 and 4 from those of versions 1 and 2, and forges certificates, at random.
 
-    forge_certificates.py DOMAIN PROBLEM CERT FOLDER [--count N] [--seed S]
+    forge_certificates.py DOMAIN PROBLEM CERT FOLDER [--count N] [--landmarks N] [--seed S]
 
-From CERT, of any version, it writes N texts (100) into FOLDER, of which most are wrong in a place or two. `compare_checkers.py`
-asks two checkers of such texts.
+From CERT, of any version, it writes N texts (100) of version 3 into FOLDER, of which most are wrong in a place or two, and as many
+of version 4 as `--landmarks` says (100). `compare_checkers.py` asks two checkers of such texts.
 """
 import argparse
+import itertools
 import os
 import random
 import sys
@@ -15,11 +16,15 @@ sys.dont_write_bytecode = True
 sys.path.insert(0, os.path.dirname(os.path.realpath(__file__)))
 
 from check_certificate import Fairness, kept_instances, read_certificate, rows_after  # noqa: E402
+from landmark_cuts import LandmarkCuts, Text, certificate  # noqa: E402
+from landmark_values import worth  # noqa: E402
 from pddl_task import Task  # noqa: E402
 
 # A table is left out where more rows are reached, and no instances are counted beyond the second number.
 MOST_ROWS, MOST_INSTANCES = 200, 1000000
-STATES = ("open", "cut", "dead")
+# For how many states a text gets landmark values, and how many states a search by LM-cut expands.
+MOST_VALUES, MOST_EXPANDED = 6, 40
+STATES = ("open", "cut", "dead", "cut-by", "dead-by")
 
 
 # ---- tables
@@ -174,6 +179,53 @@ def with_tables(task, data, chance):
     return joined(lines)
 
 
+# ---- landmark values
+
+def values_for(cuts, said, chance):
+    """Landmark values by LM-cut for a few listed states, each with whether it shows dead ends."""
+    states = [state for *_, state in said.states]
+    found = [cuts.value_for(state) for state in chance.sample(states, min(len(states), MOST_VALUES))]
+    return [it for it in found if it[0]]
+
+
+def with_landmarks(task, text, chance):
+    """A text of version 4 that claims what this one of version 3 does, with landmark values for some of its lines.
+
+    An open state becomes a cut where a landmark value shows what is claimed; a cut and a dead end rest on one where it does, too.
+    """
+    said = read_certificate(task, text.encode("ascii"))
+    instances, numbered = kept_instances(task, said, MOST_INSTANCES)
+    fairness = Fairness(said, numbered)
+    asked = [it for it in instances if not fairness.is_shut_out(it)]
+    values = values_for(LandmarkCuts(task, asked, numbered, dict.fromkeys(said.atoms)), said, chance)
+    written, lines = Text(said.atoms), [line.split(" ") for line in text.split("\n")[:-1]]
+    for value, _ in values:
+        written.value(value)
+    for count, kind, cost, _, state in said.states:
+        by = said.has_rows(state) and chance.random() < 0.8 and basis(said.claim, values, cost, state, chance)
+        if by:
+            dead, bound, value = by
+            numbers = lines[count - 1][first_atom(lines[count - 1]):]
+            words = ["dead-by" if dead else "cut-by", written.value(value), cost, *([] if dead else [bound]), *numbers]
+            lines[count - 1] = list(map(str, words))
+    lines[0] = ["pddl-cert", "4"]
+    at = said.states[0][0] - 1
+    lines[at:at] = [list(map(str, words)) for words in written.landmark_lines()]
+    return joined(lines)
+
+
+def basis(claim, values, cost, state, chance):
+    """Whether the state is a dead end or else a cut, the cut's bound, and a value that shows it; None where none of these does."""
+    found = []
+    for value, is_dead in values:
+        bound = worth(value, state)
+        if is_dead and bound:
+            found.append((True, None, value))
+        elif claim is not None and cost + bound >= claim:
+            found.append((False, chance.randint(max(0, claim - cost), bound), value))
+    return chance.choice(found) if found else None
+
+
 def joined(lines):
     return "".join(" ".join(words) + "\n" for words in lines)
 
@@ -188,6 +240,16 @@ def lines_of(lines, *kinds):
 def width(lines):
     """How many weights a line has."""
     return len(lines[2]) - 1
+
+
+def first_atom(words):
+    """Where the numbers of the atoms begin in the line of a state."""
+    return {"open": 2, "dead": 2, "cut": 3, "dead-by": 3, "cut-by": 4}[words[0]]
+
+
+def cost_at(words):
+    """Where the cost is in the line of a state."""
+    return 2 if words[0].endswith("-by") else 1
 
 
 def with_weights(lines, chance, *kinds):
@@ -275,17 +337,27 @@ def values_swapped(lines, chance):
     return f"two values are swapped in each {' and '.join(kinds)}"
 
 
+def kinds_of(lines):
+    """The kinds of line that list states in texts of this version."""
+    return STATES if lines[0][-1] == "4" else STATES[:3]
+
+
+def some_value(lines, chance):
+    """The number of a landmark value, or the one after the last."""
+    return str(chance.randint(0, len(lines_of(lines, "marks"))))
+
+
 def state_changed(lines, chance):
     words = lines[chance.choice(lines_of(lines, *STATES))]
-    numbers = words[3:] if words[0] == "cut" else words[2:]
-    kind = chance.choice(STATES)
-    words[:] = [kind, words[1], *(["1"] if kind == "cut" else []), *numbers]
+    kind, cost, numbers = chance.choice(kinds_of(lines)), words[cost_at(words)], words[first_atom(words):]
+    value = [some_value(lines, chance)] if kind.endswith("-by") else []
+    words[:] = [kind, *value, cost, *(["1"] if kind.startswith("cut") else []), *numbers]
     return "a state's line is of another kind"
 
 
 def state_cost_moved(lines, chance):
     words = lines[chance.choice(lines_of(lines, *STATES))]
-    at = 2 if words[0] == "cut" and chance.random() < 0.5 else 1
+    at = cost_at(words) + (words[0].startswith("cut") and chance.random() < 0.5)
     words[at] = moved(words[at], chance)
     return "a cost or a bound of a state is one higher or lower"
 
@@ -299,11 +371,6 @@ def state_dropped(lines, chance):
     del lines[chance.choice(lines_of(lines, *STATES))]
     count_states(lines)
     return "a state is dropped"
-
-
-def first_atom(words):
-    """Where the numbers of the atoms begin in the line of a state."""
-    return 3 if words[0] == "cut" else 2
 
 
 def atom_images(lines, names):
@@ -338,7 +405,8 @@ def states_replaced(lines, chance):
 
 def state_doubled(lines, chance):
     at, words = chance.choice(list(moved_states(lines, chance).items()))
-    words[1] = chance.choice((words[1], words[1], moved(words[1], chance)))
+    cost = words[cost_at(words)]
+    words[cost_at(words)] = chance.choice((cost, cost, moved(cost, chance)))
     lines.insert(chance.choice((at, at + 1, lines_of(lines, *STATES)[0], len(lines) - 1)), words)
     count_states(lines)
     return "an image of a state is listed beside it"
@@ -375,6 +443,135 @@ def swap_changed(lines, chance):
     return "another object changes places"
 
 
+def zone_of(lines, chance):
+    """The line of a zone, and its literals: numbers of atoms, each with whether the atom is under `not`."""
+    words = lines[chance.choice(lines_of(lines, "zone"))]
+    at = words.index("not") if "not" in words else len(words)
+    return words, [(number, place > at) for place, number in enumerate(words) if place and number != "not"]
+
+
+def with_literals(words, literals):
+    sides = [sorted((number for number, is_negated in literals if is_negated == it), key=int) for it in (False, True)]
+    words[:] = ["zone", *sides[0], *(["not", *sides[1]] if sides[1] else [])]
+
+
+def some_atom(lines, chance):
+    """The number of an atom, or now and then the one after the last."""
+    count = len(lines_of(lines, "atom"))
+    return str(count if chance.random() < 0.1 else chance.randrange(count))
+
+
+def literal_dropped(lines, chance):
+    words, literals = zone_of(lines, chance)
+    literals.pop(chance.randrange(len(literals)))
+    with_literals(words, literals)
+    return "a zone has a literal less"
+
+
+def literal_added(lines, chance):
+    words, literals = zone_of(lines, chance)
+    with_literals(words, [*literals, (some_atom(lines, chance), chance.random() < 0.4)])
+    return "a zone has a literal more"
+
+
+def literal_turned(lines, chance):
+    words, literals = zone_of(lines, chance)
+    at = chance.randrange(len(literals))
+    literals[at] = literals[at][0], not literals[at][1]
+    with_literals(words, literals)
+    return "a literal of a zone is turned"
+
+
+def not_moved(lines, chance):
+    words, _ = zone_of(lines, chance)
+    words[:] = [word for word in words if word != "not"]
+    words.insert(chance.randint(1, len(words)), "not")
+    return "the `not` of a zone is moved or put in"
+
+
+def zone_dropped(lines, chance):
+    del lines[chance.choice(lines_of(lines, "zone"))]
+    return "a zone is dropped"
+
+
+def zone_repeated(lines, chance):
+    at = chance.choice(lines_of(lines, "zone"))
+    lines.insert(at, list(lines[at]))
+    return "a zone is repeated, and those after it are renumbered"
+
+
+def share_moved(lines, chance):
+    words = lines[chance.choice(lines_of(lines, "marks"))]
+    at = chance.randrange(1, len(words))
+    words[at] = moved(words[at], chance)
+    return "a zone's number or a weight of a landmark value is one higher or lower"
+
+
+def share_dropped(lines, chance):
+    words = lines[chance.choice(lines_of(lines, "marks"))]
+    at = chance.randrange(1, len(words), 2)
+    del words[at:at + 2]
+    return "a landmark value has a zone less"
+
+
+def share_added(lines, chance):
+    words = lines[chance.choice(lines_of(lines, "marks"))]
+    shares = dict(zip(words[1::2], words[2::2]))
+    shares[str(chance.randint(0, len(lines_of(lines, "zone"))))] = chance.choice(words[2::2])
+    words[:] = ["marks", *(word for share in sorted(shares.items(), key=lambda it: int(it[0])) for word in share)]
+    return "a landmark value has a zone more"
+
+
+def landmark_values_added_up(lines, chance):
+    first, second = (lines[chance.choice(lines_of(lines, "marks"))] for _ in range(2))
+    shares = {**dict(zip(second[1::2], second[2::2])), **dict(zip(first[1::2], first[2::2]))}
+    first[:] = ["marks", *(word for share in sorted(shares.items(), key=lambda it: int(it[0])) for word in share)]
+    return "a landmark value has the zones of two"
+
+
+def landmark_value_added(lines, chance):
+    at, zones = lines_of(lines, *STATES, "end")[0], len(lines_of(lines, "zone"))
+    if not zones:
+        lines.insert(at, ["zone", some_atom(lines, chance)])
+        at, zones = at + 1, 1
+    lines.insert(at, ["marks", str(chance.randrange(zones)), "1"])
+    return "a landmark value of one zone is added"
+
+
+def landmark_value_dropped(lines, chance):
+    del lines[chance.choice(lines_of(lines, "marks"))]
+    return "a landmark value is dropped"
+
+
+def landmark_values_moved(lines, chance):
+    first, second = chance.sample(lines_of(lines, "zone", "marks"), 2)
+    lines[first], lines[second] = lines[second], lines[first]
+    return "two lines of zones and landmark values change places"
+
+
+def basis_changed(lines, chance):
+    words = lines[chance.choice(lines_of(lines, "cut-by", "dead-by"))]
+    words[1] = chance.choice((some_value(lines, chance), moved(words[1], chance)))
+    return "a state's line rests on another landmark value"
+
+
+def basis_lost(lines, chance):
+    words = lines[chance.choice(lines_of(lines, "cut-by", "dead-by"))]
+    words[:2] = [words[0].removesuffix("-by")]
+    return "a state's line rests on no landmark value"
+
+
+def dead_by_added(lines, chance):
+    words = lines[chance.choice(lines_of(lines, *STATES))]
+    words[:] = ["dead-by", some_value(lines, chance), words[cost_at(words)], *words[first_atom(words):]]
+    return "a state is a dead end by a landmark value"
+
+
+def version_changed(lines, chance):
+    lines[0][-1] = chance.choice("35")
+    return "another version"
+
+
 def claim_changed(lines, chance):
     if lines[1] == ["claim", "none"]:
         lines[1] = ["claim", "bound", "1"]
@@ -405,41 +602,65 @@ CHANGES = (weight_moved, weight_moved, weight_moved, constant_moved, row_dropped
            swap_dropped, swap_changed, claim_changed, line_moved, word_changed)
 
 
-def forged(text, chance):
-    """The text changed in one to three places, and what was done."""
+# Those of landmark values, which are taken twice as often where there are such values.
+OF_LANDMARKS = (literal_dropped, literal_dropped, literal_added, literal_turned, not_moved, zone_dropped, zone_repeated, share_moved,
+                share_moved, share_moved, share_dropped, share_added, landmark_values_added_up, landmark_value_added,
+                landmark_value_dropped, landmark_values_moved, basis_changed, basis_changed, basis_lost, dead_by_added, dead_by_added,
+                state_cost_moved, state_changed, version_changed)
+
+
+def forged(text, chance, *kinds):
+    """The text changed in one to three places, and what was done: each change is of one of these kinds."""
     lines, done, count = [line.split(" ") for line in text.split("\n")[:-1]], [], chance.choice((1, 1, 1, 2, 3))
     while len(done) < count:
         try:
-            done.append(chance.choice(CHANGES)(lines, chance))
+            done.append(chance.choice(chance.choice(kinds))(lines, chance))
         except (IndexError, ValueError):
             pass
     return "; ".join(done), joined(lines)
 
 
 def random_texts(task, data, chance, count):
-    """As many texts as this, each with what it is: as they should be, and forged."""
+    """As many texts of version 3 as this, each with what it is: as they should be, and forged."""
     version = int(data.split(b"\n")[0].split(b" ")[1])
     for at in range(count):
         if at % 10 == 0:
-            text = data.decode("ascii") if version == 3 else with_tables(task, data, chance)
+            text = data.decode("ascii") if version >= 3 else with_tables(task, data, chance)
             yield "as it is made", text
         else:
-            yield forged(text, chance)
+            yield forged(text, chance, CHANGES)
+
+
+def landmark_texts(task, data, chance, count):
+    """As many texts of version 4 as this, each with what it is: as they should be, and forged."""
+    version, by_search = int(data.split(b"\n")[0].split(b" ")[1]), None
+    for at in range(count):
+        if at % 10 != 0:
+            yield forged(text, chance, CHANGES, OF_LANDMARKS, OF_LANDMARKS)
+            continue
+        if at % 30 == 0 or version == 4:
+            by_search = by_search or certificate(task, MOST_EXPANDED)[1]
+            text = by_search
+        else:
+            text = with_landmarks(task, data.decode("ascii") if version == 3 else with_tables(task, data, chance), chance)
+        yield "as it is made with landmark values", text
 
 
 def main():
     words = argparse.ArgumentParser()
     for file in ("domain", "problem", "cert", "folder"):
         words.add_argument(file)
-    words.add_argument("--count", type=int, default=100)
-    words.add_argument("--seed", type=int, default=0)
+    for name, count in (("--count", 100), ("--landmarks", 100), ("--seed", 0)):
+        words.add_argument(name, type=int, default=count)
     words = words.parse_args()
     text_of = lambda name: open(name, encoding="latin-1").read()
     with open(words.cert, "rb") as file:
         data = file.read()
     os.makedirs(words.folder, exist_ok=True)
     task = Task(text_of(words.domain), text_of(words.problem))
-    for at, (what, text) in enumerate(random_texts(task, data, random.Random(words.seed), words.count)):
+    chance = random.Random(words.seed)
+    texts = itertools.chain(random_texts(task, data, chance, words.count), landmark_texts(task, data, chance, words.landmarks))
+    for at, (what, text) in enumerate(texts):
         with open(f"{words.folder}/{at}.cert", "w", encoding="ascii") as file:
             file.write(text)
         print(f"{at}.cert: {what}")

@@ -37,24 +37,26 @@ class Operator(NamedTuple):
 
 
 class LandmarkCuts:
-    """LM-cut over the instances of a task that are kept, of which those that want an atom without a number are left out."""
+    """LM-cut over the instances of a task that are kept, but for those that want an atom without a number.
 
-    def __init__(self, task, instances, numbered):
-        self.numbered = numbered
-        self.goal = self.of_numbered(task.sure(task.goal, {}))
+    Of the atoms that have numbers only those that are listed are looked at: zones are of them.
+    """
+
+    def __init__(self, task, instances, numbered, listed):
+        self.numbered, self.listed = numbered, listed
+        self.goal = self.of_listed(task.sure(task.goal, {}))
         self.instances = [it for it in instances if it.wanted <= numbered]
-        self.operators = [Operator(number, self.of_numbered(instance.literals | when) or {ALWAYS}, literal)
+        self.operators = [Operator(number, self.of_listed(instance.literals | when) or {ALWAYS}, literal)
                           for number, instance in enumerate(self.instances)
-                          for literal, when in changes_that_count(instance, numbered)]
-        self.literals = {(atom, is_true) for atom in numbered for is_true in (False, True)}
+                          for literal, when in changes_that_count(instance, numbered) if literal[0] in listed]
+        self.literals = {(atom, is_true) for atom in listed for is_true in (False, True)}
         self.wanting = {}
         for number, it in enumerate(self.operators):
             for literal in it.wants:
                 self.wanting.setdefault(literal, []).append(number)
 
-    def of_numbered(self, literals):
-        """Those of the literals whose atoms have numbers: an atom without one is always false."""
-        return frozenset(it for it in literals if it[0] in self.numbered)
+    def of_listed(self, literals):
+        return frozenset(it for it in literals if it[0] in self.listed)
 
     def value_for(self, state):
         """The landmark value that is made for this state, and whether it shows a dead end."""
@@ -77,7 +79,7 @@ class LandmarkCuts:
     def levels(self, state, costs):
         """By h-max: what each literal costs at least, where a set of literals costs as much as its dearest one."""
         levels = dict.fromkeys(self.literals, math.inf)
-        waiting = [(0, ALWAYS), *((0, (atom, atom in state)) for atom in self.numbered)]
+        waiting = [(0, ALWAYS), *((0, (atom, atom in state)) for atom in self.listed)]
         levels.update((literal, 0) for _, literal in waiting)
         missing, done = [len(it.wants) for it in self.operators], set()
         while waiting:
@@ -109,7 +111,7 @@ class LandmarkCuts:
 
     def reached_without(self, state, supporters, near):
         """The literals that are reached from the state without entering `near`."""
-        return closure({ALWAYS, *((atom, atom in state) for atom in self.numbered)}, lambda found: (
+        return closure({ALWAYS, *((atom, atom in state) for atom in self.listed)}, lambda found: (
             it.makes for it, supporter in zip(self.operators, supporters) if supporter in found and it.makes not in near))
 
     def small(self, beyond, supporters, last):
@@ -144,8 +146,9 @@ class Search:
     def __init__(self, task):
         self.task, self.instances = task, list(task.instances())
         touched = (it.atom for instance in self.instances for it in instance.changes)
-        self.numbered = dict.fromkeys([*task.initial_in_order, *touched]).keys()
-        self.cuts = LandmarkCuts(task, self.instances, self.numbered)
+        wanted = sorted(atom for atom, _ in task.sure(task.goal, {}))
+        self.atoms = dict.fromkeys([*task.initial_in_order, *touched, *wanted]).keys()
+        self.cuts = LandmarkCuts(task, self.instances, self.atoms, self.atoms)
         self.nodes, self.queue, self.order = {}, [], itertools.count()
         self.reach(task.initial, 0, [])
 
@@ -241,15 +244,18 @@ class Text:
         atoms, negated = (self.numbers(atom for atom, is_true in zone if is_true == it) for it in (True, False))
         return ["zone", *atoms, *(["not", *negated] if negated else [])]
 
+    def landmark_lines(self):
+        yield from map(self.zone_line, self.zones)
+        for value in self.values:
+            yield ["marks", *itertools.chain.from_iterable(value)]
+
     def lines(self, claim):
         yield ["pddl-cert", 4]
         yield ["claim", "none"] if claim is None else ["claim", "bound", claim]
         yield ["constant", 0, 0]
         for atom in self.atoms:
             yield ["atom", 0, 0, f"({' '.join(atom)})"]
-        yield from map(self.zone_line, self.zones)
-        for value in self.values:
-            yield ["marks", *itertools.chain.from_iterable(value)]
+        yield from self.landmark_lines()
         yield from self.states
         yield ["end", len(self.states)]
 
@@ -258,7 +264,7 @@ def certificate(task, most):
     """What a search that expands at most so many states claims, None that there is no plan, and the certificate of it."""
     search = Search(task)
     claim = search.run(most)
-    text = Text(search.numbered)
+    text = Text(search.atoms)
     for state, node in search.nodes.items():
         text.list_state(state, node)
     return claim, "".join(" ".join(map(str, words)) + "\n" for words in text.lines(claim))
