@@ -24,13 +24,13 @@ HERE = os.path.dirname(os.path.realpath(__file__))
 sys.path.insert(0, HERE)
 
 from check_certificate import answer  # noqa: E402
-from forge_certificates import landmark_texts, random_texts  # noqa: E402
+from forge_certificates import STATES, landmark_texts, random_texts  # noqa: E402
 from pddl_task import Task  # noqa: E402
 from random_tasks import random_task  # noqa: E402
 
 PROGRAM = os.environ.get("OPTPLAN", os.path.join(os.path.dirname(HERE), "optplan"))
 # How many states are listed by another kind of line.
-STATES = 8
+MOST_STATES = 8
 
 
 def said(*words):
@@ -55,8 +55,8 @@ def changed(text):
     yield "as it is written", text
     lines = text.split("\n")
     width = len(lines[2].split(" ")) - 1
-    first = next(at for at, line in enumerate(lines) if line.split(" ")[0] in ("open", "cut", "dead"))
-    for at, line in enumerate(lines[:first + STATES]):
+    first = next(at for at, line in enumerate(lines) if line.split(" ")[0] in STATES)
+    for at, line in enumerate(lines[:first + MOST_STATES]):
         for words in changed_words(line.split(" "), width):
             yield f"line {at + 1}: {' '.join(words)}", "\n".join([*lines[:at], " ".join(words), *lines[at + 1:]])
 

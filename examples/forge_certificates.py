@@ -530,12 +530,13 @@ def landmark_values_added_up(lines, chance):
 
 
 def landmark_value_added(lines, chance):
-    at, zones = lines_of(lines, *STATES, "end")[0], len(lines_of(lines, "zone"))
-    if not zones:
-        lines.insert(at, ["zone", some_atom(lines, chance)])
-        at, zones = at + 1, 1
-    lines.insert(at, ["marks", str(chance.randrange(zones)), "1"])
-    return "a landmark value of one zone is added"
+    count, at = len(lines_of(lines, "zone")), lines_of(lines, "marks", *STATES, "end")[0]
+    literals = {some_atom(lines, chance): chance.random() < 0.4 for _ in range(chance.randint(1, 4))}
+    lines.insert(at, ["zone"])
+    with_literals(lines[at], literals.items())
+    value = {str(chance.randint(0, count)): str(chance.randint(1, 3)), str(count): str(chance.randint(1, 3))}
+    lines.insert(lines_of(lines, *STATES, "end")[0], ["marks", *(word for share in value.items() for word in share)])
+    return "a zone of literals at random and a landmark value with it are added"
 
 
 def landmark_value_dropped(lines, chance):
@@ -605,7 +606,7 @@ CHANGES = (weight_moved, weight_moved, weight_moved, constant_moved, row_dropped
 # Those of landmark values, which are taken twice as often where there are such values.
 OF_LANDMARKS = (literal_dropped, literal_dropped, literal_added, literal_turned, not_moved, zone_dropped, zone_repeated, share_moved,
                 share_moved, share_moved, share_dropped, share_added, landmark_values_added_up, landmark_value_added,
-                landmark_value_dropped, landmark_values_moved, basis_changed, basis_changed, basis_lost, dead_by_added, dead_by_added,
+                landmark_value_added, landmark_value_dropped, landmark_values_moved, basis_changed, basis_changed, basis_lost, dead_by_added, dead_by_added,
                 state_cost_moved, state_changed, version_changed)
 
 
@@ -638,9 +639,10 @@ def landmark_texts(task, data, chance, count):
         if at % 10 != 0:
             yield forged(text, chance, CHANGES, OF_LANDMARKS, OF_LANDMARKS)
             continue
-        if at % 30 == 0 or version == 4:
-            by_search = by_search or certificate(task, MOST_EXPANDED)[1]
-            text = by_search
+        if at % 30 == 0:
+            text = by_search = by_search or certificate(task, MOST_EXPANDED)[1]
+        elif version == 4:
+            text = data.decode("ascii")
         else:
             text = with_landmarks(task, data.decode("ascii") if version == 3 else with_tables(task, data, chance), chance)
         yield "as it is made with landmark values", text
