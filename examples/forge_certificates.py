@@ -604,10 +604,10 @@ CHANGES = (weight_moved, weight_moved, weight_moved, constant_moved, row_dropped
 
 
 # Those of landmark values, which are taken twice as often where there are such values.
-OF_LANDMARKS = (literal_dropped, literal_dropped, literal_added, literal_turned, not_moved, zone_dropped, zone_repeated, share_moved,
-                share_moved, share_moved, share_dropped, share_added, landmark_values_added_up, landmark_value_added,
-                landmark_value_added, landmark_value_dropped, landmark_values_moved, basis_changed, basis_changed, basis_lost, dead_by_added, dead_by_added,
-                state_cost_moved, state_changed, version_changed)
+OF_LANDMARKS = (literal_dropped, literal_dropped, literal_added, literal_turned, not_moved, zone_dropped, zone_repeated,
+                share_moved, share_moved, share_moved, share_dropped, share_added, landmark_values_added_up, landmark_value_added,
+                landmark_value_added, landmark_value_dropped, landmark_values_moved, basis_changed, basis_changed, basis_lost,
+                dead_by_added, dead_by_added, state_cost_moved, state_changed, version_changed)
 
 
 def forged(text, chance, *kinds):
