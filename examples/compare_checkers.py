@@ -24,7 +24,8 @@ HERE = os.path.dirname(os.path.realpath(__file__))
 sys.path.insert(0, HERE)
 
 from check_certificate import answer  # noqa: E402
-from forge_certificates import STATES, landmark_texts, random_texts  # noqa: E402
+from forge_certificates import landmark_texts, random_texts  # noqa: E402
+from forgeries import STATES  # noqa: E402
 from pddl_task import Task  # noqa: E402
 from random_tasks import random_task  # noqa: E402
 
