@@ -15,7 +15,8 @@ import sys
 sys.dont_write_bytecode = True
 sys.path.insert(0, os.path.dirname(os.path.realpath(__file__)))
 
-from check_certificate import Fairness, kept_instances, read_certificate, rows_after  # noqa: E402
+from certificate_text import read_certificate, rows_after  # noqa: E402
+from check_certificate import Fairness, kept_instances  # noqa: E402
 from forgeries import CHANGES, OF_LANDMARKS, first_atom, forged, joined  # noqa: E402
 from landmark_cuts import LandmarkCuts, Text, certificate  # noqa: E402
 from landmark_values import worth  # noqa: E402
