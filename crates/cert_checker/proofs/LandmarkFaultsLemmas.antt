@@ -203,4 +203,3 @@ zones_over c width keeps after = all_over (length c.atoms) width after c.landmar
 -- there are not too many shares
 pub few_shares : (c : Certificate) → IsTrue (keeps_limits c) → share_count c.landmarks.values ≤ 67108864
 few_shares c keeps = leb-true (share_count c.landmarks.values) most_entries (kept_parts c keeps).shares_few
-

@@ -109,7 +109,12 @@ impl IndexedTable<'_> {
         if self.is_outnumbered(scratch.free.len()) {
             return Ok(false);
         }
-        Ok(self.raise_to(&mut scratch.left, &scratch.free, self.table.weights(row), most))
+        Ok(self.raise_to(
+            &mut scratch.left,
+            &scratch.free,
+            self.table.weights(row),
+            most,
+        ))
     }
 
     /// Whether the ways to turn some of this many places are more than the rows: one of them then makes a set that is no row.

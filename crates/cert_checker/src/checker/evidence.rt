@@ -108,13 +108,7 @@ impl<'a> GroundEvidence<'a> {
     }
 
     /// Whether the state's landmark value with this number is at least this. It is 0 where a table has no row for the state.
-    fn is_worth_by(
-        &self,
-        number: u32,
-        least: u64,
-        state: &Packed,
-        known: &mut KnownState,
-    ) -> bool
+    fn is_worth_by(&self, number: u32, least: u64, state: &Packed, known: &mut KnownState) -> bool
         requires state { length (bits_of state.now) ≡ width_in self.now }
         requires there { IsTrue (nat_lt number (length (landmarks_of self.now.landmarks.now).values)) }
         requires known { IsKnownBy self.now known.old }
