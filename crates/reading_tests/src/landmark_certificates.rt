@@ -11,7 +11,8 @@ use std::test::Fail;
 use test_support::{GO, on_task};
 
 /// The text of the certificate, over the atoms of `GO`.
-const TEXT: &[u8] = b"pddl-cert 4\nclaim bound 4\nconstant 0 0\natom 0 0 (p)\natom 0 0 (q)\nzone 1\nzone 0 not 1\nmarks 0 3 1 5\nopen 0 0\ncut-by 0 1 3 1\ndead-by 0 2 0 1\nend 3\n";
+const TEXT: &[u8] =
+    b"pddl-cert 4\nclaim bound 4\nconstant 0 0\natom 0 0 (p)\natom 0 0 (q)\nzone 1\nzone 0 not 1\nmarks 0 3 1 5\nopen 0 0\ncut-by 0 1 3 1\ndead-by 0 2 0 1\nend 3\n";
 
 /// The weights of the landmark value's two zones.
 const SHARES: [Share; 2] = [Share { zone: 0, weight: 3 }, Share { zone: 1, weight: 5 }];
