@@ -85,20 +85,25 @@ fn a_certificate_with_landmark_values_is_written(rt: HostRuntime) -> Result<(), 
     })
 }
 
+/// The line of a zone with these atoms and these negated ones.
+fn zone_line(alloc: Global, atoms: &[u32], negated: &[u32]) -> Result<CertLine, AllocError> {
+    let atoms = atoms.to_vec(alloc)?;
+    let negated = negated.to_vec(alloc)?;
+    Ok(CertLine::Part(PartLine::Zone { atoms, negated }))
+}
+
+/// The line of the landmark value.
+fn value_line(alloc: Global) -> Result<CertLine, AllocError> {
+    let shares = SHARES.to_vec(alloc)?;
+    Ok(CertLine::Part(PartLine::Landmark { shares }))
+}
+
 /// The lines of the zones, of the landmark value, and of the states.
 fn wanted(alloc: Global) -> Result<Vec<CertLine>, AllocError> {
     let mut lines = Vec::new(alloc);
-    lines.push(CertLine::Part(PartLine::Zone {
-        atoms: vec![in alloc; 1]?,
-        negated: Vec::new(alloc),
-    }))?;
-    lines.push(CertLine::Part(PartLine::Zone {
-        atoms: vec![in alloc; 0]?,
-        negated: vec![in alloc; 1]?,
-    }))?;
-    lines.push(CertLine::Part(PartLine::Landmark {
-        shares: SHARES.to_vec(alloc)?,
-    }))?;
+    lines.push(zone_line(alloc, &[1], &[])?)?;
+    lines.push(zone_line(alloc, &[0], &[1])?)?;
+    lines.push(value_line(alloc)?)?;
     for line in states(alloc)? {
         lines.push(CertLine::Listed(line))?;
     }
