@@ -53,7 +53,8 @@ impl<'a> TableFunctions<'a> {
     ghost use Rattle.model.specs.Task.{Task};
     ghost use Rattle.potentials.specs.Potentials.{potentials_of};
     ghost use Rattle.tables.specs.AllTables.{tables_of, count_of};
-    ghost use Rattle.tables.specs.Fairness.{function_of, allowed_by};
+    ghost use Rattle.potentials.specs.Fairness.{allowed_by};
+    ghost use Rattle.tables.specs.Fairness.{function_of};
     ghost use Rattle.tables.specs.Reports.{goals_report, instance_report, first_report};
     ghost use Rattle.tables.specs.Several.{several_of, width_of, ReportsValues};
     ghost use Rattle.tables.specs.Unfair.{function_in, allowance_in};
