@@ -13,7 +13,6 @@ ghost use Rattle.certificate_definitions.specs.Certificates.{AreFairFor, AreLand
 ghost use Rattle.certificate_definitions.specs.Evidence.{landmark};
 ghost use Rattle.cert_checker.specs.FluentAtoms.{AreFluent};
 ghost use Rattle.cert_checker.specs.CheckedLines.{IsFirstSymmetric, IsTrueAnyway};
-ghost use Rattle.cert_checker.specs.GroundEvidence.{has_basis, is_dead_at, value_at, width_in, IsEvidenceOf, IsKnownBy};
 ghost use Rattle.cert_checker.specs.Weights.{AreCounted};
 ghost use Rattle.model.specs.NumberedAtoms.{numbered_atoms};
 ghost use Rattle.tables.specs.Several.{width_of};
@@ -41,6 +40,8 @@ pub(super) struct GroundEvidence<'a> {
 }
 
 impl<'a> GroundEvidence<'a> {
+    ghost use Rattle.cert_checker.specs.GroundEvidence.{has_basis, is_dead_at, value_at, width_in, IsEvidenceOf, IsKnownBy};
+
     /// That of the certificate, whose atoms the ground task numbers first, if its values are fair, and that for dead ends and the
     /// landmark values that dead ends rest on are dead-fair.
     ///
