@@ -186,7 +186,7 @@ module _ {R : Type 0} (remaining : R → Option (List ℕ)) (task : Task) (first
       so_far_next None over = (before ++ line ∷ [], at_last remaining first now (before ++ line ∷ []) at next over, reported, have)
 
       pub fewer_left : (answer : Option CertLine) → IsAnswer remaining now next (before ++ line ∷ []) (Ok answer)
-          → (30000000 - lines_read next) + option_map_or (λ (line : CertLine). 1) answer 0 < (30000000 - lines_read now) + 1
+          → (70000000 - lines_read next) + option_map_or (λ (line : CertLine). 1) answer 0 < (70000000 - lines_read now) + 1
       fewer_left (Some other) handed =
           omega (arith, at.read.count, handed.read.count, length-append (before ++ line ∷ []) (text_line_of other ∷ []), few_read remaining first now (before ++ line ∷ []) at)
       fewer_left None over = omega (arith, at.read.count, over.read.count, few_read remaining first now (before ++ line ∷ []) at)

@@ -243,7 +243,7 @@ module _ (task : Task) (c : Certificate) (closed : IsClosedFor task c) where
 
   below_by : (basis : Basis) → IsLowerBoundOfAll task (value_by task c basis)
   below_by of_all = below_in c.version closed.are_fair
-  below_by (landmark number) s end plan statics runs goal =
+  below_by (landmark number) = λ s end plan statics runs goal.
       let atoms = numbered_atoms task c.atoms in
       elim (there_or_nothing number) [
         | inl (shares, among, is) ↦ subst (λ h. landmarks.value_of_state task atoms h s ≤ cost_of_all (system_of task) plan) (sym is)
@@ -258,7 +258,7 @@ module _ (task : Task) (c : Certificate) (closed : IsClosedFor task c) where
 
   detects_by : (basis : Basis) → Detects basis → AreDeadEndsOfAll task (is_dead_end_by task c basis)
   detects_by of_all detects = detects_in c.version closed.are_fair
-  detects_by (landmark number) fair s end plan statics reported runs =
+  detects_by (landmark number) fair = λ s end plan statics reported runs.
       let atoms = numbered_atoms task c.atoms in
       elim (there_or_nothing number) [
         | inl (shares, among, is) ↦

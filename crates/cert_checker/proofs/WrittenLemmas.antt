@@ -333,29 +333,29 @@ module _ (task : Task) (c : Certificate) where
   as_many_weighted place (a ∷ atoms) = let rest = as_many_weighted (suc place) atoms in omega (arith, rest)
 
   -- the weight of the value at this place, for the atom at that one
-  weight_at : (value place j : ℕ) (atoms : List Atom) → j < length atoms
-      → get_or (map (λ (a : WeightedAtom). weight_said value a.weights) (weighted_atoms task c place atoms)) j (pos 0) ≡ weight_said value (weights_of_atom c (place + j))
-  weight_at value place j [] below = absurd (omega (arith, below))
-  weight_at value place zero (a ∷ atoms) below =
+  weight_at : (nth place j : ℕ) (atoms : List Atom) → j < length atoms
+      → get_or (map (λ (a : WeightedAtom). weight_said nth a.weights) (weighted_atoms task c place atoms)) j (pos 0) ≡ weight_said nth (weights_of_atom c (place + j))
+  weight_at nth place j [] below = absurd (omega (arith, below))
+  weight_at nth place zero (a ∷ atoms) below =
       let here : place ≡ place + zero = omega arith in
-      ap (λ k. weight_said value (weights_of_atom c k)) here
-  weight_at value place (suc j) (a ∷ atoms) below =
+      ap (λ k. weight_said nth (weights_of_atom c k)) here
+  weight_at nth place (suc j) (a ∷ atoms) below =
       let next : suc place + j ≡ place + suc j = omega arith in
-      weight_at value (suc place) j atoms (omega (arith, below)) ∙ ap (λ k. weight_said value (weights_of_atom c k)) next
+      weight_at nth (suc place) j atoms (omega (arith, below)) ∙ ap (λ k. weight_said nth (weights_of_atom c k)) next
 
   -- they are these, if each is
-  weights_back : (value : ℕ) (weights : List ℤ) → length weights ≡ length c.atoms
-      → ((j : ℕ) → j < length c.atoms → weight_said value (weights_of_atom c j) ≡ get_or weights j (pos 0))
-      → weights ≡ map (λ (a : WeightedAtom). weight_said value a.weights) (weighted_atoms task c 0 c.atoms)
-  weights_back value weights long same =
-      let weight_of : WeightedAtom → ℤ = λ a. weight_said value a.weights in
+  weights_back : (nth : ℕ) (weights : List ℤ) → length weights ≡ length c.atoms
+      → ((j : ℕ) → j < length c.atoms → weight_said nth (weights_of_atom c j) ≡ get_or weights j (pos 0))
+      → weights ≡ map (λ (a : WeightedAtom). weight_said nth a.weights) (weighted_atoms task c 0 c.atoms)
+  weights_back nth weights long same =
+      let weight_of : WeightedAtom → ℤ = λ a. weight_said nth a.weights in
       let written = weighted_atoms task c 0 c.atoms in
       let as_long : length weights ≡ length (map weight_of written) = long ∙ sym (length-map written weight_of ∙ as_many_weighted 0 c.atoms) in
       ext_get_or (pos 0) weights (map weight_of written) as_long
       (λ j below.
       let within : j < length c.atoms = omega (arith, below, long) in
       let here : 0 + j ≡ j = omega arith in
-      sym (weight_at value 0 j c.atoms within ∙ ap (λ k. weight_said value (weights_of_atom c k)) here ∙ same j within))
+      sym (weight_at nth 0 j c.atoms within ∙ ap (λ k. weight_said nth (weights_of_atom c k)) here ∙ same j within))
 
 -- ---- the text
 
@@ -371,10 +371,10 @@ module _ (task : Task) (c : Certificate) (well : IsTrue (is_task task)) (has_nam
       × (list_all (is_dead_end_weight c.version) c.dead_ends.weights ≡ true)
   dead_end_parts = potential_parts (is_dead_end_weight c.version) (length c.atoms) c.dead_ends limits.dead_ends
 
-  one_weight_an_atom : (value : ℕ) (d : PotentialFunction) → value < length c.values → length (get_or c.values value d).weights ≡ length c.atoms
-  one_weight_an_atom value d below =
+  one_weight_an_atom : (nth : ℕ) (d : PotentialFunction) → nth < length c.values → length (get_or c.values nth d).weights ≡ length c.atoms
+  one_weight_an_atom nth d below =
       let test = are_potentials is_weight (length c.atoms) in
-      (potential_parts is_weight (length c.atoms) (get_or c.values value d) (and_at (list_all test) test refl (λ p values. refl) c.values value d below limits.values)).1
+      (potential_parts is_weight (length c.atoms) (get_or c.values nth d) (and_at (list_all test) test refl (λ p values. refl) c.values nth d below limits.values)).1
 
   -- the constants of values, and the weights of the atom at this place, of values and of dead ends
   abbrev constants : List ℤ
@@ -396,14 +396,14 @@ module _ (task : Task) (c : Certificate) (well : IsTrue (is_task task)) (has_nam
   dead_end_within place = said_kept (is_dead_end_weight c.version) (nothing_of_dead_ends c.version) c.dead_ends.weights place dead_end_parts.2
 
   -- what is written says the values, that of dead ends and the atoms
-  value_back : (value : ℕ) (d : PotentialFunction) → value < length c.values → get_or c.values value d ≡ value_said (named task c) value
-  value_back value d below =
-      let p : PotentialFunction = get_or c.values value d in
-      let constant : weight_said value (constants_of c) ≡ p.constant =
-      value_in c.version constants c.dead_ends.constant value (omega (arith, as_many_constants, below)) ∙ get_or-map (λ (p : PotentialFunction). p.constant) c.values value d (pos 0) below in
-      let weights = weights_back task c value p.weights (one_weight_an_atom value d below)
-      (λ place within. value_in c.version (weights_of_values place) (weight_of_dead_ends place) value (omega (arith, as_many_weights place, below))
-      ∙ get_or-map (λ (p : PotentialFunction). get_or p.weights place (pos 0)) c.values value d (pos 0) below) in
+  value_back : (nth : ℕ) (d : PotentialFunction) → nth < length c.values → get_or c.values nth d ≡ value_said (named task c) nth
+  value_back nth d below =
+      let p : PotentialFunction = get_or c.values nth d in
+      let constant : weight_said nth (constants_of c) ≡ p.constant =
+      value_in c.version constants c.dead_ends.constant nth (omega (arith, as_many_constants, below)) ∙ get_or-map (λ (p : PotentialFunction). p.constant) c.values nth d (pos 0) below in
+      let weights = weights_back task c nth p.weights (one_weight_an_atom nth d below)
+      (λ place within. value_in c.version (weights_of_values place) (weight_of_dead_ends place) nth (omega (arith, as_many_weights place, below))
+      ∙ get_or-map (λ (p : PotentialFunction). get_or p.weights place (pos 0)) c.values nth d (pos 0) below) in
       λ i. record { constant = sym constant i; weights = weights i }
 
   values_counted : value_count c.version (length (constants_of c)) ≡ length c.values
@@ -413,7 +413,7 @@ module _ (task : Task) (c : Certificate) (well : IsTrue (is_task task)) (has_nam
   values_back =
       let d : PotentialFunction = record { constant = pos 0; weights = [] } in
       fill_by_all (value_said (named task c)) c.values (value_count c.version (length (constants_of c))) d (sym values_counted)
-      (λ value below. value_back value d (omega (arith, below, values_counted)))
+      (λ nth below. value_back nth d (omega (arith, below, values_counted)))
 
   dead_ends_back : c.dead_ends ≡ dead_ends_said (named task c)
   dead_ends_back =
@@ -461,6 +461,9 @@ module _ (task : Task) (c : Certificate) (well : IsTrue (is_task task)) (has_nam
       (ap (λ n. are_tables c.version n (length (constants_of c)) c.tables) (as_many_weighted task c 0 c.atoms)
       ∙ tables_with c.version (length c.atoms) (length c.values + 1) (length (constants_of c)) c.tables same limits.tables)
 
+  short_both : (list_all (is_short task) c.exchanges ≡ true) × (list_all is_short_value c.landmarks.values ≡ true)
+  short_both = and_parts (list_all (is_short task) c.exchanges) (list_all is_short_value c.landmarks.values) short
+
   lines_within : list_all (is_line (format_of (named task c))) (text_lines (named task c)) ≡ true
   lines_within =
       let test : TextLine → Bool = is_line (format_of (named task c)) in
@@ -488,9 +491,6 @@ module _ (task : Task) (c : Certificate) (well : IsTrue (is_task task)) (has_nam
       let body : list_all test ((heads ++ parts) ++ states) ≡ true = list_all-append test (heads ++ parts) states ∙ (λ i. front i && states_are i) in
       let following : list_all test (((heads ++ parts) ++ states) ++ end) ≡ true = list_all-append test ((heads ++ parts) ++ states) end ∙ (λ i. body i && end_is i) in
       λ i. limits.claim i && ((constant_count i && constants_within i) && following i)
-
-  short_both : (list_all (is_short task) c.exchanges ≡ true) × (list_all is_short_value c.landmarks.values ≡ true)
-  short_both = and_parts (list_all (is_short task) c.exchanges) (list_all is_short_value c.landmarks.values) short
 
   -- its parts are in order, and each line has its basis
   landmarks_few : AreFew c.tables c.landmarks × (list_all (is_value (length c.landmarks.zones)) c.landmarks.values ≡ true)

@@ -93,7 +93,7 @@ states-smaller g c =
     let states = c.take_line.new.states in
     let (before, at, reported, have, body) = rw c.in-Some.is at c.states.invariant.so_far in
     let taken = c.in_ok-take_line.ensures.taken task before (heading_of header) refl body reported have in
-    subst (λ next. (30000000 - lines_read c.next_line.new.self) + option_map_or (λ (line : CertLine). 1) c.in_ok-next.next 0 < (30000000 - lines_read c.states.reader) + option_map_or (λ (line : CertLine). 1) next 0)
+    subst (λ next. (70000000 - lines_read c.next_line.new.self) + option_map_or (λ (line : CertLine). 1) c.in_ok-next.next 0 < (70000000 - lines_read c.states.reader) + option_map_or (λ (line : CertLine). 1) next 0)
     (sym c.in-Some.is)
     (fewer_left g.R.Source.remaining task c.args.reader.now c.states.reader header (pooled_width c.states.states.sets) (map listed_of states.marks.items) (pooled_states states.sets)
     before line at taken.0 taken.1 body c.next_line.new.self c.in_ok-next.ensures.failed c.in_ok-next.next (c.in_ok-next.ensures.reported (before ++ line ∷ []) at.read at.going))

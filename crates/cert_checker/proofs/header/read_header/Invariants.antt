@@ -20,4 +20,4 @@ invariant-lines g l = record {
 }
 
 abbrev pub decreases-lines : goal.decreases-lines
-decreases-lines g l = 30000000 - lines_read l.reader
+decreases-lines g l = 70000000 - lines_read l.reader

@@ -8,16 +8,22 @@ use Rattle.certificate.specs.Evidence.{potential_of}
 use Rattle.certificate_definitions.specs.Certificates as certificates
 use Rattle.certificate_definitions.specs.Certificates.{is_weight}
 use Rattle.potentials.specs.Potentials.{potentials_of}
+use Rattle.lower_bounds.specs.PotentialFunctions.{AreInRange}
 use Rattle.lower_bounds.specs.TableFunctions.{SeveralValues}
 use Rattle.tables.specs.Several.{several_of}
 use Rattle.cert_checker.specs.Weights.{AreWidened, HasItsWeights, HaveTheirWeights}
-use Rattle.cert_checker.proofs.MadeLemmas.{each_as_wide, each_weighed, have_weights}
+use Rattle.cert_checker.proofs.MadeLemmas.{each_as_wide, each_in_range, each_weighed, have_weights}
 use Rattle.cert_checker.proofs.PackedListingLemmas.{numbered_after}
 use Rattle.cert_checker.proofs.TablesLemmas.{as_many_widened}
 use Rattle.cert_checker.proofs.VersionLemmas.{one_weight_each}
 use Rattle.cert_checker.proofs.WeightsLemmas.{said_in_range}
 use Rattle.cert_checker.proofs.checker.values.fair_with_tables.Goals as goal
 use Rattle.cert_checker.proofs.checker.values.fair_with_tables.Goals.{After-deref, In_ok-values, In_ok-functions}
+
+pub all_at_width-requires-clause-range : goal.all_at_width-requires-clause-range
+all_at_width-requires-clause-range c =
+    subst (All (λ (p : Potential). AreInRange (potential_of p))) (sym c.deref.ensures.value)
+    (each_in_range (length (certificate_of c.args.cert.now).atoms) c.evidence-evidence.result.now.values.items c.evidence-evidence.ensures.values)
 
 pub all_at_width-requires-clause-enough : goal.all_at_width-requires-clause-enough
 all_at_width-requires-clause-enough c =
