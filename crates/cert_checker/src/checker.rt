@@ -24,7 +24,7 @@ ghost use Rattle.devices.specs.Progress.{AreSaid, stream};
 mod answer;
 mod classes;
 mod evidence;
-mod landmarks;
+mod landmark_values;
 mod packed;
 mod steps;
 mod symmetry;

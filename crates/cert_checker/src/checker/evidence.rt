@@ -17,7 +17,7 @@ ghost use Rattle.cert_checker.specs.Weights.{AreCounted};
 ghost use Rattle.model.specs.NumberedAtoms.{numbered_atoms};
 ghost use Rattle.tables.specs.Several.{width_of};
 
-use crate::checker::landmarks::check_landmarks;
+use crate::checker::landmark_values::check_landmarks;
 use crate::checker::values::fair_values;
 use crate::refusal::Refusal;
 use certificate::{Basis, Cert, Landmarks};

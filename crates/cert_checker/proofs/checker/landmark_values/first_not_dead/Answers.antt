@@ -12,7 +12,7 @@ use Rattle.certificate_definitions.specs.Certificates.{Certificate, StateLine}
 use Rattle.cert_checker.specs.CheckedLines.{HasCost}
 use Rattle.cert_checker.specs.LandmarkFaults.{rests_on_another}
 use Rattle.cert_checker.proofs.RefusalsLemmas.{as_many_marks, has_cost}
-use Rattle.cert_checker.proofs.checker.landmarks.first_not_dead.Goals as goal
+use Rattle.cert_checker.proofs.checker.landmark_values.first_not_dead.Goals as goal
 
 -- what is listed at a place within the lines
 line_at : (cert : Certificate) (marks : List Listed) (place : ℕ) → map listed_of marks ≡ map marked cert.lines → place < length marks

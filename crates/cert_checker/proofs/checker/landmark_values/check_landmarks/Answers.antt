@@ -21,8 +21,8 @@ use Rattle.cert_checker.proofs.FirstLemmas.{reported_first}
 use Rattle.cert_checker.proofs.LandmarkFaultsLemmas.{dead_fair_before, fair_all, fair_before, landmarks_fair, landmarks_keep_limits, not_dead_at, unfair_at}
 use Rattle.cert_checker.proofs.OrderLemmas.{atoms_right, first_value_not_dead, first_value_unfair, states_right_all}
 use Rattle.cert_checker.proofs.RefusalsLemmas.{reported}
-use Rattle.cert_checker.proofs.checker.landmarks.check_landmarks.Goals as goal
-use Rattle.cert_checker.proofs.checker.landmarks.check_landmarks.Goals.{After-first_unfair}
+use Rattle.cert_checker.proofs.checker.landmark_values.check_landmarks.Goals as goal
+use Rattle.cert_checker.proofs.checker.landmark_values.check_landmarks.Goals.{After-first_unfair}
 
 -- what was found for the task of an index was found for this task
 found_here : (task there : Task) (atoms those : List Atom) (asked numbers : List ℕ) (beside : List Table) (l : NumberedLandmarks) (found : List Fairness) → there ≡ task → those ≡ atoms → numbers ≡ asked
