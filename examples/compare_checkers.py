@@ -1,15 +1,15 @@
 #!/usr/bin/env python3
 """Compares optplan's checker with examples/check_certificate.py, which shares no line with it, on the tasks of examples/.
 
-    compare_checkers.py [TASK..] [--random M] [--tables N] [--seed S]
+    compare_checkers.py [TASK..] [--random M] [--tables N] [--landmarks N] [--seed S]
 
 For each task it has `optplan solve` write a certificate, and then changes it in one place at a time: each constant and each
 weight by one, up and down, and each of the first states to another kind of line. Both checkers are asked of each text, and what
 they answer is compared. It prints a line for each task, and each text on which they differ; it ends with status 1 where one does.
 
-With --random it does so with M random tasks as well (random_tasks.py). Both are asked of N texts of version 3 of each task
-besides, as forge_certificates.py makes them at random: 30, or as many as --tables says. S is the seed of what is random, and 0
-where it is not given.
+With --random it does so with M random tasks as well (random_tasks.py). Both are asked of texts of versions 3 and 4 of each task
+besides, as forge_certificates.py makes them at random: 30 of each, or as many as --tables and --landmarks say. S is the seed of
+what is random, and 0 where it is not given.
 """
 import argparse
 import itertools
@@ -24,13 +24,14 @@ HERE = os.path.dirname(os.path.realpath(__file__))
 sys.path.insert(0, HERE)
 
 from check_certificate import answer  # noqa: E402
-from forge_certificates import random_texts  # noqa: E402
+from forge_certificates import landmark_texts, random_texts  # noqa: E402
+from forgeries import STATES  # noqa: E402
 from pddl_task import Task  # noqa: E402
 from random_tasks import random_task  # noqa: E402
 
 PROGRAM = os.environ.get("OPTPLAN", os.path.join(os.path.dirname(HERE), "optplan"))
 # How many states are listed by another kind of line.
-STATES = 8
+MOST_STATES = 8
 
 
 def said(*words):
@@ -55,8 +56,8 @@ def changed(text):
     yield "as it is written", text
     lines = text.split("\n")
     width = len(lines[2].split(" ")) - 1
-    first = next(at for at, line in enumerate(lines) if line.split(" ")[0] in ("open", "cut", "dead"))
-    for at, line in enumerate(lines[:first + STATES]):
+    first = next(at for at, line in enumerate(lines) if line.split(" ")[0] in STATES)
+    for at, line in enumerate(lines[:first + MOST_STATES]):
         for words in changed_words(line.split(" "), width):
             yield f"line {at + 1}: {' '.join(words)}", "\n".join([*lines[:at], " ".join(words), *lines[at + 1:]])
 
@@ -79,8 +80,8 @@ def files_of(names, count, seed):
         yield f"random {at}", *random_task(random.Random(at))
 
 
-def compare(name, texts, room, count, chance):
-    """How many certificates were compared, and how many were told apart; of version 3 so many."""
+def compare(name, texts, room, counts, chance):
+    """How many certificates were compared, and how many were told apart: so many of version 3, and so many of version 4."""
     domain, problem, cert = (f"{room}/{it}" for it in ("domain.pddl", "problem.pddl", "cert.txt"))
     for file, text in zip((domain, problem), texts):
         write(file, text)
@@ -89,7 +90,8 @@ def compare(name, texts, room, count, chance):
         print(f"{name}: optplan says {solved} and writes no certificate")
         return 0, 1
     task, written, asked, differ = Task(*texts), text_of(cert), 0, 0
-    certificates = itertools.chain(changed(written), random_texts(task, written.encode("ascii"), chance, count))
+    made = (texts(task, written.encode("ascii"), chance, count) for texts, count in zip((random_texts, landmark_texts), counts))
+    certificates = itertools.chain(changed(written), *made)
     for asked, (what, text) in enumerate(certificates, 1):
         write(cert, text)
         theirs, status = answer(task, text.encode("ascii"))
@@ -103,13 +105,13 @@ def compare(name, texts, room, count, chance):
 def main():
     words = argparse.ArgumentParser()
     words.add_argument("tasks", nargs="*")
-    for name, count in (("--random", 0), ("--tables", 30), ("--seed", 0)):
+    for name, count in (("--random", 0), ("--tables", 30), ("--landmarks", 30), ("--seed", 0)):
         words.add_argument(name, type=int, default=count)
     words = words.parse_args()
     bad = 0
     for name, *texts in files_of(words.tasks, words.random, words.seed):
         with tempfile.TemporaryDirectory() as room:
-            count, differ = compare(name, texts, room, words.tables, random.Random(words.seed))
+            count, differ = compare(name, texts, room, (words.tables, words.landmarks), random.Random(words.seed))
         bad += differ
         print(f"{name}: {count} texts, {differ} differ", flush=True)
     sys.exit(1 if bad else 0)

@@ -1,12 +1,13 @@
 #!/usr/bin/env python3
-"""Makes certificates of version 3 from those of versions 1 and 2, and forges certificates, at random.
+"""Makes certificates of versions 3 and 4 from those of versions 1 and 2, and forges certificates, at random.
 
-    forge_certificates.py DOMAIN PROBLEM CERT FOLDER [--count N] [--seed S]
+    forge_certificates.py DOMAIN PROBLEM CERT FOLDER [--count N] [--landmarks N] [--seed S]
 
-From CERT, of any version, it writes N texts (100) into FOLDER, of which most are wrong in a place or two. `compare_checkers.py`
-asks two checkers of such texts.
+From CERT, of any version, it writes N texts (100) of version 3 into FOLDER, of which most are wrong in a place or two, and as many
+of version 4 as `--landmarks` says (100). `compare_checkers.py` asks two checkers of such texts.
 """
 import argparse
+import itertools
 import os
 import random
 import sys
@@ -14,12 +15,17 @@ import sys
 sys.dont_write_bytecode = True
 sys.path.insert(0, os.path.dirname(os.path.realpath(__file__)))
 
-from check_certificate import Fairness, kept_instances, read_certificate, rows_after  # noqa: E402
+from certificate_text import read_certificate, rows_after  # noqa: E402
+from check_certificate import Fairness, kept_instances  # noqa: E402
+from forgeries import CHANGES, OF_LANDMARKS, first_atom, forged, joined  # noqa: E402
+from landmark_cuts import LandmarkCuts, Text, certificate  # noqa: E402
+from landmark_values import worth  # noqa: E402
 from pddl_task import Task  # noqa: E402
 
 # A table is left out where more rows are reached, and no instances are counted beyond the second number.
 MOST_ROWS, MOST_INSTANCES = 200, 1000000
-STATES = ("open", "cut", "dead")
+# For how many states a text gets landmark values, and how many states a search by LM-cut expands.
+MOST_VALUES, MOST_EXPANDED = 6, 40
 
 
 # ---- tables
@@ -174,272 +180,97 @@ def with_tables(task, data, chance):
     return joined(lines)
 
 
-def joined(lines):
-    return "".join(" ".join(words) + "\n" for words in lines)
-
-
-# ---- forging: each changes the lines, lists of words, and says what it did; IndexError where there is nothing to change
-
-def lines_of(lines, *kinds):
-    """Where the lines of these kinds are."""
-    return [at for at, words in enumerate(lines) if words[0] in kinds]
-
-
-def width(lines):
-    """How many weights a line has."""
-    return len(lines[2]) - 1
-
-
-def with_weights(lines, chance, *kinds):
-    return lines[chance.choice(lines_of(lines, *kinds))]
-
-
-def moved(word, chance):
-    return str(int(word) + chance.choice((-1, 1)))
-
-
-def weight_moved(lines, chance):
-    words, at = with_weights(lines, chance, "atom", "row"), chance.randint(1, width(lines))
-    words[at] = moved(words[at], chance)
-    return "a weight is one higher or lower"
-
-
-def constant_moved(lines, chance):
-    at = chance.randint(1, width(lines))
-    lines[2][at] = moved(lines[2][at], chance)
-    return "a constant is one higher or lower"
-
-
-def row_dropped(lines, chance):
-    del lines[chance.choice(lines_of(lines, "row"))]
-    return "a row is dropped"
-
-
-def row_added(lines, chance):
-    at = chance.choice(lines_of(lines, "table"))
-    inside = [word for word in lines[at][1:] if chance.random() < 0.5]
-    weights = with_weights(lines, chance, "row")[1:1 + width(lines)]
-    lines.insert(at + 1, ["row", *weights, *inside])
-    return "a row is added"
-
-
-def row_repeated(lines, chance):
-    at = chance.choice(lines_of(lines, "row"))
-    lines.insert(at + chance.randint(0, 2), list(lines[at]))
-    return "a row is repeated"
-
-
-def table_added(lines, chance):
-    at = chance.choice(lines_of(lines, "table", "row")[:1] or [lines_of(lines, *STATES, "end")[0]])
-    lines.insert(at, ["table", str(chance.randrange(len(lines_of(lines, "atom"))))])
-    return "a table without rows is added"
-
-
-def table_moved(lines, chance):
-    words = lines.pop(chance.choice(lines_of(lines, "table")))
-    lines.insert(chance.choice(lines_of(lines, "atom", "table", "row", *STATES)), words)
-    return "a table's line is moved"
-
-
-def scope_left(lines, chance):
-    words = lines[chance.choice(lines_of(lines, "row", "table"))]
-    if words[0] == "table" or chance.random() < 0.5:
-        words.pop(chance.randrange(1, len(words)))
-    else:
-        words.append(str(chance.randrange(len(lines_of(lines, "atom")))))
-    return f"a number of a {words[0]} is taken away or put in"
-
-
-def dead_weights_swapped(lines, chance):
-    first, second = (with_weights(lines, chance, "atom", "row") for _ in range(2))
-    last = width(lines)
-    first[last], second[last] = second[last], first[last]
-    return "the weights of dead ends are swapped in two lines"
-
-
-def dead_weights_cleared(lines, chance):
-    last = width(lines)
-    for at in lines_of(lines, "constant", "atom", "row"):
-        lines[at][last] = "0"
-    lines[chance.choice(lines_of(lines, "open", "dead"))][0] = "dead"
-    return "the weights of dead ends are 0"
-
-
-def values_swapped(lines, chance):
-    if width(lines) == 1:
-        raise IndexError
-    first, second = chance.sample(range(1, width(lines) + 1), 2)
-    kinds = chance.choice((["row"], ["atom"], ["atom", "row"], ["constant", "atom", "row"]))
-    for at in lines_of(lines, *kinds):
-        lines[at][first], lines[at][second] = lines[at][second], lines[at][first]
-    return f"two values are swapped in each {' and '.join(kinds)}"
-
-
-def state_changed(lines, chance):
-    words = lines[chance.choice(lines_of(lines, *STATES))]
-    numbers = words[3:] if words[0] == "cut" else words[2:]
-    kind = chance.choice(STATES)
-    words[:] = [kind, words[1], *(["1"] if kind == "cut" else []), *numbers]
-    return "a state's line is of another kind"
-
-
-def state_cost_moved(lines, chance):
-    words = lines[chance.choice(lines_of(lines, *STATES))]
-    at = 2 if words[0] == "cut" and chance.random() < 0.5 else 1
-    words[at] = moved(words[at], chance)
-    return "a cost or a bound of a state is one higher or lower"
-
-
-def count_states(lines):
-    """Says at the end how many states are listed."""
-    lines[lines_of(lines, "end")[-1]] = ["end", str(len(lines_of(lines, *STATES)))]
-
-
-def state_dropped(lines, chance):
-    del lines[chance.choice(lines_of(lines, *STATES))]
-    count_states(lines)
-    return "a state is dropped"
-
-
-def first_atom(words):
-    """Where the numbers of the atoms begin in the line of a state."""
-    return 3 if words[0] == "cut" else 2
-
-
-def atom_images(lines, names):
-    """Of each atom's number the number of its image, where these objects change places and the image is listed."""
-    image_of = {name: other for pair in zip(names[::2], names[1::2]) for name, other in (pair, pair[::-1])}
-    atoms = [tuple(" ".join(lines[at][width(lines) + 1:])[1:-1].split(" ")) for at in lines_of(lines, "atom")]
-    numbers = {atom: str(number) for number, atom in enumerate(atoms)}
-    images = {number: numbers.get((atom[0], *(image_of.get(name, name) for name in atom[1:]))) for atom, number in numbers.items()}
-    return {number: image for number, image in images.items() if image is not None}
-
-
-def with_image(words, image_of):
-    """The line of a state with the state's image in its place."""
-    first = first_atom(words)
-    return [*words[:first], *sorted((image_of.get(number, number) for number in words[first:]), key=int)]
-
-
-def moved_states(lines, chance):
-    """The lines of states that one exchange takes to others, with what they become: it is one of the `swap` lines."""
-    image_of = atom_images(lines, lines[chance.choice(lines_of(lines, "swap"))][1:])
-    found = {at: with_image(lines[at], image_of) for at in lines_of(lines, *STATES)}
-    return {at: words for at, words in found.items() if words != lines[at]}
-
-
-def states_replaced(lines, chance):
-    images = moved_states(lines, chance)
-    chosen = chance.sample(list(images), chance.choice((1, 1, 1, 1 + len(images) // 2, len(images))))
-    for at in chosen:
-        lines[at] = images[at]
-    return f"images take the places of {len(chosen)} states"
-
-
-def state_doubled(lines, chance):
-    at, words = chance.choice(list(moved_states(lines, chance).items()))
-    words[1] = chance.choice((words[1], words[1], moved(words[1], chance)))
-    lines.insert(chance.choice((at, at + 1, lines_of(lines, *STATES)[0], len(lines) - 1)), words)
-    count_states(lines)
-    return "an image of a state is listed beside it"
-
-
-def member_dropped(lines, chance):
-    state_of = lambda words: tuple(words[first_atom(words):])
-    listed = {state_of(lines[at]) for at in lines_of(lines, *STATES)}
-    del lines[chance.choice([at for at, words in moved_states(lines, chance).items() if state_of(words) in listed])]
-    count_states(lines)
-    return "a state whose image is listed is dropped"
-
-
-def objects_in(lines):
-    """The objects that atoms name."""
-    return sorted({word.rstrip(")") for at in lines_of(lines, "atom") for word in lines[at][width(lines) + 2:]})
-
-
-def swap_added(lines, chance):
-    objects, count = objects_in(lines), chance.choice((2, 2, 2, 2, 3, 4))
-    names = chance.sample(objects, count) if chance.random() < 0.9 else chance.choices(objects, k=count)
-    lines.insert(chance.randrange(3, 4 + len(lines_of(lines, "swap"))), ["swap", *names])
-    return "objects change places"
-
-
-def swap_dropped(lines, chance):
-    del lines[chance.choice(lines_of(lines, "swap"))]
-    return "a swap line is dropped"
-
-
-def swap_changed(lines, chance):
-    words = lines[chance.choice(lines_of(lines, "swap"))]
-    words[chance.randrange(1, len(words))] = chance.choice(objects_in(lines))
-    return "another object changes places"
-
-
-def claim_changed(lines, chance):
-    if lines[1] == ["claim", "none"]:
-        lines[1] = ["claim", "bound", "1"]
-    else:
-        lines[1] = chance.choice((["claim", "none"], ["claim", "bound", moved(lines[1][-1], chance)]))
-    return "another claim"
-
-
-def line_moved(lines, chance):
-    words = lines.pop(chance.randrange(len(lines)))
-    if chance.random() < 0.7:
-        lines.insert(chance.randrange(len(lines) + 1), words)
-    return "a line is moved or dropped"
-
-
-def word_changed(lines, chance):
-    words = chance.choice(lines)
-    at = chance.randrange(len(words))
-    other = chance.choice(("", "-0", "01", "x", "2147483648", "1152921504606846976"))
-    words[at:at + 1] = chance.choice(([], [words[at]] * 2, [words[at], "0"], [other]))
-    return "a word is changed"
-
-
-# Those that stand here more than once are taken more often.
-CHANGES = (weight_moved, weight_moved, weight_moved, constant_moved, row_dropped, row_dropped, row_added, row_repeated, table_added,
-           table_moved, scope_left, dead_weights_swapped, dead_weights_cleared, values_swapped, state_changed, state_cost_moved,
-           state_dropped, states_replaced, states_replaced, state_doubled, state_doubled, member_dropped, swap_added, swap_added,
-           swap_dropped, swap_changed, claim_changed, line_moved, word_changed)
-
-
-def forged(text, chance):
-    """The text changed in one to three places, and what was done."""
-    lines, done, count = [line.split(" ") for line in text.split("\n")[:-1]], [], chance.choice((1, 1, 1, 2, 3))
-    while len(done) < count:
-        try:
-            done.append(chance.choice(CHANGES)(lines, chance))
-        except (IndexError, ValueError):
-            pass
-    return "; ".join(done), joined(lines)
-
+# ---- landmark values
+
+def values_for(cuts, said, chance):
+    """Landmark values by LM-cut for a few listed states, each with whether it shows dead ends."""
+    states = [state for *_, state in said.states]
+    found = [cuts.value_for(state) for state in chance.sample(states, min(len(states), MOST_VALUES))]
+    return [it for it in found if it[0]]
+
+
+def with_landmarks(task, text, chance):
+    """A text of version 4 that claims what this one of version 3 does, with landmark values for some of its lines.
+
+    An open state becomes a cut where a landmark value shows what is claimed; a cut and a dead end rest on one where it does, too.
+    """
+    said = read_certificate(task, text.encode("ascii"))
+    instances, numbered = kept_instances(task, said, MOST_INSTANCES)
+    fairness = Fairness(said, numbered)
+    asked = [it for it in instances if not fairness.is_shut_out(it)]
+    values = values_for(LandmarkCuts(task, asked, numbered, dict.fromkeys(said.atoms)), said, chance)
+    written, lines = Text(said.atoms), [line.split(" ") for line in text.split("\n")[:-1]]
+    for value, _ in values:
+        written.value(value)
+    for count, kind, cost, _, state in said.states:
+        by = said.has_rows(state) and chance.random() < 0.8 and basis(said.claim, values, cost, state, chance)
+        if by:
+            dead, bound, value = by
+            numbers = lines[count - 1][first_atom(lines[count - 1]):]
+            words = ["dead-by" if dead else "cut-by", written.value(value), cost, *([] if dead else [bound]), *numbers]
+            lines[count - 1] = list(map(str, words))
+    lines[0] = ["pddl-cert", "4"]
+    at = said.states[0][0] - 1
+    lines[at:at] = [list(map(str, words)) for words in written.landmark_lines()]
+    return joined(lines)
+
+
+def basis(claim, values, cost, state, chance):
+    """Whether the state is a dead end or else a cut, the cut's bound, and a value that shows it; None where none of these does."""
+    found = []
+    for value, is_dead in values:
+        bound = worth(value, state)
+        if is_dead and bound:
+            found.append((True, None, value))
+        elif claim is not None and cost + bound >= claim:
+            found.append((False, chance.randint(max(0, claim - cost), bound), value))
+    return chance.choice(found) if found else None
+
+
+# ---- texts
 
 def random_texts(task, data, chance, count):
-    """As many texts as this, each with what it is: as they should be, and forged."""
+    """As many texts of version 3 as this, each with what it is: as they should be, and forged."""
     version = int(data.split(b"\n")[0].split(b" ")[1])
     for at in range(count):
         if at % 10 == 0:
-            text = data.decode("ascii") if version == 3 else with_tables(task, data, chance)
+            text = data.decode("ascii") if version >= 3 else with_tables(task, data, chance)
             yield "as it is made", text
         else:
-            yield forged(text, chance)
+            yield forged(text, chance, CHANGES)
+
+
+def landmark_texts(task, data, chance, count):
+    """As many texts of version 4 as this, each with what it is: as they should be, and forged."""
+    version, by_search = int(data.split(b"\n")[0].split(b" ")[1]), None
+    for at in range(count):
+        if at % 10 != 0:
+            yield forged(text, chance, CHANGES, OF_LANDMARKS, OF_LANDMARKS)
+            continue
+        if at % 30 == 0:
+            text = by_search = by_search or certificate(task, MOST_EXPANDED)[1]
+        elif version == 4:
+            text = data.decode("ascii")
+        else:
+            text = with_landmarks(task, data.decode("ascii") if version == 3 else with_tables(task, data, chance), chance)
+        yield "as it is made with landmark values", text
 
 
 def main():
     words = argparse.ArgumentParser()
     for file in ("domain", "problem", "cert", "folder"):
         words.add_argument(file)
-    words.add_argument("--count", type=int, default=100)
-    words.add_argument("--seed", type=int, default=0)
+    for name, count in (("--count", 100), ("--landmarks", 100), ("--seed", 0)):
+        words.add_argument(name, type=int, default=count)
     words = words.parse_args()
     text_of = lambda name: open(name, encoding="latin-1").read()
     with open(words.cert, "rb") as file:
         data = file.read()
     os.makedirs(words.folder, exist_ok=True)
     task = Task(text_of(words.domain), text_of(words.problem))
-    for at, (what, text) in enumerate(random_texts(task, data, random.Random(words.seed), words.count)):
+    chance = random.Random(words.seed)
+    texts = itertools.chain(random_texts(task, data, chance, words.count), landmark_texts(task, data, chance, words.landmarks))
+    for at, (what, text) in enumerate(texts):
         with open(f"{words.folder}/{at}.cert", "w", encoding="ascii") as file:
             file.write(text)
         print(f"{at}.cert: {what}")

@@ -1,6 +1,6 @@
 //! The values of variables that the goal allows.
 use crate::numbers::place_of;
-use crate::variables::{Value, Variables};
+use crate::variables::{VariableValue, Variables};
 use faults::NoMemory;
 use grounding::NumberedLiteral;
 use std::alloc::Global;
@@ -37,7 +37,7 @@ impl GoalValues {
     }
 
     /// Requires this value, or forbids it, as the literal says of its atom.
-    fn ask(&mut self, said: Value, literal: &NumberedLiteral) {
+    fn ask(&mut self, said: VariableValue, literal: &NumberedLiteral) {
         if let Some(is_asked) = self.is_asked.get_mut(place_of(said.variable)) {
             *is_asked = true;
         }

@@ -14,11 +14,11 @@ mod goals;
 mod groups;
 mod growing;
 mod mentioned;
-mod moves;
 mod numbers;
 mod reached;
 mod row_graph;
 mod steps;
+mod transitions;
 mod variables;
 
 pub use goals::GoalValues;
@@ -27,4 +27,4 @@ pub use numbers::{number_of, place_of};
 pub use reached::{MAX_TABLE_VARIABLES, Reaching, RowLimits, VariableTask};
 pub use row_graph::{Arc, RowClass, RowGraph};
 pub use steps::{Shutters, Steps};
-pub use variables::{Value, Variables};
+pub use variables::{VariableValue, Variables};

@@ -1,13 +1,13 @@
 //! The effects of all instances on each variable.
-use crate::moves::{InstancePart, Move, moves_from, source_count};
 use crate::numbers::{number_of, place_of};
+use crate::transitions::{InstancePart, Transition, source_count, transitions_from};
 use crate::variables::Variables;
 use faults::NoMemory;
 use grounding::{CountingChange, Ground, NumberedLiteral};
 use potentials::instance_count;
 use std::alloc::Global;
 
-/// The maximum number of moves kept in total.
+/// The maximum number of transitions kept in total.
 const MAX_MOVES: usize = 4_000_000;
 
 /// An instance, and the variable's step that it takes.
@@ -17,10 +17,10 @@ pub(crate) struct StepUse {
     pub(crate) step: u32,
 }
 
-/// The effects of instances on one variable: its steps, each a list of moves, and the instances that take them.
+/// The effects of instances on one variable: its steps, each a list of transitions, and the instances that take them.
 #[derive(Drop)]
 pub(crate) struct VariableSteps {
-    steps: Vec<Vec<Move>>,
+    steps: Vec<Vec<Transition>>,
     /// In ascending order of instances.
     uses: Vec<StepUse>,
 }
@@ -42,12 +42,12 @@ pub struct Shutters {
 struct Drafts<'a> {
     alloc: Global,
     variables: &'a Variables,
-    moves: Vec<Vec<(Vec<Move>, u32)>>,
+    transitions: Vec<Vec<(Vec<Transition>, u32)>>,
     count: usize,
 }
 
 impl Steps {
-    /// The steps of the ground task's instances; `None` if there would be too many moves.
+    /// The steps of the ground task's instances; `None` if there would be too many transitions.
     pub fn new(
         alloc: Global,
         ground: &Ground<'_>,
@@ -56,11 +56,11 @@ impl Steps {
         let mut drafts = Drafts {
             alloc,
             variables,
-            moves: Vec::new(alloc),
+            transitions: Vec::new(alloc),
             count: 0,
         };
         for _ in 0..variables.count() {
-            drafts.moves.push(Vec::new(alloc))?;
+            drafts.transitions.push(Vec::new(alloc))?;
         }
         for number in 0..instance_count(ground) {
             drafts.add(number, ground.literals(number), ground.counting(number))?;
@@ -68,11 +68,11 @@ impl Steps {
                 return Ok(None);
             }
         }
-        let Drafts { moves, .. } = drafts;
+        let Drafts { transitions, .. } = drafts;
         let mut steps = Steps {
             variables: Vec::new(alloc),
         };
-        for of_variable in moves {
+        for of_variable in transitions {
             steps
                 .variables
                 .push(VariableSteps::new(alloc, of_variable)?)?;
@@ -107,10 +107,10 @@ impl Drafts<'_> {
                 literals,
                 changes,
             };
-            let moves = part.moves(alloc)?;
-            self.count = self.count.saturating_add(moves.len());
-            if let Some(all) = self.moves.get_mut(place_of(variable)) {
-                all.push((moves, number))?;
+            let transitions = part.transitions(alloc)?;
+            self.count = self.count.saturating_add(transitions.len());
+            if let Some(all) = self.transitions.get_mut(place_of(variable)) {
+                all.push((transitions, number))?;
             }
         }
         Ok(())
@@ -118,24 +118,27 @@ impl Drafts<'_> {
 }
 
 impl VariableSteps {
-    /// The steps for these lists of moves, each distinct list once, and the instances that take them.
-    fn new(alloc: Global, mut drafts: Vec<(Vec<Move>, u32)>) -> Result<VariableSteps, NoMemory> {
+    /// The steps for these lists of transitions, each distinct list once, and the instances that take them.
+    fn new(
+        alloc: Global,
+        mut drafts: Vec<(Vec<Transition>, u32)>,
+    ) -> Result<VariableSteps, NoMemory> {
         drafts.sort_unstable();
         let mut of_variable = VariableSteps {
             steps: Vec::new(alloc),
             uses: Vec::new(alloc),
         };
-        for (moves, instance) in drafts {
-            of_variable.take(moves, instance)?;
+        for (transitions, instance) in drafts {
+            of_variable.take(transitions, instance)?;
         }
         of_variable.uses.sort_unstable();
         Ok(of_variable)
     }
 
-    /// Records that the instance takes these moves, which are those of the last step or come after them.
-    fn take(&mut self, moves: Vec<Move>, instance: u32) -> Result<(), NoMemory> {
-        if self.steps.last() != Some(&moves) {
-            self.steps.push(moves)?;
+    /// Records that the instance takes these transitions, which are those of the last step or come after them.
+    fn take(&mut self, transitions: Vec<Transition>, instance: u32) -> Result<(), NoMemory> {
+        if self.steps.last() != Some(&transitions) {
+            self.steps.push(transitions)?;
         }
         let step = number_of(self.steps.len()).saturating_sub(1);
         self.uses.push(StepUse { instance, step })?;
@@ -152,27 +155,27 @@ impl VariableSteps {
         self.steps.len()
     }
 
-    /// The moves of this step.
-    fn moves(&self, step: u32) -> &[Move] {
+    /// The transitions of this step.
+    fn transitions(&self, step: u32) -> &[Transition] {
         match self.steps.get(place_of(step)) {
-            Some(moves) => moves,
+            Some(transitions) => transitions,
             None => &[],
         }
     }
 
-    /// The moves of this step from the value.
-    pub(crate) fn moves_from(&self, step: u32, value: u32) -> &[Move] {
-        moves_from(self.moves(step), value)
+    /// The transitions of this step from the value.
+    pub(crate) fn transitions_from(&self, step: u32, value: u32) -> &[Transition] {
+        transitions_from(self.transitions(step), value)
     }
 
-    /// The number of values from which this step has moves.
+    /// The number of values from which this step has transitions.
     pub(crate) fn source_count(&self, step: u32) -> u32 {
-        source_count(self.moves(step))
+        source_count(self.transitions(step))
     }
 
-    /// All moves of this step, in ascending order of source values.
-    pub(crate) fn all_moves(&self, step: u32) -> &[Move] {
-        self.moves(step)
+    /// All transitions of this step, in ascending order of source values.
+    pub(crate) fn all_transitions(&self, step: u32) -> &[Transition] {
+        self.transitions(step)
     }
 }
 

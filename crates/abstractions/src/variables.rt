@@ -12,7 +12,7 @@ const MAX_TIMES: usize = 4;
 
 /// A value of a variable: the position, from 1, of the atom that is true, or 0 if none is.
 #[derive(Clone, Copy, Debug, PartialEq, Eq, PartialOrd, Ord)]
-pub struct Value {
+pub struct VariableValue {
     /// The variable.
     pub variable: u32,
     /// The value, which is at least 1.
@@ -25,7 +25,7 @@ pub struct Variables {
     /// For each variable its atoms, in the order of its values, from 1.
     atoms: Vec<AtomGroup>,
     /// For each atom the values it stands for.
-    of_atom: Vec<Vec<Value>>,
+    of_atom: Vec<Vec<VariableValue>>,
 }
 
 impl Variables {
@@ -33,7 +33,7 @@ impl Variables {
     /// becomes a variable with all its atoms. So do other groups that are no part of one before, within a limit. Each remaining atom
     /// is a variable by itself.
     pub fn new(alloc: Global, width: u32, groups: &[AtomGroup]) -> Result<Variables, NoMemory> {
-        let mut of_atom: Vec<Vec<Value>> = Vec::new(alloc);
+        let mut of_atom: Vec<Vec<VariableValue>> = Vec::new(alloc);
         for _ in 0..width {
             of_atom.push(Vec::new(alloc))?;
         }
@@ -104,7 +104,7 @@ impl Variables {
         for (place, atom) in atoms.iter().enumerate() {
             let value = number_of(place).saturating_add(1);
             if let Some(values) = self.of_atom.get_mut(place_of(*atom)) {
-                values.push(Value { variable, value })?;
+                values.push(VariableValue { variable, value })?;
             }
         }
         self.atoms.push(atoms)?;
@@ -130,7 +130,7 @@ impl Variables {
     }
 
     /// The values of variables that the atom stands for.
-    pub fn of_atom(&self, atom: u32) -> &[Value] {
+    pub fn of_atom(&self, atom: u32) -> &[VariableValue] {
         match self.of_atom.get(place_of(atom)) {
             Some(values) => values,
             None => &[],

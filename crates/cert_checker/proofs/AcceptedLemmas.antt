@@ -2,7 +2,7 @@
 use Rattle.std.proofs.Common.{◌≡◌, ◌≢◌, ℕ, suc, ◌+◌, ◌≤◌, ◌⊎◌, inl, inr, ⊎_elim, Bool, true, true≢false, List, [], ◌∷◌, ◌++◌, codes, map, length, length-append, Option, Some, refl, sym, ap, ◌∙◌, subst, append_assoc, append-nil, arith}
 use Rattle.std.specs.Prelude.{◌&&◌, nat_le, nat_lt, IsTrue, AllPairs, Contains}
 use Rattle.std.specs.Fmt.{decimal}
-use Rattle.std.specs.List.{flat_map, list_all}
+use Rattle.std.specs.List.{filter_map, flat_map, list_all}
 use Rattle.std.proofs.lemmas.Bool.{and_parts, false≢true, ltb-true}
 use Rattle.std.proofs.lemmas.List.{append_cancel_left, map-append}
 use Rattle.std.proofs.lemmas.List.Elements.{All-contains, Contains-append_left, Contains-append_right, Contains-append_cases, filter_map-append}
@@ -15,12 +15,12 @@ use Rattle.model.specs.Claims.{Claim, Allows, Line, none}
 use Rattle.certificate_definitions.specs.Evidence.{opened, bare}
 use Rattle.model.proofs.ListLemmas.{Contains-cases, Contains-filter_map, Contains-here, Contains-map, Contains-none, Contains-there, map-Contains}
 use Rattle.lower_bounds.specs.TableFunctions.{Row, Table, is_among}
-use Rattle.certificate_definitions.specs.Certificates.{Version, one, two, three, Certificate, IsClosedFor, StateLine, are_weights, has_tables, is_row, is_table, rise, state_of_line}
+use Rattle.certificate_definitions.specs.Certificates.{Version, one, two, three, four, Certificate, IsClosedFor, StateLine, are_weights, has_tables, is_row, is_table, rise, state_of_line}
 use Rattle.certificate_definitions.specs.CertificateText.{NamedAtom, WeightedAtom, TableLine, scope, row, NamedCertificate, TextLine, version, claims, constant, swapped, atom, tabled, part, listed, last, AreWhole, BeginCertificate, HasLine, IsFaultAfter, IsOneTooMany, IsOtherVersion, other_version, malformed, too_long, trailing, cut_short, too_many, format_of, is_line, keeps_text_limits, line_text, longest_line, most_atoms, most_states, most_swaps, text_lines, text_of, version_number, whole_line}
 use Rattle.certificate_definitions.specs.Parts.{Part, has_room}
 use Rattle.certificate_definitions.specs.CertificateNames.{AllName, IsTextOf, Names, table_lines}
 use Rattle.certificate_definitions.specs.CertificateChecking.{EndInTable, HasAtom, HasRow, IsAccepted, IsCut, IsLineFault, IsWrongAfter, IsWrongHere, is_of_scope, not_of_scope, repeated_row, not_fluent, repeated_atom, repeated_state, cut_not_allowed}
-use Rattle.certificate_definitions.specs.CertificateMachine.{CertificatePlace, at_version, at_claim, at_constant, in_body, ended, swap_follows, swap_more, atom_follows, atom_more, next_place, part_follows, part_more, state_more}
+use Rattle.certificate_definitions.specs.CertificateMachine.{CertificatePlace, at_version, at_claim, at_constant, in_body, ended, swap_follows, swap_more, atom_follows, atom_more, next_place, part_follows, part_more, state_follows, state_more}
 use Rattle.certificate_definitions.proofs.Beginnings.{body_lines}
 use Rattle.certificate_definitions.proofs.Machine.{end_of_whole, followed, never, only_where, place_of_beginning}
 use Rattle.certificate_definitions.proofs.TooMany.{IsTooManyAt, a_swap, an_atom, a_part, a_state, too_many_at}
@@ -28,8 +28,8 @@ use Rattle.certificate_reader.specs.Stages.{IsWithin}
 use Rattle.certificate_reader.proofs.NumbersRead.{same_number}
 use Rattle.certificate_reader.proofs.OneLine.{one_line}
 use Rattle.certificate_reader.proofs.PlaceRead.{few_atoms, leads_line}
-use Rattle.cert_checker.specs.Given.{atom_in, atoms_given, names_given, state_in, states_given, table_in, tables_given}
-use Rattle.cert_checker.proofs.TableParts.{same_lines, tables_of_parts}
+use Rattle.cert_checker.specs.Given.{atom_in, atoms_given, names_given, state_in, states_given, table_in, table_line_in, tables_given}
+use Rattle.cert_checker.proofs.TableParts.{tables_among, tables_of_parts}
 use Rattle.cert_checker.proofs.NamesLemmas.{one_named}
 use Rattle.cert_checker.proofs.PlacedLemmas.{atoms_of_text, states_of_text, parts_of_text}
 use Rattle.cert_checker.proofs.SplitLemmas.{end_within, few_atoms_kept, few_weights_kept, first_line, kept_lines, line_is_first, line_short, nothing_there, split_off, text_push, within_after}
@@ -218,7 +218,8 @@ module _ (task : Task) (c : Certificate) (closed : IsClosedFor task c) (text : L
         apart (λ (a b : Atom). a ≢ b) at.front at.following b at.here (subst (AllPairs (λ (a b : Atom). a ≢ b)) at.are closed.atoms_are_distinct) among (one_named task a.atom b at.here named at.is)
 
     tables_said : flat_map table_lines c.tables ≡ tables_given (text_lines is.said)
-    tables_said = same_lines (flat_map table_lines c.tables) (tables_given (text_lines is.said)) (sym is.parts ∙ sym (parts_of_text is.said) ∙ sym (tables_of_parts (text_lines is.said)))
+    tables_said =
+        sym (tables_of_parts (flat_map table_lines c.tables) c.landmarks.zones c.landmarks.values) ∙ ap (filter_map table_line_in) (sym is.parts ∙ sym (parts_of_text is.said)) ∙ tables_among (text_lines is.said)
 
     table_after : (r : Row) (atoms : List ℕ) (rows : List Row) → text_lines is.said ≡ before ++ part (tabled (row r)) ∷ after → EndInTable before atoms rows → HasTable c.tables atoms rows r
     table_after r atoms rows splits (front, ends) =
@@ -311,11 +312,12 @@ within_limits (in_body b) next line within leads (a_part p empty follows full is
     let (holds, _) = only_where (part_follows p b && has_room b.parts p && is_line b.format (part p)) (in_body (part_more p b)) next leads_on in
     let (counts, _) = and_parts (part_follows p b && has_room b.parts p) (is_line b.format (part p)) holds in
     absurd (true≢false (sym (and_parts (part_follows p b) (has_room b.parts p) counts).1 ∙ full))
-within_limits (in_body b) next line within leads (a_state l full is same) =
+within_limits (in_body b) next line within leads (a_state l full based is same) =
     let here : line ≡ listed l = one_line b.format (few_atoms (in_body b) within) line (listed l) (leads_line (in_body b) within line next leads) is same in
     let leads_on : next_place (in_body b) (listed l) ≡ Some next = subst (λ line. next_place (in_body b) line ≡ Some next) here leads in
-    let (holds, _) = only_where (nat_lt b.states most_states && is_line b.format (listed l)) (in_body (state_more b)) next leads_on in
-    omega (arith, full, ltb-true b.states most_states (and_parts (nat_lt b.states most_states) (is_line b.format (listed l)) holds).0)
+    let (holds, _) = only_where (state_follows l b && nat_lt b.states most_states && is_line b.format (listed l)) (in_body (state_more b)) next leads_on in
+    let (counts, _) = and_parts (state_follows l b && nat_lt b.states most_states) (is_line b.format (listed l)) holds in
+    omega (arith, full, ltb-true b.states most_states (and_parts (state_follows l b) (nat_lt b.states most_states) counts).1)
 within_limits at_version next line within leads over = over
 within_limits (at_claim v) next line within leads over = over
 within_limits (at_constant v) next line within leads over = over
@@ -357,7 +359,7 @@ module _ (said : NamedCertificate) (keeps : IsTrue (keeps_text_limits said)) (be
     after_version = claims said.claim ∷ constant said.constants ∷ body_lines said.swaps said.atoms said.parts said.lines ++ last (length said.lines) ∷ []
 
     this_version : IsOtherVersion before (line_text l) → ⊥
-    this_version (empty, n, is, not_one, not_two, not_three, same) =
+    this_version (empty, n, is, not_one, not_two, not_three, not_four, same) =
         let here : version said.version ≡ l = first_same (version said.version) l after_version more (splits ∙ ap (λ lines. lines ++ l ∷ more) empty) in
         by_version said.version (append_cancel_left (codes "pddl-cert ") (decimal (version_number said.version)) (decimal n) (ap line_text here ∙ same))
       where
@@ -365,6 +367,7 @@ module _ (said : NamedCertificate) (keeps : IsTrue (keeps_text_limits said)) (be
         by_version one digits = not_one (same_number n 1 is refl (sym digits))
         by_version two digits = not_two (same_number n 2 is refl (sym digits))
         by_version three digits = not_three (same_number n 3 is refl (sym digits))
+        by_version four digits = not_four (same_number n 4 is refl (sym digits))
 
     not_too_many : IsOneTooMany before (line_text l) → ⊥
     not_too_many over =

@@ -20,7 +20,7 @@ use Rattle.model.specs.Meaning.{State}
 use Rattle.model.specs.Claims.{Line}
 use Rattle.certificate_definitions.specs.Evidence.{LineMark, opened, cut, dead}
 use Rattle.certificate_definitions.specs.Certificates.{Certificate, StateLine, is_dead_end_weight, state_of_line, lines_of, IsSupported, IsClosedFor}
-use Rattle.certificate_definitions.specs.CertificateRefusals.{Reason, not_fluent, repeated, no_initial, unfair, unfair_goal, goal_open, successor_missing, successor_dearer, cut_weak, cut_not_allowed, plan_invalid, plan_dearer, limit, dead_unfair, dead_unfair_goal, not_dead, not_symmetry, IsPlanWithin, IsWrongAt}
+use Rattle.certificate_definitions.specs.CertificateRefusals.{Reason, not_fluent, repeated, no_initial, unfair, unfair_goal, goal_open, successor_missing, successor_dearer, cut_weak, cut_not_allowed, plan_invalid, plan_dearer, limit, dead_unfair, dead_unfair_goal, not_dead, not_symmetry, value_unfair, value_not_dead, IsPlanWithin, IsWrongAt}
 use Rattle.model.proofs.ListLemmas.{Contains-place, map-Contains}
 use Rattle.cert_checker.proofs.CertCheckerLemmas.{cut_line, entry, open_line}
 use Rattle.cert_checker.proofs.LimitsLemmas.{AreLimits, limits_of}
@@ -39,7 +39,9 @@ closed_for task c most right = record {
   one_dead_end_weight_an_atom = one_weight_each (is_dead_end_weight c.version) (length c.atoms) c.dead_ends limits.dead_ends;
   tables_are_over_atoms = limits.tables;
   exchanges_are_symmetries = right.symmetric;
+  landmarks_are_over_atoms = limits.landmarks;
   are_fair = right.fair;
+  landmarks_are_fair = right.landmarks;
   atoms_are_fluent = right.atoms.fluent;
   atoms_are_distinct = right.atoms.distinct;
   rows_are_distinct = right.rows;
@@ -99,6 +101,8 @@ only_limit task c plan most closed within (Some limit) wrong = refl
 only_limit task c plan most closed within (Some dead_unfair) wrong = ap Some (right task c closed plan most dead_unfair within wrong)
 only_limit task c plan most closed within (Some not_dead) wrong = ap Some (right task c closed plan most not_dead within wrong)
 only_limit task c plan most closed within (Some not_symmetry) wrong = ap Some (right task c closed plan most not_symmetry within wrong)
+only_limit task c plan most closed within (Some value_unfair) wrong = ap Some (right task c closed plan most value_unfair within wrong)
+only_limit task c plan most closed within (Some value_not_dead) wrong = ap Some (right task c closed plan most value_not_dead within wrong)
 only_limit task c plan most closed within None wrong = absurd wrong
 
 -- a true refusal of a closed certificate, with a plan that costs no more than is claimed, is of no fault of theirs

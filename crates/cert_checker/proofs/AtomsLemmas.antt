@@ -35,7 +35,7 @@ was_new is_new false is holds = refl
 
 -- the header with these atoms, and the weights of one more
 abbrev pub with_atom : Heading → List ℤ → List Atom → Heading
-with_atom heading weights atoms = record { version = heading.version; claim = heading.claim; exchanges = heading.exchanges; atoms = atoms; bounds = with_weights heading.bounds weights }
+with_atom heading weights atoms = record { version = heading.version; claim = heading.claim; exchanges = heading.exchanges; atoms = atoms; evidence = with_weights heading.evidence weights; landmarks = heading.landmarks }
 
 module _ (task : Task) (before : List TextLine) (heading : Heading) (keys : List code.Atom) (atoms_are : heading.atoms ≡ map atom_of keys)
     (reported : HaveGiven task before heading) (said : WeightedAtom) (a : code.Atom) (names : Names task said.atom (atom_of a)) (typed : IsTrue (is_atom task (atom_of a)))

@@ -1,6 +1,6 @@
 -- Why a certificate that the checker goes through without a refusal is closed.
 use Rattle.std.proofs.Common.{◌≡◌, ℕ, zero, suc, ◌+◌, ◌<◌, ◌≤◌, true, ◌&&◌, List, [], ◌∷◌, ◌++◌, length, map, take, get_or, Option, None, Some, inl, inr, refl, sym, ap, ◌∙◌, subst, arith}
-use Rattle.std.specs.Prelude.{IsTrue, MatchOption, OnOk, Result, Ok, Err, nat_eq, Contains, slice_get}
+use Rattle.std.specs.Prelude.{Bool, nat_lt, IsTrue, MatchOption, OnOk, Result, Ok, Err, nat_eq, Contains, slice_get}
 use Rattle.std.specs.Option.{option_eq}
 use Rattle.std.proofs.lemmas.Bool.{eqb-true, ltb-true, and_parts}
 use Rattle.std.specs.List.{list_all}
@@ -14,8 +14,8 @@ use Rattle.model.specs.Meaning.{State, system_of}
 use Rattle.model.specs.Instances.{successors_of}
 use Rattle.model.specs.Claims as claims
 use Rattle.model.specs.Claims.{Allows, Line, IsListedWithin}
-use Rattle.certificate_definitions.specs.Evidence.{Basis, LineMark, opened, cut, dead, bare}
-use Rattle.certificate_definitions.specs.Certificates.{Version, one, two, three, Certificate, StateLine, is_mark, is_number, is_state_line, keeps_limits, lines_of, AreAlikeFor, rise, state_of_line}
+use Rattle.certificate_definitions.specs.Evidence.{Basis, of_all, landmark, LineMark, opened, cut, dead, bare}
+use Rattle.certificate_definitions.specs.Certificates.{Version, Certificate, StateLine, has_basis, is_basis, is_mark, is_number, is_state_line, keeps_limits, lines_of, AreAlikeFor, rise, state_of_line}
 use Rattle.certificate_definitions.specs.CertificateRefusals.{IsListed}
 use Rattle.model.proofs.ListLemmas.{Contains-cases, Contains-got, Contains-none}
 use Rattle.cert_checker.proofs.LimitsLemmas.{limits_of}
@@ -155,6 +155,23 @@ small_cut c place cost basis rest keeps (l, at, cost_is, mark_is) =
     ltb-true rest 1152921504606846976 (cut_small c.version (subst (λ mark. is_mark c.version mark ≡ true) mark_is small))
   where
     cut_small : (v : Version) → is_mark v (cut basis rest) ≡ true → is_number rest ≡ true
-    cut_small one is = is
-    cut_small two is = is
-    cut_small three is = is
+    cut_small v is = (and_parts (is_basis v basis) (is_number rest) is).1
+
+-- there is the landmark value that a line rests on
+basis_kept : (c : Certificate) (place : ℕ) (l : StateLine) → keeps_limits c ≡ true → slice_get c.lines place ≡ Some l → has_basis (length c.landmarks.values) l.mark ≡ true
+basis_kept c place l keeps at = passes_got (λ (l : StateLine). has_basis (length c.landmarks.values) l.mark) c.lines place l at (limits_of c keeps).bases
+
+-- of this many landmark values there is the one that the basis names
+abbrev pub has_value : ℕ → Basis → Bool
+has_value count of_all = true
+has_value count (landmark number) = nat_lt number count
+
+pub cut_has_basis : (task : Task) (c : Certificate) (place : ℕ) (s : State) (cost : ℕ) (basis : Basis) (rest : ℕ) → keeps_limits c ≡ true → IsListedBy task c place s cost (cut basis rest)
+    → has_value (length c.landmarks.values) basis ≡ true
+cut_has_basis task c place s cost of_all rest keeps listed = refl
+cut_has_basis task c place s cost (landmark number) rest keeps (l, at, state_is, cost_is, mark_is) = subst (λ mark. has_basis (length c.landmarks.values) mark ≡ true) mark_is (basis_kept c place l keeps at)
+
+pub dead_has_basis : (task : Task) (c : Certificate) (place : ℕ) (s : State) (cost : ℕ) (basis : Basis) → keeps_limits c ≡ true → IsListedBy task c place s cost (dead basis)
+    → has_value (length c.landmarks.values) basis ≡ true
+dead_has_basis task c place s cost of_all keeps listed = refl
+dead_has_basis task c place s cost (landmark number) keeps (l, at, state_is, cost_is, mark_is) = subst (λ mark. has_basis (length c.landmarks.values) mark ≡ true) mark_is (basis_kept c place l keeps at)

@@ -22,7 +22,7 @@ use Rattle.model.specs.Grounding.{exceeded_limit}
 use Rattle.model.specs.Claims as claims
 use Rattle.model.specs.Claims.{none, Line, IsListedWithin}
 use Rattle.certificate_definitions.specs.Evidence.{LineMark, opened, cut, dead, bare}
-use Rattle.certificate_definitions.specs.Certificates.{Certificate, StateLine, keeps_limits, lines_of, AreAlikeFor, AreFairFor, IsClosedFor}
+use Rattle.certificate_definitions.specs.Certificates.{Certificate, StateLine, keeps_limits, lines_of, AreAlikeFor, AreFairFor, AreLandmarksFair, IsClosedFor}
 use Rattle.certificate_definitions.specs.CertificateRefusals.{Reason, state_line, IsFirst}
 use Rattle.certificate_definitions.specs.CertificateChecking.{IsCut}
 use Rattle.certificate_definitions.proofs.CertificateRefusalsLemmas.{apart}
@@ -76,9 +76,9 @@ cuts_allowed task c all place l rest below at at_cut claim =
 
 -- all is right up to the first state line
 pub right_from : (task : Task) (c : Certificate) (most : ℕ) → IsTrue (keeps_limits c) → AreRowsDistinct c → AreApart task c → AreFluent task c.atoms → CutsAreAllowed task c (length (lines_of task c))
-    → exceeded_limit most max_numbered_atoms task c.atoms ≡ None → AreSymmetries task c → AreFairFor task c → IsListedWithin (AreAlikeFor task c) (lines_of task c) (system_of task).initial 0
+    → exceeded_limit most max_numbered_atoms task c.atoms ≡ None → AreSymmetries task c → AreFairFor task c → AreLandmarksFair task c → IsListedWithin (AreAlikeFor task c) (lines_of task c) (system_of task).initial 0
     → IsRightUpTo task c most 0
-right_from task c most keeps rows apart atoms allowed few symmetric fair initial = record {
+right_from task c most keeps rows apart atoms allowed few symmetric fair landmarks initial = record {
   keeps = keeps;
   rows = rows;
   atoms = atoms;
@@ -87,6 +87,7 @@ right_from task c most keeps rows apart atoms allowed few symmetric fair initial
   within = few;
   symmetric = symmetric;
   fair = fair;
+  landmarks = landmarks;
   initial = initial;
   lines = λ k l lt at. absurd (omega arith);
 }
@@ -102,6 +103,7 @@ right_to_line task c most place right lines = record {
   within = right.within;
   symmetric = right.symmetric;
   fair = right.fair;
+  landmarks = right.landmarks;
   initial = right.initial;
   lines = lines;
 }

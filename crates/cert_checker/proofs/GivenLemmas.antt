@@ -1,7 +1,7 @@
 -- What one more line gives.
 use Rattle.std.proofs.Common.{◌≡◌, ◌≢◌, ℕ, zero, suc, ◌+◌, ◌⊎◌, inl, inr, ⊎_elim, Bool, true, false, List, [], ◌∷◌, ◌++◌, map, length, None, Some, refl, sym, ap, ◌∙◌, subst, append_assoc, append-nil, true≢false, arith}
 use Rattle.std.specs.Prelude.{IsTrue, ℤ, ◌&&◌, Contains, pos}
-use Rattle.std.specs.List.{flat_map, range_with_len}
+use Rattle.std.specs.List.{filter_map, flat_map, range_with_len}
 use Rattle.std.proofs.lemmas.List.FromFn.{length-range_with_len}
 use Rattle.std.proofs.lemmas.List.{length-map, map-append}
 use Rattle.std.proofs.lemmas.List.Elements.{All-nil, All-push, Contains-push, Contains-push_cases, Contains-append_left, Contains-get_or}
@@ -13,13 +13,16 @@ use Rattle.model.specs.WellTyped.{is_atom}
 use Rattle.model.specs.Fluents.{is_fluent}
 use Rattle.model.specs.Claims.{Claim, bound, none}
 use Rattle.lower_bounds.specs.TableFunctions.{SeveralValues, Table}
-use Rattle.certificate_definitions.specs.Certificates.{Version, one}
-use Rattle.certificate_definitions.specs.CertificateText.{NamedAtom, WeightedAtom, TableLine, TextLine, version, claims, constant, swapped, atom, tabled, part, listed, last, BeginCertificate, AreWhole}
+use Rattle.landmark_functions.specs.LandmarkFunctions.{Zone}
+use Rattle.landmark_functions.specs.LandmarkLines.{LandmarkLine, zone, value, Share, NumberedLandmarks}
+use Rattle.landmark_zones.specs.Landmarks.{with_value, with_zone}
+use Rattle.certificate_definitions.specs.Certificates.{Version, one, no_landmarks}
+use Rattle.certificate_definitions.specs.CertificateText.{NamedAtom, WeightedAtom, TableLine, TextLine, version, claims, constant, swapped, atom, Part, tabled, landmark_line, part, listed, last, BeginCertificate, AreWhole}
 use Rattle.certificate_definitions.specs.CertificateNames.{AllName, Names, exchange_said, table_lines, value_count, weight_said}
 use Rattle.certificate_definitions.specs.CertificateMachine.{Body, CertificatePlace, at_version, at_claim, at_constant, in_body, ended, next_place, place_after}
 use Rattle.certificate_definitions.specs.CertificateChecking.{AreRight, IsWrongAfter, not_of_scope, repeated_row, not_fluent, repeated_atom, repeated_state, cut_not_allowed}
 use Rattle.certificate_definitions.proofs.Machine.{IsBody, ComesBefore, never, occurs, followed, place_of_beginning}
-use Rattle.cert_checker.specs.Given.{Heading, HaveGiven, AreGiven, AreNotGiven, swap_in, atom_in, table_in, state_in, swaps_given, atoms_given, tables_given, states_given, names_given, value_given, values_given, with_weight, with_weights_from, with_weights, begun_with}
+use Rattle.cert_checker.specs.Given.{Heading, HaveGiven, AreGiven, AreLandmarksOf, AreNotGiven, swap_in, atom_in, part_in, table_in, zone_in, shares_in, state_in, parts_given, swaps_given, atoms_given, tables_given, states_given, names_given, value_given, values_given, with_weight, with_weights_from, with_weights, begun_with}
 use Rattle.cert_checker.specs.Tabled.{with_tables}
 use Rattle.cert_checker.proofs.NamesLemmas.{one_named, same_names}
 
@@ -221,11 +224,11 @@ values_from : (k : List ℤ) (atoms : List WeightedAtom) (a : WeightedAtom) (pla
 values_from k atoms a place zero = refl
 values_from k atoms a place (suc count) = λ i. value_more k atoms a place i ∷ values_from k atoms a (place + 1) count i
 
-given_more : (v : Version) (k : List ℤ) (atoms : List WeightedAtom) (a : WeightedAtom) (bounds : SeveralValues) → AreGiven v k atoms bounds → AreGiven v k (atoms ++ a ∷ []) (with_weights bounds a.weights)
-given_more v k atoms a bounds given = record {
+given_more : (v : Version) (k : List ℤ) (atoms : List WeightedAtom) (a : WeightedAtom) (evidence : SeveralValues) → AreGiven v k atoms evidence → AreGiven v k (atoms ++ a ∷ []) (with_weights evidence a.weights)
+given_more v k atoms a evidence given = record {
   values = ap (with_weights_from 0 a.weights) given.values ∙ sym (values_from k atoms a 0 (value_count v (length k)));
   dead_ends =
-      let count : length bounds.values ≡ value_count v (length k) =
+      let count : length evidence.values ≡ value_count v (length k) =
       ap length given.values ∙ length-map (range_with_len 0 (value_count v (length k))) (value_given k atoms) ∙ length-range_with_len 0 (value_count v (length k)) in
       (λ i. with_weight (given.dead_ends i) (weight_said (count i) a.weights)) ∙ sym (value_more k atoms a (value_count v (length k)));
 }
@@ -234,7 +237,7 @@ given_more v k atoms a bounds given = record {
 abbrev pub nothing_said : SeveralValues
 nothing_said = record { values = []; dead_ends = record { constant = pos 0; weights = [] }; tables = [] }
 
-pub reported_nothing : (task : Task) → HaveGiven task [] (record { version = one; claim = bound 0; exchanges = []; atoms = []; bounds = nothing_said })
+pub reported_nothing : (task : Task) → HaveGiven task [] (record { version = one; claim = bound 0; exchanges = []; atoms = []; evidence = nothing_said; landmarks = no_landmarks })
 reported_nothing task = record {
   one_version = λ v there. absurd (Contains-none (version v) there);
   one_claim = λ c there. absurd (Contains-none (claims c) there);
@@ -243,6 +246,7 @@ reported_nothing task = record {
   not_given = λ absent. record { values = refl; dead_ends = refl };
   exchanged = refl;
   tables = refl;
+  landmarks = record { zones = refl; values = refl };
   named = tt;
   fluent = All-nil (λ (a : Atom). IsTrue (is_atom task a && is_fluent task a.predicate));
   distinct = λ i j d below within. absurd (omega (arith, within));
@@ -292,16 +296,61 @@ module _ (task : Task) (before : List TextLine) (heading : Heading) (reported : 
       none_more (swapped names) is = refl
       none_more (atom a) is = refl
       none_more (part (tabled t)) is = absurd (cc is)
+      none_more (part (landmark_line l)) is = refl
       none_more (listed l) is = refl
       none_more (last count) is = refl
 
-  tabled_still : (line : TextLine) → table_in line ≡ None → flat_map table_lines heading.bounds.tables ≡ tables_given (before ++ line ∷ [])
+  tabled_still : (line : TextLine) → table_in line ≡ None → flat_map table_lines heading.evidence.tables ≡ tables_given (before ++ line ∷ [])
   tabled_still line none_in = reported.tables ∙ sym (no_table_more line none_in)
 
-  given_still : (line : TextLine) → atom_in line ≡ None → (k : List ℤ) → Contains before (constant k) → AreGiven heading.version k (atoms_given (before ++ line ∷ [])) heading.bounds
-  given_still line none_in k there = subst (λ atoms. AreGiven heading.version k atoms heading.bounds) (sym (no_atom_more line none_in)) (reported.given k there)
+  -- a line that is no part has no table
+  no_table_in : (line : TextLine) → part_in line ≡ None → table_in line ≡ None
+  no_table_in (version v) is = refl
+  no_table_in (claims claim) is = refl
+  no_table_in (constant k) is = refl
+  no_table_in (swapped names) is = refl
+  no_table_in (atom a) is = refl
+  no_table_in (part p) is = absurd (cc is)
+  no_table_in (listed l) is = refl
+  no_table_in (last count) is = refl
 
-  not_given_still : (line : TextLine) → ((k : List ℤ) → Contains (before ++ line ∷ []) (constant k) → ⊥) → AreNotGiven heading.bounds
+  landmarks_still : (line : TextLine) → part_in line ≡ None → AreLandmarksOf (parts_given (before ++ line ∷ [])) heading.landmarks
+  landmarks_still line none_in =
+      subst (λ parts. AreLandmarksOf parts heading.landmarks)
+      (sym (filter_map-append part_in before (line ∷ []) ∙ ap (λ more. parts_given before ++ more) (none_more line none_in) ∙ append-nil (parts_given before))) reported.landmarks
+    where
+      none_more : (line : TextLine) → part_in line ≡ None → parts_given (line ∷ []) ≡ []
+      none_more (version v) is = refl
+      none_more (claims claim) is = refl
+      none_more (constant k) is = refl
+      none_more (swapped names) is = refl
+      none_more (atom a) is = refl
+      none_more (part p) is = absurd (cc is)
+      none_more (listed l) is = refl
+      none_more (last count) is = refl
+
+  -- one more part
+  parts_more : (p : Part) → parts_given (before ++ part p ∷ []) ≡ parts_given before ++ p ∷ []
+  parts_more p = filter_map-append part_in before (part p ∷ [])
+
+  zones_more : (p : Part) → filter_map zone_in (parts_given (before ++ part p ∷ [])) ≡ heading.landmarks.zones ++ filter_map zone_in (p ∷ [])
+  zones_more p = ap (filter_map zone_in) (parts_more p) ∙ filter_map-append zone_in (parts_given before) (p ∷ []) ∙ ap (λ (zones : List Zone). zones ++ filter_map zone_in (p ∷ [])) (sym reported.landmarks.zones)
+
+  values_more : (p : Part) → filter_map shares_in (parts_given (before ++ part p ∷ [])) ≡ heading.landmarks.values ++ filter_map shares_in (p ∷ [])
+  values_more p =
+      ap (filter_map shares_in) (parts_more p) ∙ filter_map-append shares_in (parts_given before) (p ∷ []) ∙ ap (λ (values : List (List Share)). values ++ filter_map shares_in (p ∷ [])) (sym reported.landmarks.values)
+
+  -- a line of a table has no landmarks
+  landmarks_beside : (t : TableLine) → AreLandmarksOf (parts_given (before ++ part (tabled t) ∷ [])) heading.landmarks
+  landmarks_beside t = record {
+    zones = sym (zones_more (tabled t) ∙ append-nil heading.landmarks.zones);
+    values = sym (values_more (tabled t) ∙ append-nil heading.landmarks.values);
+  }
+
+  given_still : (line : TextLine) → atom_in line ≡ None → (k : List ℤ) → Contains before (constant k) → AreGiven heading.version k (atoms_given (before ++ line ∷ [])) heading.evidence
+  given_still line none_in k there = subst (λ atoms. AreGiven heading.version k atoms heading.evidence) (sym (no_atom_more line none_in)) (reported.given k there)
+
+  not_given_still : (line : TextLine) → ((k : List ℤ) → Contains (before ++ line ∷ []) (constant k) → ⊥) → AreNotGiven heading.evidence
   not_given_still line absent = reported.not_given (λ k there. absent k (Contains-append_left before (line ∷ []) (constant k) there))
 
   -- what was given by a line is still given if the next one is of another kind
@@ -309,7 +358,7 @@ module _ (task : Task) (before : List TextLine) (heading : Heading) (reported : 
   among_more line other differs there = ⊎_elim (λ earlier. earlier) (λ same. absurd (differs same)) (Contains-push_cases before line other there)
 
   pub reported_version : (v : Version) → BeginCertificate (before ++ version v ∷ [])
-      → HaveGiven task (before ++ version v ∷ []) (record { version = v; claim = heading.claim; exchanges = heading.exchanges; atoms = heading.atoms; bounds = heading.bounds })
+      → HaveGiven task (before ++ version v ∷ []) (record { version = v; claim = heading.claim; exchanges = heading.exchanges; atoms = heading.atoms; evidence = heading.evidence; landmarks = heading.landmarks })
   reported_version v begun = record {
     one_version = λ w there. ⊎_elim (λ earlier. absurd (nothing_first before v (version w) begun earlier)) (λ same. version_same w same) (Contains-push_cases before (version v) (version w) there);
     one_claim = λ d there. reported.one_claim d (among_more (version v) (claims d) (λ same. cc same) there);
@@ -318,6 +367,7 @@ module _ (task : Task) (before : List TextLine) (heading : Heading) (reported : 
     not_given = not_given_still (version v);
     exchanged = exchanged_still (version v) refl;
     tables = tabled_still (version v) refl;
+    landmarks = landmarks_still (version v) refl;
     named = named_still (version v) refl;
     fluent = reported.fluent;
     distinct = reported.distinct;
@@ -328,7 +378,7 @@ module _ (task : Task) (before : List TextLine) (heading : Heading) (reported : 
       version_same w same = cc same
 
   pub reported_claim : (c : Claim) → BeginCertificate (before ++ claims c ∷ [])
-      → HaveGiven task (before ++ claims c ∷ []) (record { version = heading.version; claim = c; exchanges = heading.exchanges; atoms = heading.atoms; bounds = heading.bounds })
+      → HaveGiven task (before ++ claims c ∷ []) (record { version = heading.version; claim = c; exchanges = heading.exchanges; atoms = heading.atoms; evidence = heading.evidence; landmarks = heading.landmarks })
   reported_claim c begun = record {
     one_version = λ v there. reported.one_version v (among_more (claims c) (version v) (λ same. cc same) there);
     one_claim = λ d there. ⊎_elim (λ earlier. absurd (only_claim before c d begun earlier)) (λ same. claim_same d same) (Contains-push_cases before (claims c) (claims d) there);
@@ -337,6 +387,7 @@ module _ (task : Task) (before : List TextLine) (heading : Heading) (reported : 
     not_given = not_given_still (claims c);
     exchanged = exchanged_still (claims c) refl;
     tables = tabled_still (claims c) refl;
+    landmarks = landmarks_still (claims c) refl;
     named = named_still (claims c) refl;
     fluent = reported.fluent;
     distinct = reported.distinct;
@@ -347,15 +398,16 @@ module _ (task : Task) (before : List TextLine) (heading : Heading) (reported : 
       claim_same d same = cc same
 
   pub reported_constant : (k : List ℤ) → BeginCertificate (before ++ constant k ∷ [])
-      → HaveGiven task (before ++ constant k ∷ []) (record { version = heading.version; claim = heading.claim; exchanges = heading.exchanges; atoms = heading.atoms; bounds = begun_with heading.version k heading.bounds })
+      → HaveGiven task (before ++ constant k ∷ []) (record { version = heading.version; claim = heading.claim; exchanges = heading.exchanges; atoms = heading.atoms; evidence = begun_with heading.version k heading.evidence; landmarks = heading.landmarks })
   reported_constant k begun = record {
     one_version = λ v there. reported.one_version v (among_more (constant k) (version v) (λ same. cc same) there);
     one_claim = λ d there. reported.one_claim d (among_more (constant k) (claims d) (λ same. cc same) there);
     none_occurs = λ none_is. Contains-append_left before (constant k ∷ []) (claims none) (reported.none_occurs none_is);
-    given = λ d there. subst (λ d. AreGiven heading.version d (atoms_given (before ++ constant k ∷ [])) (begun_with heading.version k heading.bounds)) (constant_is d there) begun_given;
+    given = λ d there. subst (λ d. AreGiven heading.version d (atoms_given (before ++ constant k ∷ [])) (begun_with heading.version k heading.evidence)) (constant_is d there) begun_given;
     not_given = λ absent. absurd (absent k (Contains-push before (constant k)));
     exchanged = exchanged_still (constant k) refl;
     tables = tabled_still (constant k) refl;
+    landmarks = landmarks_still (constant k) refl;
     named = named_still (constant k) refl;
     fluent = reported.fluent;
     distinct = reported.distinct;
@@ -368,14 +420,14 @@ module _ (task : Task) (before : List TextLine) (heading : Heading) (reported : 
       constant_is : (d : List ℤ) → Contains (before ++ constant k ∷ []) (constant d) → k ≡ d
       constant_is d there = ⊎_elim (λ earlier. absurd (only_constant before k d begun earlier)) (λ same. constant_same d same) (Contains-push_cases before (constant k) (constant d) there)
 
-      none_before : AreNotGiven heading.bounds
+      none_before : AreNotGiven heading.evidence
       none_before = reported.not_given (λ d there. only_constant before k d begun there)
 
       no_atoms : atoms_given (before ++ constant k ∷ []) ≡ []
       no_atoms = no_atom_more (constant k) refl ∙ no_atom_first before k begun
 
-      begun_given : AreGiven heading.version k (atoms_given (before ++ constant k ∷ [])) (begun_with heading.version k heading.bounds)
-      begun_given = subst (λ atoms. AreGiven heading.version k atoms (begun_with heading.version k heading.bounds)) (sym no_atoms) (record {
+      begun_given : AreGiven heading.version k (atoms_given (before ++ constant k ∷ [])) (begun_with heading.version k heading.evidence)
+      begun_given = subst (λ atoms. AreGiven heading.version k atoms (begun_with heading.version k heading.evidence)) (sym no_atoms) (record {
         values = ap (λ values. values ++ values_given heading.version k []) none_before.values;
         dead_ends = λ i. record { constant = weight_said (value_count heading.version (length k)) k; weights = none_before.dead_ends i };
       })
@@ -386,7 +438,8 @@ module _ (task : Task) (before : List TextLine) (heading : Heading) (reported : 
     claim = heading.claim;
     exchanges = heading.exchanges ++ exchange_said task names ∷ [];
     atoms = heading.atoms;
-    bounds = heading.bounds;
+    evidence = heading.evidence;
+    landmarks = heading.landmarks;
   })
   reported_exchange names = record {
     one_version = λ v there. reported.one_version v (among_more (swapped names) (version v) (λ same. cc same) there);
@@ -398,6 +451,7 @@ module _ (task : Task) (before : List TextLine) (heading : Heading) (reported : 
         ap (λ exchanges. exchanges ++ exchange_said task names ∷ []) reported.exchanged
         ∙ sym (ap (map (exchange_said task)) (filter_map-append swap_in before (swapped names ∷ [])) ∙ map-append (exchange_said task) (swaps_given before) (names ∷ []));
     tables = tabled_still (swapped names) refl;
+    landmarks = landmarks_still (swapped names) refl;
     named = named_still (swapped names) refl;
     fluent = reported.fluent;
     distinct = reported.distinct;
@@ -405,16 +459,17 @@ module _ (task : Task) (before : List TextLine) (heading : Heading) (reported : 
   }
 
   -- a line that gives neither the version, nor the claim, nor the constants, nor an exchange, nor an atom, nor a part of a table
-  pub reported_else : (line : TextLine) → ((v : Version) → line ≡ version v → ⊥) → ((d : Claim) → line ≡ claims d → ⊥) → ((k : List ℤ) → line ≡ constant k → ⊥) → swap_in line ≡ None → atom_in line ≡ None → table_in line ≡ None
+  pub reported_else : (line : TextLine) → ((v : Version) → line ≡ version v → ⊥) → ((d : Claim) → line ≡ claims d → ⊥) → ((k : List ℤ) → line ≡ constant k → ⊥) → swap_in line ≡ None → atom_in line ≡ None → part_in line ≡ None
       → ((number : ℕ) → IsWrongAfter task before line number → ⊥) → HaveGiven task (before ++ line ∷ []) heading
-  reported_else line no_version no_claim no_constant no_exchange no_atom no_table is_right = record {
+  reported_else line no_version no_claim no_constant no_exchange no_atom no_part is_right = record {
     one_version = λ v there. reported.one_version v (among_more line (version v) (no_version v) there);
     one_claim = λ d there. reported.one_claim d (among_more line (claims d) (no_claim d) there);
     none_occurs = λ none_is. Contains-append_left before (line ∷ []) (claims none) (reported.none_occurs none_is);
     given = λ k there. given_still line no_atom k (among_more line (constant k) (no_constant k) there);
     not_given = not_given_still line;
     exchanged = exchanged_still line no_exchange;
-    tables = tabled_still line no_table;
+    tables = tabled_still line (no_table_in line no_part);
+    landmarks = landmarks_still line no_part;
     named = named_still line no_atom;
     fluent = reported.fluent;
     distinct = reported.distinct;
@@ -423,7 +478,7 @@ module _ (task : Task) (before : List TextLine) (heading : Heading) (reported : 
 
   -- a line of a table
   pub reported_tables : (t : TableLine) (tables : List Table) → flat_map table_lines tables ≡ tables_given before ++ t ∷ [] → ((number : ℕ) → IsWrongAfter task before (part (tabled t)) number → ⊥)
-      → HaveGiven task (before ++ part (tabled t) ∷ []) (record { version = heading.version; claim = heading.claim; exchanges = heading.exchanges; atoms = heading.atoms; bounds = with_tables heading.bounds tables })
+      → HaveGiven task (before ++ part (tabled t) ∷ []) (record { version = heading.version; claim = heading.claim; exchanges = heading.exchanges; atoms = heading.atoms; evidence = with_tables heading.evidence tables; landmarks = heading.landmarks })
   reported_tables t tables are is_right = record {
     one_version = λ v there. reported.one_version v (among_more (part (tabled t)) (version v) (λ same. cc same) there);
     one_claim = λ d there. reported.one_claim d (among_more (part (tabled t)) (claims d) (λ same. cc same) there);
@@ -434,11 +489,52 @@ module _ (task : Task) (before : List TextLine) (heading : Heading) (reported : 
     not_given = λ absent. let none_given = not_given_still (part (tabled t)) absent in record { values = none_given.values; dead_ends = none_given.dead_ends };
     exchanged = exchanged_still (part (tabled t)) refl;
     tables = are ∙ sym (filter_map-append table_in before (part (tabled t) ∷ []));
+    landmarks = landmarks_beside t;
     named = named_still (part (tabled t)) refl;
     fluent = reported.fluent;
     distinct = reported.distinct;
     right = right_more task before (part (tabled t)) reported.right is_right;
   }
+
+  -- a line of landmarks
+  landmark_is_right : (l : LandmarkLine) (line : TextLine) (number : ℕ) → IsWrongAfter task before line number → line ≡ part (landmark_line l) → ⊥
+  landmark_is_right l line number (not_of_scope r atoms rows here no_scope) same = absurd (cc same)
+  landmark_is_right l line number (repeated_row r atoms rows here of_scope there) same = absurd (cc same)
+  landmark_is_right l line number (not_fluent a none_is) same = absurd (cc same)
+  landmark_is_right l line number (repeated_atom a is there) same = absurd (cc same)
+  landmark_is_right l line number (repeated_state k there) same = absurd (cc same)
+  landmark_is_right l line number (cut_not_allowed k new cut there) same = absurd (cc same)
+
+  pub reported_landmark : (l : LandmarkLine) (landmarks : NumberedLandmarks) → AreLandmarksOf (parts_given (before ++ part (landmark_line l) ∷ [])) landmarks
+      → HaveGiven task (before ++ part (landmark_line l) ∷ []) (record { version = heading.version; claim = heading.claim; exchanges = heading.exchanges; atoms = heading.atoms; evidence = heading.evidence; landmarks = landmarks })
+  reported_landmark l landmarks are =
+      let line : TextLine = part (landmark_line l) in
+      record {
+        one_version = λ v there. reported.one_version v (among_more line (version v) (λ same. cc same) there);
+        one_claim = λ d there. reported.one_claim d (among_more line (claims d) (λ same. cc same) there);
+        none_occurs = λ none_is. Contains-append_left before (line ∷ []) (claims none) (reported.none_occurs none_is);
+        given = λ k there. given_still line refl k (among_more line (constant k) (λ same. cc same) there);
+        not_given = not_given_still line;
+        exchanged = exchanged_still line refl;
+        tables = tabled_still line refl;
+        landmarks = are;
+        named = named_still line refl;
+        fluent = reported.fluent;
+        distinct = reported.distinct;
+        right = right_more task before line reported.right (λ number wrong. landmark_is_right l line number wrong refl);
+      }
+
+  pub reported_zone : (z : Zone)
+      → HaveGiven task (before ++ part (landmark_line (zone z)) ∷ []) (record { version = heading.version; claim = heading.claim; exchanges = heading.exchanges; atoms = heading.atoms; evidence = heading.evidence; landmarks = with_zone heading.landmarks z })
+  reported_zone z =
+      reported_landmark (zone z) (with_zone heading.landmarks z)
+      (record { zones = sym (zones_more (landmark_line (zone z))); values = sym (values_more (landmark_line (zone z)) ∙ append-nil heading.landmarks.values) })
+
+  pub reported_value : (s : List Share)
+      → HaveGiven task (before ++ part (landmark_line (value s)) ∷ []) (record { version = heading.version; claim = heading.claim; exchanges = heading.exchanges; atoms = heading.atoms; evidence = heading.evidence; landmarks = with_value heading.landmarks s })
+  reported_value s =
+      reported_landmark (value s) (with_value heading.landmarks s)
+      (record { zones = sym (zones_more (landmark_line (value s)) ∙ append-nil heading.landmarks.zones); values = sym (values_more (landmark_line (value s))) })
 
   pub reported_last : (count : ℕ) → HaveGiven task (before ++ last count ∷ []) heading
   reported_last count =
@@ -465,18 +561,20 @@ module _ (task : Task) (before : List TextLine) (heading : Heading) (reported : 
       claim = heading.claim;
       exchanges = heading.exchanges;
       atoms = heading.atoms ++ a ∷ [];
-      bounds = with_weights heading.bounds said.weights;
+      evidence = with_weights heading.evidence said.weights;
+      landmarks = heading.landmarks;
     })
     reported_new_atom new begun = record {
       one_version = λ v there. reported.one_version v (among_more (atom said) (version v) (λ same. cc same) there);
       one_claim = λ d there. reported.one_claim d (among_more (atom said) (claims d) (λ same. cc same) there);
       none_occurs = λ none_is. Contains-append_left before (atom said ∷ []) (claims none) (reported.none_occurs none_is);
       given = λ k there.
-          subst (λ atoms. AreGiven heading.version k atoms (with_weights heading.bounds said.weights)) (sym (atoms_more before said))
-          (given_more heading.version k (atoms_given before) said heading.bounds (reported.given k (among_more (atom said) (constant k) (λ same. cc same) there)));
+          subst (λ atoms. AreGiven heading.version k atoms (with_weights heading.evidence said.weights)) (sym (atoms_more before said))
+          (given_more heading.version k (atoms_given before) said heading.evidence (reported.given k (among_more (atom said) (constant k) (λ same. cc same) there)));
       not_given = λ absent. let (k, there) = constant_first before said begun in absurd (absent k (Contains-append_left before (atom said ∷ []) (constant k) there));
       exchanged = exchanged_still (atom said) refl;
       tables = tabled_still (atom said) refl;
+      landmarks = landmarks_still (atom said) refl;
       named = subst (λ names. AllName task names (heading.atoms ++ a ∷ [])) (sym (names_more before said)) (named_push task (names_given before) heading.atoms said.atom a reported.named names);
       fluent = All-push (λ (a : Atom). IsTrue (is_atom task a && is_fluent task a.predicate)) heading.atoms a reported.fluent (λ i. typed i && changes i);
       distinct = all_pairs_push (λ (a b : Atom). a ≢ b) heading.atoms a reported.distinct (λ k d within same. new (subst (Contains heading.atoms) same (Contains-get_or heading.atoms k d within)));

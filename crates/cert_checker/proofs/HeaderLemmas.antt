@@ -4,8 +4,8 @@ use Rattle.std.specs.Prelude.{ℤ, slice_get}
 use Rattle.std.specs.List.{range_with_len}
 use Rattle.lower_bounds.specs.PotentialFunctions.{PotentialFunction}
 use Rattle.certificate_definitions.specs.CertificateNames.{weight_said}
-use Rattle.certificate.specs.declared.header.Potential.{Potential}
-use Rattle.certificate.specs.CertificateParts.{potential_of}
+use Rattle.certificate.specs.declared.evidence.Potential.{Potential}
+use Rattle.certificate.specs.Evidence.{potential_of}
 use Rattle.cert_checker.specs.Given.{push_at, value_given, with_weight, with_weights_from}
 
 pub set_pushes : (xs : List Potential) (place : ℕ) (x y : Potential) (w : ℤ) → slice_get xs place ≡ Some x → potential_of y ≡ with_weight (potential_of x) w

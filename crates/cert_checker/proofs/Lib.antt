@@ -36,6 +36,8 @@ pub mod GroundSuccessors
 pub mod PackedLinesLemmas
 pub mod PackedListingLemmas
 pub mod ValuesLemmas
+pub mod EvidenceLemmas
+pub mod LandmarkFaultsLemmas
 pub mod MadeLemmas
 pub mod AcceptLemmas
 pub mod CheckProgressLemmas

@@ -1,8 +1,8 @@
 -- The certificate that a text denotes is within the limits, has a weight for each atom, and is unique.
 use Rattle.std.proofs.Common.{◌≡◌, ℕ, zero, suc, ◌+◌, ◌-◌, ◌≤◌, Bool, true, false, List, [], ◌∷◌, ◌++◌, map, length, refl, sym, ap, ◌∙◌, subst, arith}
-use Rattle.std.specs.Prelude.{◌&&◌, ◌==◌, ℤ, pos, IsTrue, All, nat_le}
-use Rattle.std.specs.List.{flat_map, list_all, range_with_len}
-use Rattle.std.proofs.lemmas.Bool.{and_parts, eq-eqb, eqb-true, false≢true, le-leb, leb-true}
+use Rattle.std.specs.Prelude.{◌&&◌, ◌||◌, ◌==◌, ℤ, pos, IsTrue, All, nat_le}
+use Rattle.std.specs.List.{filter_map, flat_map, list_all, range_with_len}
+use Rattle.std.proofs.lemmas.Bool.{and_parts, or_left, or_right, eq-eqb, eqb-true, false≢true, le-leb, leb-true}
 use Rattle.std.proofs.lemmas.List.{get_or_past, length-map, map-append}
 use Rattle.std.proofs.lemmas.List.Elements.{All-map}
 use Rattle.std.proofs.lemmas.List.Folds.{list_all-append, list_all-map}
@@ -10,13 +10,17 @@ use Rattle.std.proofs.lemmas.List.FromFn.{length-range_with_len}
 use Rattle.model.specs.Task.{Atom, Task}
 use Rattle.lower_bounds.specs.PotentialFunctions.{PotentialFunction}
 use Rattle.lower_bounds.specs.TableFunctions.{Row, Table, is_among}
-use Rattle.certificate_definitions.specs.Certificates.{Version, one, two, three, Certificate, StateLine, are_exchanges, are_potentials, are_tables, are_weights, has_tables, is_claim, is_dead_end_weight, is_row, is_state_line, is_value_count, is_weight, keeps_limits, rows_of}
-use Rattle.certificate_definitions.specs.CertificateText.{NamedAtom, WeightedAtom, TableLine, scope, row, NamedCertificate, Format, TextLine, swapped, atom, tabled, part, listed, last, format_of, is_line, is_weight_count, keeps_text_limits, line_text, longest_line, most_atoms, most_states, most_swaps, text_lines}
-use Rattle.certificate_definitions.specs.Parts.{no_parts, are_in_order, is_table_line, most_rows, most_tables}
-use Rattle.certificate_definitions.specs.CertificateNames.{AllName, IsTextOf, dead_ends_said, exchange_said, table_lines, value_count, value_said, values_said, weight_said}
+use Rattle.certificate_definitions.specs.Certificates.{Version, one, two, three, four, Certificate, StateLine, are_exchanges, are_landmarks, has_basis, has_landmarks, are_potentials, are_tables, are_weights, has_tables, is_claim, is_dead_end_weight, is_row, is_state_line, is_value_count, is_weight, keeps_limits, rows_of}
+use Rattle.certificate_definitions.specs.CertificateText.{NamedAtom, WeightedAtom, TableLine, scope, row, NamedCertificate, Format, TextLine, swapped, atom, tabled, landmark_line, part, listed, last, format_of, is_line, is_weight_count, keeps_text_limits, line_text, longest_line, most_atoms, most_states, most_swaps, text_lines}
+use Rattle.landmark_functions.specs.LandmarkFunctions.{Zone}
+use Rattle.landmark_functions.specs.LandmarkLines.{LandmarkLine, zone, value, Share, is_value, is_zone, lines_of, most_zones}
+use Rattle.certificate_definitions.specs.Parts.{no_parts, counts_after, are_in_order, is_table_line, most_rows, most_tables}
+use Rattle.certificate_definitions.specs.CertificateNames.{AllName, IsTextOf, dead_ends_said, exchange_said, parts_of, table_lines, value_count, value_said, values_said, weight_said}
 use Rattle.certificate_reader.specs.Words.{are_lower}
+use Rattle.certificate_reader.proofs.LandmarksRead.{value_within}
 use Rattle.certificate_reader.proofs.OneText as one_text
-use Rattle.cert_checker.proofs.TableParts.{as_parts, few_of_ordered, same_lines}
+use Rattle.cert_checker.specs.Given.{shares_in, table_line_in, zone_in}
+use Rattle.cert_checker.proofs.TableParts.{AreFew, as_landmarks, as_parts, counts_of_parts, counts_with, few_of_ordered, tables_of_parts, values_of_ordered, values_of_parts, zones_of_parts}
 use Rattle.cert_checker.proofs.NamedExchanges.{exchanges_kept}
 use Rattle.cert_checker.proofs.NamesLemmas.{one_named}
 
@@ -35,6 +39,8 @@ pub record AreLimits (c : Certificate) : Type 0 where
   pub few_rows : nat_le (length (rows_of c.tables)) most_rows ≡ true
   pub exchanges : are_exchanges c.version c.exchanges ≡ true
   pub few_exchanges : nat_le (length c.exchanges) most_swaps ≡ true
+  pub landmarks : are_landmarks c.version (length c.atoms) c.landmarks ≡ true
+  pub bases : list_all (λ (l : StateLine). has_basis (length c.landmarks.values) l.mark) c.lines ≡ true
 
 pub limits_of : (c : Certificate) → IsTrue (keeps_limits c) → AreLimits c
 limits_of c keeps =
@@ -49,8 +55,13 @@ limits_of c keeps =
     let scopes = nat_le (length c.tables) most_tables in
     let rows = nat_le (length (rows_of c.tables)) most_rows in
     let exchanges = are_exchanges c.version c.exchanges in
-    let (first, few_exchanges) =
-    and_parts (claims && atoms && lines && states && count && values && dead_ends && tables && scopes && rows && exchanges) (nat_le (length c.exchanges) most_swaps) keeps in
+    let swaps = nat_le (length c.exchanges) most_swaps in
+    let landmarks = are_landmarks c.version (length c.atoms) c.landmarks in
+    let (first, bases_are) =
+    and_parts (claims && atoms && lines && states && count && values && dead_ends && tables && scopes && rows && exchanges && swaps && landmarks)
+    (list_all (λ (l : StateLine). has_basis (length c.landmarks.values) l.mark) c.lines) keeps in
+    let (first, landmarks_are) = and_parts (claims && atoms && lines && states && count && values && dead_ends && tables && scopes && rows && exchanges && swaps) landmarks first in
+    let (first, few_exchanges) = and_parts (claims && atoms && lines && states && count && values && dead_ends && tables && scopes && rows && exchanges) swaps first in
     let (first, exchanges_are) = and_parts (claims && atoms && lines && states && count && values && dead_ends && tables && scopes && rows) exchanges first in
     let (first, few_rows) = and_parts (claims && atoms && lines && states && count && values && dead_ends && tables && scopes) rows first in
     let (first, few_tables) = and_parts (claims && atoms && lines && states && count && values && dead_ends && tables) scopes first in
@@ -74,6 +85,8 @@ limits_of c keeps =
       few_rows = few_rows;
       exchanges = exchanges_are;
       few_exchanges = few_exchanges;
+      landmarks = landmarks_are;
+      bases = bases_are;
     }
 
 -- ---- the limits of a text, one by one
@@ -83,6 +96,7 @@ record AreTextLimits (said : NamedCertificate) : Type 0 where
   few_atoms : nat_le (length said.atoms) most_atoms ≡ true
   ordered : IsTrue (are_in_order no_parts said.parts)
   few_states : nat_le (length said.lines) most_states ≡ true
+  bases : list_all (λ (l : StateLine). has_basis (counts_after no_parts said.parts).values l.mark) said.lines ≡ true
   claim : is_claim said.claim ≡ true
   constant_count : is_weight_count said.version (length said.constants) ≡ true
   constants : are_weights (length said.constants) said.constants ≡ true
@@ -102,8 +116,11 @@ text_limits said keeps =
     let count_is : Bool = is_weight_count said.version (length said.constants) in
     let in_order : Bool = are_in_order no_parts said.parts in
     let counted : Bool = nat_le (length said.swaps) most_swaps && nat_le (length said.atoms) most_atoms in
-    let (counts, each) = and_parts (counted && in_order && nat_le (length said.lines) most_states) (list_all test (text_lines said)) keeps in
-    let (few, few_states) = and_parts (counted && in_order) (nat_le (length said.lines) most_states) counts in
+    let few_lines : Bool = nat_le (length said.lines) most_states in
+    let based : Bool = list_all (λ (l : StateLine). has_basis (counts_after no_parts said.parts).values l.mark) said.lines in
+    let (counts, each) = and_parts (counted && in_order && (few_lines && based)) (list_all test (text_lines said)) keeps in
+    let (few, lines_are) = and_parts (counted && in_order) (few_lines && based) counts in
+    let (few_states, bases_are) = and_parts few_lines based lines_are in
     let (few_both, ordered) = and_parts counted in_order few in
     let (few_swaps, few_atoms) = and_parts (nat_le (length said.swaps) most_swaps) (nat_le (length said.atoms) most_atoms) few_both in
     let (claim, others) = and_parts (is_claim said.claim) ((count_is && list_all is_weight said.constants) && list_all test ((((swaps ++ atoms) ++ parts) ++ states) ++ end)) each in
@@ -118,6 +135,7 @@ text_limits said keeps =
       few_atoms = few_atoms;
       ordered = ordered;
       few_states = few_states;
+      bases = bases_are;
       claim = claim;
       constant_count = count;
       few_swaps = few_swaps;
@@ -127,6 +145,10 @@ text_limits said keeps =
       parts = parts_are;
       states = sym (list_all-map test (λ (l : StateLine). listed l) said.lines) ∙ states_are;
     }
+
+-- the parts of a text are in order
+pub ordered_parts : (said : NamedCertificate) → IsTrue (keeps_text_limits said) → are_in_order no_parts said.parts ≡ true
+ordered_parts said keeps = (text_limits said keeps).ordered
 
 -- ---- values
 
@@ -146,26 +168,34 @@ dead_end_kept one count weights are =
     ap (is_dead_end_weight one) (get_or_past weights count (pos 0) (omega (arith, long)))
 dead_end_kept two count weights are = weight_kept count weights (count - 1) are
 dead_end_kept three count weights are = weight_kept count weights (count - 1) are
+dead_end_kept four count weights are = weight_kept count weights (count - 1) are
 
-value_count_kept : (v : Version) (count : ℕ) → is_weight_count v count ≡ true → is_value_count v (value_count v count) ≡ true
-value_count_kept one count is = is
-value_count_kept two count is = let same = eqb-true count 2 is in eq-eqb (count - 1) 1 (omega (arith, same))
-value_count_kept three count is =
+-- from 2 to 33 constants, one of which is for dead ends
+several_kept : (count : ℕ) → nat_le 2 count && nat_le count 33 ≡ true → nat_le 1 (count - 1) && nat_le (count - 1) 32 ≡ true
+several_kept count is =
     let (some, few) = and_parts (nat_le 2 count) (nat_le count 33) is in
     let above = leb-true 2 count some in
     let below = leb-true count 33 few in
     λ i. le-leb 1 (count - 1) (omega (arith, above)) i && le-leb (count - 1) 32 (omega (arith, below)) i
+
+value_count_kept : (v : Version) (count : ℕ) → is_weight_count v count ≡ true → is_value_count v (value_count v count) ≡ true
+value_count_kept one count is = is
+value_count_kept two count is = let same = eqb-true count 2 is in eq-eqb (count - 1) 1 (omega (arith, same))
+value_count_kept three count is = several_kept count is
+value_count_kept four count is = several_kept count is
 
 -- a version with tables has a constant for each value and one for dead ends
 pub one_constant_more : (v : Version) (count : ℕ) → has_tables v ≡ true → is_weight_count v count ≡ true → value_count v count + 1 ≡ count
 one_constant_more one count has is = absurd (false≢true has)
 one_constant_more two count has is = absurd (false≢true has)
 one_constant_more three count has is = let some = leb-true 2 count (and_parts (nat_le 2 count) (nat_le count 33) is).0 in omega (arith, some)
+one_constant_more four count has is = let some = leb-true 2 count (and_parts (nat_le 2 count) (nat_le count 33) is).0 in omega (arith, some)
 
 pub few_constants : (v : Version) (count : ℕ) → is_weight_count v count ≡ true → count ≤ 33
 few_constants one count is = let same = eqb-true count 1 is in omega (arith, same)
 few_constants two count is = let same = eqb-true count 2 is in omega (arith, same)
 few_constants three count is = leb-true count 33 (and_parts (nat_le 2 count) (nat_le count 33) is).1
+few_constants four count is = leb-true count 33 (and_parts (nat_le 2 count) (nat_le count 33) is).1
 
 always : {X : Type 0} (test : X → Bool) → ((x : X) → test x ≡ true) → (xs : List X) → list_all test xs ≡ true
 always test each [] = refl
@@ -253,6 +283,27 @@ tables_kept f (t ∷ tables) among all =
     let rest = tables_kept f tables (λ k d below. among (suc k) d (omega (arith, below))) more in
     λ i. (has i && (scope_is i && own i)) && rest i
 
+-- ---- landmarks
+
+-- a version without landmark values has no zone and no value
+landmarks_had : (f : Format) (zones : List Zone) (values : List (List Share)) → list_all (is_line f) (map (λ p. part p) (as_landmarks (map zone zones ++ map value values))) ≡ true
+    → has_landmarks f.version || (nat_le (length zones) 0 && nat_le (length values) 0) ≡ true
+landmarks_had f [] [] all = or_right (has_landmarks f.version) (true && true) refl
+landmarks_had f [] (s ∷ values) all =
+    let here = (and_parts (is_line f (part (landmark_line (value s)))) (list_all (is_line f) (map (λ p. part p) (as_landmarks (map value values)))) all).0 in
+    or_left (has_landmarks f.version) (true && nat_le (length (s ∷ values)) 0) (value_within f s here).0
+landmarks_had f (z ∷ zones) values all =
+    let here = (and_parts (is_line f (part (landmark_line (zone z)))) (list_all (is_line f) (map (λ p. part p) (as_landmarks (map zone zones ++ map value values)))) all).0 in
+    or_left (has_landmarks f.version) (nat_le (length (z ∷ zones)) 0 && nat_le (length values) 0) (and_parts (has_landmarks f.version) (is_zone f.atoms z) here).0
+
+zones_kept : (f : Format) (zones : List Zone) (more : List LandmarkLine) → list_all (is_line f) (map (λ p. part p) (as_landmarks (map zone zones ++ more))) ≡ true → list_all (is_zone f.atoms) zones ≡ true
+zones_kept f [] more all = refl
+zones_kept f (z ∷ zones) more all =
+    let (here, others) = and_parts (is_line f (part (landmark_line (zone z)))) (list_all (is_line f) (map (λ p. part p) (as_landmarks (map zone zones ++ more)))) all in
+    let is = (and_parts (has_landmarks f.version) (is_zone f.atoms z) here).1 in
+    let rest = zones_kept f zones more others in
+    λ i. is i && rest i
+
 -- ---- the certificate of a text
 
 as_many_names : (task : Task) (names : List NamedAtom) (atoms : List Atom) → AllName task names atoms → length names ≡ length atoms
@@ -284,12 +335,40 @@ module _ (task : Task) (text : List ℕ) (c : Certificate) (is : IsTextOf task t
       ap (λ (p : PotentialFunction). length p.weights) is.dead_ends
       ∙ length-map is.said.atoms (λ (a : WeightedAtom). weight_said (value_count is.said.version (length is.said.constants)) a.weights) ∙ as_many_atoms
 
-  parts_are : list_all (is_line (format_of is.said)) (map (λ p. part p) (as_parts (flat_map table_lines c.tables))) ≡ true
-  parts_are = subst (λ parts. list_all (is_line (format_of is.said)) (map (λ p. part p) parts) ≡ true) is.parts limits.parts
+  -- the lines of its tables, and those of its landmarks
+  kinds_are : (list_all (is_line (format_of is.said)) (map (λ p. part p) (as_parts (flat_map table_lines c.tables))) ≡ true) × (list_all (is_line (format_of is.said)) (map (λ p. part p) (as_landmarks (lines_of c.landmarks))) ≡ true)
+  kinds_are =
+      let test : TextLine → Bool = is_line (format_of is.said) in
+      let tables : List TextLine = map (λ p. part p) (as_parts (flat_map table_lines c.tables)) in
+      let landmarks : List TextLine = map (λ p. part p) (as_landmarks (lines_of c.landmarks)) in
+      let all = subst (λ parts. list_all test (map (λ p. part p) parts) ≡ true) is.parts limits.parts in
+      and_parts (list_all test tables) (list_all test landmarks)
+      (sym (ap (list_all test) (map-append (λ p. part p) (as_parts (flat_map table_lines c.tables)) (as_landmarks (lines_of c.landmarks))) ∙ list_all-append test tables landmarks) ∙ all)
+
+  counts_are : counts_after no_parts is.said.parts ≡ counts_with c.tables c.landmarks
+  counts_are = ap (counts_after no_parts) is.parts ∙ counts_of_parts c.tables c.landmarks
+
+  -- its landmarks are within the limits
+  pub landmarks_kept : are_landmarks c.version (length c.atoms) c.landmarks ≡ true
+  landmarks_kept =
+      let f = format_of is.said in
+      let l = c.landmarks in
+      let few : AreFew c.tables l = few_of_ordered is.said.parts c.tables l is.parts limits.ordered in
+      let had = landmarks_had f l.zones l.values kinds_are.1 in
+      let zones = zones_kept f l.zones (map value l.values) kinds_are.1 in
+      let values : list_all (is_value (length l.zones)) l.values ≡ true =
+      (λ i. list_all (is_value (sym counts_are i).zones) (sym (ap (filter_map shares_in) is.parts ∙ values_of_parts (flat_map table_lines c.tables) l.zones l.values) i))
+      ∙ values_of_ordered no_parts is.said.parts limits.ordered in
+      (λ i. are_landmarks (sym is.version i) (sym as_many_atoms i) l)
+      ∙ (λ i. had i && (((zones i && few.zones_few i) && few.literals_few i) && ((values i && few.values_few i) && few.shares_few i)))
+
+  -- and each line has its basis
+  pub bases_kept : list_all (λ (l : StateLine). has_basis (length c.landmarks.values) l.mark) c.lines ≡ true
+  bases_kept = (λ i. list_all (λ (l : StateLine). has_basis (sym counts_are i).values l.mark) (sym is.lines i)) ∙ limits.bases
 
   -- in a version without tables the certificate has none
   no_tables : has_tables c.version ≡ false → c.tables ≡ []
-  no_tables none = no_lines c.tables (no_lines_of_tables (format_of is.said) (ap has_tables is.version ∙ none) (flat_map table_lines c.tables) parts_are)
+  no_tables none = no_lines c.tables (no_lines_of_tables (format_of is.said) (ap has_tables is.version ∙ none) (flat_map table_lines c.tables) kinds_are.0)
 
   -- its tables are within the limits if each row is in its table's scope, which the text's own limits do not ensure
   pub tables_in_limits : AreOfScopes c.tables → IsTrue (are_tables c.version (length c.atoms) (length c.values + 1) c.tables)
@@ -302,7 +381,7 @@ module _ (task : Task) (text : List ℕ) (c : Certificate) (is : IsTextOf task t
           let many : length c.values + 1 ≡ length is.said.constants =
           ap (λ n. n + 1) (ap length is.values ∙ values_length is.said limits) ∙ one_constant_more is.said.version (length is.said.constants) (ap has_tables is.version ∙ has) limits.constant_count in
           (λ i. are_tables (sym is.version i) (sym as_many_atoms i) (many i) c.tables)
-          ∙ tables_kept f c.tables among parts_are
+          ∙ tables_kept f c.tables among kinds_are.0
 
   -- and so does the whole certificate
   pub limits_kept : IsTrue (are_tables c.version (length c.atoms) (length c.values + 1) c.tables) → IsTrue (keeps_limits c)
@@ -313,10 +392,11 @@ module _ (task : Task) (text : List ℕ) (c : Certificate) (is : IsTextOf task t
       let states = (λ i. list_all (is_state_line (sym is.version i) (sym as_many_atoms i)) (sym is.lines i)) ∙ limits.states in
       let values = (λ i. list_all (are_potentials is_weight (sym as_many_atoms i)) (is.values i)) ∙ values_kept is.said limits in
       let dead_ends = (λ i. are_potentials (is_dead_end_weight (sym is.version i)) (sym as_many_atoms i) (is.dead_ends i)) ∙ dead_ends_kept is.said limits in
-      let (few_tables, few_rows) = few_of_ordered is.said.parts c.tables is.parts limits.ordered in
+      let few : AreFew c.tables c.landmarks = few_of_ordered is.said.parts c.tables c.landmarks is.parts limits.ordered in
       let exchanges = (λ i. are_exchanges (sym is.version i) (is.exchanges i)) ∙ exchanges_kept task (format_of is.said) is.said.swaps limits.swaps in
       let few_exchanges = ap (λ n. nat_le n most_swaps) (ap length is.exchanges ∙ length-map is.said.swaps (exchange_said task)) ∙ limits.few_swaps in
-      λ i. ((((((((((claim i && few_atoms i) && few_states i) && states i) && as_many_values i) && values i) && dead_ends i) && tables_are i) && few_tables i) && few_rows i) && exchanges i) && few_exchanges i
+      λ i. ((((((((((((claim i && few_atoms i) && few_states i) && states i) && as_many_values i) && values i) && dead_ends i) && tables_are i) && few.tables_few i) && few.rows_few i) && exchanges i) && few_exchanges i)
+      && landmarks_kept i) && bases_kept i
 
 -- ---- one certificate for a text
 
@@ -370,7 +450,13 @@ one_certificate task text c d is other =
     let values : c.values ≡ d.values = is.values ∙ ap values_said said ∙ sym other.values in
     let dead_ends : c.dead_ends ≡ d.dead_ends = is.dead_ends ∙ ap dead_ends_said said ∙ sym other.dead_ends in
     let exchanges : c.exchanges ≡ d.exchanges = is.exchanges ∙ ap (λ (n : NamedCertificate). map (exchange_said task) n.swaps) said ∙ sym other.exchanges in
-    let tables : c.tables ≡ d.tables = same_tables c.tables d.tables (same_lines (flat_map table_lines c.tables) (flat_map table_lines d.tables) (sym is.parts ∙ ap (λ (n : NamedCertificate). n.parts) said ∙ other.parts)) in
+    let parts : parts_of c ≡ parts_of d = sym is.parts ∙ ap (λ (n : NamedCertificate). n.parts) said ∙ other.parts in
+    let tables : c.tables ≡ d.tables = same_tables c.tables d.tables (sym (tables_of_parts (flat_map table_lines c.tables) c.landmarks.zones c.landmarks.values) ∙ ap (filter_map table_line_in) parts
+    ∙ tables_of_parts (flat_map table_lines d.tables) d.landmarks.zones d.landmarks.values) in
+    let zones : c.landmarks.zones ≡ d.landmarks.zones = sym (zones_of_parts (flat_map table_lines c.tables) c.landmarks.zones c.landmarks.values) ∙ ap (filter_map zone_in) parts
+    ∙ zones_of_parts (flat_map table_lines d.tables) d.landmarks.zones d.landmarks.values in
+    let marks : c.landmarks.values ≡ d.landmarks.values = sym (values_of_parts (flat_map table_lines c.tables) c.landmarks.zones c.landmarks.values) ∙ ap (filter_map shares_in) parts
+    ∙ values_of_parts (flat_map table_lines d.tables) d.landmarks.zones d.landmarks.values in
     let atoms : c.atoms ≡ d.atoms = same_atoms task (map (λ (a : WeightedAtom). a.atom) other.said.atoms) c.atoms d.atoms
     (subst (λ (n : NamedCertificate). AllName task (map (λ (a : WeightedAtom). a.atom) n.atoms) c.atoms) said is.atoms) other.atoms in
-    λ i. record { version = version_is i; claim = claim i; exchanges = exchanges i; atoms = atoms i; values = values i; dead_ends = dead_ends i; tables = tables i; lines = lines i }
+    λ i. record { version = version_is i; claim = claim i; exchanges = exchanges i; atoms = atoms i; values = values i; dead_ends = dead_ends i; tables = tables i; landmarks = record { zones = zones i; values = marks i }; lines = lines i }

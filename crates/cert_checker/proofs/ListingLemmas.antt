@@ -1,7 +1,7 @@
 -- The lines of a text, read one after another, to its end.
 use Rattle.std.proofs.Common.{◌≡◌, ℕ, ◌+◌, ◌-◌, ◌<◌, ◌≤◌, Bool, true, false, List, [], ◌∷◌, ◌++◌, map, length, get_or, Option, None, Some, refl, sym, ap, ◌∙◌, subst, append-nil, length-append, arith}
 use Rattle.std.specs.Prelude.{Ok, All, AllPairs, Contains, ◌≢◌}
-use Rattle.std.specs.List.{list_all}
+use Rattle.std.specs.List.{filter_map, list_all}
 use Rattle.std.specs.Option.{option_map_or}
 use Rattle.std.proofs.lemmas.Bool.{and_parts}
 use Rattle.std.proofs.lemmas.List.{length-map}
@@ -25,17 +25,20 @@ use Rattle.certificate_reader.specs.Reader.{IsAnswer, has_failed, lines_read}
 use Rattle.model.proofs.ListLemmas.{Contains-here, Contains-there}
 use Rattle.certificate.specs.ListedSets.{Marked, line_with, lines_with, marked}
 use Rattle.certificate_definitions.specs.CertificateLines.{parts_given}
-use Rattle.cert_checker.proofs.TableParts.{as_parts, tables_of_parts}
-use Rattle.cert_checker.specs.Given.{atoms_given, is_body, names_given, states_given, swaps_given, values_given, dead_ends_given}
+use Rattle.cert_checker.proofs.TableParts.{by_kind, parts_with, tables_among}
+use Rattle.landmark_zones.specs.Landmarks.{landmarks_of}
+use Rattle.certificate_definitions.specs.Parts.{no_parts}
+use Rattle.cert_checker.specs.Given.{atoms_given, shares_in, table_line_in, zone_in, is_body, names_given, states_given, swaps_given, values_given, dead_ends_given}
 use Rattle.certificate.specs.declared.states.Listed.{Listed}
 use Rattle.cert_checker.specs.Listed.{HaveListed, IsFit}
-use Rattle.certificate.specs.CertificateParts.{listed_of, bounds_of, exchange_in}
+use Rattle.certificate.specs.CertificateParts.{listed_of, exchange_in}
+use Rattle.certificate.specs.Evidence.{evidence_of}
 use Rattle.certificate.specs.declared.header.Header.{Header}
 use Rattle.cert_checker.specs.Taking.{HasTaken}
 use Rattle.cert_checker.specs.Reading.{IsAt, IsBegun, IsListedSoFar, IsRead}
 use Rattle.certificate.proofs.SetsLemmas.{numbers_back}
 use Rattle.cert_checker.proofs.GivenLemmas.{begin_front}
-use Rattle.cert_checker.proofs.LimitsLemmas.{tables_in_limits}
+use Rattle.cert_checker.proofs.LimitsLemmas.{ordered_parts, tables_in_limits}
 use Rattle.cert_checker.proofs.PlacedLemmas.{atoms_of_text, body_follows, few_atoms_reported, fit_there, named_length, states_of_text, swaps_of_text, parts_of_text}
 use Rattle.cert_checker.proofs.ReadingLemmas.{at_last, at_next, few_read, have_begun}
 
@@ -118,9 +121,10 @@ module _ {R : Type 0} (remaining : R → Option (List ℕ)) (task : Task) (first
       claim = claim;
       exchanges = map exchange_in header.exchanges.items;
       atoms = atoms;
-      values = (bounds_of header.bounds).values;
-      dead_ends = (bounds_of header.bounds).dead_ends;
-      tables = (bounds_of header.bounds).tables;
+      values = (evidence_of header.evidence).values;
+      dead_ends = (evidence_of header.evidence).dead_ends;
+      tables = (evidence_of header.evidence).tables;
+      landmarks = landmarks_of header.evidence.landmarks;
       lines = lines_with marks sets;
     }
 
@@ -135,7 +139,8 @@ module _ {R : Type 0} (remaining : R → Option (List ℕ)) (task : Task) (first
             let version_is = reported.one_version c.version (subst (λ lines. Contains lines (version c.version)) are (version_occurs c)) in
             let given = reported.given c.constants (subst (λ lines. Contains lines (constant c.constants)) are (constant_occurs c)) in
             let atoms_are : atoms_given lines ≡ c.atoms = ap atoms_given (sym are) ∙ atoms_of_text c in
-            let tables = header.bounds.tables.items in
+            let tables = header.evidence.tables.items in
+            let same : c.parts ≡ parts_given lines = sym (parts_of_text c) ∙ ap parts_given are in
             let is_text : IsTextOf task (text_of lines) certificate = record {
               said = c;
               text = record { within = keeps; lines = ap text_of (sym are) };
@@ -145,7 +150,9 @@ module _ {R : Type 0} (remaining : R → Option (List ℕ)) (task : Task) (first
               atoms = subst (λ (said : List WeightedAtom). AllName task (map (λ a. a.atom) said) atoms) (ap atoms_given (sym are) ∙ atoms_of_text c) reported.named;
               values = given.values ∙ (λ i. values_given (version_is i) c.constants (atoms_are i));
               dead_ends = given.dead_ends ∙ (λ i. dead_ends_given (version_is i) c.constants (atoms_are i));
-              parts = sym (parts_of_text c) ∙ ap parts_given are ∙ sym (tables_of_parts lines) ∙ ap as_parts (sym reported.tables);
+              parts = by_kind no_parts c.parts (ordered_parts c keeps)
+                  ∙ (λ i. parts_with ((ap (filter_map table_line_in) same ∙ tables_among lines ∙ sym reported.tables) i) ((ap (filter_map zone_in) same ∙ sym reported.landmarks.zones) i)
+                  ((ap (filter_map shares_in) same ∙ sym reported.landmarks.values) i));
               lines = sym (states_are ∙ ap states_given (sym are) ∙ states_of_text c);
             } in
             record {
@@ -179,7 +186,7 @@ module _ {R : Type 0} (remaining : R → Option (List ℕ)) (task : Task) (first
       so_far_next None over = (before ++ line ∷ [], at_last remaining first now (before ++ line ∷ []) at next over, reported, have)
 
       pub fewer_left : (answer : Option CertLine) → IsAnswer remaining now next (before ++ line ∷ []) (Ok answer)
-          → (30000000 - lines_read next) + option_map_or (λ (line : CertLine). 1) answer 0 < (30000000 - lines_read now) + 1
+          → (70000000 - lines_read next) + option_map_or (λ (line : CertLine). 1) answer 0 < (70000000 - lines_read now) + 1
       fewer_left (Some other) handed =
           omega (arith, at.read.count, handed.read.count, length-append (before ++ line ∷ []) (text_line_of other ∷ []), few_read remaining first now (before ++ line ∷ []) at)
       fewer_left None over = omega (arith, at.read.count, over.read.count, few_read remaining first now (before ++ line ∷ []) at)

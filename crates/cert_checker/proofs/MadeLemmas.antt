@@ -4,9 +4,9 @@ use Rattle.std.specs.Prelude.{All, IsTrue, ◌==◌, nat_le}
 use Rattle.std.specs.List.{list_all}
 use Rattle.std.proofs.lemmas.Bool.{and_parts, eqb-true, leb-true}
 use Rattle.std.proofs.lemmas.List.Elements.{All-cons}
-use Rattle.certificate.specs.declared.header.Potential.{Potential}
-use Rattle.certificate.specs.CertificateParts.{potential_of}
-use Rattle.certificate_definitions.specs.Certificates.{Version, one, two, three, is_value_count, are_potentials, are_tables, are_weights, has_tables, is_row, is_table, is_weight, rise}
+use Rattle.certificate.specs.declared.evidence.Potential.{Potential}
+use Rattle.certificate.specs.Evidence.{potential_of}
+use Rattle.certificate_definitions.specs.Certificates.{Version, one, two, three, four, is_value_count, are_potentials, are_tables, are_weights, has_tables, is_row, is_table, is_weight, rise}
 use Rattle.lower_bounds.specs.PotentialFunctions.{PotentialFunction, AreInRange, IsInRange}
 use Rattle.potentials.specs.declared.potentials.Potentials.{Potentials}
 use Rattle.potentials.specs.Potentials.{potentials_of}
@@ -76,6 +76,7 @@ pub few_values : (v : Version) (count : ℕ) → is_value_count v count ≡ true
 few_values one count is = let same = eqb-true count 1 is in omega (arith, same)
 few_values two count is = let same = eqb-true count 1 is in omega (arith, same)
 few_values three count is = leb-true count 32 (and_parts (nat_le 1 count) (nat_le count 32) is).1
+few_values four count is = leb-true count 32 (and_parts (nat_le 1 count) (nat_le count 32) is).1
 
 pub one_widened : (values : List PotentialFunction) (width : ℕ) (p d : PotentialFunction) → length values ≡ 1 → HasItsWeights (get_or values 0 d) width p → AreWidened values width (p ∷ [])
 one_widened (q ∷ []) width p d single has = (has, tt)

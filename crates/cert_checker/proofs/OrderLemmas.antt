@@ -1,6 +1,7 @@
 -- What is reported for a certificate is the first thing that is wrong: nothing before it is.
 use Rattle.std.proofs.Common.{◌≡◌, ◌≢◌, ℕ, ◌<◌, ◌⊎◌, ◌&&◌, true, List, length, Option, None, Some, inl, inr, refl, sym, ap, ◌∙◌, subst, arith}
-use Rattle.std.specs.Prelude.{IsSome, IsTrue, AllPairs, slice_get}
+use Rattle.std.specs.Prelude.{All, IsSome, IsTrue, AllPairs, slice_get}
+use Rattle.std.proofs.lemmas.List.Elements.{All-contains}
 use Rattle.std.proofs.lemmas.Bool.{cases_eq, false≢true}
 use Rattle.std.proofs.lemmas.Option.{slice_get_within, get_or_from_slice_get}
 use Rattle.model.specs.Task.{Atom, Task, Instance}
@@ -11,10 +12,15 @@ use Rattle.model.specs.Limits.{max_numbered_atoms}
 use Rattle.model.specs.Grounding.{exceeded_limit}
 use Rattle.model.specs.Claims.{none, Allows, opened, cut, Line, IsListedWithin}
 use Rattle.model.specs.Fluents.{is_fluent}
-use Rattle.certificate_definitions.specs.Evidence.{bare}
+use Rattle.landmark_functions.specs.LandmarkFunctions.{LandmarkFunction}
+use Rattle.landmark_functions.specs.LandmarkLines.{functions_of as landmark_functions}
+use Rattle.landmark_functions.specs.FairLandmarks.{IsFair, IsDeadFair}
+use Rattle.model.specs.NumberedAtoms.{numbered_atoms}
+use Rattle.model.proofs.ListLemmas.{Contains-filter_map, Contains-got}
+use Rattle.certificate_definitions.specs.Evidence.{bare, dead, landmark}
 use Rattle.symmetries_definitions.specs.Exchanges.{Exchange}
-use Rattle.certificate_definitions.specs.Certificates.{Certificate, StateLine, state_of_line, lines_of, is_symmetry_for, AreAlikeFor, AreFairFor, IsClosedFor}
-use Rattle.certificate_definitions.specs.CertificateRefusals.{Reason, not_fluent, repeated, no_initial, unfair, unfair_goal, goal_open, successor_missing, successor_dearer, cut_weak, cut_not_allowed, plan_invalid, plan_dearer, limit, dead_unfair, dead_unfair_goal, not_dead, not_symmetry, HasExchange, exchange_line, IsUnfairIn, IsUnfairAtGoalsIn, IsDeadUnfairIn, IsWrongAt, IsWrong, IsFirst, stage_of, rank_of, state_line}
+use Rattle.certificate_definitions.specs.Certificates.{Certificate, StateLine, state_of_line, lines_of, is_symmetry_for, AreAlikeFor, AreFairFor, AreLandmarksFair, IsClosedFor, dead_by, is_dead_by_landmark, landmark_function}
+use Rattle.certificate_definitions.specs.CertificateRefusals.{Reason, not_fluent, repeated, no_initial, unfair, unfair_goal, goal_open, successor_missing, successor_dearer, cut_weak, cut_not_allowed, plan_invalid, plan_dearer, limit, dead_unfair, dead_unfair_goal, not_dead, not_symmetry, value_unfair, value_not_dead, landmark_line, HasStateLine, HasExchange, exchange_line, IsUnfairIn, IsUnfairAtGoalsIn, IsDeadUnfairIn, IsWrongAt, IsWrong, IsFirst, stage_of, rank_of, state_line}
 use Rattle.cert_checker.specs.FluentAtoms.{AreFluent}
 use Rattle.cert_checker.specs.CheckedLines.{AreSymmetries, CutsAreAllowed, IsClosedAs, IsLineClosed, IsRightUpTo}
 use Rattle.cert_checker.proofs.CertCheckerLemmas.{entry, got_mapped, open_line, slice_get-map}
@@ -132,6 +138,8 @@ module _ (task : Task) (c : Certificate) where
   states_right count line dead_unfair_goal atoms right reach stage wrong = absurd (omega arith)
   states_right count line not_dead atoms right reach stage wrong = absurd (omega arith)
   states_right count line not_symmetry atoms right reach stage wrong = absurd (omega arith)
+  states_right count line value_unfair atoms right reach stage wrong = absurd (omega arith)
+  states_right count line value_not_dead atoms right reach stage wrong = absurd (omega arith)
 
   -- what is looked for in reading is wrong with a line alone
   of_line : (plan : Option (List Instance)) (most : ℕ) (r : Reason) → stage_of r ≡ 0 → IsWrong task c plan most r → ⊥
@@ -152,6 +160,8 @@ module _ (task : Task) (c : Certificate) where
   of_line plan most dead_unfair_goal stage wrong = wrong
   of_line plan most not_dead stage wrong = wrong
   of_line plan most not_symmetry stage wrong = wrong
+  of_line plan most value_unfair stage wrong = wrong
+  of_line plan most value_not_dead stage wrong = wrong
 
   -- ---- after reading
 
@@ -184,6 +194,8 @@ module _ (task : Task) (c : Certificate) where
   in_limit plan most dead_unfair_goal l within stage wrong = absurd (omega arith)
   in_limit plan most not_dead l within stage wrong = absurd (omega arith)
   in_limit plan most not_symmetry l within stage wrong = absurd (omega arith)
+  in_limit plan most value_unfair l within stage wrong = absurd (omega arith)
+  in_limit plan most value_not_dead l within stage wrong = absurd (omega arith)
 
   before_symmetric : (plan : Option (List Instance)) (most : ℕ) (r : Reason) (l : ℕ) → AtomsAreRight task c (length c.atoms) → StatesAreRight task c (length (lines_of task c)) → exceeded_limit most max_numbered_atoms task c.atoms ≡ None
       → stage_of r < 2 → IsWrongAt task c r l ⊎ IsWrong task c plan most r → ⊥
@@ -200,6 +212,8 @@ module _ (task : Task) (c : Certificate) where
   at_exchange : (plan : Option (List Instance)) (most : ℕ) (r : Reason) (l : ℕ) → IsSymmetricAt l → stage_of r ≡ 2 → IsWrongAt task c r l ⊎ IsWrong task c plan most r → ⊥
   at_exchange plan most not_symmetry l right stage (inl (e, has, fails)) = false≢true (sym fails ∙ right e has)
   at_exchange plan most not_symmetry l right stage (inr wrong) = wrong
+  at_exchange plan most value_unfair l right stage wrong = absurd (omega arith)
+  at_exchange plan most value_not_dead l right stage wrong = absurd (omega arith)
   at_exchange plan most not_fluent l right stage wrong = absurd (omega arith)
   at_exchange plan most repeated l right stage wrong = absurd (omega arith)
   at_exchange plan most cut_not_allowed l right stage wrong = absurd (omega arith)
@@ -254,6 +268,8 @@ module _ (task : Task) (c : Certificate) where
   of_value plan most cut_weak stage wrong = wrong
   of_value plan most not_dead stage wrong = wrong
   of_value plan most not_symmetry stage wrong = wrong
+  of_value plan most value_unfair stage wrong = wrong
+  of_value plan most value_not_dead stage wrong = wrong
   of_value plan most plan_invalid stage wrong = absurd (omega arith)
   of_value plan most plan_dearer stage wrong = absurd (omega arith)
 
@@ -268,21 +284,88 @@ module _ (task : Task) (c : Certificate) where
   in_fair plan most r l fair stage (inl wrong) = fair_wholly task c fair r l stage wrong
   in_fair plan most r l fair stage (inr wrong) = of_value plan most r stage wrong
 
-  before_initial : (plan : Option (List Instance)) (most : ℕ) (r : Reason) (l : ℕ) → AtomsAreRight task c (length c.atoms) → StatesAreRight task c (length (lines_of task c)) → exceeded_limit most max_numbered_atoms task c.atoms ≡ None
+  before_values : (plan : Option (List Instance)) (most : ℕ) (r : Reason) (l : ℕ) → AtomsAreRight task c (length c.atoms) → StatesAreRight task c (length (lines_of task c)) → exceeded_limit most max_numbered_atoms task c.atoms ≡ None
       → AreSymmetries task c → AreFairFor task c → stage_of r < 4 → IsWrongAt task c r l ⊎ IsWrong task c plan most r → ⊥
-  before_initial plan most r l atoms states within symmetric fair stage wrong =
+  before_values plan most r l atoms states within symmetric fair stage wrong =
       elim (cases_eq (stage_of r) 3) [
         | inl unfair_reported ↦ in_fair plan most r l fair unfair_reported wrong
         | inr earlier ↦ before_fair plan most r l atoms states within symmetric (omega arith) wrong
       ]
 
-  pub first_initial : (plan : Option (List Instance)) (most : ℕ) → AtomsAreRight task c (length c.atoms) → StatesAreRight task c (length (lines_of task c)) → exceeded_limit most max_numbered_atoms task c.atoms ≡ None
-      → AreSymmetries task c → AreFairFor task c → IsFirst task c plan most no_initial 0
-  first_initial plan most atoms states within symmetric fair r l (inl before) wrong = before_initial plan most r l atoms states within symmetric fair before wrong
-  first_initial plan most atoms states within symmetric fair r l (inr (same, inl before)) wrong = omega arith
-  first_initial plan most atoms states within symmetric fair r l (inr (same, inr (there, rank))) wrong = omega arith
+  -- ---- landmark values
 
-  in_initial : (plan : Option (List Instance)) (most : ℕ) (r : Reason) (l : ℕ) → IsListedWithin (AreAlikeFor task c) (lines_of task c) (system_of task).initial 0 → stage_of r ≡ 4 → IsWrongAt task c r l ⊎ IsWrong task c plan most r → ⊥
+  abbrev landmarks_in : List LandmarkFunction
+  landmarks_in = landmark_functions c.tables c.landmarks
+
+  -- the landmark value of this line, if it has one, is fair
+  abbrev IsValueFairAt : ℕ → Type 0
+  IsValueFairAt line = (place : ℕ) (h : LandmarkFunction) → line ≡ landmark_line c place → slice_get landmarks_in place ≡ Some h → IsFair task (numbered_atoms task c.atoms) h
+
+  -- the landmark value that the dead end of this line rests on, if it does, is dead-fair
+  abbrev IsDeadFairAt : ℕ → Type 0
+  IsDeadFairAt line = (l : StateLine) (number : ℕ) → HasStateLine c line l → l.mark ≡ dead (landmark number) → IsDeadFair task (numbered_atoms task c.atoms) (landmark_function c number)
+
+  at_value : (plan : Option (List Instance)) (most : ℕ) (r : Reason) (l : ℕ) → IsValueFairAt l → stage_of r ≡ 4 → IsWrongAt task c r l ⊎ IsWrong task c plan most r → ⊥
+  at_value plan most value_unfair l fair stage (inl (place, h, is, at, wrong)) = wrong (fair place h is at)
+  at_value plan most value_unfair l fair stage (inr wrong) = wrong
+  at_value plan most _ l fair stage wrong = absurd (omega arith)
+
+  at_dead : (plan : Option (List Instance)) (most : ℕ) (r : Reason) (l : ℕ) → IsDeadFairAt l → stage_of r ≡ 5 → IsWrongAt task c r l ⊎ IsWrong task c plan most r → ⊥
+  at_dead plan most value_not_dead l fair stage (inl (k, number, has, is, wrong)) = wrong (fair k number has is)
+  at_dead plan most value_not_dead l fair stage (inr wrong) = wrong
+  at_dead plan most _ l fair stage wrong = absurd (omega arith)
+
+  -- the first landmark value that is not fair is reported first
+  pub first_value_unfair : (place : ℕ) (plan : Option (List Instance)) (most : ℕ) → AtomsAreRight task c (length c.atoms) → StatesAreRight task c (length (lines_of task c)) → exceeded_limit most max_numbered_atoms task c.atoms ≡ None
+      → AreSymmetries task c → AreFairFor task c → ((k : ℕ) (h : LandmarkFunction) → k < place → slice_get landmarks_in k ≡ Some h → IsFair task (numbered_atoms task c.atoms) h)
+      → IsFirst task c plan most value_unfair (landmark_line c place)
+  first_value_unfair place plan most atoms states within symmetric fair before r l (inl earlier) wrong = before_values plan most r l atoms states within symmetric fair earlier wrong
+  first_value_unfair place plan most atoms states within symmetric fair before r l (inr (same, inl earlier)) wrong = at_value plan most r l (λ k h is at. before k h (omega (arith, is, earlier)) at) same wrong
+  first_value_unfair place plan most atoms states within symmetric fair before r l (inr (same, inr (there, rank))) wrong = omega arith
+
+  values_each : All (IsFair task (numbered_atoms task c.atoms)) landmarks_in → (l : ℕ) → IsValueFairAt l
+  values_each fair l place h is at = All-contains (IsFair task (numbered_atoms task c.atoms)) landmarks_in h fair (Contains-got landmarks_in place h at)
+
+  before_dead : (plan : Option (List Instance)) (most : ℕ) (r : Reason) (l : ℕ) → AtomsAreRight task c (length c.atoms) → StatesAreRight task c (length (lines_of task c)) → exceeded_limit most max_numbered_atoms task c.atoms ≡ None
+      → AreSymmetries task c → AreFairFor task c → All (IsFair task (numbered_atoms task c.atoms)) landmarks_in → stage_of r < 5 → IsWrongAt task c r l ⊎ IsWrong task c plan most r → ⊥
+  before_dead plan most r l atoms states within symmetric fair values stage wrong =
+      elim (cases_eq (stage_of r) 4) [
+        | inl value ↦ at_value plan most r l (values_each values l) value wrong
+        | inr earlier ↦ before_values plan most r l atoms states within symmetric fair (omega arith) wrong
+      ]
+
+  -- then the first dead end whose landmark value is not dead-fair
+  pub first_value_not_dead : (place : ℕ) (plan : Option (List Instance)) (most : ℕ) → AtomsAreRight task c (length c.atoms) → StatesAreRight task c (length (lines_of task c)) → exceeded_limit most max_numbered_atoms task c.atoms ≡ None
+      → AreSymmetries task c → AreFairFor task c → All (IsFair task (numbered_atoms task c.atoms)) landmarks_in
+      → ((k : ℕ) (l : StateLine) (number : ℕ) → k < place → slice_get c.lines k ≡ Some l → l.mark ≡ dead (landmark number) → IsDeadFair task (numbered_atoms task c.atoms) (landmark_function c number))
+      → IsFirst task c plan most value_not_dead (state_line c place)
+  first_value_not_dead place plan most atoms states within symmetric fair values before r l (inl earlier) wrong = before_dead plan most r l atoms states within symmetric fair values earlier wrong
+  first_value_not_dead place plan most atoms states within symmetric fair values before r l (inr (same, inl earlier)) wrong =
+      at_dead plan most r l (λ k number has is. before has.0 k number (omega (arith, has.1, earlier)) has.2 is) same wrong
+  first_value_not_dead place plan most atoms states within symmetric fair values before r l (inr (same, inr (there, rank))) wrong = omega arith
+
+  dead_each : AreLandmarksFair task c → (l : ℕ) → IsDeadFairAt l
+  dead_each fair line l number (place, reported, at) is =
+      All-contains (λ (number : ℕ). IsDeadFair task (numbered_atoms task c.atoms) (landmark_function c number)) (dead_by c) number fair.dead_ends
+      (Contains-filter_map (λ (l : StateLine). is_dead_by_landmark l.mark) c.lines l number (Contains-got c.lines place l at) (ap is_dead_by_landmark is))
+
+  before_initial : (plan : Option (List Instance)) (most : ℕ) (r : Reason) (l : ℕ) → AtomsAreRight task c (length c.atoms) → StatesAreRight task c (length (lines_of task c)) → exceeded_limit most max_numbered_atoms task c.atoms ≡ None
+      → AreSymmetries task c → AreFairFor task c → AreLandmarksFair task c → stage_of r < 6 → IsWrongAt task c r l ⊎ IsWrong task c plan most r → ⊥
+  before_initial plan most r l atoms states within symmetric fair landmarks stage wrong =
+      elim (cases_eq (stage_of r) 5) [
+        | inl resting ↦ at_dead plan most r l (dead_each landmarks l) resting wrong
+        | inr earlier ↦ before_dead plan most r l atoms states within symmetric fair landmarks.values (omega arith) wrong
+      ]
+
+  -- ---- the initial state
+
+  pub first_initial : (plan : Option (List Instance)) (most : ℕ) → AtomsAreRight task c (length c.atoms) → StatesAreRight task c (length (lines_of task c)) → exceeded_limit most max_numbered_atoms task c.atoms ≡ None
+      → AreSymmetries task c → AreFairFor task c → AreLandmarksFair task c → IsFirst task c plan most no_initial 0
+  first_initial plan most atoms states within symmetric fair landmarks r l (inl before) wrong = before_initial plan most r l atoms states within symmetric fair landmarks before wrong
+  first_initial plan most atoms states within symmetric fair landmarks r l (inr (same, inl before)) wrong = omega arith
+  first_initial plan most atoms states within symmetric fair landmarks r l (inr (same, inr (there, rank))) wrong = omega arith
+
+  in_initial : (plan : Option (List Instance)) (most : ℕ) (r : Reason) (l : ℕ) → IsListedWithin (AreAlikeFor task c) (lines_of task c) (system_of task).initial 0 → stage_of r ≡ 6 → IsWrongAt task c r l ⊎ IsWrong task c plan most r → ⊥
   in_initial plan most no_initial l listed stage (inl wrong) = wrong
   in_initial plan most no_initial l listed stage (inr wrong) = wrong listed
   in_initial plan most not_fluent l listed stage wrong = absurd (omega arith)
@@ -295,6 +378,8 @@ module _ (task : Task) (c : Certificate) where
   in_initial plan most dead_unfair_goal l listed stage wrong = absurd (omega arith)
   in_initial plan most not_dead l listed stage wrong = absurd (omega arith)
   in_initial plan most not_symmetry l listed stage wrong = absurd (omega arith)
+  in_initial plan most value_unfair l listed stage wrong = absurd (omega arith)
+  in_initial plan most value_not_dead l listed stage wrong = absurd (omega arith)
   in_initial plan most goal_open l listed stage wrong = absurd (omega arith)
   in_initial plan most successor_missing l listed stage wrong = absurd (omega arith)
   in_initial plan most successor_dearer l listed stage wrong = absurd (omega arith)
@@ -302,16 +387,16 @@ module _ (task : Task) (c : Certificate) where
   in_initial plan most plan_invalid l listed stage wrong = absurd (omega arith)
   in_initial plan most plan_dearer l listed stage wrong = absurd (omega arith)
 
-  before_lines : (plan : Option (List Instance)) (most place : ℕ) (r : Reason) (l : ℕ) → IsRightUpTo task c most place → stage_of r < 5 → IsWrongAt task c r l ⊎ IsWrong task c plan most r → ⊥
+  before_lines : (plan : Option (List Instance)) (most place : ℕ) (r : Reason) (l : ℕ) → IsRightUpTo task c most place → stage_of r < 7 → IsWrongAt task c r l ⊎ IsWrong task c plan most r → ⊥
   before_lines plan most place r l right stage wrong =
-      elim (cases_eq (stage_of r) 4) [
+      elim (cases_eq (stage_of r) 6) [
         | inl initial ↦ in_initial plan most r l right.initial initial wrong
-        | inr earlier ↦ before_initial plan most r l (atoms_right task c right.atoms) (states_right_all task c right.distinct right.allowed) right.within right.symmetric right.fair (omega arith) wrong
+        | inr earlier ↦ before_initial plan most r l (atoms_right task c right.atoms) (states_right_all task c right.distinct right.allowed) right.within right.symmetric right.fair right.landmarks (omega arith) wrong
       ]
 
   -- ---- the state lines
 
-  line_right : (r : Reason) (line place : ℕ) → line < state_line c place → ((k : ℕ) (l : StateLine) → k < place → slice_get c.lines k ≡ Some l → IsLineClosed task c l) → stage_of r ≡ 5
+  line_right : (r : Reason) (line place : ℕ) → line < state_line c place → ((k : ℕ) (l : StateLine) → k < place → slice_get c.lines k ≡ Some l → IsLineClosed task c l) → stage_of r ≡ 7
       → IsWrongAt task c r line → ⊥
   line_right goal_open line place lt right stage (l, (k, reported, at), is_open, goal, denied) =
       let (by, there, is) = got_mapped (entry task c) c.lines k l at in
@@ -340,10 +425,12 @@ module _ (task : Task) (c : Certificate) where
   line_right not_dead line place lt right stage (l, basis, (k, reported, at), is_dead, alive) =
       false≢true (sym alive ∙ subst (IsClosedAs task c (state_of_line task c l) l.cost) is_dead (right k l (omega arith) at))
   line_right not_symmetry line place lt right stage wrong = absurd (omega arith)
+  line_right value_unfair line place lt right stage wrong = absurd (omega arith)
+  line_right value_not_dead line place lt right stage wrong = absurd (omega arith)
   line_right plan_invalid line place lt right stage wrong = wrong
   line_right plan_dearer line place lt right stage wrong = wrong
 
-  of_state_line : (plan : Option (List Instance)) (most : ℕ) (r : Reason) → stage_of r ≡ 5 → IsWrong task c plan most r → ⊥
+  of_state_line : (plan : Option (List Instance)) (most : ℕ) (r : Reason) → stage_of r ≡ 7 → IsWrong task c plan most r → ⊥
   of_state_line plan most not_fluent stage wrong = wrong
   of_state_line plan most repeated stage wrong = wrong
   of_state_line plan most cut_not_allowed stage wrong = wrong
@@ -359,11 +446,13 @@ module _ (task : Task) (c : Certificate) where
   of_state_line plan most dead_unfair_goal stage wrong = absurd (omega arith)
   of_state_line plan most not_dead stage wrong = wrong
   of_state_line plan most not_symmetry stage wrong = wrong
+  of_state_line plan most value_unfair stage wrong = wrong
+  of_state_line plan most value_not_dead stage wrong = wrong
   of_state_line plan most plan_invalid stage wrong = absurd (omega arith)
   of_state_line plan most plan_dearer stage wrong = absurd (omega arith)
 
-  pub first_in_line : (plan : Option (List Instance)) (most place : ℕ) (reason : Reason) → IsRightUpTo task c most place → stage_of reason ≡ 5
-      → ((r : Reason) → stage_of r ≡ 5 → rank_of r < rank_of reason → IsWrongAt task c r (state_line c place) → ⊥) → IsFirst task c plan most reason (state_line c place)
+  pub first_in_line : (plan : Option (List Instance)) (most place : ℕ) (reason : Reason) → IsRightUpTo task c most place → stage_of reason ≡ 7
+      → ((r : Reason) → stage_of r ≡ 7 → rank_of r < rank_of reason → IsWrongAt task c r (state_line c place) → ⊥) → IsFirst task c plan most reason (state_line c place)
   first_in_line plan most place reason right stage here r l (inl before) wrong = before_lines plan most place r l right (omega arith) wrong
   first_in_line plan most place reason right stage here r l (inr (same, inl before)) (inl wrong) = line_right r l place before right.lines (same ∙ stage) wrong
   first_in_line plan most place reason right stage here r l (inr (same, inl before)) (inr wrong) = of_state_line plan most r (same ∙ stage) wrong
@@ -372,7 +461,7 @@ module _ (task : Task) (c : Certificate) where
 
   -- of an open state whose goal is as it is to be
   pub open_here : (place : ℕ) (l : Line State) → slice_get (lines_of task c) place ≡ Some l → l.mark ≡ opened → (IsTrue ((system_of task).meets_goal l.state) → Allows c.claim l.cost)
-      → (r : Reason) → stage_of r ≡ 5 → rank_of r < 1 → IsWrongAt task c r (state_line c place) → ⊥
+      → (r : Reason) → stage_of r ≡ 7 → rank_of r < 1 → IsWrongAt task c r (state_line c place) → ⊥
   open_here place l here is_open allowed goal_open stage rank (other, (k, reported, at), is_opened, goal, denied) =
       let there : k ≡ place = omega arith in
       let same = the_line place k other l there at here in
@@ -401,12 +490,14 @@ module _ (task : Task) (c : Certificate) where
   open_here place l here is_open allowed dead_unfair stage rank wrong = absurd (omega arith)
   open_here place l here is_open allowed dead_unfair_goal stage rank wrong = absurd (omega arith)
   open_here place l here is_open allowed not_symmetry stage rank wrong = absurd (omega arith)
+  open_here place l here is_open allowed value_unfair stage rank wrong = absurd (omega arith)
+  open_here place l here is_open allowed value_not_dead stage rank wrong = absurd (omega arith)
   open_here place l here is_open allowed plan_invalid stage rank wrong = wrong
   open_here place l here is_open allowed plan_dearer stage rank wrong = wrong
 
   -- ---- the plan
 
-  before_plan : (plan : Option (List Instance)) (most : ℕ) (r : Reason) (l : ℕ) → IsClosedFor task c → exceeded_limit most max_numbered_atoms task c.atoms ≡ None → stage_of r < 6 → IsWrongAt task c r l ⊎ IsWrong task c plan most r → ⊥
+  before_plan : (plan : Option (List Instance)) (most : ℕ) (r : Reason) (l : ℕ) → IsClosedFor task c → exceeded_limit most max_numbered_atoms task c.atoms ≡ None → stage_of r < 8 → IsWrongAt task c r l ⊎ IsWrong task c plan most r → ⊥
   before_plan plan most r l closed within stage (inl wrong) = right_line task c closed r l wrong
   before_plan plan most limit l closed within stage (inr wrong) = none_reported (exceeded_limit most max_numbered_atoms task c.atoms) within wrong
   before_plan plan most no_initial l closed within stage (inr wrong) = wrong closed.listing_is_closed.initial_listed
@@ -425,6 +516,8 @@ module _ (task : Task) (c : Certificate) where
   before_plan plan most cut_weak l closed within stage (inr wrong) = wrong
   before_plan plan most not_dead l closed within stage (inr wrong) = wrong
   before_plan plan most not_symmetry l closed within stage (inr wrong) = wrong
+  before_plan plan most value_unfair l closed within stage (inr wrong) = wrong
+  before_plan plan most value_not_dead l closed within stage (inr wrong) = wrong
 
   pub first_invalid : (plan : Option (List Instance)) (most : ℕ) → IsClosedFor task c → exceeded_limit most max_numbered_atoms task c.atoms ≡ None → IsFirst task c plan most plan_invalid 0
   first_invalid plan most closed within r l (inl before) wrong = before_plan plan most r l closed within before wrong
@@ -436,7 +529,7 @@ module _ (task : Task) (c : Certificate) where
   first_dearer p most closed within solves r l (inr (same, inl before)) wrong = omega arith
   first_dearer p most closed within solves r l (inr (same, inr (there, rank))) wrong = solving r same rank wrong
     where
-      solving : (r : Reason) → stage_of r ≡ 6 → rank_of r < 1 → IsWrongAt task c r l ⊎ IsWrong task c (Some p) most r → ⊥
+      solving : (r : Reason) → stage_of r ≡ 8 → rank_of r < 1 → IsWrongAt task c r l ⊎ IsWrong task c (Some p) most r → ⊥
       solving plan_invalid stage rank (inl wrong) = wrong
       solving plan_invalid stage rank (inr wrong) = wrong solves
       solving plan_dearer stage rank wrong = omega arith
@@ -455,3 +548,5 @@ module _ (task : Task) (c : Certificate) where
       solving dead_unfair_goal stage rank wrong = absurd (omega arith)
       solving not_dead stage rank wrong = absurd (omega arith)
       solving not_symmetry stage rank wrong = absurd (omega arith)
+      solving value_unfair stage rank wrong = absurd (omega arith)
+      solving value_not_dead stage rank wrong = absurd (omega arith)

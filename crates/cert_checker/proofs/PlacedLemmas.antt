@@ -11,7 +11,7 @@ use Rattle.certificate_definitions.specs.CertificateChecking.{IsCut}
 use Rattle.certificate_definitions.specs.CertificateText.{NamedAtom, NamedCertificate, TextLine, version, claims, constant, swapped, atom, part, listed, last, is_line, most_swaps, most_atoms, most_states, text_lines, AreWhole, BeginCertificate, Beginning}
 use Rattle.certificate_definitions.specs.Parts.{has_room, how_many, may_follow}
 use Rattle.certificate_definitions.specs.CertificateNames.{AllName}
-use Rattle.certificate_definitions.specs.CertificateMachine.{Body, CertificatePlace, at_version, at_claim, at_constant, in_body, ended, swap_follows, swap_more, atom_follows, atom_more, next_place, part_follows, part_more, state_more}
+use Rattle.certificate_definitions.specs.CertificateMachine.{Body, CertificatePlace, at_version, at_claim, at_constant, in_body, ended, swap_follows, swap_more, atom_follows, atom_more, next_place, part_follows, state_follows, part_more, state_more}
 use Rattle.certificate_definitions.proofs.Beginnings.{atoms_of_body, body_lines, states_of_body, swaps_of_body, parts_of_body}
 use Rattle.certificate_definitions.proofs.Machine.{ComesBefore, never, only_where, place_of_beginning, place_same, occurs}
 use Rattle.certificate_reader.proofs.FaultsRead.{one_line_after}
@@ -76,8 +76,9 @@ fit_there before line begun sets = let at = placed before line begun in by_line 
     by_line (listed l) (at_constant v) occurs next leads count = never next leads
     by_line (listed l) ended occurs next leads count = never next leads
     by_line (listed l) (in_body b) body next leads count =
-        let (holds, _) = only_where (nat_lt b.states most_states && is_line b.format (listed l)) (in_body (state_more b)) next leads in
-        let (below, is) = and_parts (nat_lt b.states most_states) (is_line b.format (listed l)) holds in
+        let (holds, _) = only_where (state_follows l b && nat_lt b.states most_states && is_line b.format (listed l)) (in_body (state_more b)) next leads in
+        let (counts, is) = and_parts (state_follows l b && nat_lt b.states most_states) (is_line b.format (listed l)) holds in
+        let (_, below) = and_parts (state_follows l b) (nat_lt b.states most_states) counts in
         let rising : rise b.format.atoms 0 l.atoms ≡ true = (and_parts (is_number l.cost && is_mark b.format.version l.mark) (rise b.format.atoms 0 l.atoms) is).1 in
         let g : Beginning = body.beginning in
         let atoms : length (atoms_given before) ≡ b.format.atoms =
@@ -143,7 +144,7 @@ body_follows before line next begun body =
     by_line (listed l) (at_claim v) then leads body next after leads_on = never then leads
     by_line (listed l) (at_constant v) then leads body next after leads_on = never then leads
     by_line (listed l) (in_body b) then leads body next after leads_on =
-        let same = (only_where (nat_lt b.states most_states && is_line b.format (listed l)) (in_body (state_more b)) then leads).1 in
+        let same = (only_where (state_follows l b && nat_lt b.states most_states && is_line b.format (listed l)) (in_body (state_more b)) then leads).1 in
         after_state b next after (subst (λ place. next_place place next ≡ Some after) (sym same) leads_on)
     by_line (listed l) ended then leads body next after leads_on = never then leads
     by_line (last count) at_version then leads body next after leads_on = never then leads

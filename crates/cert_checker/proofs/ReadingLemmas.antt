@@ -75,7 +75,7 @@ module _ {R : Type 0} (remaining : R → Option (List ℕ)) (first : CertReader 
     pub have_begun : BeginCertificate lines
     have_begun = begins lines (place_of now.position.stage) at.read.place
 
-    pub few_read : lines_read now < 30000000
+    pub few_read : lines_read now < 70000000
     few_read = let few = few_lines lines (place_of now.position.stage) (occurs lines (place_of now.position.stage) at.read.place) in omega (arith, at.read.count, few)
 
     -- ---- faults of the text

@@ -47,7 +47,7 @@ module _ (task : Task) (c : Certificate) (with_tables : has_tables c.version ≡
 
   pub fair_reported_by_tables : AreFair task atoms made → AreFairFor task c
   fair_reported_by_tables fair =
-      of_three (λ v. AreFairIn v task c) c.version with_tables (record {
+      of_three (λ v. AreFairIn v task c) c.version with_tables (λ p. p) (record {
         values = all_alike c.tables task atoms (functions_of made) (functions_of (several_of c)) each_one fair.values;
         dead_ends = fair_alike c.tables (dead_ends_of made) (dead_ends_of (several_of c)) dead_one task atoms nothing fair.dead_ends;
       })
@@ -62,13 +62,13 @@ module _ (task : Task) (c : Certificate) (with_tables : has_tables c.version ≡
   -- of a value at this place
   none_lost_at : (k : ℕ) → ((h : TableFunction) → slice_get (functions_of made) k ≡ Some h → AreInstancesFairAt (cost_of task) task atoms h) → (i : Instance) → IsUnfairIn c.version task c k i → ⊥
   none_lost_at k fair i wrong =
-      let (h, at, loses) = to_three (λ v. IsUnfairIn v task c k i) c.version with_tables wrong in
+      let (h, at, loses) = to_three (λ v. IsUnfairIn v task c k i) c.version with_tables (λ p. p) wrong in
       let (g, at_g, same) = one_at c.tables (functions_of (several_of c)) (functions_of made) (turned_each c.tables (functions_of made) (functions_of (several_of c)) each_one) k h at in
       none_lost (cost_of task) h same.over (instances_alike c.tables g h (turned c.tables h g same) task atoms (cost_of task) (kept_instances task) (fair g at_g)) i loses
 
   goals_kept_at : (k : ℕ) → ((h : TableFunction) → slice_get (functions_of made) k ≡ Some h → IsFairAtGoals task atoms h) → IsUnfairAtGoalsIn c.version task c k → ⊥
   goals_kept_at k fair wrong =
-      let (h, at, unfair_there) = to_three (λ v. IsUnfairAtGoalsIn v task c k) c.version with_tables wrong in
+      let (h, at, unfair_there) = to_three (λ v. IsUnfairAtGoalsIn v task c k) c.version with_tables (λ p. p) wrong in
       let (g, at_g, same) = one_at c.tables (functions_of (several_of c)) (functions_of made) (turned_each c.tables (functions_of made) (functions_of (several_of c)) each_one) k h at in
       unfair_there (goals_alike c.tables g h (turned c.tables h g same) task atoms (fair g at_g))
 
@@ -106,7 +106,7 @@ module _ (task : Task) (c : Certificate) (with_tables : has_tables c.version ≡
       dead_instances_asked task c (values_asked_by_tables fair)
       (λ i wrong.
       none_lost nothing (dead_ends_of (several_of c)) refl (instances_alike c.tables (dead_ends_of made) (dead_ends_of (several_of c)) dead_one task atoms nothing (kept_instances task) instances) i
-      (to_three (λ v. IsDeadUnfairIn v task c i) c.version with_tables wrong))
+      (to_three (λ v. IsDeadUnfairIn v task c i) c.version with_tables (λ p. p) wrong))
 
   -- ---- what is not fair
 
@@ -125,26 +125,26 @@ module _ (task : Task) (c : Certificate) (with_tables : has_tables c.version ≡
     unfair_by_tables place reported =
         let (h, at_h, same) = one_at c.tables (functions_of made) (functions_of (several_of c)) each_one place reported.function reported.first.named in
         let first = first_alike c.tables reported.function h same task atoms (cost_of task) number reported.unfair in (
-          of_three (λ v. IsUnfairIn v task c place i) c.version with_tables (h, at_h, may_lose (cost_of task) h number i at first),
-          of_three (λ v. IsFirstToLoseIn v task c place i) c.version with_tables (h, at_h, first_to_lose (cost_of task) h number i at first),
+          of_three (λ v. IsUnfairIn v task c place i) c.version with_tables (λ p. p) (h, at_h, may_lose (cost_of task) h number i at first),
+          of_three (λ v. IsFirstToLoseIn v task c place i) c.version with_tables (λ p. p) (h, at_h, first_to_lose (cost_of task) h number i at first),
         )
 
     pub dead_unfair_by_tables : IsFirstDeadInstance task atoms made number → IsDeadUnfairIn c.version task c i × IsFirstDeadToLoseIn c.version task c i
     dead_unfair_by_tables reported =
         let h = dead_ends_of (several_of c) in
         let first = first_alike c.tables (dead_ends_of made) h dead_one task atoms nothing number reported.unfair in (
-          of_three (λ v. IsDeadUnfairIn v task c i) c.version with_tables (may_lose nothing h number i at first),
-          of_three (λ v. IsFirstDeadToLoseIn v task c i) c.version with_tables (first_to_lose nothing h number i at first),
+          of_three (λ v. IsDeadUnfairIn v task c i) c.version with_tables (λ p. p) (may_lose nothing h number i at first),
+          of_three (λ v. IsFirstDeadToLoseIn v task c i) c.version with_tables (λ p. p) (first_to_lose nothing h number i at first),
         )
 
   pub unfair_at_goals_by_tables : (place : ℕ) → IsUnfairAtGoals task atoms made place → IsUnfairAtGoalsIn c.version task c place
   unfair_at_goals_by_tables place reported =
       let (h, at_h, same) = one_at c.tables (functions_of made) (functions_of (several_of c)) each_one place reported.function reported.first.named in
-      of_three (λ v. IsUnfairAtGoalsIn v task c place) c.version with_tables
+      of_three (λ v. IsUnfairAtGoalsIn v task c place) c.version with_tables (λ p. p)
       (h, at_h, λ fair. reported.unfair (goals_alike c.tables h reported.function (turned c.tables reported.function h same) task atoms fair))
 
   pub dead_unfair_at_goals_by_tables : IsUnfairAtDeadGoals task atoms made → IsDeadUnfairAtGoalsIn c.version task c
   dead_unfair_at_goals_by_tables reported =
-      of_three (λ v. IsDeadUnfairAtGoalsIn v task c) c.version with_tables
+      of_three (λ v. IsDeadUnfairAtGoalsIn v task c) c.version with_tables (λ p. p)
       (λ fair.
       reported.unfair (goals_alike c.tables (dead_ends_of (several_of c)) (dead_ends_of made) (turned c.tables (dead_ends_of made) (dead_ends_of (several_of c)) dead_one) task atoms fair))

@@ -1,17 +1,19 @@
 -- A certificate's text after some of its lines: the rest consists of the lines after them, none longer than allowed.
-use Rattle.std.proofs.Common.{◌≡◌, ℕ, suc, ◌+◌, ◌*◌, ◌<◌, ◌≤◌, Bool, true, not, List, [], ◌∷◌, ◌++◌, codes, length, length-append, Option, None, Some, refl, sym, ap, ◌∙◌, subst, append_assoc, append-nil, arith}
-use Rattle.std.specs.Prelude.{◌&&◌, ◌==◌, Contains, IsTrue, nat_le, ℤ, pos, negsuc}
+use Rattle.std.proofs.Common.{◌≡◌, ℕ, suc, ◌+◌, ◌-◌, ◌*◌, ◌<◌, ◌≤◌, Bool, true, false, not, inl, inr, List, [], ◌∷◌, ◌++◌, codes, length, length-append, Option, None, Some, refl, sym, ap, ◌∙◌, subst, append_assoc, append-nil, arith}
+use Rattle.std.specs.Prelude.{◌&&◌, ◌==◌, Contains, IsTrue, nat_le, nat_lt, ℤ, pos, negsuc}
 use Rattle.std.specs.Fmt.{decimal, signed_decimal}
 use Rattle.std.specs.List.{list_all}
 use Rattle.std.specs.Option.{option_and_then}
-use Rattle.std.proofs.lemmas.Bool.{and_parts, eqb-true, leb-true, ltb-true, ne_eqb}
+use Rattle.std.proofs.lemmas.Bool.{and_parts, cases_lt, eqb-true, false≢true, leb-true, ltb-true, ne_eqb}
 use Rattle.std.proofs.lemmas.Fmt.{length-decimal-le}
 use Rattle.model.specs.Claims.{bound, none}
-use Rattle.certificate_definitions.specs.Evidence.{of_all, LineMark, opened, cut, dead}
-use Rattle.certificate_definitions.specs.Certificates.{Version, one, two, three, are_weights, has_exchanges, has_tables, is_mark, is_number, is_weight, rise}
+use Rattle.certificate_definitions.specs.Evidence.{of_all, landmark, LineMark, opened, cut, dead}
+use Rattle.certificate_definitions.specs.Certificates.{Version, one, two, three, four, StateLine, are_weights, has_basis, has_exchanges, has_landmarks, has_tables, is_basis, is_mark, is_number, is_weight, rise}
 use Rattle.model.proofs.ListLemmas.{Contains-here, Contains-there}
-use Rattle.certificate_definitions.specs.CertificateText.{scope, row, NamedCertificate, TextLine, version, claims, constant, swapped, atom, tabled, part, listed, last, Format, format_of, BeginCertificate, HasLine, IsInOneLine, after_blank, are_exchanged, is_line, is_weight_count, keeps_text_limits, line_text, longest_line, mark_text, most_atoms, most_states, most_swaps, numbers_text, text_lines, text_of, version_number, weights_text, whole_line}
-use Rattle.certificate_definitions.specs.Parts.{are_in_order, no_parts}
+use Rattle.certificate_definitions.specs.CertificateText.{scope, row, NamedCertificate, TextLine, version, claims, constant, swapped, atom, tabled, landmark_line, part, listed, last, Format, format_of, BeginCertificate, HasLine, IsInOneLine, after_blank, are_exchanged, is_line, is_weight_count, keeps_text_limits, line_text, longest_line, mark_text, most_atoms, most_states, most_swaps, numbers_text, text_lines, text_of, version_number, weights_text, whole_line}
+use Rattle.lower_bounds.specs.TableFunctions.{is_among}
+use Rattle.landmark_functions.specs.LandmarkLines.{zone, value, is_value, is_zone, most_values, most_zones, negated_text, number_text}
+use Rattle.certificate_definitions.specs.Parts.{are_in_order, counts_after, no_parts}
 use Rattle.certificate_definitions.specs.CertificateMachine.{CertificatePlace, at_version, ended, format_at, next_place, place_from}
 use Rattle.certificate_definitions.proofs.Machine.{end_of_whole, never, place_of_beginning, place_same}
 use Rattle.certificate_reader.specs.Stages.{IsWithin}
@@ -32,11 +34,12 @@ kept_lines c keeps = (and_parts _ (list_all (is_line (format_of c)) (text_lines 
 
 pub few_atoms_kept : (c : NamedCertificate) → IsTrue (keeps_text_limits c) → length c.atoms ≤ most_atoms
 few_atoms_kept c keeps =
-    let tables = are_in_order no_parts c.parts in
-    let (counts, _) = and_parts _ (list_all (is_line (format_of c)) (text_lines c)) keeps in
+    let parts = are_in_order no_parts c.parts in
+    let states = nat_le (length c.lines) most_states && list_all (λ (l : StateLine). has_basis (counts_after no_parts c.parts).values l.mark) c.lines in
     let fews = nat_le (length c.swaps) most_swaps && nat_le (length c.atoms) most_atoms in
-    let (bodies, _) = and_parts (fews && tables) (nat_le (length c.lines) most_states) counts in
-    leb-true (length c.atoms) most_atoms (and_parts (nat_le (length c.swaps) most_swaps) (nat_le (length c.atoms) most_atoms) (and_parts fews tables bodies).0).1
+    let (counts, _) = and_parts (fews && parts && states) (list_all (is_line (format_of c)) (text_lines c)) keeps in
+    let (bodies, _) = and_parts (fews && parts) states counts in
+    leb-true (length c.atoms) most_atoms (and_parts (nat_le (length c.swaps) most_swaps) (nat_le (length c.atoms) most_atoms) (and_parts fews parts bodies).0).1
 
 pub few_weights_kept : (c : NamedCertificate) → IsTrue (keeps_text_limits c) → length c.constants ≤ 33
 few_weights_kept c keeps =
@@ -77,7 +80,32 @@ weights_short (w ∷ weights) all =
     let word : length (after_blank (signed_decimal w)) ≡ 1 + length (signed_decimal w) = omega arith in
     omega (arith, first, rest, word, length-append (after_blank (signed_decimal w)) (weights_text weights))
 
-mark_short : (v : Version) (mark : LineMark) (cost : ℕ) → is_number cost ≡ true → is_mark v mark ≡ true → length (mark_text mark cost) ≤ 43
+-- the number of a landmark value has at most 8 digits
+value_number_short : (v : Version) (number : ℕ) → is_basis v (landmark number) ≡ true → length (decimal number) ≤ 8
+value_number_short v number is =
+    let below = ltb-true number most_values (and_parts (has_landmarks v) (nat_lt number most_values) is).1 in
+    length-decimal-le 8 number (omega arith) (omega (arith, below)) (omega (arith, below))
+
+after_number : (n : ℕ) (word rest : List ℕ) → length (word ++ (number_text n ++ rest)) ≡ length word + (1 + length (decimal n)) + length rest
+after_number n word rest = omega (arith, length-append word (number_text n ++ rest), length-append (number_text n) rest, length-append (codes " ") (decimal n))
+
+mark_short : (v : Version) (mark : LineMark) (cost : ℕ) → is_number cost ≡ true → is_mark v mark ≡ true → length (mark_text mark cost) ≤ 60
+mark_short v (cut (landmark number) least) cost is marked =
+    let (basis, least_is) = and_parts (is_basis v (landmark number)) (is_number least) marked in
+    let own = value_number_short v number basis in
+    let digits = number_short cost is in
+    let others = number_short least least_is in
+    omega (arith, own, digits, others, after_number number (codes "cut-by") (number_text cost ++ number_text least), length-append (number_text cost) (number_text least), length-append (codes " ") (decimal cost), length-append (codes " ") (decimal least))
+mark_short v (dead (landmark number)) cost is marked =
+    let own = value_number_short v number (dead_basis v marked) in
+    let digits = number_short cost is in
+    omega (arith, own, digits, after_number number (codes "dead-by") (number_text cost), length-append (codes " ") (decimal cost))
+  where
+    dead_basis : (v : Version) → is_mark v (dead (landmark number)) ≡ true → is_basis v (landmark number) ≡ true
+    dead_basis one marked = absurd (false≢true marked)
+    dead_basis two marked = marked
+    dead_basis three marked = marked
+    dead_basis four marked = marked
 mark_short v opened cost is marked =
     let digits = number_short cost is in
     let word : length (codes "open " ++ decimal cost) ≡ 5 + length (decimal cost) = omega arith in
@@ -97,6 +125,25 @@ version_is : (v : Version) → is_number (version_number v) ≡ true
 version_is one = refl
 version_is two = refl
 version_is three = refl
+version_is four = refl
+
+-- The numbers of a zone: a blank and at most 6 digits below a million, and 7 from then on.
+zone_numbers_short : (count least : ℕ) (numbers : List ℕ) → count ≤ most_atoms → least ≤ count → rise count least numbers ≡ true
+    → length (numbers_text numbers) + (7 * least + (least - 1000000)) ≤ 7 * count + (count - 1000000)
+zone_numbers_short count least [] few within all = omega (arith, within)
+zone_numbers_short count least (n ∷ numbers) few within all =
+    let (above, below, more) = rise_parts count least n numbers all in
+    let rest = zone_numbers_short count (n + 1) numbers few (omega (arith, below)) more in
+    let word = length-append (codes " ") (decimal n) in
+    let all_of = length-append (after_blank (decimal n)) (numbers_text numbers) in
+    elim (cases_lt n 1000000) [
+      | inl small ↦ let digits = length-decimal-le 6 n (omega arith) (omega (arith, small)) (omega (arith, small)) in omega (arith, above, below, rest, digits, word, all_of)
+      | inr large ↦ let digits = length-decimal-le 7 n (omega arith) (omega (arith, below, few)) (omega (arith, below, few)) in omega (arith, above, below, rest, digits, word, all_of, large)
+    ]
+
+negated_short : (numbers : List ℕ) → length (negated_text numbers) ≤ 4 + length (numbers_text numbers)
+negated_short [] = omega arith
+negated_short (number ∷ others) = omega (arith, length-append (codes " not") (numbers_text (number ∷ others)))
 
 -- a line within the limits is not too long
 module _ (f : Format) (few : f.atoms ≤ most_atoms) (few_weights : f.weights ≤ 33) where
@@ -132,6 +179,23 @@ module _ (f : Format) (few : f.atoms ≤ most_atoms) (few_weights : f.weights �
       let more = numbers_short f.atoms 0 r.atoms few (omega arith) rising in
       let start : length (codes "row" ++ weights_text r.weights) ≡ 3 + length (weights_text r.weights) = omega arith in
       omega (arith, few, few_weights, eqb-true (length r.weights) f.weights many, digits, more, start, length-append (codes "row" ++ weights_text r.weights) (numbers_text r.atoms))
+  line_short (part (landmark_line (zone z))) is =
+      let apart = list_all (λ number. not (is_among z.atoms number)) z.negated in
+      let some = nat_le 1 (length z.atoms + length z.negated) in
+      let zone_is = (and_parts (has_landmarks f.version) (is_zone f.atoms z) is).1 in
+      let both = (and_parts (rise f.atoms 0 z.atoms && rise f.atoms 0 z.negated) some (and_parts (rise f.atoms 0 z.atoms && rise f.atoms 0 z.negated && some) apart zone_is).0).0 in
+      let (atoms, negated) = and_parts (rise f.atoms 0 z.atoms) (rise f.atoms 0 z.negated) both in
+      omega (
+        arith,
+        few,
+        zone_numbers_short f.atoms 0 z.atoms few (omega arith) atoms,
+        zone_numbers_short f.atoms 0 z.negated few (omega arith) negated,
+        negated_short z.negated,
+        length-append (codes "zone") (numbers_text z.atoms ++ negated_text z.negated),
+        length-append (numbers_text z.atoms) (negated_text z.negated),
+      )
+  line_short (part (landmark_line (value shares))) is =
+      leb-true (length (line_text (part (landmark_line (value shares))))) longest_line (and_parts (has_landmarks f.version && is_value most_zones shares) (nat_le (length (line_text (part (landmark_line (value shares))))) longest_line) is).1
   line_short (listed l) is =
       let (first, rising) = and_parts (is_number l.cost && is_mark f.version l.mark) (rise f.atoms 0 l.atoms) is in
       let (cost_is, marked) = and_parts (is_number l.cost) (is_mark f.version l.mark) first in

@@ -1,7 +1,7 @@
 -- What lines of tables give.
 use Rattle.std.proofs.Common.{◌≡◌, ◌∙◌, ℕ, ◌+◌, true, false, true≢false, List, [], ◌∷◌, ◌++◌, map, length, Some, refl, sym, ap, subst, append_assoc, append-nil, arith}
 use Rattle.std.specs.Prelude.{◌&&◌, ◌==◌, nat_le, nat_lt, Bool, Contains}
-use Rattle.std.specs.List.{flat_map, list_all, range_with_len}
+use Rattle.std.specs.List.{filter_map, flat_map, list_all, range_with_len}
 use Rattle.std.proofs.lemmas.Bool.{and_parts, eqb-true, ltb-true}
 use Rattle.std.proofs.lemmas.List.{length-map, map-append}
 use Rattle.std.proofs.lemmas.List.Elements.{All-contains, All-nil, filter_map-append}
@@ -15,7 +15,7 @@ use Rattle.table_rows.specs.Tables.{table_of, weight_count_of}
 use Rattle.table_rows.specs.declared.by_atoms.Added.TheVariants.{New}
 use Rattle.table_rows.specs.declared.table.Table.{Table}
 use Rattle.certificate_definitions.specs.Certificates.{are_weights, has_tables, is_weight, rise}
-use Rattle.certificate_definitions.specs.CertificateText.{Part, TableLine, scope, row, TextLine, version, claims, constant, swapped, atom, tabled, part, listed, last, Beginning, BeginCertificate, format_in, head_lines, is_line, is_weight_count, most_atoms}
+use Rattle.certificate_definitions.specs.CertificateText.{Part, TableLine, scope, row, TextLine, version, claims, constant, swapped, atom, tabled, landmark_line, part, listed, last, Beginning, BeginCertificate, format_in, head_lines, is_line, is_weight_count, most_atoms}
 use Rattle.certificate_definitions.specs.Parts.{PartCounts, counts_after, has_room, how_many, is_table_line, may_follow, most_rows, no_parts}
 use Rattle.certificate_definitions.specs.CertificateNames.{table_lines, value_count}
 use Rattle.certificate_definitions.specs.CertificateMachine.{Body, CertificatePlace, at_version, at_claim, at_constant, in_body, ended, atom_follows, atom_more, next_place, part_follows, part_more}
@@ -25,16 +25,22 @@ use Rattle.certificate_definitions.proofs.Machine.{ComesBefore, IsBody, Keeps, b
 use Rattle.certificate_definitions.proofs.PartLemmas.{none_yet}
 use Rattle.certificate_definitions.specs.CertificateLines.{parts_given}
 use Rattle.certificate.specs.declared.header.Header.{Header}
-use Rattle.certificate.specs.CertificateParts.{potential_of}
+use Rattle.task.specs.TaskParts.{atom_of}
+use Rattle.landmark_functions.specs.LandmarkLines.{zone, value, NumberedLandmarks}
+use Rattle.landmark_zones.specs.Landmarks.{landmarks_of, with_value, with_zone}
+use Rattle.certificate_reader.specs.Lines.{claim_of, version_of}
+use Rattle.certificate.specs.declared.evidence.Evidence.{Evidence}
+use Rattle.certificate.specs.CertificateParts.{exchange_in}
+use Rattle.certificate.specs.Evidence.{evidence_of, potential_of}
 use Rattle.cert_checker.specs.declared.refusal.Refusal.{Refusal}
 use Rattle.cert_checker.specs.declared.refusal.Refusal.TheVariants as refusal
 use Rattle.cert_checker.specs.declared.refusal.RefusalCode.TheVariants.{CertForm, Repeated}
-use Rattle.cert_checker.specs.Given.{Heading, HaveGiven, atoms_given, table_in, tables_given, value_given}
+use Rattle.cert_checker.specs.Given.{Heading, HaveGiven, atoms_given, table_in, table_line_in, tables_given, value_given}
 use Rattle.cert_checker.specs.Tabled.{AreWeighed, HaveWeights, IsAddedToLast, IsFitHead, IsPartRefused, IsPartTaken, IsRowRefused, with_scope, with_tables}
 use Rattle.cert_checker.specs.Taking.{HasTaken, IsWrongNow, heading_of}
-use Rattle.cert_checker.proofs.GivenLemmas.{placed, reported_tables}
+use Rattle.cert_checker.proofs.GivenLemmas.{placed, reported_tables, reported_value, reported_zone}
 use Rattle.cert_checker.proofs.LimitsLemmas.{few_constants, one_constant_more}
-use Rattle.cert_checker.proofs.TableParts.{as_parts, counts_of_tables, same_lines, tables_of_parts}
+use Rattle.cert_checker.proofs.TableParts.{as_parts, counts_of_tables, only_tables, tables_among, zones_none}
 use Rattle.cert_checker.proofs.TableLinesLemmas.{one_end, rising_few, rising_from, rows_of_one}
 
 -- ---- the position of a table line
@@ -81,14 +87,17 @@ module _ (task : Task) (before : List TextLine) (heading : Heading) (reported : 
     abbrev further : List TextLine
     further = body_lines opening.swaps opening.atoms opening.parts opening.states
 
-    lines_of_tables : opening.parts ≡ as_parts (flat_map table_lines heading.bounds.tables)
-    lines_of_tables = sym (parts_of_body opening.swaps opening.atoms opening.parts opening.states) ∙ sym (ap parts_given at.lines_are) ∙ sym (tables_of_parts before) ∙ ap as_parts (sym reported.tables)
+    lines_of_tables : opening.parts ≡ as_parts (flat_map table_lines heading.evidence.tables)
+    lines_of_tables =
+        let given : parts_given before ≡ opening.parts = ap parts_given at.lines_are ∙ parts_of_body opening.swaps opening.atoms opening.parts opening.states in
+        only_tables no_parts opening.parts at.keeps.in_order (zones_none (counts_after no_parts opening.parts) t at.follows)
+        ∙ ap (λ parts. as_parts (filter_map table_line_in parts)) (sym given) ∙ ap as_parts (tables_among before ∙ sym reported.tables)
 
     count_is : is_weight_count opening.version (length opening.constants) ≡ true
     count_is = (and_parts (is_weight_count opening.version (length opening.constants)) (list_all is_weight opening.constants) at.keeps.constants_are).0
 
     -- there is a constant for each value and one for dead ends
-    as_many_values : length heading.bounds.values + 1 ≡ length opening.constants
+    as_many_values : length heading.evidence.values + 1 ≡ length opening.constants
     as_many_values =
         let v = opening.version in
         let k = opening.constants in
@@ -97,7 +106,7 @@ module _ (task : Task) (before : List TextLine) (heading : Heading) (reported : 
         (Contains-there (version v) (claims opening.claim ∷ constant k ∷ further) (constant k)
         (Contains-there (claims opening.claim) (constant k ∷ further) (constant k) (Contains-here (constant k) further))) in
         let count = value_count heading.version (length k) in
-        let many : length heading.bounds.values ≡ count = ap length (reported.given k there).values ∙ length-map (range_with_len 0 count) (value_given k (atoms_given before)) ∙ length-range_with_len 0 count in
+        let many : length heading.evidence.values ≡ count = ap length (reported.given k there).values ∙ length-map (range_with_len 0 count) (value_given k (atoms_given before)) ∙ length-range_with_len 0 count in
         ap (λ n. n + 1) (many ∙ ap (λ v. value_count v (length k)) version_is)
         ∙ one_constant_more v (length k) (and_parts (has_tables v) (is_table_line (format_in opening) t) at.line_is).0 count_is
 
@@ -112,16 +121,16 @@ module _ (task : Task) (before : List TextLine) (heading : Heading) (reported : 
   scope_is_right s line number (cut_not_allowed l new cut there) same = absurd (cc same)
 
   pub reported_scope : (s : List ℕ)
-      → HaveGiven task (before ++ part (tabled (scope s)) ∷ []) (record { version = heading.version; claim = heading.claim; exchanges = heading.exchanges; atoms = heading.atoms; bounds = with_scope heading.bounds s })
+      → HaveGiven task (before ++ part (tabled (scope s)) ∷ []) (record { version = heading.version; claim = heading.claim; exchanges = heading.exchanges; atoms = heading.atoms; evidence = with_scope heading.evidence s; landmarks = heading.landmarks })
   reported_scope s =
       let table : model.Table = record { scope = s; rows = [] } in
-      reported_tables task before heading reported (scope s) (heading.bounds.tables ++ table ∷ [])
-      (flat_map-append table_lines heading.bounds.tables (table ∷ []) ∙ ap (λ lines. lines ++ scope s ∷ []) reported.tables)
+      reported_tables task before heading reported (scope s) (heading.evidence.tables ++ table ∷ [])
+      (flat_map-append table_lines heading.evidence.tables (table ∷ []) ∙ ap (λ lines. lines ++ scope s ∷ []) reported.tables)
       (λ number wrong. scope_is_right s (part (tabled (scope s))) number wrong refl)
 
   -- ---- a row
 
-  module _ (front : List model.Table) (t : model.Table) (tables_are : heading.bounds.tables ≡ front ++ t ∷ []) where
+  module _ (front : List model.Table) (t : model.Table) (tables_are : heading.evidence.tables ≡ front ++ t ∷ []) where
     abbrev lines : List TableLine
     lines = flat_map table_lines front
 
@@ -183,15 +192,15 @@ module _ (task : Task) (before : List TextLine) (heading : Heading) (reported : 
           ∙ ap (λ rows. lines ++ scope t.scope ∷ rows) (map-append row t.rows (r ∷ []))
           ∙ sym (append_assoc lines (scope t.scope ∷ map row t.rows) (row r ∷ [])) ∙ ap (λ lines. lines ++ row r ∷ []) (sym given_end)
 
-  pub reported_row : (r : Row) (tables : List model.Table) → IsAddedToLast heading.bounds.tables tables r New
-      → HaveGiven task (before ++ part (tabled (row r)) ∷ []) (record { version = heading.version; claim = heading.claim; exchanges = heading.exchanges; atoms = heading.atoms; bounds = with_tables heading.bounds tables })
+  pub reported_row : (r : Row) (tables : List model.Table) → IsAddedToLast heading.evidence.tables tables r New
+      → HaveGiven task (before ++ part (tabled (row r)) ∷ []) (record { version = heading.version; claim = heading.claim; exchanges = heading.exchanges; atoms = heading.atoms; evidence = with_tables heading.evidence tables; landmarks = heading.landmarks })
   reported_row r tables it =
       let differs : (q : Row) → Contains it.before.rows q → q.atoms ≡ r.atoms → ⊥ = λ q there same. All-contains (λ (q : Row). q.atoms ≡ r.atoms → ⊥) it.before.rows q it.added.differs there same in
       reported_tables task before heading reported (row r) tables
       (ap (flat_map table_lines) (it.new_are ∙ ap (λ t. it.front ++ t ∷ []) it.added.put) ∙ lines_more it.front it.before it.old_are r it.added.of_scope differs)
       (λ number wrong. row_is_right it.front it.before it.old_are r it.added.of_scope differs (part (tabled (row r))) number wrong refl)
 
-  pub row_is_wrong : (r : Row) (number : ℕ) → BeginCertificate (before ++ part (tabled (row r)) ∷ []) → number ≡ length before + 1 → (e : Refusal) → IsRowRefused heading.bounds.tables r number e
+  pub row_is_wrong : (r : Row) (number : ℕ) → BeginCertificate (before ++ part (tabled (row r)) ∷ []) → number ≡ length before + 1 → (e : Refusal) → IsRowRefused heading.evidence.tables r number e
       → IsWrongNow task before (part (tabled (row r))) e
   row_is_wrong r number begun at (refusal.Line CertForm line) (line_is, tables, it) =
       (line_is ∙ at, not_of_scope r it.before.scope it.before.rows (end_in_table it.front it.before it.old_are (row r) (follows_tables before (row r) begun)) it.added.not_of_scope)
@@ -205,29 +214,51 @@ module _ (task : Task) (before : List TextLine) (heading : Heading) (reported : 
 
 -- ---- any part
 
-module _ (task : Task) (before : List TextLine) (heading : Heading) (reported : HaveGiven task before heading) where
-  pub reported_part : (p : Part) (bounds : SeveralValues) → IsPartTaken heading.bounds bounds p
-      → HaveGiven task (before ++ part p ∷ []) (record { version = heading.version; claim = heading.claim; exchanges = heading.exchanges; atoms = heading.atoms; bounds = bounds })
-  reported_part (tabled (scope s)) bounds is =
-      subst (λ bounds. HaveGiven task (before ++ part (tabled (scope s)) ∷ []) (record { version = heading.version; claim = heading.claim; exchanges = heading.exchanges; atoms = heading.atoms; bounds = bounds })) (sym is)
-      (reported_scope task before heading reported s)
-  reported_part (tabled (row r)) bounds it =
-      subst (λ bounds. HaveGiven task (before ++ part (tabled (row r)) ∷ []) (record { version = heading.version; claim = heading.claim; exchanges = heading.exchanges; atoms = heading.atoms; bounds = bounds })) (sym it.bounds)
-      (reported_row task before heading reported r it.tables it.added)
+module _ (task : Task) (before : List TextLine) (header : Header) (reported : HasTaken task before header) where
+  abbrev heading_with : SeveralValues → NumberedLandmarks → Heading
+  heading_with evidence landmarks = record {
+    version = version_of header.version;
+    claim = claim_of header.claim;
+    exchanges = map exchange_in header.exchanges.items;
+    atoms = map atom_of header.atoms.keys;
+    evidence = evidence;
+    landmarks = landmarks;
+  }
 
-  pub part_is_wrong : (p : Part) (number : ℕ) → BeginCertificate (before ++ part p ∷ []) → number ≡ length before + 1 → (e : Refusal) → IsPartRefused heading.bounds.tables p number e
+  -- together with the part the lines have given this evidence
+  given_with : (p : Part) (evidence : Evidence) (values : SeveralValues) (landmarks : NumberedLandmarks) → evidence_of evidence ≡ values → landmarks_of evidence.landmarks ≡ landmarks
+      → HaveGiven task (before ++ part p ∷ []) (heading_with values landmarks) → HaveGiven task (before ++ part p ∷ []) (heading_with (evidence_of evidence) (landmarks_of evidence.landmarks))
+  given_with p evidence values landmarks values_are landmarks_are given =
+      subst (λ values. HaveGiven task (before ++ part p ∷ []) (heading_with values (landmarks_of evidence.landmarks))) (sym values_are)
+      (subst (λ landmarks. HaveGiven task (before ++ part p ∷ []) (heading_with values landmarks)) (sym landmarks_are) given)
+
+  pub reported_part : (p : Part) (evidence : Evidence) → IsPartTaken header.evidence evidence p → HaveGiven task (before ++ part p ∷ []) (heading_with (evidence_of evidence) (landmarks_of evidence.landmarks))
+  reported_part (tabled (scope s)) evidence (values, landmarks) =
+      given_with (tabled (scope s)) evidence (with_scope (evidence_of header.evidence) s) (landmarks_of header.evidence.landmarks) values landmarks (reported_scope task before (heading_of header) reported s)
+  reported_part (tabled (row r)) evidence (it, landmarks) =
+      given_with (tabled (row r)) evidence (with_tables (evidence_of header.evidence) it.tables) (landmarks_of header.evidence.landmarks) it.evidence landmarks
+      (reported_row task before (heading_of header) reported r it.tables it.added)
+  reported_part (landmark_line (zone z)) evidence (values, landmarks) =
+      given_with (landmark_line (zone z)) evidence (evidence_of header.evidence) (with_zone (landmarks_of header.evidence.landmarks) z) values landmarks (reported_zone task before (heading_of header) reported z)
+  reported_part (landmark_line (value s)) evidence (values, landmarks) =
+      given_with (landmark_line (value s)) evidence (evidence_of header.evidence) (with_value (landmarks_of header.evidence.landmarks) s) values landmarks (reported_value task before (heading_of header) reported s)
+
+module _ (task : Task) (before : List TextLine) (heading : Heading) (reported : HaveGiven task before heading) where
+  pub part_is_wrong : (p : Part) (number : ℕ) → BeginCertificate (before ++ part p ∷ []) → number ≡ length before + 1 → (e : Refusal) → IsPartRefused heading.evidence.tables p number e
       → IsWrongNow task before (part p) e
   part_is_wrong (tabled (row r)) number begun at e wrong = row_is_wrong task before heading reported r number begun at e wrong
   part_is_wrong (tabled (scope s)) number begun at refusal.NoMemory wrong = tt
   part_is_wrong (tabled (scope s)) number begun at _ wrong = absurd wrong
+  part_is_wrong (landmark_line l) number begun at refusal.NoMemory wrong = tt
+  part_is_wrong (landmark_line l) number begun at _ wrong = absurd wrong
 
 -- ---- lines that fit
 
 module _ (task : Task) (before : List TextLine) (header : Header) (reported : HasTaken task before header) where
-  values_length : length (heading_of header).bounds.values ≡ length header.bounds.values.items
-  values_length = length-map header.bounds.values.items potential_of
+  values_length : length (heading_of header).evidence.values ≡ length header.evidence.values.items
+  values_length = length-map header.evidence.values.items potential_of
 
-  pub fit_head : (line : TextLine) → AreWeighed header.bounds → BeginCertificate (before ++ line ∷ []) → IsFitHead header.bounds line
+  pub fit_head : (line : TextLine) → AreWeighed header.evidence → BeginCertificate (before ++ line ∷ []) → IsFitHead header.evidence line
   fit_head (version v) weighed begun = tt
   fit_head (claims claim) weighed begun = tt
   fit_head (constant k) weighed begun = tt
@@ -235,6 +266,7 @@ module _ (task : Task) (before : List TextLine) (header : Header) (reported : Ha
   fit_head (atom a) weighed begun = tt
   fit_head (listed l) weighed begun = tt
   fit_head (last count) weighed begun = tt
+  fit_head (part (landmark_line l)) weighed begun = tt
   fit_head (part (tabled (scope s))) weighed begun =
       let at = follows_tables before (scope s) begun in
       let n = length at.beginning.atoms in
@@ -248,7 +280,7 @@ module _ (task : Task) (before : List TextLine) (header : Header) (reported : Ha
   fit_head (part (tabled (row r))) weighed begun =
       let at = follows_tables before (row r) begun in
       let n = length at.beginning.atoms in
-      let tables = header.bounds.tables.items in
+      let tables = header.evidence.tables.items in
       let many : ℕ = length at.beginning.constants in
       let (_, is) = and_parts (has_tables at.beginning.version) (is_table_line (format_in at.beginning) (row r)) at.line_is in
       let (weights, rises) = and_parts (are_weights many r.weights) (rise n 0 r.atoms) is in
@@ -257,10 +289,11 @@ module _ (task : Task) (before : List TextLine) (header : Header) (reported : Ha
       let counts = ap (counts_after no_parts) lines_are ∙ counts_of_tables (map table_of tables) in
       let some = ap (λ (c : PartCounts). c.tables) counts ∙ length-map tables table_of in
       let all_rows = ap (λ (c : PartCounts). c.rows) counts in
-      let begun_is = ltb-true 0 (counts_after no_parts at.beginning.parts).tables at.follows in
+      let so_far = counts_after no_parts at.beginning.parts in
+      let begun_is = ltb-true 0 so_far.tables (and_parts (nat_lt 0 so_far.tables) (so_far.zones == 0) at.follows).0 in
       let room_is = ltb-true (counts_after no_parts at.beginning.parts).rows most_rows at.room in
       let values = as_many_values task before (heading_of header) reported (row r) at in
-      let same : length header.bounds.values.items + 1 ≡ length r.weights = omega (arith, values, values_length, long) in
+      let same : length header.evidence.values.items + 1 ≡ length r.weights = omega (arith, values, values_length, long) in
       record {
         some = omega (arith, some, begun_is);
         rising = rising_from n 0 r.atoms rises;
@@ -304,7 +337,7 @@ none_given before line early begun =
         let (follows, _) = and_parts (atom_follows b) (nat_lt b.format.atoms most_atoms) counts in
         let (first, _) = and_parts (how_many b.parts == 0) (b.states == 0) follows in
         let none : how_many (counts_after no_parts g.parts) ≡ 0 = ap (λ (b : Body). how_many b.parts) body.body_is ∙ eqb-true (how_many b.parts) 0 first in
-        same_lines (tables_given before) [] (tables_of_parts before ∙ ap parts_given body.lines_are ∙ parts_of_body g.swaps g.atoms g.parts g.states ∙ none_yet g.parts none)
+        sym (tables_among before) ∙ ap (filter_map table_line_in) (ap parts_given body.lines_are ∙ parts_of_body g.swaps g.atoms g.parts g.states ∙ none_yet g.parts none)
 
     by_line : (line : TextLine) → is_early line ≡ true → (place : CertificatePlace) → ComesBefore place before → (next : CertificatePlace) → next_place place line ≡ Some next → tables_given before ≡ []
     by_line (version v) early place are next leads = absurd (true≢false (sym early))
@@ -327,7 +360,7 @@ no_tables_there (t ∷ tables) none = absurd (cc none)
 
 -- before there are tables, rows may have any number of weights
 pub weighed_early : (task : Task) (before : List TextLine) (line : TextLine) (header : Header) → is_early line ≡ true → BeginCertificate (before ++ line ∷ []) → HasTaken task (before ++ line ∷ []) header
-    → AreWeighed header.bounds
+    → AreWeighed header.evidence
 weighed_early task before line header early begun reported =
-    let count = length header.bounds.values.items + 1 in
-    subst (HaveWeights count) (sym (no_tables_there header.bounds.tables.items (reported.tables ∙ none_given before line early begun))) (All-nil (λ (t : Table). weight_count_of t ≡ count))
+    let count = length header.evidence.values.items + 1 in
+    subst (HaveWeights count) (sym (no_tables_there header.evidence.tables.items (reported.tables ∙ none_given before line early begun))) (All-nil (λ (t : Table). weight_count_of t ≡ count))

@@ -20,14 +20,6 @@ use Rattle.cert_checker.proofs.LimitsLemmas.{limits_of}
 use Rattle.cert_checker.proofs.PackedListingLemmas.{packs, value_there}
 use Rattle.cert_checker.proofs.TablesLemmas.{are_widened, dead_ends_alike, functions_alike, greatest_alike, value_alike}
 use Rattle.cert_checker.proofs.VersionLemmas.{dead_end_as, no_tables, of_three, one_for_each, one_value, value_as}
-use Rattle.certificate_definitions.specs.Evidence as evidence
-use Rattle.certificate_reader.specs.declared.line.Basis.{Basis}
-use Rattle.certificate_reader.specs.declared.line.Basis.TheVariants.{OfAll}
-use Rattle.certificate_reader.specs.Lines.{basis_of}
-
--- a line rests on the values of all states
-pub only_basis : (by : Basis) → evidence.of_all ≡ basis_of by
-only_basis OfAll = refl
 
 -- ---- without tables
 
@@ -53,7 +45,7 @@ module _ (task : Task) (atoms : List Atom) (c : Certificate) (store : PooledStor
   state = state_of_bits task atoms bits
 
   -- the state's fluent atoms have numbers, and its bits are these
-  packed_value : (f : List Bool → ℕ) → f bits ≡ in_state task (numbered_atoms task c.atoms) f state
+  pub packed_value : (f : List Bool → ℕ) → f bits ≡ in_state task (numbered_atoms task c.atoms) f state
   packed_value f =
       let there = packs task atoms c store listed in
       subst (λ those. f bits ≡ in_state task those f state) listed.numbered
@@ -74,7 +66,7 @@ module _ (task : Task) (atoms : List Atom) (c : Certificate) (store : PooledStor
   by_tables : has_tables c.version ≡ true → greatest_value (functions_of made) bits ≡ value_of task c state
   by_tables with_tables =
       greatest_alike c.tables (functions_of made) (functions_of (several_of c)) (functions_alike (several_of c) (length atoms) made have) bits
-      ∙ of_three (λ v. greatest_value (functions_of (several_of c)) bits ≡ value_in v task c state) c.version with_tables (packed_value (greatest_value (functions_of (several_of c))))
+      ∙ of_three (λ v. greatest_value (functions_of (several_of c)) bits ≡ value_in v task c state) c.version with_tables (λ p. p) (packed_value (greatest_value (functions_of (several_of c))))
 
   pub value_packed : greatest_value (functions_of made) bits ≡ value_of task c state
   value_packed =
@@ -97,7 +89,7 @@ module _ (task : Task) (atoms : List Atom) (c : Certificate) (store : PooledStor
   dead_by_tables with_tables =
       let h = dead_ends_of (several_of c) in
       ap (nat_le 1) (value_alike c.tables (dead_ends_of made) h (dead_ends_alike (several_of c) (length atoms) made have) bits)
-      ∙ of_three (λ v. nat_le 1 (value h bits) ≡ is_dead_end_in v task c state) c.version with_tables (ap (nat_le 1) (packed_value (value h)))
+      ∙ of_three (λ v. nat_le 1 (value h bits) ≡ is_dead_end_in v task c state) c.version with_tables (λ p. p) (ap (nat_le 1) (packed_value (value h)))
 
   pub dead_packed : is_dead_by (dead_ends_of made) bits ≡ is_dead_end_of task c state
   dead_packed =

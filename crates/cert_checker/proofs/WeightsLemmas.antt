@@ -22,9 +22,9 @@ use Rattle.lower_bounds.proofs.Sums.{sum-alike}
 use Rattle.lower_bounds.proofs.Ranges.{zero-range}
 use Rattle.lower_bounds.proofs.Zero.{zero-dead_fair}
 use Rattle.potentials.specs.Fairness.{AreInstancesFairAt}
-use Rattle.certificate.specs.declared.header.Bounds.{Bounds}
-use Rattle.certificate.specs.declared.header.Potential.{Potential}
-use Rattle.certificate.specs.CertificateParts.{bounds_of, potential_of}
+use Rattle.certificate.specs.declared.evidence.Evidence.{Evidence}
+use Rattle.certificate.specs.declared.evidence.Potential.{Potential}
+use Rattle.certificate.specs.Evidence.{evidence_of, potential_of}
 use Rattle.lower_bounds.specs.TableFunctions.{SeveralValues}
 use Rattle.certificate_definitions.specs.Certificates.{Version, Certificate, potentials_of, several_of, are_potentials, is_value_count, is_weight}
 use Rattle.certificate_definitions.specs.CertificateRefusals.{MayLose}
@@ -119,7 +119,7 @@ first_mapped : {X Y : Type 0} (f : X → Y) (xs : List X) (first : X) (d : Y) �
 first_mapped f [] first d some is = absurd (omega arith)
 first_mapped f (x ∷ xs) first d some is = ap f (sym is)
 
-pub first_value : (c : Certificate) (b : Bounds) (first : Potential) → IsTrue (is_value_count c.version (length b.values.items)) → bounds_of b ≡ several_of c → first ≡ get_or b.values.items 0 first
+pub first_value : (c : Certificate) (b : Evidence) (first : Potential) → IsTrue (is_value_count c.version (length b.values.items)) → evidence_of b ≡ several_of c → first ≡ get_or b.values.items 0 first
     → potential_of first ≡ potentials_of c
 first_value c b first count same is =
     let none : PotentialFunction = record { constant = pos 0; weights = [] } in

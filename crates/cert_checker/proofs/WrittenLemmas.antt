@@ -1,14 +1,14 @@
 -- What is written of a certificate within the limits is a text that says it.
-use Rattle.std.proofs.Common.{◌≡◌, ℕ, suc, ◌+◌, ◌*◌, ◌<◌, ◌≤◌, Bool, true, false, cond, List, [], ◌∷◌, ◌++◌, codes, map, length, length-append, get_or, Option, None, Some, refl, sym, ap, ◌∙◌, subst, true≢false, arith}
-use Rattle.std.specs.Prelude.{◌&&◌, ◌==◌, zero, ℤ, pos, negsuc, IsTrue, All, nat_le, nat_lt, slice_get}
+use Rattle.std.proofs.Common.{◌≡◌, ℕ, suc, ◌+◌, ◌*◌, ◌<◌, ◌≤◌, Bool, true, false, inl, inr, cond, List, [], ◌∷◌, ◌++◌, codes, map, length, length-append, get_or, Option, None, Some, refl, sym, ap, ◌∙◌, subst, true≢false, arith}
+use Rattle.std.specs.Prelude.{◌&&◌, ◌||◌, ◌==◌, zero, ℤ, pos, negsuc, IsTrue, All, nat_le, nat_lt, slice_get}
 use Rattle.std.specs.Char.{to_ascii_lowercase}
 use Rattle.std.specs.Cmp.Lexicographic.{pointwise}
 use Rattle.std.specs.Fmt.{signed_decimal}
 use Rattle.std.specs.List.{flat_map, list_all}
 use Rattle.std.specs.Option.{option_map, option_map_or}
-use Rattle.std.proofs.lemmas.Bool.{and_parts, eq-eqb, eqb-true, leb-true, le-leb, lt-ltb, ltb-true}
+use Rattle.std.proofs.lemmas.Bool.{and_parts, or_cases, eq-eqb, eqb-true, leb-true, le-leb, lt-ltb, ltb-true}
 use Rattle.std.proofs.lemmas.Fmt.{length-decimal-le}
-use Rattle.std.proofs.lemmas.List.{ext_get_or, get_or-map, get_or_append_left, get_or_past, get_or_push, length-map, length_push}
+use Rattle.std.proofs.lemmas.List.{map-append, ext_get_or, get_or-map, get_or_append_left, get_or_past, get_or_push, length-map, length_push}
 use Rattle.std.proofs.lemmas.List.Folds.{list_all-append, list_all-map}
 use Rattle.std.proofs.lemmas.List.FromFn.{fill_by_all}
 use Rattle.std.proofs.lemmas.List.Recursion.{and_at}
@@ -23,20 +23,23 @@ use Rattle.model.specs.PlanWriting.{are_lower_names, differ, is_lower_name, obje
 use Rattle.model.specs.Fluents.{is_fluent}
 use Rattle.lower_bounds.specs.PotentialFunctions.{PotentialFunction}
 use Rattle.lower_bounds.specs.TableFunctions.{Row, Table, is_among}
-use Rattle.certificate_definitions.specs.Certificates.{Version, one, two, three, Certificate, IsClosedFor, are_potentials, are_tables, are_weights, has_tables, is_dead_end_weight, is_number, is_row, is_state_line, is_table, is_value_count, is_weight, keeps_limits, rise}
+use Rattle.certificate_definitions.specs.Certificates.{Version, one, two, three, four, StateLine, has_basis, has_landmarks, are_landmarks, Certificate, IsClosedFor, are_potentials, are_tables, are_weights, has_tables, is_dead_end_weight, is_number, is_row, is_state_line, is_table, is_value_count, is_weight, keeps_limits, rise}
 use Rattle.certificate_definitions.specs.CertificateRefusals.{IsPlanWithin}
 use Rattle.model.proofs.PlanWritingLemmas.{first_at}
 use Rattle.model.proofs.Tests.{passes_got}
-use Rattle.certificate_definitions.specs.CertificateText.{WeightedAtom, TableLine, row, Format, TextLine, swapped, atom, tabled, part, listed, last, after_blank, format_of, is_line, is_weight_count, keeps_text_limits, line_text, longest_line, most_atoms, most_states, most_swaps, text_lines, weights_text}
+use Rattle.certificate_definitions.specs.CertificateText.{WeightedAtom, TableLine, row, Part, landmark_line, Format, TextLine, swapped, atom, tabled, part, listed, last, after_blank, format_of, is_line, is_weight_count, keeps_text_limits, line_text, longest_line, most_atoms, most_states, most_swaps, text_lines, weights_text}
 use Rattle.certificate_definitions.specs.CertificateNames.{AllName, AreNumbersOf, IsNumberOf, IsTextOf, Names, are_atoms_of, are_exchanges_of, named_exchange, certificate_text, constants_of, dead_ends_said, has_atom_names, named, named_atom, predicate_name, predicate_names, parts_of, table_lines, value_count, value_said, values_said, weight_said, weighted_atoms, weights_in, weights_of_atom}
 use Rattle.certificate_definitions.specs.CertificateChecking.{IsAccepted}
 use Rattle.certificate_reader.proofs.LinesRead.{few_constants}
 use Rattle.certificate.proofs.NumbersLemmas.{potential_parts}
-use Rattle.cert_checker.proofs.TableParts.{tables_in_order}
+use Rattle.cert_checker.proofs.TableParts.{AreFew, as_landmarks, as_parts, counts_of_parts, more_zones, parts_in_order}
 use Rattle.cert_checker.proofs.LimitsLemmas.{AreLimits, limits_of, said_kept}
 use Rattle.cert_checker.proofs.NamesLemmas.{few_objects}
 use Rattle.cert_checker.proofs.WrittenExchanges.{exchange_lines, exchanges_back}
-use Rattle.cert_checker.specs.Exchanged.{are_short}
+use Rattle.landmark_functions.specs.LandmarkFunctions.{Zone}
+use Rattle.landmark_functions.specs.LandmarkLines.{LandmarkLine, zone, value, Share, NumberedLandmarks, is_value, is_zone, lines_of, literal_count, share_count, most_zones, most_values, most_entries}
+use Rattle.certificate_definitions.specs.Parts.{PartCounts, counts_after, no_parts}
+use Rattle.cert_checker.specs.Exchanged.{are_short, is_short, is_short_value}
 
 -- ---- the number of a name
 
@@ -123,6 +126,7 @@ value_in : (v : Version) (values : List ℤ) (dead_end : ℤ) (place : ℕ) → 
 value_in one values dead_end place below = refl
 value_in two values dead_end place below = get_or_append_left values (dead_end ∷ []) (pos 0) place below
 value_in three values dead_end place below = get_or_append_left values (dead_end ∷ []) (pos 0) place below
+value_in four values dead_end place below = get_or_append_left values (dead_end ∷ []) (pos 0) place below
 
 dead_end_in : (v : Version) (values : List ℤ) (dead_end : ℤ) (count : ℕ) → length values ≡ count → is_dead_end_weight v dead_end ≡ true
     → weight_said count (weights_in v values dead_end) ≡ dead_end
@@ -131,23 +135,27 @@ dead_end_in one values (pos (suc n)) count same within = absurd (true≢false (s
 dead_end_in one values (negsuc n) count same within = absurd (true≢false (sym within))
 dead_end_in two values dead_end count same within = get_or_push values dead_end (pos 0) count same
 dead_end_in three values dead_end count same within = get_or_push values dead_end (pos 0) count same
+dead_end_in four values dead_end count same within = get_or_push values dead_end (pos 0) count same
 
 -- of so many constants so many are of values, and each list of as many has as many
 values_in : (v : Version) (values : List ℤ) (dead_end : ℤ) → value_count v (length (weights_in v values dead_end)) ≡ length values
 values_in one values dead_end = refl
 values_in two values dead_end = let long = length_push values dead_end in omega (arith, long)
 values_in three values dead_end = let long = length_push values dead_end in omega (arith, long)
+values_in four values dead_end = let long = length_push values dead_end in omega (arith, long)
 
 as_many_in : (v : Version) (values others : List ℤ) (x y : ℤ) → length values ≡ length others → length (weights_in v values x) ≡ length (weights_in v others y)
 as_many_in one values others x y same = same
 as_many_in two values others x y same = let long = length_push values x in let other = length_push others y in omega (arith, long, other, same)
 as_many_in three values others x y same = let long = length_push values x in let other = length_push others y in omega (arith, long, other, same)
+as_many_in four values others x y same = let long = length_push values x in let other = length_push others y in omega (arith, long, other, same)
 
 -- in a version with tables one more than of values
 one_more_in : (v : Version) (values : List ℤ) (dead_end : ℤ) → has_tables v ≡ true → length values + 1 ≡ length (weights_in v values dead_end)
 one_more_in one values dead_end has = absurd (true≢false (sym has))
 one_more_in two values dead_end has = absurd (true≢false (sym has))
 one_more_in three values dead_end has = sym (length_push values dead_end)
+one_more_in four values dead_end has = sym (length_push values dead_end)
 
 count_in : (v : Version) (values : List ℤ) (dead_end : ℤ) → is_value_count v (length values) ≡ true → is_weight_count v (length (weights_in v values dead_end)) ≡ true
 count_in one values dead_end is = is
@@ -161,17 +169,25 @@ count_in three values dead_end is =
     let below = leb-true (length values) 32 few in
     let long = length_push values dead_end in
     λ i. le-leb 2 (length (values ++ dead_end ∷ [])) (omega (arith, above, long)) i && le-leb (length (values ++ dead_end ∷ [])) 33 (omega (arith, below, long)) i
+count_in four values dead_end is =
+    let (some, few) = and_parts (nat_le 1 (length values)) (nat_le (length values) 32) is in
+    let above = leb-true 1 (length values) some in
+    let below = leb-true (length values) 32 few in
+    let long = length_push values dead_end in
+    λ i. le-leb 2 (length (values ++ dead_end ∷ [])) (omega (arith, above, long)) i && le-leb (length (values ++ dead_end ∷ [])) 33 (omega (arith, below, long)) i
 
 weights_keep : (v : Version) (values : List ℤ) (dead_end : ℤ) → list_all is_weight values ≡ true → is_dead_end_weight v dead_end ≡ true
     → list_all is_weight (weights_in v values dead_end) ≡ true
 weights_keep one values dead_end are within = are
 weights_keep two values dead_end are within = list_all-append is_weight values (dead_end ∷ []) ∙ (λ i. are i && (within i && true))
 weights_keep three values dead_end are within = list_all-append is_weight values (dead_end ∷ []) ∙ (λ i. are i && (within i && true))
+weights_keep four values dead_end are within = list_all-append is_weight values (dead_end ∷ []) ∙ (λ i. are i && (within i && true))
 
 nothing_of_dead_ends : (v : Version) → is_dead_end_weight v (pos 0) ≡ true
 nothing_of_dead_ends one = refl
 nothing_of_dead_ends two = refl
 nothing_of_dead_ends three = refl
+nothing_of_dead_ends four = refl
 
 -- what all values keep, each constant keeps, and each weight of an atom
 constants_keep : (count : ℕ) (values : List PotentialFunction) → list_all (are_potentials is_weight count) values ≡ true
@@ -211,6 +227,47 @@ module _ (f : Format) where
       let rows : list_all keeps_line (map (λ r. row r) t.rows ++ flat_map table_lines tables) ≡ true =
       list_all-append keeps_line (map (λ r. row r) t.rows) (flat_map table_lines tables) ∙ (λ i. rows_keep has t.scope t.rows rows_are i && tables_keep tables more i) in
       λ i. (has i && scope_is i) && rows i
+
+  -- and so do those of landmarks
+  zones_keep : has_landmarks f.version ≡ true → (zones : List Zone) → list_all (is_zone f.atoms) zones ≡ true → list_all (λ (p : Part). is_line f (part p)) (as_landmarks (map zone zones)) ≡ true
+  zones_keep has [] all = refl
+  zones_keep has (z ∷ zones) all =
+      let (here, more) = and_parts (is_zone f.atoms z) (list_all (is_zone f.atoms) zones) all in
+      λ i. (has i && here i) && zones_keep has zones more i
+
+  values_keep : has_landmarks f.version ≡ true → (count : ℕ) → count ≤ most_zones → (values : List (List Share)) → list_all (is_value count) values ≡ true → list_all is_short_value values ≡ true
+      → list_all (λ (p : Part). is_line f (part p)) (as_landmarks (map value values)) ≡ true
+  values_keep has count few [] all short = refl
+  values_keep has count few (s ∷ values) all short =
+      let (here, more) = and_parts (is_value count s) (list_all (is_value count) values) all in
+      let (fits, others) = and_parts (is_short_value s) (list_all is_short_value values) short in
+      λ i. ((has i && more_zones count most_zones s few here i) && fits i) && values_keep has count few values more others i
+
+  landmarks_keep : (l : NumberedLandmarks) → are_landmarks f.version f.atoms l ≡ true → list_all is_short_value l.values ≡ true → list_all (λ (p : Part). is_line f (part p)) (as_landmarks (lines_of l)) ≡ true
+  landmarks_keep l are short =
+      let none = nat_le (length l.zones) 0 && nat_le (length l.values) 0 in
+      let zones_are = list_all (is_zone f.atoms) l.zones && nat_le (length l.zones) most_zones && nat_le (literal_count l.zones) most_entries in
+      let values_are = list_all (is_value (length l.zones)) l.values && nat_le (length l.values) most_values && nat_le (share_count l.values) most_entries in
+      let (had, keeps) = and_parts (has_landmarks f.version || none) (zones_are && values_are) are in
+      elim (or_cases (has_landmarks f.version) none had) [
+        | inl has ↦
+            let (zones, values) = and_parts zones_are values_are keeps in
+            let (zones_each, few) = and_parts (list_all (is_zone f.atoms) l.zones) (nat_le (length l.zones) most_zones)
+            (and_parts (list_all (is_zone f.atoms) l.zones && nat_le (length l.zones) most_zones) (nat_le (literal_count l.zones) most_entries) zones).0 in
+            let each = (and_parts (list_all (is_value (length l.zones)) l.values) (nat_le (length l.values) most_values)
+            (and_parts (list_all (is_value (length l.zones)) l.values && nat_le (length l.values) most_values) (nat_le (share_count l.values) most_entries) values).0).0 in
+            let test : Part → Bool = λ (p : Part). is_line f (part p) in
+            ap (list_all test) (map-append (λ (l : LandmarkLine). landmark_line l) (map zone l.zones) (map value l.values))
+            ∙ list_all-append test (as_landmarks (map zone l.zones)) (as_landmarks (map value l.values))
+            ∙ (λ i. zones_keep has l.zones zones_each i && values_keep has (length l.zones) (leb-true (length l.zones) most_zones few) l.values each short i)
+        | inr absent ↦ nothing_keeps l.zones l.values absent
+      ]
+    where
+      nothing_keeps : (zones : List Zone) (values : List (List Share)) → nat_le (length zones) 0 && nat_le (length values) 0 ≡ true
+          → list_all (λ (p : Part). is_line f (part p)) (as_landmarks (map zone zones ++ map value values)) ≡ true
+      nothing_keeps [] [] absent = refl
+      nothing_keeps [] (s ∷ values) absent = absurd (omega (arith, leb-true (length (s ∷ values)) 0 (and_parts true (nat_le (length (s ∷ values)) 0) absent).1))
+      nothing_keeps (z ∷ zones) values absent = absurd (omega (arith, leb-true (length (z ∷ zones)) 0 (and_parts (nat_le (length (z ∷ zones)) 0) (nat_le (length values) 0) absent).0))
 
 -- with another count of weights, where that matters
 tables_with : (v : Version) (count weights others : ℕ) (tables : List Table) → (has_tables v ≡ true → weights ≡ others) → are_tables v count weights tables ≡ true
@@ -276,29 +333,29 @@ module _ (task : Task) (c : Certificate) where
   as_many_weighted place (a ∷ atoms) = let rest = as_many_weighted (suc place) atoms in omega (arith, rest)
 
   -- the weight of the value at this place, for the atom at that one
-  weight_at : (value place j : ℕ) (atoms : List Atom) → j < length atoms
-      → get_or (map (λ (a : WeightedAtom). weight_said value a.weights) (weighted_atoms task c place atoms)) j (pos 0) ≡ weight_said value (weights_of_atom c (place + j))
-  weight_at value place j [] below = absurd (omega (arith, below))
-  weight_at value place zero (a ∷ atoms) below =
+  weight_at : (nth place j : ℕ) (atoms : List Atom) → j < length atoms
+      → get_or (map (λ (a : WeightedAtom). weight_said nth a.weights) (weighted_atoms task c place atoms)) j (pos 0) ≡ weight_said nth (weights_of_atom c (place + j))
+  weight_at nth place j [] below = absurd (omega (arith, below))
+  weight_at nth place zero (a ∷ atoms) below =
       let here : place ≡ place + zero = omega arith in
-      ap (λ k. weight_said value (weights_of_atom c k)) here
-  weight_at value place (suc j) (a ∷ atoms) below =
+      ap (λ k. weight_said nth (weights_of_atom c k)) here
+  weight_at nth place (suc j) (a ∷ atoms) below =
       let next : suc place + j ≡ place + suc j = omega arith in
-      weight_at value (suc place) j atoms (omega (arith, below)) ∙ ap (λ k. weight_said value (weights_of_atom c k)) next
+      weight_at nth (suc place) j atoms (omega (arith, below)) ∙ ap (λ k. weight_said nth (weights_of_atom c k)) next
 
   -- they are these, if each is
-  weights_back : (value : ℕ) (weights : List ℤ) → length weights ≡ length c.atoms
-      → ((j : ℕ) → j < length c.atoms → weight_said value (weights_of_atom c j) ≡ get_or weights j (pos 0))
-      → weights ≡ map (λ (a : WeightedAtom). weight_said value a.weights) (weighted_atoms task c 0 c.atoms)
-  weights_back value weights long same =
-      let weight_of : WeightedAtom → ℤ = λ a. weight_said value a.weights in
+  weights_back : (nth : ℕ) (weights : List ℤ) → length weights ≡ length c.atoms
+      → ((j : ℕ) → j < length c.atoms → weight_said nth (weights_of_atom c j) ≡ get_or weights j (pos 0))
+      → weights ≡ map (λ (a : WeightedAtom). weight_said nth a.weights) (weighted_atoms task c 0 c.atoms)
+  weights_back nth weights long same =
+      let weight_of : WeightedAtom → ℤ = λ a. weight_said nth a.weights in
       let written = weighted_atoms task c 0 c.atoms in
       let as_long : length weights ≡ length (map weight_of written) = long ∙ sym (length-map written weight_of ∙ as_many_weighted 0 c.atoms) in
       ext_get_or (pos 0) weights (map weight_of written) as_long
       (λ j below.
       let within : j < length c.atoms = omega (arith, below, long) in
       let here : 0 + j ≡ j = omega arith in
-      sym (weight_at value 0 j c.atoms within ∙ ap (λ k. weight_said value (weights_of_atom c k)) here ∙ same j within))
+      sym (weight_at nth 0 j c.atoms within ∙ ap (λ k. weight_said nth (weights_of_atom c k)) here ∙ same j within))
 
 -- ---- the text
 
@@ -314,10 +371,10 @@ module _ (task : Task) (c : Certificate) (well : IsTrue (is_task task)) (has_nam
       × (list_all (is_dead_end_weight c.version) c.dead_ends.weights ≡ true)
   dead_end_parts = potential_parts (is_dead_end_weight c.version) (length c.atoms) c.dead_ends limits.dead_ends
 
-  one_weight_an_atom : (value : ℕ) (d : PotentialFunction) → value < length c.values → length (get_or c.values value d).weights ≡ length c.atoms
-  one_weight_an_atom value d below =
+  one_weight_an_atom : (nth : ℕ) (d : PotentialFunction) → nth < length c.values → length (get_or c.values nth d).weights ≡ length c.atoms
+  one_weight_an_atom nth d below =
       let test = are_potentials is_weight (length c.atoms) in
-      (potential_parts is_weight (length c.atoms) (get_or c.values value d) (and_at (list_all test) test refl (λ p values. refl) c.values value d below limits.values)).1
+      (potential_parts is_weight (length c.atoms) (get_or c.values nth d) (and_at (list_all test) test refl (λ p values. refl) c.values nth d below limits.values)).1
 
   -- the constants of values, and the weights of the atom at this place, of values and of dead ends
   abbrev constants : List ℤ
@@ -339,14 +396,14 @@ module _ (task : Task) (c : Certificate) (well : IsTrue (is_task task)) (has_nam
   dead_end_within place = said_kept (is_dead_end_weight c.version) (nothing_of_dead_ends c.version) c.dead_ends.weights place dead_end_parts.2
 
   -- what is written says the values, that of dead ends and the atoms
-  value_back : (value : ℕ) (d : PotentialFunction) → value < length c.values → get_or c.values value d ≡ value_said (named task c) value
-  value_back value d below =
-      let p : PotentialFunction = get_or c.values value d in
-      let constant : weight_said value (constants_of c) ≡ p.constant =
-      value_in c.version constants c.dead_ends.constant value (omega (arith, as_many_constants, below)) ∙ get_or-map (λ (p : PotentialFunction). p.constant) c.values value d (pos 0) below in
-      let weights = weights_back task c value p.weights (one_weight_an_atom value d below)
-      (λ place within. value_in c.version (weights_of_values place) (weight_of_dead_ends place) value (omega (arith, as_many_weights place, below))
-      ∙ get_or-map (λ (p : PotentialFunction). get_or p.weights place (pos 0)) c.values value d (pos 0) below) in
+  value_back : (nth : ℕ) (d : PotentialFunction) → nth < length c.values → get_or c.values nth d ≡ value_said (named task c) nth
+  value_back nth d below =
+      let p : PotentialFunction = get_or c.values nth d in
+      let constant : weight_said nth (constants_of c) ≡ p.constant =
+      value_in c.version constants c.dead_ends.constant nth (omega (arith, as_many_constants, below)) ∙ get_or-map (λ (p : PotentialFunction). p.constant) c.values nth d (pos 0) below in
+      let weights = weights_back task c nth p.weights (one_weight_an_atom nth d below)
+      (λ place within. value_in c.version (weights_of_values place) (weight_of_dead_ends place) nth (omega (arith, as_many_weights place, below))
+      ∙ get_or-map (λ (p : PotentialFunction). get_or p.weights place (pos 0)) c.values nth d (pos 0) below) in
       λ i. record { constant = sym constant i; weights = weights i }
 
   values_counted : value_count c.version (length (constants_of c)) ≡ length c.values
@@ -356,7 +413,7 @@ module _ (task : Task) (c : Certificate) (well : IsTrue (is_task task)) (has_nam
   values_back =
       let d : PotentialFunction = record { constant = pos 0; weights = [] } in
       fill_by_all (value_said (named task c)) c.values (value_count c.version (length (constants_of c))) d (sym values_counted)
-      (λ value below. value_back value d (omega (arith, below, values_counted)))
+      (λ nth below. value_back nth d (omega (arith, below, values_counted)))
 
   dead_ends_back : c.dead_ends ≡ dead_ends_said (named task c)
   dead_ends_back =
@@ -404,6 +461,9 @@ module _ (task : Task) (c : Certificate) (well : IsTrue (is_task task)) (has_nam
       (ap (λ n. are_tables c.version n (length (constants_of c)) c.tables) (as_many_weighted task c 0 c.atoms)
       ∙ tables_with c.version (length c.atoms) (length c.values + 1) (length (constants_of c)) c.tables same limits.tables)
 
+  short_both : (list_all (is_short task) c.exchanges ≡ true) × (list_all is_short_value c.landmarks.values ≡ true)
+  short_both = and_parts (list_all (is_short task) c.exchanges) (list_all is_short_value c.landmarks.values) short
+
   lines_within : list_all (is_line (format_of (named task c))) (text_lines (named task c)) ≡ true
   lines_within =
       let test : TextLine → Bool = is_line (format_of (named task c)) in
@@ -413,13 +473,18 @@ module _ (task : Task) (c : Certificate) (well : IsTrue (is_task task)) (has_nam
       let states : List TextLine = map (λ l. listed l) c.lines in
       let end : List TextLine = last (length c.lines) ∷ [] in
       let atoms_are : list_all test atoms ≡ true = atom_lines 0 c.atoms typed in
-      let parts_are : list_all test parts ≡ true = list_all-map test (λ p. part p) (parts_of c) ∙ list_all-map (λ p. test (part p)) (λ (t : TableLine). tabled t) (flat_map table_lines c.tables) ∙ table_lines_within in
+      let part_is : Part → Bool = λ (p : Part). test (part p) in
+      let tables_are : list_all part_is (as_parts (flat_map table_lines c.tables)) ≡ true = list_all-map part_is (λ (t : TableLine). tabled t) (flat_map table_lines c.tables) ∙ table_lines_within in
+      let landmarks_are : list_all part_is (as_landmarks (lines_of c.landmarks)) ≡ true =
+      landmarks_keep (format_of (named task c)) c.landmarks (ap (λ n. are_landmarks c.version n c.landmarks) (as_many_weighted task c 0 c.atoms) ∙ limits.landmarks) short_both.1 in
+      let parts_are : list_all test parts ≡ true =
+      list_all-map test (λ p. part p) (parts_of c) ∙ list_all-append part_is (as_parts (flat_map table_lines c.tables)) (as_landmarks (lines_of c.landmarks)) ∙ (λ i. tables_are i && landmarks_are i) in
       let states_are : list_all test states ≡ true =
       list_all-map test (λ l. listed l) c.lines ∙ ap (λ n. list_all (is_state_line c.version n) c.lines) (as_many_weighted task c 0 c.atoms) ∙ limits.states in
       let few = leb-true (length c.lines) most_states limits.few_states in
       let number : is_number (length c.lines) ≡ true = lt-ltb (length c.lines) 1152921504606846976 (omega (arith, few)) in
       let end_is : list_all test end ≡ true = λ i. number i && true in
-      let swaps_are : list_all test swaps ≡ true = exchange_lines task names_both.1 (format_of (named task c)) c.exchanges exchanged limits.exchanges short in
+      let swaps_are : list_all test swaps ≡ true = exchange_lines task names_both.1 (format_of (named task c)) c.exchanges exchanged limits.exchanges short_both.0 in
       let heads : List TextLine = swaps ++ atoms in
       let heads_are : list_all test heads ≡ true = list_all-append test swaps atoms ∙ (λ i. swaps_are i && atoms_are i) in
       let front : list_all test (heads ++ parts) ≡ true = list_all-append test heads parts ∙ (λ i. heads_are i && parts_are i) in
@@ -427,11 +492,40 @@ module _ (task : Task) (c : Certificate) (well : IsTrue (is_task task)) (has_nam
       let following : list_all test (((heads ++ parts) ++ states) ++ end) ≡ true = list_all-append test ((heads ++ parts) ++ states) end ∙ (λ i. body i && end_is i) in
       λ i. limits.claim i && ((constant_count i && constants_within i) && following i)
 
+  -- its parts are in order, and each line has its basis
+  landmarks_few : AreFew c.tables c.landmarks × (list_all (is_value (length c.landmarks.zones)) c.landmarks.values ≡ true)
+  landmarks_few =
+      let l = c.landmarks in
+      let had = has_landmarks c.version || (nat_le (length l.zones) 0 && nat_le (length l.values) 0) in
+      let zones_each = list_all (is_zone (length c.atoms)) l.zones in
+      let zones_few = nat_le (length l.zones) most_zones in
+      let literals_few = nat_le (literal_count l.zones) most_entries in
+      let values_each = list_all (is_value (length l.zones)) l.values in
+      let values_few = nat_le (length l.values) most_values in
+      let shares_few = nat_le (share_count l.values) most_entries in
+      let (_, keeps) = and_parts had ((zones_each && zones_few && literals_few) && (values_each && values_few && shares_few)) limits.landmarks in
+      let (zones, values) = and_parts (zones_each && zones_few && literals_few) (values_each && values_few && shares_few) keeps in
+      let (zone_first, literals) = and_parts (zones_each && zones_few) literals_few zones in
+      let (value_first, shares) = and_parts (values_each && values_few) shares_few values in (
+        record {
+          tables_few = limits.few_tables;
+          rows_few = limits.few_rows;
+          zones_few = (and_parts zones_each zones_few zone_first).1;
+          literals_few = literals;
+          values_few = (and_parts values_each values_few value_first).1;
+          shares_few = shares;
+        },
+        (and_parts values_each values_few value_first).0,
+      )
+
+  bases_are : list_all (λ (l : StateLine). has_basis (counts_after no_parts (parts_of c)).values l.mark) c.lines ≡ true
+  bases_are = ap (λ (k : PartCounts). list_all (λ (l : StateLine). has_basis k.values l.mark) c.lines) (counts_of_parts c.tables c.landmarks) ∙ limits.bases
+
   text_limits : keeps_text_limits (named task c) ≡ true
   text_limits =
       let few_atoms = ap (λ n. nat_le n most_atoms) (as_many_weighted task c 0 c.atoms) ∙ limits.few_atoms in
       let few_swaps = ap (λ n. nat_le n most_swaps) (length-map c.exchanges (named_exchange task)) ∙ limits.few_exchanges in
-      λ i. (((few_swaps i && few_atoms i) && tables_in_order c.tables limits.few_tables limits.few_rows i) && limits.few_states i) && lines_within i
+      λ i. (((few_swaps i && few_atoms i) && parts_in_order c.tables c.landmarks landmarks_few.0 landmarks_few.1 i) && (limits.few_states i && bases_are i)) && lines_within i
 
   pub written_reads_back : IsTextOf task (certificate_text task c) c
   written_reads_back = record {

@@ -16,7 +16,7 @@ use Rattle.lower_bounds.specs.PotentialFunctions.{PotentialFunction}
 use Rattle.lower_bounds.specs.FairPotentials.{nothing, IsFirstUnfairAt}
 use Rattle.lower_bounds.specs.TableFunctions.{TableFunction, functions_of, dead_ends_of}
 use Rattle.lower_bounds.specs.FairTables as tables
-use Rattle.certificate_definitions.specs.Certificates.{Version, one, two, three, Certificate, potentials_of, several_of, lines_of, AreAlikeFor}
+use Rattle.certificate_definitions.specs.Certificates.{Version, one, two, three, four, Certificate, potentials_of, several_of, lines_of, AreAlikeFor}
 use Rattle.certificate_definitions.specs.CertificateRefusals.{Reason, limit, unfair, unfair_goal, dead_unfair, dead_unfair_goal, successor_missing, successor_dearer, IsFirst, IsListed, HasState, IsUnfairIn, IsDeadUnfairIn, IsWrong, IsWrongAt}
 
 -- The answer is true of all lists of instances: the given plan is optimal at this cost; every list that solves costs at least
@@ -48,11 +48,13 @@ abbrev pub IsFirstToLoseIn : Version → Task → Certificate → ℕ → Instan
 IsFirstToLoseIn one task c place i = IsFirstToLoseAt (cost_of task) task c (potentials_of c) i
 IsFirstToLoseIn two task c place i = IsFirstToLoseAt (cost_of task) task c (potentials_of c) i
 IsFirstToLoseIn three task c place i = (h : TableFunction) × (slice_get (functions_of (several_of c)) place ≡ Some h) × IsFirstToLoseByTables (cost_of task) task c h i
+IsFirstToLoseIn four task c place i = (h : TableFunction) × (slice_get (functions_of (several_of c)) place ≡ Some h) × IsFirstToLoseByTables (cost_of task) task c h i
 
 abbrev pub IsFirstDeadToLoseIn : Version → Task → Certificate → Instance → Type 0
 IsFirstDeadToLoseIn one task c = IsFirstToLoseAt nothing task c c.dead_ends
 IsFirstDeadToLoseIn two task c = IsFirstToLoseAt nothing task c c.dead_ends
 IsFirstDeadToLoseIn three task c = IsFirstToLoseByTables nothing task c (dead_ends_of (several_of c))
+IsFirstDeadToLoseIn four task c = IsFirstToLoseByTables nothing task c (dead_ends_of (several_of c))
 
 -- what is reported without a line is wrong, for one of the values if it is about values
 abbrev pub IsWrongSomewhere : Task → Certificate → Option (List Instance) → ℕ → Reason → Type 0

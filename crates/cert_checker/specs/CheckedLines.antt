@@ -12,7 +12,7 @@ use Rattle.certificate_definitions.specs.Evidence as evidence
 use Rattle.certificate_definitions.specs.Evidence.{Basis, LineMark}
 use Rattle.lower_bounds.specs.TableFunctions.{Row, Table}
 use Rattle.symmetries_definitions.specs.Exchanges.{Exchange}
-use Rattle.certificate_definitions.specs.Certificates.{Certificate, StateLine, keeps_limits, state_of_line, lines_of, is_symmetry_for, AreAlikeFor, value_by, is_dead_end_by, AreFairFor}
+use Rattle.certificate_definitions.specs.Certificates.{Certificate, StateLine, keeps_limits, state_of_line, lines_of, is_symmetry_for, AreAlikeFor, value_by, is_dead_end_by, AreFairFor, AreLandmarksFair}
 
 -- the refusal is true for any plan and any limit of kept instances
 abbrev pub IsTrueAnyway : Task → Certificate → Refusal → Type 0
@@ -84,7 +84,7 @@ IsLineClosed task c l = IsClosedAs task c (state_of_line task c l) l.cost l.mark
 abbrev pub AreRowsDistinct : Certificate → Type 0
 AreRowsDistinct c = All (λ (t : Table). AllPairs (λ (q r : Row). q.atoms ≢ r.atoms) t.rows) c.tables
 
--- All is right up to the state line at this place: reading, limits of the ground task, exchanges, values, initial state, and the
+-- All is right up to the state line at this place: reading, limits of the ground task, exchanges, values, landmark values, initial state, and the
 -- state lines before.
 pub record IsRightUpTo (task : Task) (c : Certificate) (most place : ℕ) : Type 0 where
   pub keeps : IsTrue (keeps_limits c)
@@ -95,6 +95,7 @@ pub record IsRightUpTo (task : Task) (c : Certificate) (most place : ℕ) : Type
   pub within : exceeded_limit most max_numbered_atoms task c.atoms ≡ None
   pub symmetric : AreSymmetries task c
   pub fair : AreFairFor task c
+  pub landmarks : AreLandmarksFair task c
   pub initial : IsListedWithin (AreAlikeFor task c) (lines_of task c) (system_of task).initial 0
   pub lines : (k : ℕ) (l : StateLine) → k < place → slice_get c.lines k ≡ Some l → IsLineClosed task c l
 

@@ -9,8 +9,10 @@ use Rattle.certificate_definitions.specs.Certificates.{Version}
 use Rattle.symmetries_definitions.specs.Exchanges.{Exchange}
 use Rattle.lower_bounds.specs.PotentialFunctions.{PotentialFunction}
 use Rattle.lower_bounds.specs.TableFunctions.{SeveralValues}
-pub use Rattle.certificate_definitions.specs.CertificateLines.{swap_in, atom_in, state_in, swaps_given, atoms_given, states_given}
-use Rattle.certificate_definitions.specs.CertificateText.{NamedAtom, WeightedAtom, TableLine, Part, tabled, TextLine, version, claims, constant, swapped, atom, part, listed, last}
+use Rattle.landmark_functions.specs.LandmarkFunctions.{Zone}
+use Rattle.landmark_functions.specs.LandmarkLines.{zone, value, Share, NumberedLandmarks}
+pub use Rattle.certificate_definitions.specs.CertificateLines.{swap_in, atom_in, part_in, state_in, swaps_given, atoms_given, parts_given, states_given}
+use Rattle.certificate_definitions.specs.CertificateText.{NamedAtom, WeightedAtom, TableLine, Part, tabled, landmark_line, TextLine, version, claims, constant, swapped, atom, part, listed, last}
 use Rattle.certificate_definitions.specs.CertificateNames.{AllName, exchange_said, table_lines, value_count, weight_said}
 use Rattle.certificate_definitions.specs.CertificateChecking.{AreRight}
 
@@ -21,6 +23,7 @@ names_given lines = map (λ (a : WeightedAtom). a.atom) (atoms_given lines)
 -- the part of a table in a part, and in a line
 abbrev pub table_line_in : Part → Option TableLine
 table_line_in (tabled t) = Some t
+table_line_in (landmark_line l) = None
 
 abbrev pub table_in : TextLine → Option TableLine
 table_in (version v) = None
@@ -34,6 +37,22 @@ table_in (last count) = None
 
 abbrev pub tables_given : List TextLine → List TableLine
 tables_given lines = filter_map table_in lines
+
+-- the zone, and the landmark value, in a part
+abbrev pub zone_in : Part → Option Zone
+zone_in (tabled t) = None
+zone_in (landmark_line (zone z)) = Some z
+zone_in (landmark_line (value shares)) = None
+
+abbrev pub shares_in : Part → Option (List Share)
+shares_in (tabled t) = None
+shares_in (landmark_line (zone z)) = None
+shares_in (landmark_line (value shares)) = Some shares
+
+-- these are the landmarks of the parts
+pub record AreLandmarksOf (parts : List Part) (l : NumberedLandmarks) : Type 0 where
+  pub zones : l.zones ≡ filter_map zone_in parts
+  pub values : l.values ≡ filter_map shares_in parts
 
 -- the line is a state line or the last line
 abbrev pub is_body : TextLine → Bool
@@ -64,27 +83,29 @@ pub record Heading : Type 0 where
   pub claim : Claim
   pub exchanges : List Exchange
   pub atoms : List Atom
-  pub bounds : SeveralValues
+  pub evidence : SeveralValues
+  pub landmarks : NumberedLandmarks
 
 -- there are as many values as the constants give, with the weights of the atoms
-pub record AreGiven (v : Version) (constants : List ℤ) (atoms : List WeightedAtom) (bounds : SeveralValues) : Type 0 where
-  pub values : bounds.values ≡ values_given v constants atoms
-  pub dead_ends : bounds.dead_ends ≡ dead_ends_given v constants atoms
+pub record AreGiven (v : Version) (constants : List ℤ) (atoms : List WeightedAtom) (evidence : SeveralValues) : Type 0 where
+  pub values : evidence.values ≡ values_given v constants atoms
+  pub dead_ends : evidence.dead_ends ≡ dead_ends_given v constants atoms
 
 -- there are no values before the constants
-pub record AreNotGiven (bounds : SeveralValues) : Type 0 where
-  pub values : bounds.values ≡ []
-  pub dead_ends : bounds.dead_ends.weights ≡ []
+pub record AreNotGiven (evidence : SeveralValues) : Type 0 where
+  pub values : evidence.values ≡ []
+  pub dead_ends : evidence.dead_ends.weights ≡ []
 
 -- The lines give this header, as far as they go, and each of them is right.
 pub record HaveGiven (task : Task) (lines : List TextLine) (heading : Heading) : Type 0 where
   pub one_version : (v : Version) → Contains lines (version v) → heading.version ≡ v
   pub one_claim : (c : Claim) → Contains lines (claims c) → heading.claim ≡ c
   pub none_occurs : heading.claim ≡ none → Contains lines (claims none)
-  pub given : (k : List ℤ) → Contains lines (constant k) → AreGiven heading.version k (atoms_given lines) heading.bounds
-  pub not_given : ((k : List ℤ) → Contains lines (constant k) → ⊥) → AreNotGiven heading.bounds
+  pub given : (k : List ℤ) → Contains lines (constant k) → AreGiven heading.version k (atoms_given lines) heading.evidence
+  pub not_given : ((k : List ℤ) → Contains lines (constant k) → ⊥) → AreNotGiven heading.evidence
   pub exchanged : heading.exchanges ≡ map (exchange_said task) (swaps_given lines)
-  pub tables : flat_map table_lines heading.bounds.tables ≡ tables_given lines
+  pub tables : flat_map table_lines heading.evidence.tables ≡ tables_given lines
+  pub landmarks : AreLandmarksOf (parts_given lines) heading.landmarks
   pub named : AllName task (names_given lines) heading.atoms
   pub fluent : All (λ (a : Atom). IsTrue (is_atom task a && is_fluent task a.predicate)) heading.atoms
   pub distinct : AllPairs (λ (a b : Atom). a ≢ b) heading.atoms

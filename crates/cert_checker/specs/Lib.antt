@@ -1,6 +1,8 @@
 pub mod RefusalCode
 pub mod CertFaults
 pub mod Given
+pub mod GroundEvidence
+pub mod LandmarkFaults
 pub mod Listed
 pub mod Tabled
 pub mod Taking

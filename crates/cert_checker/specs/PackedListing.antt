@@ -1,5 +1,5 @@
 -- A listing over packed states, in the model's terms.
-use Rattle.std.specs.Prelude.{◌≡◌, List, length}
+use Rattle.std.specs.Prelude.{◌≡◌, Bool, List, length}
 use Rattle.packed_state.specs.declared.packed.Packed.{Packed}
 use Rattle.packed_state.specs.Packed.{bits_of}
 use Rattle.certificate.specs.Certificate.{certificate_of}
@@ -7,9 +7,10 @@ use Rattle.grounding.specs.Ground.{task_in, atoms_in}
 use Rattle.cert_checker.specs.declared.checker.packed.PackedListing.{PackedListing}
 use Rattle.model.specs.Task.{Atom, Task}
 use Rattle.model.specs.Meaning.{State}
+use Rattle.certificate_definitions.specs.Evidence.{Basis}
 use Rattle.certificate_definitions.specs.Certificates.{Certificate}
 use Rattle.tables.specs.declared.known_state.KnownState.{KnownState}
-use Rattle.tables.specs.Several.{Knows}
+use Rattle.cert_checker.specs.GroundEvidence.{IsKnownBy, has_basis}
 use Rattle.model.specs.Grounding.{state_of_bits}
 
 abbrev pub task_at : PackedListing → Task
@@ -29,6 +30,10 @@ IsPacked listing packed = length (bits_of packed) ≡ length (atoms_at listing)
 abbrev pub state_at : PackedListing → Packed → State
 state_at listing packed = state_of_bits (task_at listing) (atoms_at listing) (bits_of packed)
 
--- the evaluation is one by the listing's values
+-- there is this basis
+abbrev pub has_basis_at : PackedListing → Basis → Bool
+has_basis_at listing = has_basis listing.evidence
+
+-- the evaluation is one by what the lines rest on
 abbrev pub IsKnownIn : PackedListing → KnownState → Type 0
-IsKnownIn listing known = Knows listing.values known
+IsKnownIn listing known = IsKnownBy listing.evidence known

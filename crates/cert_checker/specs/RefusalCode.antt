@@ -1,7 +1,7 @@
 -- The numbers and the names of the checker's refusals.
 use Rattle.std.specs.Prelude.{ℕ, List, codes}
 use Rattle.cert_checker.specs.declared.refusal.RefusalCode.{RefusalCode}
-use Rattle.cert_checker.specs.declared.refusal.RefusalCode.TheVariants.{CertForm, CertVersion, Truncated, NotFluent, Repeated, NoInitial, Unfair, UnfairGoal, GoalOpen, SuccessorMissing, SuccessorDearer, CutWeak, CutNotAllowed, PlanInvalid, PlanDearer, Limit, DeadUnfair, DeadUnfairGoal, NotDead, NotSymmetry}
+use Rattle.cert_checker.specs.declared.refusal.RefusalCode.TheVariants.{CertForm, CertVersion, Truncated, NotFluent, Repeated, NoInitial, Unfair, UnfairGoal, GoalOpen, SuccessorMissing, SuccessorDearer, CutWeak, CutNotAllowed, PlanInvalid, PlanDearer, Limit, DeadUnfair, DeadUnfairGoal, NotDead, NotSymmetry, ValueUnfair, ValueNotDead}
 
 -- the number that the program prints
 abbrev pub number_of : RefusalCode → ℕ
@@ -25,6 +25,8 @@ number_of DeadUnfair = 56
 number_of DeadUnfairGoal = 57
 number_of NotDead = 58
 number_of NotSymmetry = 59
+number_of ValueUnfair = 62
+number_of ValueNotDead = 63
 
 -- the name that the program prints beside the number
 abbrev pub name_of : RefusalCode → List ℕ
@@ -48,3 +50,5 @@ name_of DeadUnfair = codes "DeadUnfair"
 name_of DeadUnfairGoal = codes "DeadUnfairGoal"
 name_of NotDead = codes "NotDead"
 name_of NotSymmetry = codes "NotSymmetry"
+name_of ValueUnfair = codes "ValueUnfair"
+name_of ValueNotDead = codes "ValueNotDead"

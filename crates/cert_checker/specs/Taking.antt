@@ -11,7 +11,9 @@ use Rattle.cert_checker.specs.declared.refusal.Refusal.{Refusal}
 use Rattle.cert_checker.specs.declared.refusal.Refusal.TheVariants as refusal
 use Rattle.cert_checker.specs.RefusalCode.{number_of}
 use Rattle.cert_checker.specs.Given.{Heading, HaveGiven, is_body, state_in}
-use Rattle.certificate.specs.CertificateParts.{bounds_of, exchange_in}
+use Rattle.certificate.specs.CertificateParts.{exchange_in}
+use Rattle.certificate.specs.Evidence.{evidence_of}
+use Rattle.landmark_zones.specs.Landmarks.{landmarks_of}
 
 abbrev pub heading_of : Header → Heading
 heading_of header = record {
@@ -19,7 +21,8 @@ heading_of header = record {
   claim = claim_of header.claim;
   exchanges = map exchange_in header.exchanges.items;
   atoms = map atom_of header.atoms.keys;
-  bounds = bounds_of header.bounds;
+  evidence = evidence_of header.evidence;
+  landmarks = landmarks_of header.evidence.landmarks;
 }
 
 -- the header is what these lines give

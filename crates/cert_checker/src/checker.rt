@@ -23,6 +23,8 @@ ghost use Rattle.devices.specs.Progress.{AreSaid, stream};
 
 mod answer;
 mod classes;
+mod evidence;
+mod landmark_values;
 mod packed;
 mod steps;
 mod symmetry;
@@ -66,6 +68,8 @@ pub enum Accepted {
 /// - 59: the first exchange that is no symmetry of the task, with its line;
 /// - value by value, 46: the first instance that may lose more than it costs; or 47: more than 0 may be left in a goal state;
 /// - of the value for dead ends, 56: the first instance that may lose anything; or 57: more than 0 may be left in a goal state;
+/// - 62: the first landmark value that is not fair, with its line;
+/// - 63: the first dead end that rests on a landmark value that is not dead-fair, with its line;
 /// - 45: no state alike the initial one is listed at cost 0;
 /// - line by line, 48 to 51, 58: a wrong open state, cut or dead end;
 /// - 53, 54: the plan does not solve the task, or is dearer than claimed.

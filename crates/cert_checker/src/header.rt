@@ -10,14 +10,16 @@ ghost use Rattle.cert_checker.specs.Given.{begun_with, push_at, with_weights};
 ghost use Rattle.cert_checker.specs.Tabled.{AreWeighed, IsFitHead};
 ghost use Rattle.cert_checker.specs.Taking.{HasTaken, IsTaken, IsWrongNow};
 ghost use Rattle.certificate_reader.specs.Reader.{source_of};
-ghost use Rattle.certificate.specs.CertificateParts.{bounds_of, potential_of};
+ghost use Rattle.certificate.specs.Evidence.{evidence_of, potential_of};
 ghost use Rattle.cert_checker.specs.Reading.{CountsRefusal, IsBegun, IsFresh, IsLineRefusal};
 
 use crate::exchanges::take_exchange;
 use crate::named_atoms::fluent_atom_named;
 use crate::part_lines::take_part;
 use crate::refusal::{Refusal, RefusalCode};
-use certificate::{Bounds, CertLine, CertReader, Claim, Header, NamedAtom, Potential, Version};
+use certificate::{
+    CertLine, CertReader, Claim, Evidence, Header, Landmarks, NamedAtom, Potential, Version,
+};
 use devices::Source;
 use faults::NoMemory;
 use formulas::FluentPredicates;
@@ -28,17 +30,18 @@ use task::Task;
 /// The header before any line is read: version 1, a bound of 0, which always holds, and no values.
 fn nothing_reported(alloc: Global) -> Header
     ensures taken { (task : model.Task) → HasTaken task [] result }
-    ensures weighed { AreWeighed result.bounds }
+    ensures weighed { AreWeighed result.evidence }
 {
     Header {
         version: Version::One,
         claim: Claim::Bound(0),
         exchanges: Vec::new(alloc),
         atoms: IndexSet::new(alloc),
-        bounds: Bounds {
+        evidence: Evidence {
             values: Vec::new(alloc),
             dead_ends: of_no_atoms(alloc, 0),
             tables: Vec::new(alloc),
+            landmarks: Landmarks::none(alloc),
         },
     }
 }
@@ -69,37 +72,39 @@ fn value_count(version: Version, constant_count: usize) -> usize
 {
     match version {
         Version::One => constant_count,
-        Version::Two | Version::Three => constant_count.saturating_sub(1),
+        Version::Two | Version::Three | Version::Four => constant_count.saturating_sub(1),
     }
 }
 
 /// Takes the constants, with which the values begin.
 fn take_constants(
     alloc: Global,
-    bounds: &mut Bounds,
+    evidence: &mut Evidence,
     version: Version,
     constants: &[i64],
 ) -> Result<(), NoMemory>
-    ensures { OnOk result (bounds_of bounds.new ≡ begun_with (version_of version) constants.now (bounds_of bounds.old)) }
+    ensures taken { OnOk result (evidence_of evidence.new ≡ begun_with (version_of version) constants.now (evidence_of evidence.old)) }
+    ensures landmarks { evidence.new.landmarks ≡ evidence.old.landmarks }
 {
     let count = value_count(version, constants.len());
     for place in 0..count {
         let value = of_no_atoms(alloc, weight_at(constants, place));
-        bounds.values.push(value)?;
+        evidence.values.push(value)?;
     }
-    bounds.dead_ends.constant = weight_at(constants, count);
+    evidence.dead_ends.constant = weight_at(constants, count);
     Ok(())
 }
 
 /// Takes the weights of the next atom: one for each value, in order, then the one for dead ends.
-fn take_weights(bounds: &mut Bounds, weights: &[i64]) -> Result<(), NoMemory>
-    ensures { OnOk result (bounds_of bounds.new ≡ with_weights (bounds_of bounds.old) weights.now) }
+fn take_weights(evidence: &mut Evidence, weights: &[i64]) -> Result<(), NoMemory>
+    ensures taken { OnOk result (evidence_of evidence.new ≡ with_weights (evidence_of evidence.old) weights.now) }
+    ensures landmarks { evidence.new.landmarks ≡ evidence.old.landmarks }
 {
-    let count = bounds.values.len();
+    let count = evidence.values.len();
     for place in 0..count {
-        push_weight(&mut bounds.values, place, weight_at(weights, place))?;
+        push_weight(&mut evidence.values, place, weight_at(weights, place))?;
     }
-    bounds.dead_ends.weights.push(weight_at(weights, count))?;
+    evidence.dead_ends.weights.push(weight_at(weights, count))?;
     Ok(())
 }
 
@@ -122,13 +127,13 @@ fn take(
     number: u64,
 ) -> Result<Option<CertLine>, Refusal>
     requires fluents { AreFluentsOf (task_of task.now) fluents.now }
-    requires fit { IsFitHead header.old.bounds (text_line_of line) }
+    requires fit { IsFitHead header.old.evidence (text_line_of line) }
     ensures taken { IfOk result (λ back. (before : List TextLine) → BeginCertificate (before ++ text_line_of line ∷ [])
         → HasTaken (task_of task.now) before header.old → IsTaken (task_of task.now) before (text_line_of line) header.new back) }
     ensures wrong { IfErr result (λ refusal. (before : List TextLine) → BeginCertificate (before ++ text_line_of line ∷ []) → number ≡ length before + 1
         → HasTaken (task_of task.now) before header.old → IsWrongNow (task_of task.now) before (text_line_of line) refusal) }
     ensures weighed { OnOk result ((before : List TextLine) → BeginCertificate (before ++ text_line_of line ∷ [])
-        → HasTaken (task_of task.now) before header.old → AreWeighed header.old.bounds → AreWeighed header.new.bounds) }
+        → HasTaken (task_of task.now) before header.old → AreWeighed header.old.evidence → AreWeighed header.new.evidence) }
 {
     match line {
         CertLine::Head(version) => {
@@ -140,7 +145,7 @@ fn take(
             Ok(None)
         }
         CertLine::Constant(constants) => {
-            take_constants(alloc, &mut header.bounds, header.version, &constants)?;
+            take_constants(alloc, &mut header.evidence, header.version, &constants)?;
             Ok(None)
         }
         CertLine::Swap { objects } => {
@@ -157,7 +162,7 @@ fn take(
             Ok(None)
         }
         CertLine::Part(part) => {
-            take_part(alloc, &mut header.bounds, part, number)?;
+            take_part(alloc, &mut header.evidence, part, number)?;
             Ok(None)
         }
         CertLine::Listed(_) | CertLine::Last { .. } => Ok(Some(line)),
@@ -191,7 +196,7 @@ fn add_atom(
             line: number,
         });
     }
-    take_weights(&mut header.bounds, weights)?;
+    take_weights(&mut header.evidence, weights)?;
     Ok(())
 }
 
@@ -203,7 +208,7 @@ pub(crate) fn read_header<R: Source>(
 ) -> Result<(Header, Option<CertLine>), Refusal>
     requires { IsFresh reader.old }
     ensures begun { IfOk result (λ read. IsBegun R.remaining (task_of task.now) reader.old reader.new read.0 read.1) }
-    ensures weighed { IfOk result (λ read. AreWeighed read.0.bounds) }
+    ensures weighed { IfOk result (λ read. AreWeighed read.0.evidence) }
     ensures refused { IfErr result (IsLineRefusal R.remaining (task_of task.now) reader.old reader.new) }
     ensures failures { CountsRefusal (R.failures (source_of reader.old)) (R.failures (source_of reader.new)) result }
 {

@@ -6,6 +6,7 @@ mod check_progress;
 mod checker;
 mod exchanges;
 mod header;
+mod landmark_lines;
 mod laws;
 mod listed_states;
 mod named_atoms;

@@ -52,6 +52,10 @@ pub enum RefusalCode {
     NotDead = 58,
     /// An exchange of objects that is not a symmetry of the task, or that maps a numbered atom to one without a number.
     NotSymmetry = 59,
+    /// A landmark value charges an instance more than it costs, or has a zone without a literal of the goal.
+    ValueUnfair = 62,
+    /// A dead end rests on a landmark value that charges an instance something, or has a zone without a literal of the goal.
+    ValueNotDead = 63,
 }
 
 impl RefusalCode {
@@ -90,6 +94,8 @@ impl RefusalCode {
             RefusalCode::DeadUnfairGoal => "DeadUnfairGoal",
             RefusalCode::NotDead => "NotDead",
             RefusalCode::NotSymmetry => "NotSymmetry",
+            RefusalCode::ValueUnfair => "ValueUnfair",
+            RefusalCode::ValueNotDead => "ValueNotDead",
         }
     }
 }

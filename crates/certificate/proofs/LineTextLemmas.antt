@@ -15,12 +15,12 @@ use Rattle.model.specs.Claims.{Claim}
 use Rattle.model.specs.Task.{Atom, Task}
 use Rattle.model.proofs.Pieces.{pieces_more}
 use Rattle.lower_bounds.specs.PotentialFunctions.{PotentialFunction}
-use Rattle.certificate_definitions.specs.Certificates.{Version, one, two, three, StateLine}
+use Rattle.certificate_definitions.specs.Certificates.{Version, one, two, three, four, StateLine}
 use Rattle.model.specs.PlanWriting.{object_name, object_text}
 use Rattle.certificate_definitions.specs.CertificateText.{after_blank, claims, constant, line_text, mark_text, version, weights_text, whole_line}
 use Rattle.certificate_definitions.specs.CertificateNames.{named_atom, predicate_name, weights_in}
-use Rattle.certificate.specs.declared.header.Potential.{Potential}
-use Rattle.certificate.specs.CertificateParts.{potential_of}
+use Rattle.certificate.specs.declared.evidence.Potential.{Potential}
+use Rattle.certificate.specs.Evidence.{potential_of}
 use Rattle.certificate.specs.Gathering.{atom_line, number_text, row_line, scope_line, state_line, swap_line, weight_text}
 
 -- the bytes after the last piece was added
@@ -51,6 +51,10 @@ pub line_of_three : codes "pddl-cert 3\n" ≡ whole_line (version three)
 unfolding digits
 line_of_three = refl
 
+pub line_of_four : codes "pddl-cert 4\n" ≡ whole_line (version four)
+unfolding digits
+line_of_four = refl
+
 -- one weight
 pub one_weight_text : (w : ℤ) → weight_text w ≡ weights_text (w ∷ [])
 one_weight_text w = sym (append-nil (weight_text w))
@@ -60,6 +64,7 @@ pub then_dead_end : (v : Version) (ws : List ℤ) (dead_end : ℤ) → weights_t
 then_dead_end one ws dead_end = append-nil (weights_text ws)
 then_dead_end two ws dead_end = sym (flat_map-append weight_text ws (dead_end ∷ []))
 then_dead_end three ws dead_end = sym (flat_map-append weight_text ws (dead_end ∷ []))
+then_dead_end four ws dead_end = sym (flat_map-append weight_text ws (dead_end ∷ []))
 
 -- one more value, each of which has this number
 pub value_more : (of : PotentialFunction → ℤ) (values : List Potential) (i : ℕ) (p : Potential) → i < length values → p ≡ get_or values i p
@@ -127,12 +132,12 @@ pair_more task pairs i p within is old text so_far =
 pub scope_text : (numbers old : List ℕ) → ((old ++ codes "table") ++ flat_map number_text numbers) ++ codes "\n" ≡ old ++ scope_line numbers
 scope_text numbers old = three_pieces old (codes "table") (flat_map number_text numbers) (codes "\n")
 
-four : (old a b c n : List ℕ) → (((old ++ a) ++ b) ++ c) ++ n ≡ old ++ (((a ++ b) ++ c) ++ n)
-four old a b c n = simp append_assoc
+four_pieces : (old a b c n : List ℕ) → (((old ++ a) ++ b) ++ c) ++ n ≡ old ++ (((a ++ b) ++ c) ++ n)
+four_pieces old a b c n = simp append_assoc
 
 pub row_text : (weights : List ℤ) (atoms old : List ℕ)
     → (((old ++ codes "row") ++ weights_text weights) ++ flat_map number_text atoms) ++ codes "\n" ≡ old ++ row_line (record { atoms = atoms; weights = weights })
-row_text weights atoms old = four old (codes "row") (weights_text weights) (flat_map number_text atoms) (codes "\n")
+row_text weights atoms old = four_pieces old (codes "row") (weights_text weights) (flat_map number_text atoms) (codes "\n")
 
 pub state_text : (l : StateLine) (old : List ℕ) → ((old ++ mark_text l.mark l.cost) ++ flat_map number_text l.atoms) ++ codes "\n" ≡ old ++ state_line l
 state_text l old =

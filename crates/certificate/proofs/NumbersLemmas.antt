@@ -10,24 +10,25 @@ use Rattle.std.proofs.lemmas.Option.{slice_get-map}
 use Rattle.std.proofs.lemmas.List.Elements.{All-cons, All-nil, All-contains, All-map, All-tail}
 use Rattle.packed_state.specs.Sets.{at_width, has, set_of}
 use Rattle.packed_state.specs.declared.pooled.PooledStore.{PooledStore}
-use Rattle.packed_state.specs.PooledStore.{rows_of}
+use Rattle.packed_state.specs.PooledStore as pooled
 use Rattle.packed_state.specs.PooledView.{pooled_states, pooled_width}
 use Rattle.packed_state.specs.Store.{sets_in}
 use Rattle.packed_state.specs.Words.{bits_in}
 use Rattle.packed_state.proofs.PackedLemmas.{length-bits}
 use Rattle.lower_bounds.specs.PotentialFunctions.{PotentialFunction}
-use Rattle.certificate_definitions.specs.Certificates.{Version, one, two, three, StateLine, are_potentials, are_tables, is_dead_end_weight, is_mark, is_number, is_state_line, is_value_count, is_weight, rise}
+use Rattle.certificate_definitions.specs.Certificates.{Version, one, two, three, four, StateLine, are_potentials, are_tables, is_dead_end_weight, is_mark, is_number, is_state_line, is_value_count, is_weight, rise, rows_of, several_of}
 use Rattle.model.proofs.ListLemmas.{Contains-cases, Contains-filter, Contains-here, Contains-none, Contains-range, Contains-there, filter-Contains}
 use Rattle.certificate_reader.proofs.NumbersRead.{rise_parts}
 use Rattle.certificate.specs.ListedSets.{Marked, line_with, lines_with, marked, numbers_of}
 use Rattle.certificate.specs.declared.cert.Cert.{Cert}
 use Rattle.certificate.specs.CertificateParts.{listed_of}
-use Rattle.certificate.specs.declared.header.Potential.{Potential}
+use Rattle.certificate.specs.declared.evidence.Potential.{Potential}
 use Rattle.certificate.specs.declared.states.Listed.{Listed}
 use Rattle.certificate.specs.declared.states.States.{States}
-use Rattle.certificate.specs.CertificateParts.{certificate_with, potential_of}
+use Rattle.certificate.specs.CertificateParts.{certificate_with}
+use Rattle.certificate.specs.Evidence.{line_count, potential_of}
 use Rattle.certificate.specs.Certificate.{certificate_of, store_in}
-use Rattle.certificate.proofs.LimitsLemmas.{Limits, limits_of}
+use Rattle.certificate.proofs.LimitsLemmas.{Limits, few_values, few_zones, limits_of}
 use Rattle.certificate.proofs.SetsLemmas.{numbers_back, rise_below}
 use Rattle.certificate.proofs.WideningLemmas.{IsBelow, has-at_width, length-at_width}
 
@@ -158,7 +159,7 @@ lines_wide count wide (mark ∷ marks) (set ∷ sets) enough same rises =
 
 set_lengths : (store : PooledStore) → All (λ (set : List Bool). length set ≡ pooled_width store) (pooled_states store)
 unfolding sets_in
-set_lengths store = All-map (λ (set : List Bool). length set ≡ store.width) (bits_in store.width) (rows_of store.pool) (λ k d within. length-bits store.width (get_or (rows_of store.pool) k d))
+set_lengths store = All-map (λ (set : List Bool). length set ≡ store.width) (bits_in store.width) (pooled.rows_of store.pool) (λ k d within. length-bits store.width (get_or (pooled.rows_of store.pool) k d))
 
 -- the meaning of a potential function's limits
 pub potential_parts : (is_in_range : ℤ → Bool) (count : ℕ) (p : PotentialFunction) → are_potentials is_in_range count p ≡ true
@@ -178,6 +179,7 @@ dead_end_weight one (pos (suc n)) is = absurd (cc)
 dead_end_weight one (negsuc n) is = absurd (cc)
 dead_end_weight two w is = is
 dead_end_weight three w is = is
+dead_end_weight four w is = is
 
 dead_end_weights_are : (version : Version) (weights : List ℤ) → list_all (is_dead_end_weight version) weights ≡ true → list_all is_weight weights ≡ true
 dead_end_weights_are version [] are = refl
@@ -220,17 +222,17 @@ module _ (cert : Cert) where
   rises : All (Rises count) sets
   rises = all_rise version count marks sets as_many limits.lines
 
-  pub value_count_kept : is_value_count version (length cert.header.bounds.values.items) ≡ true
-  value_count_kept = ap (is_value_count version) (sym (length-map cert.header.bounds.values.items potential_of)) ∙ limits.value_count
+  pub value_count_kept : is_value_count version (length cert.header.evidence.values.items) ≡ true
+  value_count_kept = ap (is_value_count version) (sym (length-map cert.header.evidence.values.items potential_of)) ∙ limits.value_count
 
-  pub values_kept : All (λ (p : Potential). are_potentials is_weight count (potential_of p) ≡ true) cert.header.bounds.values.items
-  values_kept = all_kept (are_potentials is_weight count) potential_of cert.header.bounds.values.items limits.values
+  pub values_kept : All (λ (p : Potential). are_potentials is_weight count (potential_of p) ≡ true) cert.header.evidence.values.items
+  values_kept = all_kept (are_potentials is_weight count) potential_of cert.header.evidence.values.items limits.values
 
-  pub dead_ends_kept : are_potentials is_weight count (potential_of cert.header.bounds.dead_ends) ≡ true
-  dead_ends_kept = dead_ends_are version count (potential_of cert.header.bounds.dead_ends) limits.dead_ends
+  pub dead_ends_kept : are_potentials is_weight count (potential_of cert.header.evidence.dead_ends) ≡ true
+  dead_ends_kept = dead_ends_are version count (potential_of cert.header.evidence.dead_ends) limits.dead_ends
 
-  pub tables_kept : are_tables version count (length cert.header.bounds.values.items + 1) (certificate_of cert).tables ≡ true
-  tables_kept = ap (λ n. are_tables version count (n + 1) (certificate_of cert).tables) (sym (length-map cert.header.bounds.values.items potential_of)) ∙ limits.tables
+  pub tables_kept : are_tables version count (length cert.header.evidence.values.items + 1) (certificate_of cert).tables ≡ true
+  tables_kept = ap (λ n. are_tables version count (n + 1) (certificate_of cert).tables) (sym (length-map cert.header.evidence.values.items potential_of)) ∙ limits.tables
 
   pub marks_are : map listed_of cert.states.marks.items ≡ map marked (certificate_of cert).lines
   marks_are = sym (marked_back marks sets as_many)
@@ -241,6 +243,19 @@ module _ (cert : Cert) where
 
   pub few_atoms : length (certificate_of cert).atoms ≤ 1048576
   few_atoms = leb-true count 1048576 limits.few_atoms
+
+  pub few_exchanges : length (certificate_of cert).exchanges ≤ 1048576
+  few_exchanges = leb-true (length (certificate_of cert).exchanges) 1048576 limits.few_exchanges
+
+  -- the lines of all parts
+  pub few_parts : line_count (several_of (certificate_of cert)) (certificate_of cert).landmarks ≤ 41943040
+  few_parts =
+      let c = certificate_of cert in
+      let tables = leb-true (length c.tables) 4194304 limits.few_tables in
+      let rows = leb-true (length (rows_of c.tables)) 4194304 limits.few_rows in
+      let zones = few_zones c limits in
+      let values = few_values c limits in
+      omega (arith, tables, rows, zones, values)
 
   pub few_lines : length (certificate_of cert).lines ≤ 16777216
   few_lines = leb-true (length (certificate_of cert).lines) 16777216 limits.few_lines
@@ -265,4 +280,4 @@ module _ (cert : Cert) where
     same_certificate states same are =
         let lines = (λ i. lines_with (map listed_of (same i)) (are i)) ∙ lines_wide count wide marks sets enough as_many rises in
         let c = certificate_of cert in
-        λ i. record { version = c.version; claim = c.claim; exchanges = c.exchanges; atoms = c.atoms; values = c.values; dead_ends = c.dead_ends; tables = c.tables; lines = lines i }
+        λ i. record { version = c.version; claim = c.claim; exchanges = c.exchanges; atoms = c.atoms; values = c.values; dead_ends = c.dead_ends; tables = c.tables; landmarks = c.landmarks; lines = lines i }

@@ -15,4 +15,4 @@ store_in cert = cert.states.sets
 
 -- its tables in memory
 abbrev pub tables_in : Cert → List Table
-tables_in cert = cert.header.bounds.tables.items
+tables_in cert = cert.header.evidence.tables.items

@@ -1,4 +1,5 @@
 pub mod CertificateParts
+pub mod Evidence
 pub mod Certificate
 pub mod Gathering
 pub mod ListedSets

@@ -4,8 +4,9 @@ ghost use Rattle.certificate_definitions.specs.Certificates.{keeps_limits};
 ghost use Rattle.packed_state.specs.PooledView.{pooled_states};
 ghost use Rattle.certificate.specs.CertificateParts.{certificate_with};
 
-use crate::header::{Bounds, Header};
-use crate::limits::{keeps_limits, row_count};
+use crate::evidence::Evidence;
+use crate::header::Header;
+use crate::limits::keeps_limits;
 use crate::listing::states_of;
 use crate::states::{Listed, States};
 use crate::widening::widened;
@@ -15,8 +16,8 @@ use packed_state::{Packed, PooledStore, StateStore};
 use std::alloc::Global;
 use task::{Atom, ObjectId};
 
-/// A certificate of a task, within the limits of a certificate's text: its version, claim, exchanges and atoms, the bounds of
-/// plan costs, and the states it lists, as sets of its atoms' numbers.
+/// A certificate of a task, within the limits of a certificate's text: its version, claim, exchanges and atoms, the evidence that
+/// its lines rest on, and the states it lists, as sets of its atoms' numbers.
 #[derive(Drop)]
 pub struct Cert {
     header: Header,
@@ -31,11 +32,15 @@ impl Cert {
     ghost use Rattle.packed_state.specs.Packed.{bits_of};
     ghost use Rattle.packed_state.specs.PooledView.{pooled_width};
     ghost use Rattle.certificate_definitions.specs.CertificateRefusals.{state_line};
-    ghost use Rattle.certificate_definitions.specs.Certificates.{are_potentials, are_tables, is_value_count, is_weight, several_of};
+    ghost use Rattle.certificate_definitions.specs.Certificates as certificates;
+    ghost use Rattle.certificate_definitions.specs.Certificates.{are_landmarks, are_potentials, are_tables, has_basis, is_value_count, is_weight, several_of};
+    ghost use Rattle.std.specs.List.{list_all};
+    ghost use Rattle.landmark_zones.specs.Landmarks.{landmarks_of};
     ghost use Rattle.certificate_reader.specs.Lines.{claim_of, line_of, version_of};
     ghost use Rattle.certificate_reader.specs.declared.line.TheConstants.{MAX_ATOMS, MAX_STATE_LINES, MAX_SWAPS};
-    ghost use Rattle.certificate.specs.declared.header.Potential as header;
-    ghost use Rattle.certificate.specs.CertificateParts.{bounds_of, certificate_with_lines, exchange_in, listed_of, potential_of};
+    ghost use Rattle.certificate.specs.declared.evidence.Potential as code;
+    ghost use Rattle.certificate.specs.CertificateParts.{certificate_with_lines, exchange_in, listed_of};
+    ghost use Rattle.certificate.specs.Evidence.{evidence_of, potential_of};
     ghost use Rattle.certificate.specs.ListedSets.{marked};
     ghost use Rattle.certificate.specs.Listing.{ListOnce};
     ghost use Rattle.certificate.specs.Certificate.{certificate_of, store_in, tables_in};
@@ -65,7 +70,7 @@ impl Cert {
         requires marked { length states.marks.items ≡ length (pooled_states states.sets) }
         ensures certificate { certificate_of result ≡ certificate_with header states }
         ensures sets { store_in result ≡ states.sets }
-        ensures tables { tables_in result ≡ header.bounds.tables.items }
+        ensures tables { tables_in result ≡ header.evidence.tables.items }
     {
         Cert { header, states }
     }
@@ -92,16 +97,18 @@ impl Cert {
         self.header.exchanges.as_slice()
     }
 
-    /// The bounds of plan costs, within the limits of a certificate's text: each potential function has one weight per atom.
-    pub fn bounds(&self) -> &Bounds
-        ensures bounds { bounds_of result.now ≡ several_of (certificate_of self.now) }
+    /// What its state lines rest on, within the limits of a certificate's text: each potential function has one weight per atom.
+    pub fn evidence(&self) -> &Evidence
+        ensures evidence { evidence_of result.now ≡ several_of (certificate_of self.now) }
         ensures value_count { IsTrue (is_value_count (certificate_of self.now).version (length result.now.values.items)) }
-        ensures values { All (λ (p : header.Potential). IsTrue (are_potentials is_weight (length (certificate_of self.now).atoms) (potential_of p))) result.now.values.items }
+        ensures values { All (λ (p : code.Potential). IsTrue (are_potentials is_weight (length (certificate_of self.now).atoms) (potential_of p))) result.now.values.items }
         ensures dead_ends { IsTrue (are_potentials is_weight (length (certificate_of self.now).atoms) (potential_of result.now.dead_ends)) }
         ensures tables { IsTrue (are_tables (certificate_of self.now).version (length (certificate_of self.now).atoms) (length result.now.values.items + 1) (certificate_of self.now).tables) }
         ensures in_memory { result.now.tables.items ≡ tables_in self.now }
+        ensures landmarks { landmarks_of result.now.landmarks ≡ (certificate_of self.now).landmarks }
+        ensures landmark_limits { IsTrue (are_landmarks (certificate_of self.now).version (length (certificate_of self.now).atoms) (certificate_of self.now).landmarks) }
     {
-        &self.header.bounds
+        &self.header.evidence
     }
 
     /// Its atoms, which its states refer to by index, from 0.
@@ -112,10 +119,11 @@ impl Cert {
         self.header.atoms.as_slice()
     }
 
-    /// The costs and roles of its states, in line order.
+    /// The costs and roles of its states, in line order. There is the landmark value that each rests on, if any.
     pub fn marks(&self) -> &[Listed]
         ensures marks { map listed_of result.now ≡ map marked (certificate_of self.now).lines }
         ensures at_most { length result.now ≤ MAX_STATE_LINES }
+        ensures bases { IsTrue (list_all (λ (l : certificates.StateLine). has_basis (length (certificate_of self.now).landmarks.values) l.mark) (certificate_of self.now).lines) }
     {
         self.states.marks.as_slice()
     }
@@ -127,16 +135,15 @@ impl Cert {
         &self.states.sets
     }
 
-    /// The number of the line of its first state, from 1. Each exchange, atom, table and row before it has a line.
+    /// The number of the line of its first state, from 1. Each exchange, atom, table, row, zone and landmark value before it has a
+    /// line.
     pub fn first_state_line(&self) -> u64
         ensures line { result ≡ state_line (certificate_of self.now) 0 }
         ensures small { result < 2 ^ 32 }
     {
-        let tables = self.header.bounds.tables.as_slice();
         4 + self.header.exchanges.len() as u64
             + self.header.atoms.len() as u64
-            + tables.len() as u64
-            + row_count(tables)
+            + self.header.evidence.line_count()
     }
 
     /// The number of states that it lists.

@@ -1,9 +1,10 @@
-//! A certificate in memory (the claim, the values, the tables and the listing as sets of numbers), and its unique text.
+//! A certificate in memory (the claim, what its lines rest on, and the listing as sets of numbers), and its unique text.
 //!
-//! It re-exports the reader of lines and the devices for texts.
+//! It re-exports the reader of lines, the landmark values and the devices for texts.
 #![tactic(auto)]
 
 mod cert;
+mod evidence;
 mod header;
 mod limits;
 mod line_text;
@@ -20,6 +21,8 @@ pub use certificate_reader::{
     texts_are_certificates_one_for_one,
 };
 pub use devices::{Device, DeviceFault, IoFault, Memory, Sink, Source, write_all};
-pub use header::{Bounds, Header, Potential};
+pub use evidence::{Evidence, Potential};
+pub use header::Header;
+pub use landmark_zones::{Landmarks, Share, ZoneRef};
 pub use states::{Listed, States};
 pub use writer::write_cert;

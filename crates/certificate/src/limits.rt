@@ -1,18 +1,22 @@
 //! The limits of a certificate's text.
-ghost use Rattle.std.specs.Prelude.{◌≡◌, ◌≤◌, IsTrue, length, map, nat_le};
+ghost use Rattle.std.specs.Prelude.{◌≡◌, ◌≤◌, ◌&&◌, [], IsTrue, length, map, nat_le};
 ghost use Rattle.std.specs.List.{list_all};
 ghost use Rattle.certificate_definitions.specs.Certificates as certificates;
-ghost use Rattle.certificate_definitions.specs.Certificates.{is_number, is_weight, is_dead_end_weight, is_claim, is_mark, rise, is_state_line, are_potentials, is_value_count, is_row, is_table, has_tables, are_tables, rows_of, has_exchanges, are_exchanges, keeps_limits};
-ghost use Rattle.certificate_reader.specs.Lines.{claim_of, line_of, mark_of, version_of};
+ghost use Rattle.certificate_definitions.specs.Certificates.{is_number, is_weight, is_dead_end_weight, is_claim, is_basis, is_mark, has_basis, rise, is_state_line, are_potentials, is_value_count, is_row, is_table, has_tables, are_tables, rows_of, has_exchanges, are_exchanges, has_landmarks, are_landmarks, keeps_limits};
+ghost use Rattle.certificate_reader.specs.Lines.{basis_of, claim_of, line_of, mark_of, version_of};
 ghost use Rattle.certificate_reader.specs.declared.part_line.TheConstants.{MAX_ROWS};
 ghost use Rattle.table_rows.specs.Tables.{table_of};
-ghost use Rattle.certificate.specs.CertificateParts.{are_bounds, bounds_of, certificate_with_lines, exchange_in, potential_of};
+ghost use Rattle.landmark_zones.specs.Landmarks.{landmarks_of};
+ghost use Rattle.certificate.specs.CertificateParts.{certificate_with_lines, exchange_in, keeps_exchange_limits, keeps_item_limits};
+ghost use Rattle.certificate.specs.Evidence.{potential_of};
 
-use crate::header::{Bounds, Header, Potential};
+use crate::evidence::Potential;
+use crate::header::Header;
 use certificate_reader::{
-    Claim, MAX_ATOMS, MAX_CONSTANTS, MAX_ROWS, MAX_STATE_LINES, MAX_SWAPS, MAX_TABLES, MAX_WEIGHT,
-    Mark, NUMBER_LIMIT, StateLine, Version,
+    Basis, Claim, MAX_ATOMS, MAX_CONSTANTS, MAX_ROWS, MAX_STATE_LINES, MAX_SWAPS, MAX_WEIGHT, Mark,
+    NUMBER_LIMIT, StateLine, Version,
 };
+use landmark_zones::{Landmarks, MAX_VALUES};
 use table_rows::Table;
 use task::ObjectId;
 
@@ -20,14 +24,35 @@ use task::ObjectId;
 pub(crate) fn keeps_limits(header: &Header, lines: &[StateLine]) -> bool
     ensures { result ≡ keeps_limits (certificate_with_lines header.now (map line_of lines.now)) }
 {
+    if !keeps_item_limits(header, lines) {
+        return false;
+    }
+    let evidence = &header.evidence;
+    if !evidence.keep_limits(header.version, header.atoms.len()) {
+        return false;
+    }
+    if !keeps_exchange_limits(header) {
+        return false;
+    }
+    have_bases(lines, evidence.landmarks.value_count())
+}
+
+/// Whether the claim, the atoms and each of the lines by itself are within their limits.
+fn keeps_item_limits(header: &Header, lines: &[StateLine]) -> bool
+    ensures { result ≡ keeps_item_limits (certificate_with_lines header.now (map line_of lines.now)) }
+{
     let atom_count = header.atoms.len();
     is_claim(header.claim)
         && atom_count <= MAX_ATOMS
         && lines.len() <= MAX_STATE_LINES
         && are_state_lines(header.version, lines, atom_count)
-        && are_bounds(header.version, &header.bounds, atom_count)
-        && are_exchanges(header.version, &header.exchanges)
-        && header.exchanges.len() <= MAX_SWAPS
+}
+
+/// Whether the exchanges are within their limits.
+fn keeps_exchange_limits(header: &Header) -> bool
+    ensures { result ≡ keeps_exchange_limits (certificate_with_lines header.now []) }
+{
+    are_exchanges(header.version, &header.exchanges) && header.exchanges.len() <= MAX_SWAPS
 }
 
 /// Whether a certificate of this version may have these exchanges. Each must have at least one pair of objects.
@@ -46,28 +71,16 @@ fn are_exchanges(version: Version, exchanges: &[Vec<(ObjectId, ObjectId)>]) -> b
 fn has_exchanges(version: Version) -> bool
     ensures { result ≡ has_exchanges (version_of version) }
 {
-    version == Version::Three
-}
-
-/// Whether a certificate of this version and with this many atoms may have these bounds.
-pub(crate) fn are_bounds(version: Version, bounds: &Bounds, atom_count: usize) -> bool
-    ensures { result ≡ are_bounds (version_of version) atom_count (bounds_of bounds.now) }
-{
-    is_value_count(version, bounds.values.len())
-        && are_values(&bounds.values, atom_count)
-        && are_dead_ends(version, &bounds.dead_ends, atom_count)
-        && are_tables(version, &bounds.tables, atom_count, bounds.values.len() + 1)
-        && bounds.tables.len() <= MAX_TABLES
-        && are_few_rows(&bounds.tables)
+    version == Version::Three || version == Version::Four
 }
 
 /// Whether a certificate of this version may have this many values.
-fn is_value_count(version: Version, count: usize) -> bool
+pub(crate) fn is_value_count(version: Version, count: usize) -> bool
     ensures { result ≡ is_value_count (version_of version) count }
 {
     match version {
         Version::One | Version::Two => count == 1,
-        Version::Three => 1 <= count && count < MAX_CONSTANTS,
+        Version::Three | Version::Four => 1 <= count && count < MAX_CONSTANTS,
     }
 }
 
@@ -89,7 +102,7 @@ fn is_claim(claim: Claim) -> bool
 }
 
 /// Whether each value has a constant and a weight for each of this many atoms.
-fn are_values(values: &[Potential], atom_count: usize) -> bool
+pub(crate) fn are_values(values: &[Potential], atom_count: usize) -> bool
     ensures { result ≡ list_all (are_potentials is_weight atom_count) (map potential_of values.now) }
 {
     for value in values {
@@ -110,7 +123,7 @@ fn are_potentials(potential: &Potential, atom_count: usize) -> bool
 }
 
 /// Whether this potential function may detect dead ends in a certificate of this version and with this many atoms.
-fn are_dead_ends(version: Version, potential: &Potential, atom_count: usize) -> bool
+pub(crate) fn are_dead_ends(version: Version, potential: &Potential, atom_count: usize) -> bool
     ensures { result ≡ are_potentials (is_dead_end_weight (version_of version)) atom_count (potential_of potential.now) }
 {
     is_dead_end_weight(version, potential.constant)
@@ -147,7 +160,7 @@ fn is_dead_end_weight(version: Version, number: i64) -> bool
 {
     match version {
         Version::One => number == 0,
-        Version::Two | Version::Three => is_weight(number),
+        Version::Two | Version::Three | Version::Four => is_weight(number),
     }
 }
 
@@ -176,8 +189,43 @@ fn is_mark(version: Version, mark: Mark) -> bool
 {
     match mark {
         Mark::Open => true,
-        Mark::Cut { rest, .. } => is_number(rest),
-        Mark::Dead { .. } => version != Version::One,
+        Mark::Cut { by, rest } => is_basis(version, by) && is_number(rest),
+        Mark::Dead { by } => version != Version::One && is_basis(version, by),
+    }
+}
+
+/// Whether a line of a certificate of this version may rest on this.
+fn is_basis(version: Version, basis: Basis) -> bool
+    ensures { result ≡ is_basis (version_of version) (basis_of basis) }
+{
+    match basis {
+        Basis::OfAll => true,
+        Basis::Landmark(number) => has_landmarks(version) && (number as usize) < MAX_VALUES,
+    }
+}
+
+/// Whether, of this many landmark values, there are those that the lines rest on.
+fn have_bases(lines: &[StateLine], value_count: usize) -> bool
+    ensures { result ≡ list_all (λ (l : certificates.StateLine). has_basis value_count l.mark) (map line_of lines.now) }
+{
+    for line in lines {
+        if !has_basis(line.mark, value_count) {
+            return false;
+        }
+    }
+    true
+}
+
+/// Whether, of this many landmark values, there is the one that the state's role rests on, if any.
+fn has_basis(mark: Mark, value_count: usize) -> bool
+    ensures { result ≡ has_basis value_count (mark_of mark) }
+{
+    match mark {
+        Mark::Open => true,
+        Mark::Cut { by, .. } | Mark::Dead { by } => match by {
+            Basis::OfAll => true,
+            Basis::Landmark(number) => (number as usize) < value_count,
+        },
     }
 }
 
@@ -197,7 +245,12 @@ fn rise(numbers: &[u32], atom_count: usize) -> bool
 }
 
 /// Whether a certificate of this version and with this many atoms may have these tables, whose rows have this many weights.
-fn are_tables(version: Version, tables: &[Table], atom_count: usize, weight_count: usize) -> bool
+pub(crate) fn are_tables(
+    version: Version,
+    tables: &[Table],
+    atom_count: usize,
+    weight_count: usize,
+) -> bool
     ensures { result ≡ are_tables (version_of version) atom_count weight_count (map table_of tables.now) }
 {
     for table in tables {
@@ -214,7 +267,7 @@ fn has_tables(version: Version) -> bool
 {
     match version {
         Version::One | Version::Two => false,
-        Version::Three => true,
+        Version::Three | Version::Four => true,
     }
 }
 
@@ -249,7 +302,7 @@ fn are_row_weights(weights: &[i64], count: usize) -> bool
 }
 
 /// Whether the tables have no more rows in total than a certificate may have.
-fn are_few_rows(tables: &[Table]) -> bool
+pub(crate) fn are_few_rows(tables: &[Table]) -> bool
     ensures { result ≡ nat_le (length (rows_of (map table_of tables.now))) MAX_ROWS }
 {
     let mut room = MAX_ROWS;
@@ -272,4 +325,25 @@ pub(crate) fn row_count(tables: &[Table]) -> u64
         count += table.row_count() as u64;
     }
     count
+}
+
+/// Whether a certificate of this version and with this many atoms may have these zones and landmark values.
+pub(crate) fn are_landmarks(version: Version, landmarks: &Landmarks, atom_count: usize) -> bool
+    ensures { result ≡ are_landmarks (version_of version) atom_count (landmarks_of landmarks.now) }
+{
+    (has_landmarks(version) || is_empty(landmarks)) && landmarks.keep_limits(atom_count)
+}
+
+/// Whether a certificate of this version may have landmark values.
+fn has_landmarks(version: Version) -> bool
+    ensures { result ≡ has_landmarks (version_of version) }
+{
+    version == Version::Four
+}
+
+/// Whether there are no zones and no values.
+fn is_empty(landmarks: &Landmarks) -> bool
+    ensures { result ≡ (nat_le (length (landmarks_of landmarks.now).zones) 0 && nat_le (length (landmarks_of landmarks.now).values) 0) }
+{
+    landmarks.zone_count() == 0 && landmarks.value_count() == 0
 }

@@ -9,15 +9,16 @@ ghost use Rattle.certificate_reader.specs.Lines.{claim_of, line_of, mark_of, ver
 ghost use Rattle.certificate_definitions.specs.CertificateText as line;
 ghost use Rattle.certificate_definitions.specs.CertificateText.{claims, last, line_text, mark_text, weights_text, whole_line};
 ghost use Rattle.certificate_definitions.specs.CertificateNames.{named_atom, predicate_name, weights_in};
-ghost use Rattle.certificate.specs.declared.header.Potential as header;
-ghost use Rattle.certificate.specs.CertificateParts.{bounds_of, constants_in, weights_at};
+ghost use Rattle.certificate.specs.declared.evidence.Potential as code;
+ghost use Rattle.certificate.specs.Evidence.{evidence_of, constants_in, weights_at};
 ghost use Rattle.symmetries_definitions.specs.Exchanges.{objects_in};
 ghost use Rattle.symmetries.specs.ObjectPairs.{pairs_in};
 ghost use Rattle.certificate.specs.Gathering.{atom_line, number_text, row_line, scope_line, state_line, swap_line, weight_text};
 
-use crate::header::Bounds;
+use crate::evidence::Evidence;
 use certificate_reader::{Basis, Claim, Mark, StateLine, Version};
 use itoa::Buffer;
+use landmark_zones::{add_cut_by, add_dead_by};
 use std::alloc::AllocError;
 use task::{Atom, ObjectId, PredicateId, Task};
 
@@ -25,15 +26,15 @@ use task::{Atom, ObjectId, PredicateId, Task};
 pub(crate) fn add_head(
     version: Version,
     claim: Claim,
-    bounds: &Bounds,
+    evidence: &Evidence,
     text: &mut Vec<u8>,
 ) -> Result<(), AllocError>
-    ensures { OnOk result (text.new.items ≡ text.old.items ++ (whole_line (line.version (version_of version)) ++ whole_line (claims (claim_of claim)) ++ whole_line (line.constant (constants_in (version_of version) (bounds_of bounds.now))))) }
+    ensures { OnOk result (text.new.items ≡ text.old.items ++ (whole_line (line.version (version_of version)) ++ whole_line (claims (claim_of claim)) ++ whole_line (line.constant (constants_in (version_of version) (evidence_of evidence.now))))) }
 {
     text.extend_from_slice(version_line(version))?;
     add_claim(claim, text)?;
     text.extend_from_slice(b"\nconstant")?;
-    add_constants(version, bounds, text)?;
+    add_constants(version, evidence, text)?;
     text.extend_from_slice(b"\n")
 }
 
@@ -45,6 +46,7 @@ fn version_line(version: Version) -> &'static [u8]
         Version::One => b"pddl-cert 1\n",
         Version::Two => b"pddl-cert 2\n",
         Version::Three => b"pddl-cert 3\n",
+        Version::Four => b"pddl-cert 4\n",
     }
 }
 
@@ -59,13 +61,17 @@ fn add_claim(claim: Claim, text: &mut Vec<u8>) -> Result<(), AllocError>
 }
 
 /// Adds the constants of the values and, from version 2 on, that of dead ends, with a blank before each.
-fn add_constants(version: Version, bounds: &Bounds, text: &mut Vec<u8>) -> Result<(), AllocError>
-    ensures { OnOk result (text.new.items ≡ text.old.items ++ weights_text (constants_in (version_of version) (bounds_of bounds.now))) }
+fn add_constants(
+    version: Version,
+    evidence: &Evidence,
+    text: &mut Vec<u8>,
+) -> Result<(), AllocError>
+    ensures { OnOk result (text.new.items ≡ text.old.items ++ weights_text (constants_in (version_of version) (evidence_of evidence.now))) }
 {
-    for value in &bounds.values {
+    for value in &evidence.values {
         add_weight(value.constant, text)?;
     }
-    add_dead_end_weight(version, bounds.dead_ends.constant, text)
+    add_dead_end_weight(version, evidence.dead_ends.constant, text)
 }
 
 /// Adds the line of an exchange, with the names of the objects in each pair.
@@ -102,15 +108,15 @@ pub(crate) fn add_atom(
     atom: &Atom,
     place: usize,
     version: Version,
-    bounds: &Bounds,
+    evidence: &Evidence,
     text: &mut Vec<u8>,
 ) -> Result<(), AllocError>
-    requires values { All (λ (p : header.Potential). place < length p.weights.items) bounds.now.values.items }
-    requires dead_ends { place < length bounds.now.dead_ends.weights.items }
-    ensures { OnOk result (text.new.items ≡ text.old.items ++ atom_line (record { weights = weights_at (version_of version) (bounds_of bounds.now) place; atom = named_atom (task_of task.now) (atom_of atom.now) })) }
+    requires values { All (λ (p : code.Potential). place < length p.weights.items) evidence.now.values.items }
+    requires dead_ends { place < length evidence.now.dead_ends.weights.items }
+    ensures { OnOk result (text.new.items ≡ text.old.items ++ atom_line (record { weights = weights_at (version_of version) (evidence_of evidence.now) place; atom = named_atom (task_of task.now) (atom_of atom.now) })) }
 {
     text.extend_from_slice(b"atom")?;
-    add_weights_at(place, version, bounds, text)?;
+    add_weights_at(place, version, evidence, text)?;
     text.extend_from_slice(b" (")?;
     text.extend_from_slice(predicate_name(task, atom.predicate))?;
     add_names(task, atom.objects.as_slice(), text)?;
@@ -122,17 +128,17 @@ pub(crate) fn add_atom(
 fn add_weights_at(
     place: usize,
     version: Version,
-    bounds: &Bounds,
+    evidence: &Evidence,
     text: &mut Vec<u8>,
 ) -> Result<(), AllocError>
-    requires values { All (λ (p : header.Potential). place < length p.weights.items) bounds.now.values.items }
-    requires dead_ends { place < length bounds.now.dead_ends.weights.items }
-    ensures { OnOk result (text.new.items ≡ text.old.items ++ weights_text (weights_at (version_of version) (bounds_of bounds.now) place)) }
+    requires values { All (λ (p : code.Potential). place < length p.weights.items) evidence.now.values.items }
+    requires dead_ends { place < length evidence.now.dead_ends.weights.items }
+    ensures { OnOk result (text.new.items ≡ text.old.items ++ weights_text (weights_at (version_of version) (evidence_of evidence.now) place)) }
 {
-    for value in &bounds.values {
+    for value in &evidence.values {
         add_weight(value.weights[place], text)?;
     }
-    add_dead_end_weight(version, bounds.dead_ends.weights[place], text)
+    add_dead_end_weight(version, evidence.dead_ends.weights[place], text)
 }
 
 /// Adds a constant or a weight of dead ends, with a blank before it; version 1 writes none.
@@ -141,7 +147,7 @@ fn add_dead_end_weight(version: Version, weight: i64, text: &mut Vec<u8>) -> Res
 {
     match version {
         Version::One => Ok(()),
-        Version::Two | Version::Three => add_weight(weight, text),
+        Version::Two | Version::Three | Version::Four => add_weight(weight, text),
     }
 }
 
@@ -201,7 +207,8 @@ fn add_numbers(numbers: &[u32], text: &mut Vec<u8>) -> Result<(), AllocError>
     Ok(())
 }
 
-/// Adds a state's role and its cost, and for a cut the lower bound of the remaining cost.
+/// Adds a state's role, the number of the landmark value that it rests on, if any, its cost, and for a cut the lower bound of the
+/// remaining cost.
 fn add_mark(mark: Mark, cost: u64, text: &mut Vec<u8>) -> Result<(), AllocError>
     ensures { OnOk result (text.new.items ≡ text.old.items ++ mark_text (mark_of mark) cost) }
 {
@@ -214,7 +221,14 @@ fn add_mark(mark: Mark, cost: u64, text: &mut Vec<u8>) -> Result<(), AllocError>
             add_number(b"cut ", cost, text)?;
             add_number(b" ", rest, text)
         }
+        Mark::Cut {
+            by: Basis::Landmark(value),
+            rest,
+        } => add_cut_by(value, cost, rest, text),
         Mark::Dead { by: Basis::OfAll } => add_number(b"dead ", cost, text),
+        Mark::Dead {
+            by: Basis::Landmark(value),
+        } => add_dead_by(value, cost, text),
     }
 }
 

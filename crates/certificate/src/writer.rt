@@ -7,13 +7,15 @@ ghost use Rattle.task.specs.Task.{task_of};
 ghost use Rattle.certificate.specs.Certificate.{certificate_of};
 ghost use Rattle.certificate_definitions.specs.CertificateNames.{certificate_text};
 ghost use Rattle.table_rows.specs.Tables.{table_of};
+ghost use Rattle.landmark_zones.specs.Landmarks.{landmarks_of};
 ghost use Rattle.certificate.specs.CertificateParts.{exchange_in};
-ghost use Rattle.certificate.specs.Gathering.{IsPassedOn, atom_line, atoms_weighed, row_line, state_line, swap_line, table_text};
+ghost use Rattle.certificate.specs.Gathering.{IsPassedOn, atom_line, atoms_weighed, landmarks_text, row_line, state_line, swap_line, table_text, value_line, zone_line};
 
 use crate::cert::Cert;
 use crate::line_text::{add_atom, add_exchange, add_head, add_last, add_row, add_scope, add_state};
 use certificate_reader::{Mark, StateLine};
 use devices::{IoFault, Sink, write_all};
+use landmark_zones::{Landmarks, add_value, add_zone};
 use packed_state::{Packed, StateStore};
 use std::alloc::Global;
 use table_rows::Table;
@@ -23,7 +25,8 @@ use task::{ObjectId, Task};
 const PIECE: usize = 65_536;
 
 /// Writes the text of a certificate of the task, line by line: the version, the claim and the constants; a line for each exchange
-/// and for each atom, by names; the lines of each table; a line for each listed state; and last the number of listed states.
+/// and for each atom, by names; the lines of each table; a line for each zone and for each landmark value; a line for each listed
+/// state; and last the number of listed states.
 ///
 /// # Errors
 /// The device failed, or an allocation failed. A prefix of the text has then been written.
@@ -46,10 +49,10 @@ pub fn write_cert<W: Sink>(
     ensures name { W.name out.new ≡ W.name out.old }
 {
     let mut held = Vec::new(alloc);
-    add_head(cert.version(), cert.claim(), cert.bounds(), &mut held)?;
+    add_head(cert.version(), cert.claim(), cert.evidence(), &mut held)?;
     write_exchanges(task, cert.exchanges(), &mut held, out)?;
     write_atoms(task, cert, &mut held, out)?;
-    write_tables(alloc, &cert.bounds().tables, &mut held, out)?;
+    cert.evidence().write_parts(alloc, &mut held, out)?;
     write_states(alloc, cert, &mut held, out)?;
     add_last(cert.line_count(), &mut held)?;
     write_all(out, held.as_slice())
@@ -86,16 +89,16 @@ fn write_atoms<W: Sink>(
     ensures failures { CountsDevice (W.failures out.old) (W.failures out.new) result }
     ensures name { W.name out.new ≡ W.name out.old }
 {
-    let (version, bounds, atoms) = (cert.version(), cert.bounds(), cert.atoms());
+    let (version, evidence, atoms) = (cert.version(), cert.evidence(), cert.atoms());
     for place in 0..atoms.len() {
-        add_atom(task, &atoms[place], place, version, bounds, held)?;
+        add_atom(task, &atoms[place], place, version, evidence, held)?;
         pass_on(held, out)?;
     }
     Ok(())
 }
 
 /// Writes the lines of the tables after the buffered bytes.
-fn write_tables<W: Sink>(
+pub(crate) fn write_tables<W: Sink>(
     alloc: Global,
     tables: &[Table],
     held: &mut Vec<u8>,
@@ -150,6 +153,57 @@ fn write_rows<W: Sink>(
             return Err(IoFault::NoMemory);
         };
         add_row(table.weights(row as u32), &atoms, held)?;
+        pass_on(held, out)?;
+    }
+    Ok(())
+}
+
+/// Writes the lines of the zones, and then those of the landmark values, after the buffered bytes.
+pub(crate) fn write_landmarks<W: Sink>(
+    landmarks: &Landmarks,
+    held: &mut Vec<u8>,
+    out: &mut W,
+) -> Result<(), IoFault>
+    ensures text { OnOk result (IsPassedOn (W.taken out.old) (W.taken out.new) held.old.items held.new.items (landmarks_text (landmarks_of landmarks.now))) }
+    ensures beginning { AppendsBeginning (W.taken out.old) (W.taken out.new) (held.old.items ++ landmarks_text (landmarks_of landmarks.now)) }
+    ensures failures { CountsDevice (W.failures out.old) (W.failures out.new) result }
+    ensures name { W.name out.new ≡ W.name out.old }
+{
+    write_zones(landmarks, held, out)?;
+    write_values(landmarks, held, out)
+}
+
+/// Writes the lines of the zones after the buffered bytes.
+fn write_zones<W: Sink>(
+    landmarks: &Landmarks,
+    held: &mut Vec<u8>,
+    out: &mut W,
+) -> Result<(), IoFault>
+    ensures text { OnOk result (IsPassedOn (W.taken out.old) (W.taken out.new) held.old.items held.new.items (flat_map zone_line (landmarks_of landmarks.now).zones)) }
+    ensures beginning { AppendsBeginning (W.taken out.old) (W.taken out.new) (held.old.items ++ flat_map zone_line (landmarks_of landmarks.now).zones) }
+    ensures failures { CountsDevice (W.failures out.old) (W.failures out.new) result }
+    ensures name { W.name out.new ≡ W.name out.old }
+{
+    for number in 0..landmarks.zone_count() {
+        add_zone(landmarks.zone(number), held)?;
+        pass_on(held, out)?;
+    }
+    Ok(())
+}
+
+/// Writes the lines of the landmark values after the buffered bytes.
+fn write_values<W: Sink>(
+    landmarks: &Landmarks,
+    held: &mut Vec<u8>,
+    out: &mut W,
+) -> Result<(), IoFault>
+    ensures text { OnOk result (IsPassedOn (W.taken out.old) (W.taken out.new) held.old.items held.new.items (flat_map value_line (landmarks_of landmarks.now).values)) }
+    ensures beginning { AppendsBeginning (W.taken out.old) (W.taken out.new) (held.old.items ++ flat_map value_line (landmarks_of landmarks.now).values) }
+    ensures failures { CountsDevice (W.failures out.old) (W.failures out.new) result }
+    ensures name { W.name out.new ≡ W.name out.old }
+{
+    for number in 0..landmarks.value_count() {
+        add_value(landmarks.value(number), held)?;
         pass_on(held, out)?;
     }
     Ok(())

@@ -199,6 +199,8 @@ cut_closed = record {
     cuts_allowed = λ line rest at is_cut.
         the_one_line (λ (l : Line State). l.mark ≡ cut rest → 1 ≤ l.cost + rest) (start_cut 1) line at (λ is. let same : 1 ≡ rest = cc in omega (arith, same)) is_cut;
   });
+  landmarks_are_over_atoms = refl;
+  landmarks_are_fair = record { values = λ k h within. absurd (omega (arith, within)); dead_ends = λ k n within. absurd (omega (arith, within)) };
   lines_are_supported =
       let P = IsSupportedLine tie_task (weighs (bound 1) (pos 1) (negsuc 0) (cut_at 0 1 [] ∷ [])) in
       All-cons P (cut_at 0 1 []) [] (omega (arith, start_value)) (All-nil P);
@@ -267,6 +269,8 @@ dead_closed claim = record {
     open_goals_allowed = λ line at is_open goal. the_one_line (λ (l : Line State). l.mark ≡ opened → Allows claim l.cost) dead_line line at (λ is. absurd (cc)) is_open;
     cuts_allowed = λ line rest at is_cut. the_one_line (λ (l : Line State). l.mark ≡ cut rest → Allows claim (l.cost + rest)) dead_line line at (λ is. absurd (cc)) is_cut;
   });
+  landmarks_are_over_atoms = refl;
+  landmarks_are_fair = record { values = λ k h within. absurd (omega (arith, within)); dead_ends = λ k n within. absurd (omega (arith, within)) };
   lines_are_supported =
       let P = IsSupportedLine token_task (token_reported two claim (pos 2) (minus 1)) in
       All-cons P (dead_at 0 (0 ∷ [])) [] (reported_at_x one_missing) (All-nil P);
@@ -330,6 +334,8 @@ are_judged = record {
       cuts_allowed = λ line rest at is_cut.
           of_two (λ (l : Line State). l.mark ≡ cut rest → 1 ≤ l.cost + rest) first second line at (λ none. absurd (cc)) (λ is. let same : 0 ≡ rest = cc in omega (arith, same)) is_cut;
     });
+    landmarks_are_over_atoms = refl;
+    landmarks_are_fair = record { values = λ k h within. absurd (omega (arith, within)); dead_ends = λ k n within. absurd (omega (arith, within)) };
     lines_are_supported =
         let P = IsSupportedLine tie_task (claims (bound 1) (tied ∷ []) start_open) in
         All-cons P (open_at 0 []) (cut_at 1 0 (0 ∷ []) ∷ []) tt (All-cons P (cut_at 1 0 (0 ∷ [])) [] (omega arith) (All-nil P));

@@ -12,15 +12,18 @@ use Rattle.model.specs.NumberedAtoms.{numbered_atoms}
 use Rattle.model.specs.Claims.{Claim, bound, none, Allows, Line}
 use Rattle.certificate_definitions.specs.Evidence.{bare}
 use Rattle.model.specs.Fluents.{is_fluent}
-use Rattle.certificate_definitions.specs.Certificates.{Version, one, two, three, Certificate, StateLine, potentials_of, several_of, lines_of, state_of_line, is_symmetry_for, AreFairIn, IsSupported, IsClosedFor}
+use Rattle.certificate_definitions.specs.Certificates.{Version, one, two, three, four, dead_by, is_dead_by_landmark, landmark_function, Certificate, StateLine, potentials_of, several_of, lines_of, state_of_line, is_symmetry_for, AreFairIn, IsSupported, IsClosedFor}
+use Rattle.landmark_functions.specs.LandmarkFunctions.{LandmarkFunction}
+use Rattle.landmark_functions.specs.LandmarkLines.{functions_of as landmark_functions}
+use Rattle.landmark_functions.specs.FairLandmarks.{IsFair, IsDeadFair}
 use Rattle.symmetries_definitions.specs.Exchanges.{Exchange}
-use Rattle.certificate_definitions.specs.CertificateRefusals.{Reason, not_fluent, repeated, no_initial, unfair, unfair_goal, goal_open, successor_missing, successor_dearer, cut_weak, cut_not_allowed, plan_invalid, plan_dearer, limit, dead_unfair, dead_unfair_goal, not_dead, not_symmetry, MayLose, MayLoseByTables, IsUnfairIn, IsUnfairAtGoalsIn, IsDeadUnfairIn, IsDeadUnfairAtGoalsIn, IsWrongAt, IsWrong, IsPlanWithin}
+use Rattle.certificate_definitions.specs.CertificateRefusals.{Reason, not_fluent, repeated, no_initial, unfair, unfair_goal, goal_open, successor_missing, successor_dearer, cut_weak, cut_not_allowed, plan_invalid, plan_dearer, limit, dead_unfair, dead_unfair_goal, not_dead, not_symmetry, value_not_dead, value_unfair, MayLose, MayLoseByTables, IsUnfairIn, IsUnfairAtGoalsIn, IsDeadUnfairIn, IsDeadUnfairAtGoalsIn, IsWrongAt, IsWrong, IsPlanWithin}
 use Rattle.lower_bounds.specs.PotentialFunctions.{PotentialFunction}
 use Rattle.lower_bounds.specs.FairPotentials.{nothing, IsFairAt, AreFairAt}
 use Rattle.lower_bounds.specs.TableFunctions.{TableFunction, over_tables, functions_of, dead_ends_of}
 use Rattle.lower_bounds.specs.FairTables as fair_tables
 use Rattle.lower_bounds.specs.FairTables.{is_asked}
-use Rattle.model.proofs.ListLemmas.{Contains-cases, Contains-got, Contains-map, Contains-none}
+use Rattle.model.proofs.ListLemmas.{Contains-cases, Contains-filter_map, Contains-got, Contains-map, Contains-none}
 
 -- ---- elements at their indices
 
@@ -65,21 +68,25 @@ module _ (task : Task) (c : Certificate) where
   none_unfair one fair place i (is, wrong) = none_loses (cost_of task) (potentials_of c) fair.values i wrong
   none_unfair two fair place i (is, wrong) = none_loses (cost_of task) (potentials_of c) fair.values i wrong
   none_unfair three fair place i (h, at, wrong) = none_loses_by_tables (cost_of task) h (each_is_fair fair place h at) i wrong
+  none_unfair four fair place i (h, at, wrong) = none_loses_by_tables (cost_of task) h (each_is_fair fair place h at) i wrong
 
   pub goals_fair : (v : Version) → AreFairIn v task c → (place : ℕ) → IsUnfairAtGoalsIn v task c place → ⊥
   goals_fair one fair place (is, wrong) = wrong fair.values.goals
   goals_fair two fair place (is, wrong) = wrong fair.values.goals
   goals_fair three fair place (h, at, wrong) = wrong (each_is_fair fair place h at).goals
+  goals_fair four fair place (h, at, wrong) = wrong (each_is_fair fair place h at).goals
 
   pub none_dead_unfair : (v : Version) → AreFairIn v task c → (i : Instance) → IsDeadUnfairIn v task c i → ⊥
   none_dead_unfair one fair i wrong = none_loses nothing c.dead_ends fair.dead_ends i wrong
   none_dead_unfair two fair i wrong = none_loses nothing c.dead_ends fair.dead_ends i wrong
   none_dead_unfair three fair i wrong = none_loses_by_tables nothing (dead_ends_of (several_of c)) fair.dead_ends i wrong
+  none_dead_unfair four fair i wrong = none_loses_by_tables nothing (dead_ends_of (several_of c)) fair.dead_ends i wrong
 
   pub dead_goals_fair : (v : Version) → AreFairIn v task c → IsDeadUnfairAtGoalsIn v task c → ⊥
   dead_goals_fair one fair wrong = wrong fair.dead_ends.goals
   dead_goals_fair two fair wrong = wrong fair.dead_ends.goals
   dead_goals_fair three fair wrong = wrong fair.dead_ends.goals
+  dead_goals_fair four fair wrong = wrong fair.dead_ends.goals
 
 -- ---- a closed certificate's lines
 
@@ -133,6 +140,12 @@ module _ (task : Task) (c : Certificate) (closed : IsClosedFor task c) where
   right_line plan_invalid line wrong = wrong
   right_line plan_dearer line wrong = wrong
   right_line limit line wrong = wrong
+  right_line value_unfair line (place, h, is, at, wrong) =
+      let functions : List LandmarkFunction = landmark_functions c.tables c.landmarks in
+      wrong (All-contains (IsFair task (numbered_atoms task c.atoms)) functions h closed.landmarks_are_fair.values (Contains-got functions place h at))
+  right_line value_not_dead line (l, number, (place, reported, at), is_dead, wrong) =
+      wrong (All-contains (λ (number : ℕ). IsDeadFair task (numbered_atoms task c.atoms) (landmark_function c number)) (dead_by c) number closed.landmarks_are_fair.dead_ends
+      (Contains-filter_map (λ (l : StateLine). is_dead_by_landmark l.mark) c.lines l number (Contains-got c.lines place l at) (ap is_dead_by_landmark is_dead)))
 
   -- and there is no other fault except for the number of instances
   pub right : (plan : Option (List Instance)) (most : ℕ) (reason : Reason) → IsPlanWithin task c.claim plan → IsWrong task c plan most reason → reason ≡ limit
@@ -157,3 +170,5 @@ module _ (task : Task) (c : Certificate) (closed : IsClosedFor task c) where
   right plan most cut_weak within wrong = absurd wrong
   right plan most cut_not_allowed within wrong = absurd wrong
   right plan most not_dead within wrong = absurd wrong
+  right plan most value_unfair within wrong = absurd wrong
+  right plan most value_not_dead within wrong = absurd wrong

@@ -1,5 +1,6 @@
 -- The worked lines.
 use Rattle.std.proofs.Common.{[], ◌∷◌, ◌++◌, refl, arith}
+use Rattle.std.specs.Fmt.{digits}
 use Rattle.std.specs.Prelude.{pos}
 use Rattle.lower_bounds.specs.PotentialExamples.{minus}
 use Rattle.certificate_definitions.specs.CertificateText.{scope, tabled, part}
@@ -7,6 +8,7 @@ use Rattle.certificate_definitions.specs.CertificateChecking.{not_of_scope, repe
 use Rattle.certificate_definitions.specs.CertificateTextExamples.{AreTextsJudged, first_lines, zeros}
 
 pub texts_judged : AreTextsJudged
+unfolding digits
 texts_judged = record {
   whole = refl;
   without_tables = refl;
@@ -41,6 +43,19 @@ texts_judged = record {
   dead_ends_of_version_1 = refl;
   values_of_version_3 = refl;
   dead_ends_of_version_3 = refl;
+  landmarks = refl;
+  table_behind_a_zone = refl;
+  row_behind_a_zone = refl;
+  zone_behind_a_value = refl;
+  value_without_its_zone = refl;
+  atom_behind_a_zone = refl;
+  cut_by_no_value = refl;
+  zone_in_version_3 = refl;
+  cut_by_in_version_3 = refl;
+  cut_by_of_version_4 = refl;
+  cut_by_of_another_value = refl;
+  cut_by_of_version_3 = refl;
+  landmarks_in_lines = refl;
   row_of_another_scope = not_of_scope (record { atoms = 1 ∷ []; weights = zeros }) (0 ∷ []) [] (first_lines ++ part (tabled (scope (1 ∷ []))) ∷ [], refl) refl;
   row_twice = repeated_row (record { atoms = 0 ∷ 1 ∷ []; weights = zeros }) (0 ∷ 1 ∷ [])
       (record { atoms = []; weights = zeros } ∷ record { atoms = 0 ∷ 1 ∷ []; weights = minus 2 ∷ pos 0 ∷ pos 1 ∷ [] } ∷ [])

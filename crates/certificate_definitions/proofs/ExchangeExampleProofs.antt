@@ -1,6 +1,6 @@
 -- The worked certificates with exchanges.
 use Rattle.std.proofs.Common.{◌≡◌, ◌⊎◌, ◌+◌, ◌≤◌, inl, inr, Bool, true, false, true≢false, ◌&&◌, [], ◌∷◌, Some, refl, sym, ◌∙◌, ap, subst, arith}
-use Rattle.std.specs.Prelude.{◌≢◌, ℕ, List, length, get_or, AllPairs, Contains, IsTrue}
+use Rattle.std.specs.Prelude.{All, ◌≢◌, ℕ, List, length, get_or, AllPairs, Contains, IsTrue}
 use Rattle.std.specs.FinSet.{contains, from_list, contains-from_list}
 use Rattle.std.proofs.lemmas.Option.{same_Some}
 use Rattle.std.proofs.lemmas.List.Elements.{All-cons, All-contains_itself, All-nil}
@@ -29,7 +29,8 @@ use Rattle.lower_bounds.specs.TableFunctions.{Row, Table}
 use Rattle.lower_bounds.specs.FairTables.{AreFairAt, IsFair, AreFair, is_asked}
 use Rattle.lower_bounds.specs.TableLaws.{without_tables}
 use Rattle.lower_bounds.proofs.WithoutTables.{potentials_are_table_functions}
-use Rattle.certificate_definitions.specs.Certificates.{Certificate, StateLine, lines_of, is_symmetry_for, AreAlikeFor, state_of_line, IsSupported, IsClosedFor}
+use Rattle.landmark_functions.specs.FairLandmarks.{IsDeadFair}
+use Rattle.certificate_definitions.specs.Certificates.{Certificate, StateLine, dead_by, landmark_function, lines_of, is_symmetry_for, AreAlikeFor, state_of_line, IsSupported, IsClosedFor}
 use Rattle.certificate_definitions.specs.CertificateExamples.{open_at, cut_at, zeros}
 use Rattle.certificate_definitions.specs.ExchangeExamples.{lit, light, lamps, dark, second_lit, lamp_atoms, by_exchange, one_of_two, dearer_first, AreExchangesJudged}
 
@@ -171,10 +172,10 @@ zero_everywhere init c numbered =
 
 closed_for : (init : List Atom) (claim : Claim) (lines : List StateLine) → numbered_atoms (lamps init) lamp_atoms ≡ lamp_atoms → is_symmetry (lamps init) (swapping 0 1) ≡ true
     → AllPairs (λ (k l : Line State). k.state ≢ l.state) (lines_of (lamps init) (by_exchange claim lines))
-    → IsEach (IsSupportedLine (lamps init) (by_exchange claim lines)) lines
+    → IsEach (IsSupportedLine (lamps init) (by_exchange claim lines)) lines → dead_by (by_exchange claim lines) ≡ []
     → IsClosed (system_of (lamps init)) (AreAlikeFor (lamps init) (by_exchange claim lines)) claim (lines_of (lamps init) (by_exchange claim lines))
     → IsClosedFor (lamps init) (by_exchange claim lines)
-closed_for init claim lines numbered symmetric distinct supported closed =
+closed_for init claim lines numbered symmetric distinct supported none_dead closed =
     let task = lamps init in
     let c = by_exchange claim lines in
     let Fluent = λ (a : Atom). IsTrue (is_atom task a && is_fluent task a.predicate) in
@@ -196,6 +197,8 @@ closed_for init claim lines numbered symmetric distinct supported closed =
       rows_are_distinct = All-nil (λ (t : Table). AllPairs (λ (q r : Row). q.atoms ≢ r.atoms) t.rows);
       states_are_distinct = distinct;
       listing_is_closed = closed;
+      landmarks_are_over_atoms = refl;
+      landmarks_are_fair = record { values = λ k h within. absurd (omega (arith, within)); dead_ends = subst (All (λ (number : ℕ). IsDeadFair task (numbered_atoms task lamp_atoms) (landmark_function c number))) (sym none_dead) (All-nil (λ (number : ℕ). IsDeadFair task (numbered_atoms task lamp_atoms) (landmark_function c number))) };
       lines_are_supported = λ place d within. of_each (IsSupportedLine task c) lines supported (get_or lines place d) (All-contains_itself lines place d within);
     }
 
@@ -229,7 +232,7 @@ two_lines k l differ = AllPairs-cons Differ k (l ∷ []) (All-cons (Differ k) l 
 of_one : IsClosedFor dark (by_exchange (bound 1) one_of_two)
 of_one =
     let c = by_exchange (bound 1) one_of_two in
-    closed_for [] (bound 1) one_of_two dark_numbered refl (two_lines opened_dark (cut_lit 1 1) (dark_and_lit 1 refl)) (tt, (omega arith, tt))
+    closed_for [] (bound 1) one_of_two dark_numbered refl (two_lines opened_dark (cut_lit 1 1) (dark_and_lit 1 refl)) (tt, (omega arith, tt)) refl
     (closed_by dark c (opened_dark, (0, omega arith, refl), are_alike [] dark_numbered (bound 1) one_of_two [] [] refl, omega arith) (
       dark_right c (cut_lit 1 1, (1, omega arith, refl), are_alike [] dark_numbered (bound 1) one_of_two (lit 1 ∷ []) (lit 0 ∷ []) refl, omega arith)
           (cut_lit 1 1, (1, omega arith, refl), are_alike [] dark_numbered (bound 1) one_of_two (lit 1 ∷ []) (lit 1 ∷ []) refl, omega arith),
@@ -241,7 +244,7 @@ of_cheaper =
     let c = by_exchange (bound 1) dearer_first in
     closed_for [] (bound 1) dearer_first dark_numbered refl
     (AllPairs-cons Differ opened_dark (cut_lit 0 2 ∷ cut_lit 1 1 ∷ []) (All-cons (Differ opened_dark) (cut_lit 0 2) (cut_lit 1 1 ∷ []) (dark_and_lit 0 refl) (All-cons (Differ opened_dark) (cut_lit 1 1) [] (dark_and_lit 1 refl) (All-nil (Differ opened_dark))))
-    (two_lines (cut_lit 0 2) (cut_lit 1 1) first_and_second)) (tt, (omega arith, (omega arith, tt)))
+    (two_lines (cut_lit 0 2) (cut_lit 1 1) first_and_second)) (tt, (omega arith, (omega arith, tt))) refl
     (closed_by dark c (opened_dark, (0, omega arith, refl), are_alike [] dark_numbered (bound 1) dearer_first [] [] refl, omega arith) (
       dark_right c (cut_lit 1 1, (2, omega arith, refl), are_alike [] dark_numbered (bound 1) dearer_first (lit 1 ∷ []) (lit 0 ∷ []) refl, omega arith)
           (cut_lit 1 1, (2, omega arith, refl), are_alike [] dark_numbered (bound 1) dearer_first (lit 1 ∷ []) (lit 1 ∷ []) refl, omega arith),
@@ -254,7 +257,7 @@ of_start : (lamp : ℕ) (lines : List StateLine) → lines ≡ cut_at 0 0 (lamp 
 of_start lamp lines is listed same =
     let c = by_exchange (bound 0) lines in
     closed_for (lit 1 ∷ []) (bound 0) lines second_lit_numbered refl (subst (AllPairs Differ) (sym listed) (alone (cut_lit lamp 0)))
-    (subst (IsEach (IsSupportedLine second_lit c)) (sym is) (omega arith, tt))
+    (subst (IsEach (IsSupportedLine second_lit c)) (sym is) (omega arith, tt)) (ap (λ lines. dead_by (by_exchange (bound 0) lines)) is)
     (closed_by second_lit c
     (subst (λ l. IsListedWithin (AreAlikeFor second_lit c) l (state (lit 1 ∷ [])) 0) (sym listed) (cut_lit lamp 0, (0, omega arith, refl), are_alike (lit 1 ∷ []) second_lit_numbered (bound 0) lines (lit lamp ∷ []) (lit 1 ∷ []) same, omega arith))
     (subst (IsEach (IsRight second_lit c)) (sym listed) (cut_right second_lit c (state (lit lamp ∷ [])) 0 0 refl (omega arith), tt)))

@@ -8,10 +8,10 @@ use Rattle.std.proofs.lemmas.Bool.Decides.{nat_tests}
 use Rattle.std.proofs.lemmas.List.{map-append}
 use Rattle.std.proofs.lemmas.List.Folds.{list_all-append, list_all-map}
 use Rattle.model.specs.Claims.{Claim, none}
-use Rattle.certificate_definitions.specs.Certificates.{Version, one, two, three, StateLine, is_number, is_claim}
+use Rattle.certificate_definitions.specs.Certificates.{Version, one, two, three, four, StateLine, has_basis, is_number, is_claim}
 use Rattle.certificate_definitions.specs.Parts.{Part, PartCounts, no_parts, how_many, counted, may_follow, has_room, are_in_order, counts_after}
 use Rattle.certificate_definitions.specs.CertificateText.{WeightedAtom, NamedCertificate, TextLine, version, claims, constant, swapped, atom, part, listed, last, Format, is_line, format_of, most_swaps, most_atoms, most_states, text_lines, keeps_text_limits, AreWhole, BeginCertificate, Beginning, head_lines, format_in}
-use Rattle.certificate_definitions.specs.CertificateMachine.{Body, CertificatePlace, at_version, at_claim, at_constant, in_body, ended, no_format, no_body, swap_more, atom_more, part_more, state_more, swap_follows, atom_follows, part_follows, only_if, next_place, place_from, place_after}
+use Rattle.certificate_definitions.specs.CertificateMachine.{Body, CertificatePlace, at_version, at_claim, at_constant, in_body, ended, no_format, no_body, swap_more, atom_more, part_more, state_more, swap_follows, atom_follows, part_follows, state_follows, only_if, next_place, place_from, place_after}
 use Rattle.certificate_definitions.proofs.Beginnings.{body_lines}
 use Rattle.certificate_definitions.proofs.PartLemmas.{counts_more, in_order_more, none_yet}
 
@@ -32,6 +32,7 @@ pub record Keeps (g : Beginning) : Type 0 where
   pub few_swaps : length g.swaps ≤ most_swaps
   pub few_atoms : length g.atoms ≤ most_atoms
   pub few_states : length g.states ≤ most_states
+  pub bases_given : IsTrue (list_all (λ (l : StateLine). has_basis (counts_after no_parts g.parts).values l.mark) g.states)
 
 pub record IsBody (b : Body) (lines : List TextLine) : Type 0 where
   pub beginning : Beginning
@@ -110,6 +111,7 @@ module _ (g : Beginning) (keeps : Keeps g) where
           few_swaps = keeps.few_swaps;
           few_atoms = omega (arith, below, one_longer g.atoms a);
           few_states = keeps.few_states;
+          bases_given = keeps.bases_given;
         };
         body_is = (λ i. record { format = record { version = g.version; weights = length g.constants; atoms = one_longer g.atoms a i }; swaps = length g.swaps; parts = counts_after no_parts g.parts; states = length g.states });
         lines_are =
@@ -137,6 +139,7 @@ module _ (g : Beginning) (keeps : Keeps g) where
           few_swaps = omega (arith, below, one_longer g.swaps names);
           few_atoms = keeps.few_atoms;
           few_states = keeps.few_states;
+          bases_given = keeps.bases_given;
         };
         body_is = (λ i. record { format = format_in g; swaps = one_longer g.swaps names i; parts = counts_after no_parts g.parts; states = length g.states });
         lines_are =
@@ -164,6 +167,7 @@ module _ (g : Beginning) (keeps : Keeps g) where
           few_swaps = keeps.few_swaps;
           few_atoms = keeps.few_atoms;
           few_states = keeps.few_states;
+          bases_given = ap (list_all (λ (l : StateLine). has_basis (counts_after no_parts parts).values l.mark)) no_states;
         };
         body_is = (λ i. record { format = format_in g; swaps = length g.swaps; parts = counts_more no_parts g.parts p i; states = length g.states });
         lines_are =
@@ -175,8 +179,8 @@ module _ (g : Beginning) (keeps : Keeps g) where
             ∙ (λ i. first_three (body_lines g.swaps g.atoms parts (sym no_states i)));
       }
 
-  with_state : (l : StateLine) → length g.states < most_states → is_line (format_in g) (listed l) ≡ true → IsBody (state_more (body_of g)) (head_lines g ++ listed l ∷ [])
-  with_state l below is = record {
+  with_state : (l : StateLine) → has_basis (counts_after no_parts g.parts).values l.mark ≡ true → length g.states < most_states → is_line (format_in g) (listed l) ≡ true → IsBody (state_more (body_of g)) (head_lines g ++ listed l ∷ [])
+  with_state l given below is = record {
     beginning = with_parts g.atoms g.parts (g.states ++ l ∷ []);
     keeps = record {
       claim_is = keeps.claim_is;
@@ -189,6 +193,7 @@ module _ (g : Beginning) (keeps : Keeps g) where
       few_swaps = keeps.few_swaps;
       few_atoms = keeps.few_atoms;
       few_states = omega (arith, below, one_longer g.states l);
+      bases_given = all_more (λ (l : StateLine). has_basis (counts_after no_parts g.parts).values l.mark) g.states l keeps.bases_given given;
     };
     body_is = (λ i. record { format = format_in g; swaps = length g.swaps; parts = counts_after no_parts g.parts; states = one_longer g.states l i });
     lines_are =
@@ -215,7 +220,7 @@ module _ (g : Beginning) (keeps : Keeps g) where
       let few_swaps : nat_le (length g.swaps) most_swaps ≡ true = le-leb (length g.swaps) most_swaps keeps.few_swaps in
       let few : nat_le (length g.atoms) most_atoms ≡ true = le-leb (length g.atoms) most_atoms keeps.few_atoms in
       let few_states : nat_le (length g.states) most_states ≡ true = le-leb (length g.states) most_states keeps.few_states in
-      (c, both_true _ _ (both_true _ _ (both_true _ _ (both_true _ _ few_swaps few) keeps.in_order) few_states) each, refl)
+      (c, both_true _ _ (both_true _ _ (both_true _ _ (both_true _ _ few_swaps few) keeps.in_order) (both_true _ _ few_states keeps.bases_given)) each, refl)
 
   -- one more such line leads to the next state
   step_on : (line : TextLine) (next : CertificatePlace) → next_place (in_body (body_of g)) line ≡ Some next → ComesBefore next (head_lines g ++ line ∷ [])
@@ -248,9 +253,10 @@ module _ (g : Beginning) (keeps : Keeps g) where
       subst (λ q. ComesBefore q (head_lines g ++ part p ∷ [])) same (with_part p (no_states g.states (eqb-true b.states 0 empty)) follows room is)
   step_on (listed l) next leads =
       let b : Body = body_of g in
-      let (holds, same) = only_where (nat_lt b.states most_states && is_line b.format (listed l)) (in_body (state_more b)) next leads in
-      let (below, is) = and_parts (nat_lt b.states most_states) (is_line b.format (listed l)) holds in
-      subst (λ q. ComesBefore q (head_lines g ++ listed l ∷ [])) same (with_state l (ltb-true b.states most_states below) is)
+      let (holds, same) = only_where (state_follows l b && nat_lt b.states most_states && is_line b.format (listed l)) (in_body (state_more b)) next leads in
+      let (place, is) = and_parts (state_follows l b && nat_lt b.states most_states) (is_line b.format (listed l)) holds in
+      let (given, below) = and_parts (state_follows l b) (nat_lt b.states most_states) place in
+      subst (λ q. ComesBefore q (head_lines g ++ listed l ∷ [])) same (with_state l given (ltb-true b.states most_states below) is)
   step_on (last count) next leads =
       let (holds, same) = only_where (count == length g.states) ended next leads in
       subst (λ q. ComesBefore q (head_lines g ++ last count ∷ [])) same
@@ -295,6 +301,7 @@ step (at_constant v) (constant k) next lines occurs leads =
         few_swaps = omega arith;
         few_atoms = omega arith;
         few_states = omega arith;
+        bases_given = refl;
       };
       body_is = refl;
       lines_are = ap (λ lines. lines ++ constant k ∷ []) are;
@@ -339,11 +346,13 @@ abbrev zeros : Version → List ℤ
 zeros one = pos 0 ∷ []
 zeros two = pos 0 ∷ pos 0 ∷ []
 zeros three = pos 0 ∷ pos 0 ∷ []
+zeros four = pos 0 ∷ pos 0 ∷ []
 
 zeros_are : (v : Version) → is_line (no_format v) (constant (zeros v)) ≡ true
 zeros_are one = refl
 zeros_are two = refl
 zeros_are three = refl
+zeros_are four = refl
 
 begin_body : (b : Body) (lines : List TextLine) → IsBody b lines → BeginCertificate lines
 begin_body b lines body = (last (length body.beginning.states) ∷ [], subst (λ lines. AreWhole (lines ++ last (length body.beginning.states) ∷ [])) (sym body.lines_are) (whole body.beginning body.keeps))
@@ -426,15 +435,17 @@ module _ (v : Version) (weights : ℕ) where
         (both_true (may_follow c p && has_room c p) (is_line (format n) (part p)) place here)
         ∙ parts_read (counted c p) parts more rest later
 
-    states_read : (c : PartCounts) (states : List StateLine) (m : ℕ) (more : List TextLine) → list_all (λ l. is_line (format n) (listed l)) states ≡ true → m + length states ≤ most_states
+    states_read : (c : PartCounts) (states : List StateLine) (m : ℕ) (more : List TextLine) → list_all (λ l. is_line (format n) (listed l)) states ≡ true
+        → list_all (λ (l : StateLine). has_basis c.values l.mark) states ≡ true → m + length states ≤ most_states
         → place_from (body s n c m) (map listed states ++ more) ≡ place_from (body s n c (m + length states)) more
-    states_read c [] m more all few = ap (λ k. place_from (body s n c k) more) (zero_more m)
-    states_read c (l ∷ states) m more all few =
+    states_read c [] m more all given few = ap (λ k. place_from (body s n c k) more) (zero_more m)
+    states_read c (l ∷ states) m more all given few =
         let (here, rest) = and_parts (is_line (format n) (listed l)) (list_all (λ l. is_line (format n) (listed l)) states) all in
+        let (basis, others) = and_parts (has_basis c.values l.mark) (list_all (λ (l : StateLine). has_basis c.values l.mark) states) given in
         let below : nat_lt m most_states ≡ true = lt-ltb m most_states (omega (arith, few)) in
         ap (λ b. option_and_then (λ next. place_from next (map listed states ++ more)) (only_if b (body s n c (m + 1))))
-        (both_true (nat_lt m most_states) (is_line (format n) (listed l)) below here)
-        ∙ states_read c states (m + 1) more rest (omega (arith, few))
+        (both_true (has_basis c.values l.mark && nat_lt m most_states) (is_line (format n) (listed l)) (both_true (has_basis c.values l.mark) (nat_lt m most_states) basis below) here)
+        ∙ states_read c states (m + 1) more rest others (omega (arith, few))
         ∙ ap (λ k. place_from (body s n c k) more) (one_more_counted m (length states))
 
 same_count : (m k : ℕ) → k ≡ m → (k == m) ≡ true
@@ -449,7 +460,9 @@ lines_read c keeps =
     let k : ℕ = length c.atoms in
     let test : TextLine → Bool = is_line (format_of c) in
     let (counts, each) = and_parts _ (list_all test (text_lines c)) keeps in
-    let (bodies, few_states) = and_parts _ (nat_le (length c.lines) most_states) counts in
+    let given_all : Bool = list_all (λ (l : StateLine). has_basis (counts_after no_parts c.parts).values l.mark) c.lines in
+    let (bodies, lasts) = and_parts _ (nat_le (length c.lines) most_states && given_all) counts in
+    let (few_states, given) = and_parts (nat_le (length c.lines) most_states) given_all lasts in
     let (fews, ordered) = and_parts (nat_le (length c.swaps) most_swaps && nat_le k most_atoms) _ bodies in
     let (few_swaps, few) = and_parts (nat_le (length c.swaps) most_swaps) (nat_le k most_atoms) fews in
     let swap_lines : List TextLine = map swapped c.swaps in
@@ -482,7 +495,7 @@ lines_read c keeps =
     ∙ atoms_read v w (length c.swaps) c.atoms 0 (part_lines ++ (state_lines ++ end)) atoms_are (omega (arith, atoms_within))
     ∙ ap (λ n. place_from (body v w (length c.swaps) n no_parts 0) (part_lines ++ (state_lines ++ end))) (from_zero k)
     ∙ parts_read v w (length c.swaps) k no_parts c.parts (state_lines ++ end) parts_are ordered
-    ∙ states_read v w (length c.swaps) k counts c.lines 0 end states_are (omega (arith, states_within))
+    ∙ states_read v w (length c.swaps) k counts c.lines 0 end states_are given (omega (arith, states_within))
     ∙ ap (λ m. place_from (body v w (length c.swaps) k counts m) end) (from_zero (length c.lines))
     ∙ last_read (record { format = format v w k; swaps = length c.swaps; parts = counts; states = length c.lines })
 

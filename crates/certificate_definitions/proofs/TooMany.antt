@@ -1,7 +1,7 @@
 -- Lines beyond a limit, by the state in which they occur.
 use Rattle.std.proofs.Common.{◌≡◌, ℕ, false, List, length, sym, ap, ◌∙◌, subst, Some}
 use Rattle.std.specs.Prelude.{IsTrue}
-use Rattle.certificate_definitions.specs.Certificates.{StateLine}
+use Rattle.certificate_definitions.specs.Certificates.{StateLine, has_basis}
 use Rattle.certificate_definitions.specs.Parts.{Part, no_parts, how_many, counts_after, may_follow, has_room}
 use Rattle.certificate_definitions.specs.CertificateText.{WeightedAtom, TextLine, swapped, atom, part, listed, is_line, line_text, most_swaps, most_atoms, most_states, IsOneTooMany, swaps, atoms, parts, states, Beginning, head_lines}
 use Rattle.certificate_definitions.specs.CertificateMachine.{Body, CertificatePlace, at_version, at_claim, at_constant, in_body, ended, place_after}
@@ -15,7 +15,7 @@ pub data IsOverIn (b : Body) (bytes : List ℕ) : Type 0 where
       → IsOverIn b bytes
   an_atom : (a : WeightedAtom) → how_many b.parts ≡ 0 → b.states ≡ 0 → b.format.atoms ≡ most_atoms → IsTrue (is_line b.format (atom a)) → bytes ≡ line_text (atom a) → IsOverIn b bytes
   a_part : (p : Part) → b.states ≡ 0 → IsTrue (may_follow b.parts p) → has_room b.parts p ≡ false → IsTrue (is_line b.format (part p)) → bytes ≡ line_text (part p) → IsOverIn b bytes
-  a_state : (l : StateLine) → b.states ≡ most_states → IsTrue (is_line b.format (listed l)) → bytes ≡ line_text (listed l) → IsOverIn b bytes
+  a_state : (l : StateLine) → b.states ≡ most_states → IsTrue (has_basis b.parts.values l.mark) → IsTrue (is_line b.format (listed l)) → bytes ≡ line_text (listed l) → IsOverIn b bytes
 
 abbrev pub IsTooManyAt : CertificatePlace → List ℕ → Type 0
 IsTooManyAt (in_body b) bytes = IsOverIn b bytes
@@ -38,7 +38,7 @@ over_in : (bytes : List ℕ) (before : List TextLine) → (over : IsOneTooMany b
 over_in bytes before (swaps g names are no_atom none_before no_state full is same) = (g, are, λ keeps. a_swap names (ap length no_atom) (ap (λ parts. how_many (counts_after no_parts parts)) none_before) (ap length no_state) full is same)
 over_in bytes before (atoms g a are none_before no_state full is same) = (g, are, λ keeps. an_atom a (ap (λ parts. how_many (counts_after no_parts parts)) none_before) (ap length no_state) full is same)
 over_in bytes before (parts g p are no_state follows full is same) = (g, are, λ keeps. a_part p (ap length no_state) follows full is same)
-over_in bytes before (states g l are full is same) = (g, are, λ keeps. a_state l full is same)
+over_in bytes before (states g l are full given is same) = (g, are, λ keeps. a_state l full given is same)
 
 -- the first lines before a state are within the limits
 kept : (g : Beginning) (place : CertificatePlace) → ComesBefore place (head_lines g) → Keeps g
@@ -60,7 +60,7 @@ of_over g keeps before bytes are (a_swap names no_atom none_before no_state full
     swaps g names are (no_atoms g.atoms no_atom) (none_yet g.parts none_before) (no_states g.states no_state) full is same
 of_over g keeps before bytes are (an_atom a none_before no_state full is same) = atoms g a are (none_yet g.parts none_before) (no_states g.states no_state) full is same
 of_over g keeps before bytes are (a_part p no_state follows full is same) = parts g p are (no_states g.states no_state) follows full is same
-of_over g keeps before bytes are (a_state l full is same) = states g l are full is same
+of_over g keeps before bytes are (a_state l full given is same) = states g l are full given is same
 
 pub too_many_of : (before : List TextLine) (bytes : List ℕ) (place : CertificatePlace) → ComesBefore place before → IsTooManyAt place bytes → IsOneTooMany before bytes
 too_many_of before bytes at_version occurs over = absurd over

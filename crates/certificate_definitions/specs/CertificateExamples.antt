@@ -9,7 +9,7 @@ use Rattle.model.specs.Fluents.{is_fluent, static_atoms}
 use Rattle.lower_bounds.specs.PotentialFunctions.{PotentialFunction}
 use Rattle.lower_bounds.specs.PotentialExamples.{token_task, token_atoms, potentials, minus}
 use Rattle.lower_bounds.specs.TableFunctions.{Table}
-use Rattle.certificate_definitions.specs.Certificates.{Version, one, two, three, StateLine, Certificate, keeps_limits, IsClosedFor}
+use Rattle.certificate_definitions.specs.Certificates.{Version, one, two, three, StateLine, Certificate, keeps_limits, IsClosedFor, no_landmarks}
 use Rattle.certificate_definitions.specs.CertificateRefusals.{IsWrongAt, IsWrong, not_fluent, repeated, not_symmetry, no_initial, unfair, unfair_goal, dead_unfair, dead_unfair_goal, goal_open, successor_missing, cut_weak, cut_not_allowed, not_dead, exchange_line, atom_line, state_line}
 use Rattle.symmetries_definitions.specs.Exchanges.{Exchange}
 use Rattle.symmetries_definitions.specs.SymmetryExamples.{swapping, gripper}
@@ -29,7 +29,7 @@ zeros atoms = potentials (pos 0) (map (λ (a : Atom). pos 0) atoms)
 
 -- a certificate of version 1, which has no dead ends
 abbrev pub first_version : Claim → List Atom → PotentialFunction → List StateLine → Certificate
-first_version claim atoms p lines = record { version = one; claim = claim; exchanges = []; atoms = atoms; values = p ∷ []; dead_ends = zeros atoms; tables = []; lines = lines }
+first_version claim atoms p lines = record { version = one; claim = claim; exchanges = []; atoms = atoms; values = p ∷ []; dead_ends = zeros atoms; tables = []; landmarks = no_landmarks; lines = lines }
 
 -- In the task `tie` an atom of the static predicate `link` is initially true; the only instance makes `tied` true, which is the
 -- goal.
@@ -63,6 +63,7 @@ token_reported version claim constant of_y = record {
   values = zeros token_atoms ∷ [];
   dead_ends = potentials constant (minus 1 ∷ of_y ∷ []);
   tables = [];
+  landmarks = no_landmarks;
   lines = dead_at 0 (0 ∷ []) ∷ [];
 }
 
@@ -83,6 +84,7 @@ token_tables = record {
   values = zeros token_atoms ∷ [];
   dead_ends = zeros token_atoms;
   tables = table_over 0 ∷ table_over 1 ∷ [];
+  landmarks = no_landmarks;
   lines = open_at 0 (0 ∷ []) ∷ [];
 }
 
@@ -100,6 +102,7 @@ gripper_by v exchanges = record {
   values = zeros ball_atoms ∷ [];
   dead_ends = zeros ball_atoms;
   tables = [];
+  landmarks = no_landmarks;
   lines = cut_at 0 0 [] ∷ [];
 }
 

@@ -2,7 +2,7 @@
 -- `BeginCertificate` and `AreWhole` of `CertificateText`, one line at a time.
 use Rattle.std.specs.Prelude.{ℕ, ◌+◌, Bool, ◌&&◌, ◌==◌, nat_lt, if◌then◌else◌, List, [], ◌∷◌, length, Option, None, Some}
 use Rattle.std.specs.Option.{option_and_then}
-use Rattle.certificate_definitions.specs.Certificates.{Version, one}
+use Rattle.certificate_definitions.specs.Certificates.{Version, one, StateLine, has_basis}
 use Rattle.certificate_definitions.specs.Parts.{Format, Part, PartCounts, no_parts, how_many, counted, may_follow, has_room}
 use Rattle.certificate_definitions.specs.CertificateText.{TextLine, version, claims, constant, swapped, atom, part, listed, last, is_line, most_swaps, most_atoms, most_states}
 
@@ -65,6 +65,10 @@ atom_follows b = (how_many b.parts == 0) && (b.states == 0)
 abbrev pub part_follows : Part → Body → Bool
 part_follows p b = (b.states == 0) && may_follow b.parts p
 
+-- and a state whose basis is given
+abbrev pub state_follows : StateLine → Body → Bool
+state_follows l b = has_basis b.parts.values l.mark
+
 -- the state, if this holds
 abbrev pub only_if : Bool → CertificatePlace → Option CertificatePlace
 only_if holds place = if holds then Some place else None
@@ -77,7 +81,7 @@ next_place (at_constant v) (constant k) = only_if (is_line (no_format v) (consta
 next_place (in_body b) (swapped names) = only_if (swap_follows b && nat_lt b.swaps most_swaps && is_line b.format (swapped names)) (in_body (swap_more b))
 next_place (in_body b) (atom a) = only_if (atom_follows b && nat_lt b.format.atoms most_atoms && is_line b.format (atom a)) (in_body (atom_more b))
 next_place (in_body b) (part p) = only_if (part_follows p b && has_room b.parts p && is_line b.format (part p)) (in_body (part_more p b))
-next_place (in_body b) (listed l) = only_if (nat_lt b.states most_states && is_line b.format (listed l)) (in_body (state_more b))
+next_place (in_body b) (listed l) = only_if (state_follows l b && nat_lt b.states most_states && is_line b.format (listed l)) (in_body (state_more b))
 next_place (in_body b) (last count) = only_if (count == b.states) ended
 next_place _ _ = None
 

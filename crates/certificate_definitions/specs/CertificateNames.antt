@@ -7,11 +7,12 @@ use Rattle.model.specs.WellTyped.{is_atom}
 use Rattle.model.specs.Resolution.{is_same}
 use Rattle.model.specs.PlanText.{object_names}
 use Rattle.model.specs.PlanWriting.{object_name, are_lower_names}
-use Rattle.certificate_definitions.specs.Certificates.{Version, one, two, three, Certificate}
+use Rattle.certificate_definitions.specs.Certificates.{Version, one, two, three, four, Certificate}
+use Rattle.landmark_functions.specs.LandmarkLines.{LandmarkLine, lines_of}
 use Rattle.lower_bounds.specs.TableFunctions.{Table}
 use Rattle.symmetries_definitions.specs.Exchanges.{Exchange, objects_in, are_different}
 use Rattle.lower_bounds.specs.PotentialFunctions.{PotentialFunction}
-use Rattle.certificate_definitions.specs.CertificateText.{NamedAtom, WeightedAtom, TableLine, scope, row, Part, tabled, NamedCertificate, IsCertificateText, text_lines, text_of}
+use Rattle.certificate_definitions.specs.CertificateText.{NamedAtom, WeightedAtom, TableLine, scope, row, Part, tabled, landmark_line, NamedCertificate, IsCertificateText, text_lines, text_of}
 
 abbrev pub predicate_names : Task → List Name
 predicate_names task = map (λ (p : Predicate). p.name) task.predicates
@@ -29,6 +30,7 @@ abbrev pub weights_in : Version → List ℤ → ℤ → List ℤ
 weights_in one of_values of_dead_end = of_values
 weights_in two of_values of_dead_end = of_values ++ of_dead_end ∷ []
 weights_in three of_values of_dead_end = of_values ++ of_dead_end ∷ []
+weights_in four of_values of_dead_end = of_values ++ of_dead_end ∷ []
 
 abbrev pub constants_of : Certificate → List ℤ
 constants_of c = weights_in c.version (map (λ (p : PotentialFunction). p.constant) c.values) c.dead_ends.constant
@@ -49,7 +51,7 @@ table_lines t = scope t.scope ∷ map row t.rows
 
 -- all parts of a certificate, in the order of their kinds
 abbrev pub parts_of : Certificate → List Part
-parts_of c = map (λ (t : TableLine). tabled t) (flat_map table_lines c.tables)
+parts_of c = map (λ (t : TableLine). tabled t) (flat_map table_lines c.tables) ++ map (λ (l : LandmarkLine). landmark_line l) (lines_of c.landmarks)
 
 -- the objects of an exchange by their names
 abbrev pub named_exchange : Task → Exchange → List (List ℕ)
@@ -119,6 +121,7 @@ abbrev pub value_count : Version → ℕ → ℕ
 value_count one count = count
 value_count two count = count - 1
 value_count three count = count - 1
+value_count four count = count - 1
 
 -- what it says about all values, and about dead ends, with 0 for what version 1 does not write
 abbrev pub values_said : NamedCertificate → List PotentialFunction

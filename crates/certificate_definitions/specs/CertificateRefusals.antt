@@ -16,9 +16,12 @@ use Rattle.lower_bounds.specs.FairTables as fair_tables
 use Rattle.lower_bounds.specs.FairTables.{is_asked}
 use Rattle.model.specs.Fluents.{is_fluent}
 use Rattle.symmetries_definitions.specs.Exchanges.{Exchange}
-use Rattle.certificate_definitions.specs.Certificates.{Version, one, two, three, StateLine, Certificate, potentials_of, several_of, rows_of, state_of_line, lines_of, is_symmetry_for, AreAlikeFor, value_by, is_dead_end_by}
+use Rattle.certificate_definitions.specs.Certificates.{Version, one, two, three, four, landmark_function, StateLine, Certificate, potentials_of, several_of, rows_of, state_of_line, lines_of, is_symmetry_for, AreAlikeFor, value_by, is_dead_end_by}
 use Rattle.certificate_definitions.specs.Evidence as evidence
-use Rattle.certificate_definitions.specs.Evidence.{Basis}
+use Rattle.certificate_definitions.specs.Evidence.{Basis, landmark}
+use Rattle.landmark_functions.specs.LandmarkFunctions.{LandmarkFunction}
+use Rattle.landmark_functions.specs.LandmarkLines.{functions_of as landmark_functions}
+use Rattle.landmark_functions.specs.FairLandmarks.{IsFair, IsDeadFair}
 
 -- the reasons, each with the number that is reported
 pub data Reason : Type 0 where
@@ -39,17 +42,22 @@ pub data Reason : Type 0 where
   dead_unfair_goal : Reason  -- 57
   not_dead : Reason  -- 58
   not_symmetry : Reason  -- 59
+  value_unfair : Reason  -- 62
+  value_not_dead : Reason  -- 63
 
 -- The lines of a certificate's text are counted from 1: first its version, its claim and its constants, then its exchanges and
--- its atoms, one per line, then its tables, each with its rows, and then its states.
+-- its atoms, one per line, then its tables, each with its rows, then the zones and the values of its landmarks, and then its states.
 abbrev pub exchange_line : ℕ → ℕ
 exchange_line place = 4 + place
 
 abbrev pub atom_line : Certificate → ℕ → ℕ
 atom_line c place = 4 + length c.exchanges + place
 
+abbrev pub landmark_line : Certificate → ℕ → ℕ
+landmark_line c place = 4 + length c.exchanges + length c.atoms + (length c.tables + length (rows_of c.tables)) + length c.landmarks.zones + place
+
 abbrev pub state_line : Certificate → ℕ → ℕ
-state_line c place = 4 + length c.exchanges + length c.atoms + (length c.tables + length (rows_of c.tables)) + place
+state_line c place = 4 + length c.exchanges + length c.atoms + (length c.tables + length (rows_of c.tables)) + (length c.landmarks.zones + length c.landmarks.values) + place
 
 -- this line has this exchange
 abbrev pub HasExchange : Certificate → ℕ → Exchange → Type 0
@@ -100,23 +108,27 @@ abbrev pub IsUnfairIn : Version → Task → Certificate → ℕ → Instance �
 IsUnfairIn one task c place i = (place ≡ 0) × MayLose (cost_of task i) task c (potentials_of c) i
 IsUnfairIn two task c place i = (place ≡ 0) × MayLose (cost_of task i) task c (potentials_of c) i
 IsUnfairIn three task c place i = (h : TableFunction) × (slice_get (functions_of (several_of c)) place ≡ Some h) × MayLoseByTables (cost_of task i) task c h i
+IsUnfairIn four task c place i = (h : TableFunction) × (slice_get (functions_of (several_of c)) place ≡ Some h) × MayLoseByTables (cost_of task i) task c h i
 
 -- its value in goal states may exceed 0
 abbrev pub IsUnfairAtGoalsIn : Version → Task → Certificate → ℕ → Type 0
 IsUnfairAtGoalsIn one task c place = (place ≡ 0) × ¬ IsFairAtGoals task (numbered_atoms task c.atoms) (potentials_of c)
 IsUnfairAtGoalsIn two task c place = (place ≡ 0) × ¬ IsFairAtGoals task (numbered_atoms task c.atoms) (potentials_of c)
 IsUnfairAtGoalsIn three task c place = (h : TableFunction) × (slice_get (functions_of (several_of c)) place ≡ Some h) × ¬ fair_tables.IsFairAtGoals task (numbered_atoms task c.atoms) h
+IsUnfairAtGoalsIn four task c place = (h : TableFunction) × (slice_get (functions_of (several_of c)) place ≡ Some h) × ¬ fair_tables.IsFairAtGoals task (numbered_atoms task c.atoms) h
 
 -- the same for the function for dead ends, with allowance 0
 abbrev pub IsDeadUnfairIn : Version → Task → Certificate → Instance → Type 0
 IsDeadUnfairIn one task c i = MayLose 0 task c c.dead_ends i
 IsDeadUnfairIn two task c i = MayLose 0 task c c.dead_ends i
 IsDeadUnfairIn three task c i = MayLoseByTables 0 task c (dead_ends_of (several_of c)) i
+IsDeadUnfairIn four task c i = MayLoseByTables 0 task c (dead_ends_of (several_of c)) i
 
 abbrev pub IsDeadUnfairAtGoalsIn : Version → Task → Certificate → Type 0
 IsDeadUnfairAtGoalsIn one task c = ¬ IsFairAtGoals task (numbered_atoms task c.atoms) c.dead_ends
 IsDeadUnfairAtGoalsIn two task c = ¬ IsFairAtGoals task (numbered_atoms task c.atoms) c.dead_ends
 IsDeadUnfairAtGoalsIn three task c = ¬ fair_tables.IsFairAtGoals task (numbered_atoms task c.atoms) (dead_ends_of (several_of c))
+IsDeadUnfairAtGoalsIn four task c = ¬ fair_tables.IsFairAtGoals task (numbered_atoms task c.atoms) (dead_ends_of (several_of c))
 
 -- ---- faults
 
@@ -156,6 +168,12 @@ IsWrongAt task c unfair_goal place = IsUnfairAtGoalsIn c.version task c place
 IsWrongAt task c dead_unfair place = (place ≡ length c.values) × (i : Instance) × IsDeadUnfairIn c.version task c i
 -- that function's value in goal states may exceed 0
 IsWrongAt task c dead_unfair_goal place = (place ≡ length c.values) × IsDeadUnfairAtGoalsIn c.version task c
+-- its landmark value is not fair
+IsWrongAt task c value_unfair line =
+    (place : ℕ) × (h : LandmarkFunction) × (line ≡ landmark_line c place) × (slice_get (landmark_functions c.tables c.landmarks) place ≡ Some h) × ¬ IsFair task (numbered_atoms task c.atoms) h
+-- it is a dead end that rests on a landmark value that is not dead-fair
+IsWrongAt task c value_not_dead line =
+    (l : StateLine) × (number : ℕ) × HasStateLine c line l × (l.mark ≡ evidence.dead (landmark number)) × ¬ IsDeadFair task (numbered_atoms task c.atoms) (landmark_function c number)
 IsWrongAt task c _ line = ⊥
 
 -- The faults that concern neither a line nor a value, but the whole certificate, the plan, if one is given, or the ground task in
@@ -173,7 +191,8 @@ IsWrong task c plan most limit = IsSome (exceeded_limit most max_numbered_atoms 
 IsWrong task c plan most _ = ⊥
 
 -- The checker's order: it reads the lines, grounds the task, tests whether the exchanges are symmetries, line by line, whether
--- the values are fair, one after another, and the function for dead ends dead-fair, looks for the initial state, checks the state
+-- the values are fair, one after another, and the function for dead ends dead-fair, then whether the landmark values are fair, and those
+-- that dead ends rest on dead-fair, looks for the initial state, checks the state
 -- lines one by one, and compares the plan with the claim.
 abbrev pub stage_of : Reason → ℕ
 stage_of not_fluent = 0
@@ -185,14 +204,16 @@ stage_of unfair = 3
 stage_of unfair_goal = 3
 stage_of dead_unfair = 3
 stage_of dead_unfair_goal = 3
-stage_of no_initial = 4
-stage_of goal_open = 5
-stage_of successor_missing = 5
-stage_of successor_dearer = 5
-stage_of cut_weak = 5
-stage_of not_dead = 5
-stage_of plan_invalid = 6
-stage_of plan_dearer = 6
+stage_of value_unfair = 4
+stage_of value_not_dead = 5
+stage_of no_initial = 6
+stage_of goal_open = 7
+stage_of successor_missing = 7
+stage_of successor_dearer = 7
+stage_of cut_weak = 7
+stage_of not_dead = 7
+stage_of plan_invalid = 8
+stage_of plan_dearer = 8
 
 -- within a line this order; of a line's successors, the first wrong one is reported
 abbrev pub rank_of : Reason → ℕ

@@ -1,12 +1,13 @@
--- The text of a certificate, version 1, 2 or 3, and the first faulty line of a text that is not one. The format is this
+-- The text of a certificate, version 1, 2, 3 or 4, and the first faulty line of a text that is not one. The format is this
 -- repository's own; docs/certificates.md shows it. Every certificate has exactly one text, and a text is at most one certificate.
 use Rattle.std.specs.Prelude.{◌≡◌, ◌≢◌, ℕ, ◌+◌, ◌<◌, ◌≤◌, ◌==◌, Bool, true, false, not, ◌&&◌, nat_le, ℤ, IsTrue, List, [], ◌∷◌, ◌++◌, codes, length, map, Contains}
 use Rattle.std.specs.Fmt.{decimal}
 use Rattle.std.specs.List.{flat_map, list_all, list_any}
 use Rattle.model.specs.Claims.{Claim, bound, none}
-use Rattle.certificate_definitions.specs.Evidence.{of_all, LineMark, opened, cut, dead}
-use Rattle.certificate_definitions.specs.Certificates.{Version, one, two, three, StateLine, is_number, is_weight, is_claim, is_state_line, are_weights, has_exchanges}
-pub use Rattle.certificate_definitions.specs.Parts.{after_blank, weights_text, numbers_text, Format, TableLine, scope, row, Part, tabled, part_text, is_part, PartCounts, no_parts, counts_after, may_follow, has_room, are_in_order}
+use Rattle.certificate_definitions.specs.Evidence.{of_all, landmark, LineMark, opened, cut, dead}
+use Rattle.landmark_functions.specs.LandmarkLines.{cut_by_text, dead_by_text}
+use Rattle.certificate_definitions.specs.Certificates.{Version, one, two, three, four, StateLine, has_basis, is_number, is_weight, is_claim, is_state_line, are_weights, has_exchanges}
+pub use Rattle.certificate_definitions.specs.Parts.{longest_line, after_blank, weights_text, numbers_text, Format, TableLine, scope, row, Part, tabled, landmark_line, part_text, is_part, PartCounts, no_parts, counts_after, may_follow, has_room, are_in_order}
 use Rattle.model.specs.Resolution.{is_same}
 use Rattle.model.specs.PlanWriting.{is_lower_name}
 
@@ -51,12 +52,15 @@ abbrev pub version_number : Version → ℕ
 version_number one = 1
 version_number two = 2
 version_number three = 3
+version_number four = 4
 
--- a state's role and its cost, and for a cut the lower bound of the remaining cost
+-- a state's role, the number of the landmark value that it rests on, if any, its cost, and for a cut the lower bound of the remaining cost
 abbrev pub mark_text : LineMark → ℕ → List ℕ
 mark_text opened cost = codes "open " ++ decimal cost
 mark_text (cut of_all rest) cost = codes "cut " ++ decimal cost ++ after_blank (decimal rest)
+mark_text (cut (landmark number) rest) cost = cut_by_text number cost rest
 mark_text (dead of_all) cost = codes "dead " ++ decimal cost
+mark_text (dead (landmark number)) cost = dead_by_text number cost
 
 -- the bytes of a line, without its LF
 abbrev pub line_text : TextLine → List ℕ
@@ -94,15 +98,12 @@ most_swaps = 1048576
 abbrev pub most_states : ℕ
 most_states = 16777216
 
--- the maximum length of a line, in bytes without LF
-abbrev pub longest_line : ℕ
-longest_line = 16777216
-
 -- the allowed number of constants: one in version 1, two in version 2, from 2 to 33 in version 3
 abbrev pub is_weight_count : Version → ℕ → Bool
 is_weight_count one count = count == 1
 is_weight_count two count = count == 2
 is_weight_count three count = nat_le 2 count && nat_le count 33
+is_weight_count four count = nat_le 2 count && nat_le count 33
 
 -- the number of elements is even
 abbrev pub are_paired : {X : Type 0} → List X → Bool
@@ -139,7 +140,7 @@ format_of c = record { version = c.version; weights = length c.constants; atoms 
 -- the certificate is within all limits
 abbrev pub keeps_text_limits : NamedCertificate → Bool
 keeps_text_limits c =
-    (nat_le (length c.swaps) most_swaps && nat_le (length c.atoms) most_atoms) && are_in_order no_parts c.parts && nat_le (length c.lines) most_states
+    (nat_le (length c.swaps) most_swaps && nat_le (length c.atoms) most_atoms) && are_in_order no_parts c.parts && (nat_le (length c.lines) most_states && list_all (λ (l : StateLine). has_basis (counts_after no_parts c.parts).values l.mark) c.lines)
     && list_all (is_line (format_of c)) (text_lines c)
 
 -- The text is that of this certificate.
@@ -163,7 +164,7 @@ MayFollow before bytes = (line : TextLine) × BeginCertificate (before ++ line �
 
 -- the first line for another version
 abbrev pub IsOtherVersion : List TextLine → List ℕ → Type 0
-IsOtherVersion before bytes = (before ≡ []) × (number : ℕ) × IsTrue (is_number number) × (number ≢ 1) × (number ≢ 2) × (number ≢ 3) × (bytes ≡ codes "pddl-cert " ++ decimal number)
+IsOtherVersion before bytes = (before ≡ []) × (number : ℕ) × IsTrue (is_number number) × (number ≢ 1) × (number ≢ 2) × (number ≢ 3) × (number ≢ 4) × (bytes ≡ codes "pddl-cert " ++ decimal number)
 
 -- a prefix of a text's lines: all but some of the last exchanges, atoms, parts and states, and the last line
 pub record Beginning : Type 0 where
@@ -190,7 +191,7 @@ pub data IsOneTooMany (before : List TextLine) (bytes : List ℕ) : Type 0 where
       → IsTrue (is_line (format_in b) (atom a)) → bytes ≡ line_text (atom a) → IsOneTooMany before bytes
   parts : (b : Beginning) (p : Part) → before ≡ head_lines b → b.states ≡ [] → IsTrue (may_follow (counts_after no_parts b.parts) p)
       → has_room (counts_after no_parts b.parts) p ≡ false → IsTrue (is_line (format_in b) (part p)) → bytes ≡ line_text (part p) → IsOneTooMany before bytes
-  states : (b : Beginning) (l : StateLine) → before ≡ head_lines b → length b.states ≡ most_states
+  states : (b : Beginning) (l : StateLine) → before ≡ head_lines b → length b.states ≡ most_states → IsTrue (has_basis (counts_after no_parts b.parts).values l.mark)
       → IsTrue (is_line (format_in b) (listed l)) → bytes ≡ line_text (listed l) → IsOneTooMany before bytes
 
 -- no LF is in these bytes

@@ -4,10 +4,12 @@ use Rattle.std.specs.Prelude.{◌≡◌, ℕ, ℤ, pos, false, true, List, [], �
 use Rattle.model.specs.Examples.{tie_task}
 use Rattle.model.specs.Claims.{bound}
 use Rattle.lower_bounds.specs.PotentialExamples.{potentials, minus}
-use Rattle.certificate_definitions.specs.Certificates.{Version, one, two, three, Certificate, keeps_limits}
-use Rattle.certificate_definitions.specs.CertificateText.{WeightedAtom, scope, row, tabled, no_parts, TextLine, version, claims, constant, swapped, atom, part, listed, last, NamedCertificate}
+use Rattle.landmark_functions.specs.LandmarkLines.{zone, value, share, zone_of}
+use Rattle.certificate_definitions.specs.Evidence.{landmark, cut}
+use Rattle.certificate_definitions.specs.Certificates.{Version, one, two, three, four, Certificate, StateLine, keeps_limits, no_landmarks}
+use Rattle.certificate_definitions.specs.CertificateText.{WeightedAtom, scope, row, tabled, landmark_line, no_parts, TextLine, version, claims, constant, swapped, atom, part, listed, last, NamedCertificate}
 use Rattle.certificate_definitions.specs.CertificateMachine.{CertificatePlace, in_body, ended, place_from, place_after}
-use Rattle.certificate_definitions.specs.CertificateNames.{values_said, dead_ends_said, exchange_said, named_exchange}
+use Rattle.certificate_definitions.specs.CertificateNames.{parts_of, values_said, dead_ends_said, exchange_said, named_exchange}
 use Rattle.certificate_definitions.specs.CertificateChecking.{IsWrongAfter}
 use Rattle.certificate_definitions.specs.CertificateExamples.{open_at, linked, tied}
 use Rattle.symmetries_definitions.specs.SymmetryExamples.{gripper}
@@ -43,6 +45,7 @@ with_row v weights atoms = record {
   values = potentials (pos 0) (pos 0 ∷ pos 0 ∷ []) ∷ [];
   dead_ends = potentials (pos 0) (pos 0 ∷ pos 0 ∷ []);
   tables = record { scope = 1 ∷ []; rows = record { atoms = atoms; weights = weights } ∷ [] } ∷ [];
+  landmarks = no_landmarks;
   lines = [];
 }
 
@@ -57,6 +60,31 @@ behind_atoms v weights = place_from (in_body (record { format = record { version
 -- the state after these lines, in a text of this version, after its constants
 abbrev pub behind_constants : Version → List TextLine → Option CertificatePlace
 behind_constants v = place_from (in_body (record { format = record { version = v; weights = 2; atoms = 0 }; swaps = 0; parts = no_parts; states = 0 }))
+
+-- a zone with the first atom, a landmark value over the zone with this number, and a state that is not expanded by the value with this
+-- number: its cost is 3, and the bound 2
+abbrev pub zone_line : TextLine
+zone_line = part (landmark_line (zone (zone_of (0 ∷ []) [])))
+
+abbrev pub marks_line : ℕ → TextLine
+marks_line number = part (landmark_line (value (share number 2 ∷ [])))
+
+abbrev pub cut_by : ℕ → StateLine
+cut_by number = record { cost = 3; mark = cut (landmark number) 2; atoms = 1 ∷ [] }
+
+-- a certificate with one landmark value over one zone, and this cut
+abbrev pub with_cut_by : Version → ℕ → Certificate
+with_cut_by v number = record {
+  version = v;
+  claim = bound 0;
+  exchanges = [];
+  atoms = linked ∷ tied ∷ [];
+  values = potentials (pos 0) (pos 0 ∷ pos 0 ∷ []) ∷ [];
+  dead_ends = potentials (pos 0) (pos 0 ∷ pos 0 ∷ []);
+  tables = [];
+  landmarks = record { zones = zone_of (0 ∷ []) [] ∷ []; values = (share 0 2 ∷ []) ∷ [] };
+  lines = cut_by number ∷ [];
+}
 
 pub record AreTextsJudged : Type 0 where
   -- Atoms come before tables, each table before its rows, and all of them before states.
@@ -105,3 +133,17 @@ pub record AreTextsJudged : Type 0 where
   -- row.
   pub row_of_another_scope : IsWrongAfter tie_task (first_lines ++ part (tabled (scope (1 ∷ []))) ∷ part (tabled (scope (0 ∷ []))) ∷ []) (row_line zeros (1 ∷ [])) 40
   pub row_twice : IsWrongAfter tie_task (first_lines ++ table_lines_of_both) (row_line zeros (0 ∷ 1 ∷ [])) 44
+  -- Version 4: zones come after tables and before landmark values, and a value's zones, as the value of a line, before it.
+  pub landmarks : behind_atoms four 3 (table_lines_of_both ++ zone_line ∷ marks_line 0 ∷ marks_line 0 ∷ listed (cut_by 1) ∷ last 1 ∷ []) ≡ Some ended
+  pub table_behind_a_zone : behind_atoms four 3 (zone_line ∷ part (tabled (scope (0 ∷ []))) ∷ []) ≡ None
+  pub row_behind_a_zone : behind_atoms four 3 (part (tabled (scope (0 ∷ []))) ∷ zone_line ∷ row_line zeros [] ∷ []) ≡ None
+  pub zone_behind_a_value : behind_atoms four 3 (zone_line ∷ marks_line 0 ∷ zone_line ∷ []) ≡ None
+  pub value_without_its_zone : behind_atoms four 3 (zone_line ∷ marks_line 1 ∷ []) ≡ None
+  pub atom_behind_a_zone : behind_atoms four 3 (zone_line ∷ atom (weighs zeros (codes "r")) ∷ []) ≡ None
+  pub cut_by_no_value : behind_atoms four 3 (zone_line ∷ marks_line 0 ∷ listed (cut_by 1) ∷ []) ≡ None
+  pub zone_in_version_3 : behind_atoms three 3 (zone_line ∷ []) ≡ None
+  pub cut_by_in_version_3 : behind_atoms three 3 (listed (cut_by 0) ∷ []) ≡ None
+  pub cut_by_of_version_4 : keeps_limits (with_cut_by four 0) ≡ true
+  pub cut_by_of_another_value : keeps_limits (with_cut_by four 1) ≡ false
+  pub cut_by_of_version_3 : keeps_limits (with_cut_by three 0) ≡ false
+  pub landmarks_in_lines : parts_of (with_cut_by four 0) ≡ landmark_line (zone (zone_of (0 ∷ []) [])) ∷ landmark_line (value (share 0 2 ∷ [])) ∷ []

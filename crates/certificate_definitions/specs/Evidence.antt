@@ -6,6 +6,8 @@ use Rattle.model.specs.Claims as claims
 pub data Basis : Type 0 where
   -- the values of all states: for a cut the greatest of them, for a dead end the value for dead ends
   of_all : Basis
+  -- the landmark value with this number, from 0, in version 4
+  landmark : ℕ → Basis
 
 -- the role of a state in a certificate's listing, as `Mark`, with what it rests on
 pub data LineMark : Type 0 where

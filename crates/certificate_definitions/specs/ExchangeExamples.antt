@@ -5,7 +5,7 @@ use Rattle.model.specs.Examples.{formulas, lifted, ground, root, untyped, any}
 use Rattle.model.specs.Claims.{Claim, bound}
 use Rattle.symmetries_definitions.specs.Exchanges.{Exchange}
 use Rattle.symmetries_definitions.specs.SymmetryExamples.{swapping}
-use Rattle.certificate_definitions.specs.Certificates.{three, StateLine, Certificate, IsClosedFor}
+use Rattle.certificate_definitions.specs.Certificates.{three, StateLine, Certificate, IsClosedFor, no_landmarks}
 use Rattle.certificate_definitions.specs.CertificateRefusals.{IsWrongAt, IsWrong, no_initial, successor_missing, successor_dearer}
 use Rattle.certificate_definitions.specs.CertificateExamples.{open_at, cut_at, zeros}
 
@@ -55,6 +55,7 @@ lamps_by exchanges claim lines = record {
   values = zeros lamp_atoms ∷ [];
   dead_ends = zeros lamp_atoms;
   tables = [];
+  landmarks = no_landmarks;
   lines = lines;
 }
 

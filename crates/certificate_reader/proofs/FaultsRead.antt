@@ -15,7 +15,7 @@ use Rattle.certificate_reader.specs.Stages.{IsOver}
 over_is : (place : CertificatePlace) (line : TextLine) (bytes : List ℕ) → IsTrue (is_line (format_at place) line) → IsOver place line → line_text line ≡ bytes → IsTooManyAt place bytes
 over_is (in_body b) (swapped names) bytes is (no_atom, none_yet, empty, full) same = a_swap names no_atom none_yet empty full is (sym same)
 over_is (in_body b) (atom a) bytes is (none_yet, empty, full) same = an_atom a none_yet empty full is (sym same)
-over_is (in_body b) (listed l) bytes is full same = a_state l full is (sym same)
+over_is (in_body b) (listed l) bytes is (given, full) same = a_state l full given is (sym same)
 over_is (in_body b) (part p) bytes is (empty, follows, full) same = a_part p empty follows full is (sym same)
 over_is (in_body b) (version w) bytes is over same = absurd over
 over_is (in_body b) (claims claim) bytes is over same = absurd over
@@ -30,7 +30,7 @@ over_of : (place : CertificatePlace) (bytes : List ℕ) → IsTooManyAt place by
 over_of (in_body b) bytes (a_swap names no_atom none_yet empty full is same) = (swapped names, is, (no_atom, none_yet, empty, full), sym same)
 over_of (in_body b) bytes (an_atom a none_yet empty full is same) = (atom a, is, (none_yet, empty, full), sym same)
 over_of (in_body b) bytes (a_part p empty follows full is same) = (part p, is, (empty, follows, full), sym same)
-over_of (in_body b) bytes (a_state l full is same) = (listed l, is, full, sym same)
+over_of (in_body b) bytes (a_state l full given is same) = (listed l, is, (given, full), sym same)
 over_of at_version bytes over = absurd over
 over_of (at_claim v) bytes over = absurd over
 over_of (at_constant v) bytes over = absurd over
@@ -42,16 +42,16 @@ module _ (before : List TextLine) (place : CertificatePlace) (leads : place_afte
   nothing_before : place ≡ at_version → before ≡ []
   nothing_before at = subst (λ place. ComesBefore place before) at (occurs before place leads)
 
-  pub reported_other_version : place ≡ at_version → (number : ℕ) × IsTrue (is_number number) × (number ≢ 1) × (number ≢ 2) × (number ≢ 3) × (codes "pddl-cert " ++ decimal number ≡ line)
+  pub reported_other_version : place ≡ at_version → (number : ℕ) × IsTrue (is_number number) × (number ≢ 1) × (number ≢ 2) × (number ≢ 3) × (number ≢ 4) × (codes "pddl-cert " ++ decimal number ≡ line)
       → IsFaultAfter before text 41
-  reported_other_version at (number, is, not_one, not_two, not_three, same) = other_version line has (nothing_before at, number, is, not_one, not_two, not_three, sym same)
+  reported_other_version at (number, is, not_one, not_two, not_three, not_four, same) = other_version line has (nothing_before at, number, is, not_one, not_two, not_three, not_four, sym same)
 
   pub reported_too_many : (over : TextLine) → IsTrue (is_line (format_at place) over) → IsOver place over → line_text over ≡ line → IsFaultAfter before text 55
   reported_too_many over is limit same = too_many line has (too_many_of before line place (occurs before place leads) (over_is place over line is limit same))
 
   pub reported_malformed : ((other : TextLine) (next : CertificatePlace) → next_place place other ≡ Some next → line_text other ≢ line)
       → ((other : TextLine) → IsTrue (is_line (format_at place) other) → IsOver place other → line_text other ≢ line)
-      → (place ≡ at_version → (number : ℕ) → IsTrue (is_number number) → number ≢ 1 → number ≢ 2 → number ≢ 3 → codes "pddl-cert " ++ decimal number ≢ line)
+      → (place ≡ at_version → (number : ℕ) → IsTrue (is_number number) → number ≢ 1 → number ≢ 2 → number ≢ 3 → number ≢ 4 → codes "pddl-cert " ++ decimal number ≢ line)
       → IsFaultAfter before text 40
   reported_malformed nowhere within other = malformed line has no_line no_version not_over
     where
@@ -59,8 +59,8 @@ module _ (before : List TextLine) (place : CertificatePlace) (leads : place_afte
       no_line (l, begun, same) = let (next, is) = followed before place leads l begun in nowhere l next is same
 
       no_version : IsOtherVersion before line → ⊥
-      no_version (empty, number, is, not_one, not_two, not_three, same) =
-          other (place_same place at_version (sym leads ∙ ap place_after empty)) number is not_one not_two not_three (sym same)
+      no_version (empty, number, is, not_one, not_two, not_three, not_four, same) =
+          other (place_same place at_version (sym leads ∙ ap place_after empty)) number is not_one not_two not_three not_four (sym same)
 
       not_over : IsOneTooMany before line → ⊥
       not_over over = let (l, is, limit, same) = over_of place line (too_many_at before place leads line over) in within l is limit same

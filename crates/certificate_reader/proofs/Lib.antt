@@ -5,6 +5,7 @@ pub mod WeightsRead
 pub mod NumbersRead
 pub mod NamesRead
 pub mod LinesRead
+pub mod LandmarksRead
 pub mod PartsRead
 pub mod ParseLemmas
 pub mod OneLine
@@ -15,3 +16,4 @@ pub mod FirstPlaces
 pub mod NextLemmas
 pub mod ReaderLemmas
 pub mod ExchangedRead
+pub mod AdvanceLemmas

@@ -11,10 +11,12 @@ use Rattle.std.proofs.lemmas.Str.Parse.{tells_digits}
 use Rattle.model.specs.Words.{is_name, is_name_byte}
 use Rattle.model.specs.PlanWriting.{is_lower_name}
 use Rattle.model.specs.Claims.{bound, none}
-use Rattle.certificate_definitions.specs.Evidence.{of_all, LineMark, opened, cut, dead}
+use Rattle.certificate_definitions.specs.Evidence.{of_all, landmark, LineMark, opened, cut, dead}
+use Rattle.landmark_functions.specs.LandmarkLines.{Share, zone, value, negated_text, number_text, share_text}
+use Rattle.landmark_functions.specs.LandmarkLines as landmarks
 use Rattle.certificate_definitions.specs.Certificates.{is_number, is_weight}
-use Rattle.certificate_definitions.specs.CertificateText.{scope, row, tabled, Part, part_text, TextLine, version, claims, constant, swapped, atom, part, listed, last, after_blank, line_text, weights_text, numbers_text}
-use Rattle.certificate_reader.specs.Words.{is_blank, is_word, atom_rest, line_head, line_rest, mark_head, then_numbers, then_words, with_rest, part_head, part_rest}
+use Rattle.certificate_definitions.specs.CertificateText.{scope, row, tabled, landmark_line, Part, part_text, TextLine, version, claims, constant, swapped, atom, part, listed, last, after_blank, line_text, weights_text, numbers_text}
+use Rattle.certificate_reader.specs.Words.{is_blank, is_word, atom_rest, line_head, line_rest, mark_head, shares_then, then_negated, then_numbers, then_words, with_rest, part_head, part_rest}
 use Rattle.certificate_reader.proofs.NumberLemmas.{is_below}
 use Rattle.certificate_reader.proofs.WordLemmas.{one_first}
 
@@ -70,6 +72,8 @@ listed_splits : (cost : ℕ) (mark : LineMark) (atoms : List ℕ)
 listed_splits cost opened atoms = refl
 listed_splits cost (cut of_all rest) atoms = refl
 listed_splits cost (dead of_all) atoms = refl
+listed_splits cost (cut (landmark number) rest) atoms = refl
+listed_splits cost (dead (landmark number)) atoms = refl
 
 with_bytes : (word : List ℕ) (rest : Option (List ℕ)) → with_rest word rest ≡ word ++ bytes_of rest
 with_bytes word None = sym (append-nil word)
@@ -98,6 +102,31 @@ names_bytes (name ∷ names) =
     ∙ ap (λ bytes. after_blank name ++ bytes) (names_bytes names)
     ∙ sym (append_assoc (after_blank name) (flat_map after_blank names) [])
 
+-- words after a first one, in the bytes of a line
+pub words_after : {X : Type 0} (text : X → List ℕ) (word : List ℕ) (all : List X)
+    → with_rest word (then_words (map text all) None) ≡ word ++ flat_map (λ (each : X). after_blank (text each)) all
+words_after text word [] = sym (append-nil word)
+words_after text word (each ∷ all) =
+    ap (λ rest. word ++ codes " " ++ rest) (words_after text (text each) all)
+    ∙ append_assoc word (32 ∷ []) (text each ++ flat_map (λ each. after_blank (text each)) all)
+
+-- the bytes after a zone's atoms
+negated_bytes : (negated : List ℕ) → negated_text negated ≡ bytes_of (then_negated negated)
+negated_bytes [] = refl
+negated_bytes (n ∷ others) = ap (λ bytes. codes " " ++ bytes) (sym (words_after decimal (codes "not") (n ∷ others)))
+
+-- and those of the shares of a value
+word_first : (word : List ℕ) (rest : Option (List ℕ)) → bytes_of (Some (with_rest word rest)) ≡ after_blank word ++ bytes_of rest
+word_first word rest = ap (λ bytes. codes " " ++ bytes) (with_bytes word rest) ∙ sym (append_assoc (codes " ") word (bytes_of rest))
+
+shares_bytes : (shares : List Share) → flat_map share_text shares ≡ bytes_of (shares_then shares None)
+shares_bytes [] = refl
+shares_bytes (s ∷ shares) =
+    append_assoc (number_text s.zone) (number_text s.weight) (flat_map share_text shares)
+    ∙ ap (λ bytes. number_text s.zone ++ (number_text s.weight ++ bytes)) (shares_bytes shares)
+    ∙ sym (word_first (decimal s.zone) (Some (with_rest (decimal s.weight) (shares_then shares None)))
+    ∙ ap (λ bytes. after_blank (decimal s.zone) ++ bytes) (word_first (decimal s.weight) (shares_then shares None)))
+
 -- the bytes of a part: its first word, and the others
 part_bytes : (p : Part) → part_text p ≡ part_head p ++ bytes_of (part_rest p)
 part_bytes (tabled (scope atoms)) = ap (λ bytes. codes "table" ++ bytes) (sym (append-nil (numbers_text atoms)) ∙ sym (words_bytes decimal atoms None))
@@ -106,6 +135,10 @@ part_bytes (tabled (row r)) =
     ∙ ap (λ bytes. codes "row" ++ bytes)
     (ap (λ bytes. weights_text r.weights ++ bytes) (sym (append-nil (numbers_text r.atoms)) ∙ sym (words_bytes decimal r.atoms None))
     ∙ sym (words_bytes signed_decimal r.weights (then_numbers r.atoms)))
+part_bytes (landmark_line (zone z)) =
+    ap (λ bytes. codes "zone" ++ bytes)
+    (ap (λ bytes. landmarks.numbers_text z.atoms ++ bytes) (negated_bytes z.negated) ∙ sym (words_bytes decimal z.atoms (then_negated z.negated)))
+part_bytes (landmark_line (value shares)) = ap (λ bytes. codes "marks" ++ bytes) (shares_bytes shares)
 
 -- and those of a line
 pub line_bytes : (line : TextLine) → line_text line ≡ line_head line ++ bytes_of (line_rest line)
@@ -128,10 +161,14 @@ mark_is_word : (mark : LineMark) → IsTrue (is_word (mark_head mark))
 mark_is_word opened = refl
 mark_is_word (cut of_all rest) = refl
 mark_is_word (dead of_all) = refl
+mark_is_word (cut (landmark number) rest) = refl
+mark_is_word (dead (landmark number)) = refl
 
 part_is_word : (p : Part) → IsTrue (is_word (part_head p))
 part_is_word (tabled (scope atoms)) = refl
 part_is_word (tabled (row r)) = refl
+part_is_word (landmark_line (zone z)) = refl
+part_is_word (landmark_line (value shares)) = refl
 
 pub head_is_word : (line : TextLine) → IsTrue (is_word (line_head line))
 head_is_word (version v) = refl
@@ -191,11 +228,3 @@ all_words (first ∷ done) (word ∷ words) d w same =
     (some_same (with_rest first (then_words done None)) (with_rest word (then_words words None)) same) in
     let more = all_words done words d_more w_more both.1 in
     λ i. both.0 i ∷ more i
-
--- words after a first one, in the bytes of a line
-pub words_after : {X : Type 0} (text : X → List ℕ) (word : List ℕ) (all : List X)
-    → with_rest word (then_words (map text all) None) ≡ word ++ flat_map (λ (each : X). after_blank (text each)) all
-words_after text word [] = sym (append-nil word)
-words_after text word (each ∷ all) =
-    ap (λ rest. word ++ codes " " ++ rest) (words_after text (text each) all)
-    ∙ append_assoc word (32 ∷ []) (text each ++ flat_map (λ each. after_blank (text each)) all)

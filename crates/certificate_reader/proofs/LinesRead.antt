@@ -1,21 +1,22 @@
 -- The lines of states and atoms, by what follows their first word.
 use Rattle.std.proofs.Common.{◌≡◌, ℕ, Bool, true, false, List, [], ◌∷◌, ◌++◌, codes, map, Option, None, Some, refl, sym, ap, ◌∙◌, subst, append_assoc, append-nil, arith}
-use Rattle.std.specs.Prelude.{◌&&◌, ◌||◌, ◌<◌, ◌≤◌, ◌==◌, ℤ, IsTrue, length, nat_le, nat_lt}
+use Rattle.std.specs.Prelude.{◌≢◌, ◌&&◌, ◌||◌, ◌<◌, ◌≤◌, ◌==◌, ℤ, IsTrue, length, nat_le, nat_lt}
 use Rattle.std.specs.Fmt.{decimal}
 use Rattle.std.specs.List.{flat_map, list_all}
 use Rattle.std.specs.Str.{bytes_eq}
 use Rattle.std.proofs.lemmas.Slice.Eq.{bytes_eq-Decides}
-use Rattle.std.proofs.lemmas.Bool.{and_parts, eqb-true, leb-true, le-leb, ltb-true, ltb-false}
+use Rattle.std.proofs.lemmas.Bool.{and_parts, eqb-true, leb-true, le-leb, lt-ltb, ltb-true, ltb-false}
 use Rattle.std.proofs.lemmas.Bool.Decides.{nat_tests}
 use Rattle.std.proofs.lemmas.List.{append_cancel_left, append_cancel_right}
 use Rattle.model.specs.PlanWriting.{is_lower_name}
-use Rattle.certificate_definitions.specs.Evidence.{of_all, LineMark, opened, cut, dead}
-use Rattle.certificate_definitions.specs.Certificates.{Version, one, two, three, is_number, is_mark, is_weight, are_weights, has_exchanges, has_tables, rise}
-use Rattle.lower_bounds.specs.TableFunctions.{Row}
-use Rattle.certificate_definitions.specs.CertificateText.{NamedAtom, WeightedAtom, scope, row, tabled, Part, Format, TextLine, version, claims, constant, swapped, atom, part, listed, last, after_blank, are_exchanged, is_weight_count, is_line, line_text, longest_line}
-use Rattle.certificate_reader.specs.Words.{IsFirstWord, IsLeading, IsNumbered, IsReadAs, are_lower, atom_rest, is_part_word, line_rest, mark_head, part_head, then_numbers, then_weights, then_words, with_rest}
+use Rattle.certificate_definitions.specs.Evidence.{of_all, landmark, LineMark, opened, cut, dead}
+use Rattle.certificate_definitions.specs.Certificates.{Version, one, two, three, four, is_number, is_mark, is_weight, are_weights, has_exchanges, has_landmarks, rise}
+use Rattle.landmark_functions.specs.LandmarkLines.{zone, value, most_values}
+use Rattle.certificate_definitions.specs.CertificateText.{NamedAtom, WeightedAtom, scope, row, tabled, landmark_line, Part, Format, TextLine, version, claims, constant, swapped, atom, part, listed, last, after_blank, are_exchanged, is_weight_count, is_line, line_text, longest_line}
+use Rattle.certificate_reader.specs.Words.{IsBasisFirst, IsCut, IsFirstWord, IsLeading, IsNumbered, IsReadAs, are_lower, atom_rest, is_part_word, is_state_word, line_rest, mark_head, part_head, then_weights, then_words, with_rest}
 use Rattle.certificate_reader.proofs.WordLemmas.{one_first}
 use Rattle.certificate_reader.proofs.LineLemmas.{line_splits, lower_name_is_word, number_is_word, some_same, words_after}
+use Rattle.certificate_reader.proofs.NumbersRead.{same_number}
 use Rattle.certificate_reader.proofs.WeightsRead.{leading, leading_alone, one_leading}
 
 -- ---- a number, followed by numbers
@@ -50,16 +51,94 @@ or_false true b other = absurd (cc other)
 or_false false b other = (refl, other)
 
 -- no state line begins with the word
-pub is_no_mark : (word : List ℕ) → bytes_eq (codes "open") word ≡ false → bytes_eq (codes "cut") word ≡ false → bytes_eq (codes "dead") word ≡ false
-    → (mark : LineMark) → mark_head mark ≡ word → ⊥
-is_no_mark word no_open no_cut no_dead opened = unlike (codes "open") word no_open
-is_no_mark word no_open no_cut no_dead (cut of_all rest) = unlike (codes "cut") word no_cut
-is_no_mark word no_open no_cut no_dead (dead of_all) = unlike (codes "dead") word no_dead
+pub is_no_mark : (word : List ℕ) → is_state_word word ≡ false → (mark : LineMark) → mark_head mark ≡ word → ⊥
+is_no_mark word other mark head = by_mark mark head
+  where
+    is : List ℕ → Bool
+    is = bytes_eq word
+
+    four : (is (codes "open") || is (codes "cut") || is (codes "dead") || is (codes "cut-by") ≡ false) × (is (codes "dead-by") ≡ false)
+    four = or_false (is (codes "open") || is (codes "cut") || is (codes "dead") || is (codes "cut-by")) (is (codes "dead-by")) other
+
+    three : (is (codes "open") || is (codes "cut") || is (codes "dead") ≡ false) × (is (codes "cut-by") ≡ false)
+    three = or_false (is (codes "open") || is (codes "cut") || is (codes "dead")) (is (codes "cut-by")) four.0
+
+    two : (is (codes "open") || is (codes "cut") ≡ false) × (is (codes "dead") ≡ false)
+    two = or_false (is (codes "open") || is (codes "cut")) (is (codes "dead")) three.0
+
+    one_each : (is (codes "open") ≡ false) × (is (codes "cut") ≡ false)
+    one_each = or_false (is (codes "open")) (is (codes "cut")) two.0
+
+    by_mark : (mark : LineMark) → mark_head mark ≡ word → ⊥
+    by_mark opened head = unlike word (codes "open") one_each.0 (sym head)
+    by_mark (cut of_all rest) head = unlike word (codes "cut") one_each.1 (sym head)
+    by_mark (dead of_all) head = unlike word (codes "dead") two.1 (sym head)
+    by_mark (cut (landmark number) rest) head = unlike word (codes "cut-by") three.1 (sym head)
+    by_mark (dead (landmark number)) head = unlike word (codes "dead-by") four.1 (sym head)
 
 -- nor does a part
 pub is_no_part : (word : List ℕ) → is_part_word word ≡ false → (p : Part) → part_head p ≡ word → ⊥
-is_no_part word other (tabled (scope atoms)) = unlike (codes "table") word (or_false (bytes_eq (codes "table") word) (bytes_eq (codes "row") word) other).0
-is_no_part word other (tabled (row r)) = unlike (codes "row") word (or_false (bytes_eq (codes "table") word) (bytes_eq (codes "row") word) other).1
+is_no_part word other p head = by_part p head
+  where
+    is : List ℕ → Bool
+    is own = bytes_eq own word
+
+    three : (is (codes "table") || is (codes "row") || is (codes "zone") ≡ false) × (is (codes "marks") ≡ false)
+    three = or_false (is (codes "table") || is (codes "row") || is (codes "zone")) (is (codes "marks")) other
+
+    two : (is (codes "table") || is (codes "row") ≡ false) × (is (codes "zone") ≡ false)
+    two = or_false (is (codes "table") || is (codes "row")) (is (codes "zone")) three.0
+
+    one_each : (is (codes "table") ≡ false) × (is (codes "row") ≡ false)
+    one_each = or_false (is (codes "table")) (is (codes "row")) two.0
+
+    by_part : (p : Part) → part_head p ≡ word → ⊥
+    by_part (tabled (scope atoms)) head = unlike (codes "table") word one_each.0 head
+    by_part (tabled (row r)) head = unlike (codes "row") word one_each.1 head
+    by_part (landmark_line (zone z)) head = unlike (codes "zone") word two.1 head
+    by_part (landmark_line (value shares)) head = unlike (codes "marks") word three.1 head
+
+-- a state line whose first word is none of the others begins with `dead-by`
+pub is_dead_by : (word : List ℕ) → IsTrue (is_state_word word) → bytes_eq word (codes "open") ≡ false → bytes_eq word (codes "cut") ≡ false → bytes_eq word (codes "dead") ≡ false
+    → bytes_eq word (codes "cut-by") ≡ false → bytes_eq word (codes "dead-by") ≡ true
+is_dead_by word is no_open no_cut no_dead no_cut_by = sym (λ i. no_open i || no_cut i || no_dead i || no_cut_by i || bytes_eq word (codes "dead-by")) ∙ is
+
+-- ---- marks by their first words
+
+pub marks_open : (mark : LineMark) → mark_head mark ≡ codes "open" → mark ≡ opened
+marks_open opened head = refl
+marks_open (cut of_all least) head = absurd (unlike (codes "cut") (codes "open") refl head)
+marks_open (dead of_all) head = absurd (unlike (codes "dead") (codes "open") refl head)
+marks_open (cut (landmark number) least) head = absurd (unlike (codes "cut-by") (codes "open") refl head)
+marks_open (dead (landmark number)) head = absurd (unlike (codes "dead-by") (codes "open") refl head)
+
+pub marks_cut : (mark : LineMark) → mark_head mark ≡ codes "cut" → (least : ℕ) × (mark ≡ cut of_all least)
+marks_cut (cut of_all least) head = (least, refl)
+marks_cut opened head = absurd (unlike (codes "open") (codes "cut") refl head)
+marks_cut (dead of_all) head = absurd (unlike (codes "dead") (codes "cut") refl head)
+marks_cut (cut (landmark number) least) head = absurd (unlike (codes "cut-by") (codes "cut") refl head)
+marks_cut (dead (landmark number)) head = absurd (unlike (codes "dead-by") (codes "cut") refl head)
+
+pub marks_dead : (mark : LineMark) → mark_head mark ≡ codes "dead" → mark ≡ dead of_all
+marks_dead (dead of_all) head = refl
+marks_dead opened head = absurd (unlike (codes "open") (codes "dead") refl head)
+marks_dead (cut of_all least) head = absurd (unlike (codes "cut") (codes "dead") refl head)
+marks_dead (cut (landmark number) least) head = absurd (unlike (codes "cut-by") (codes "dead") refl head)
+marks_dead (dead (landmark number)) head = absurd (unlike (codes "dead-by") (codes "dead") refl head)
+
+pub marks_cut_by : (mark : LineMark) → mark_head mark ≡ codes "cut-by" → (number : ℕ) × (least : ℕ) × (mark ≡ cut (landmark number) least)
+marks_cut_by (cut (landmark number) least) head = (number, least, refl)
+marks_cut_by opened head = absurd (unlike (codes "open") (codes "cut-by") refl head)
+marks_cut_by (cut of_all least) head = absurd (unlike (codes "cut") (codes "cut-by") refl head)
+marks_cut_by (dead of_all) head = absurd (unlike (codes "dead") (codes "cut-by") refl head)
+marks_cut_by (dead (landmark number)) head = absurd (unlike (codes "dead-by") (codes "cut-by") refl head)
+
+pub marks_dead_by : (mark : LineMark) → mark_head mark ≡ codes "dead-by" → (number : ℕ) × (mark ≡ dead (landmark number))
+marks_dead_by (dead (landmark number)) head = (number, refl)
+marks_dead_by opened head = absurd (unlike (codes "open") (codes "dead-by") refl head)
+marks_dead_by (cut of_all least) head = absurd (unlike (codes "cut") (codes "dead-by") refl head)
+marks_dead_by (dead of_all) head = absurd (unlike (codes "dead") (codes "dead-by") refl head)
+marks_dead_by (cut (landmark number) least) head = absurd (unlike (codes "cut-by") (codes "dead-by") refl head)
 
 and_all : (a b c : Bool) → a ≡ true → b ≡ true → c ≡ true → a && b && c ≡ true
 and_all a b c x y z = λ i. x i && y i && z i
@@ -83,60 +162,55 @@ module _ (word : List ℕ) (no_version : bytes_eq (codes "pddl-cert") word ≡ f
 -- ---- open states and dead ends: a number, followed by numbers
 
 module _ (rest : List ℕ) (f : Format) where
-  pub open_is_read : (cost : ℕ) (atoms : List ℕ) → IsNumbered rest f.atoms cost atoms
-      → IsReadAs (codes "open") rest f (listed (record { cost = cost; mark = opened; atoms = atoms }))
+  -- a state line that begins with this word
+  abbrev IsState : List ℕ → ℕ → LineMark → List ℕ → Type 0
+  IsState word cost mark atoms = IsReadAs word rest f (listed (record { cost = cost; mark = mark; atoms = atoms }))
+
+  pub open_is_read : (cost : ℕ) (atoms : List ℕ) → IsNumbered rest f.atoms cost atoms → IsState (codes "open") cost opened atoms
   open_is_read cost atoms is = record {
     head = refl;
     following = ap Some (sym (words_after decimal (decimal cost) atoms) ∙ sym is.splits);
     within = and_all (is_number cost) true (rise f.atoms 0 atoms) is.is_number refl is.rising;
   }
 
-  pub open_parts : (cost : ℕ) (mark : LineMark) (atoms : List ℕ) → IsReadAs (codes "open") rest f (listed (record { cost = cost; mark = mark; atoms = atoms }))
-      → IsNumbered rest f.atoms cost atoms
-  open_parts cost opened atoms read =
-      let parts = and_parts (is_number cost && true) (rise f.atoms 0 atoms) read.within in
-      record {
-        is_number = (and_parts (is_number cost) true parts.0).0;
-        rising = parts.1;
-        splits = sym (some_same _ _ read.following) ∙ sym (words_after decimal (decimal cost) atoms);
-      }
-  open_parts cost (cut of_all least) atoms read = absurd (unlike (codes "cut") (codes "open") refl read.head)
-  open_parts cost (dead of_all) atoms read = absurd (unlike (codes "dead") (codes "open") refl read.head)
+  pub open_parts : (cost : ℕ) (mark : LineMark) (atoms : List ℕ) → IsState (codes "open") cost mark atoms → IsNumbered rest f.atoms cost atoms
+  open_parts cost mark atoms read = of_opened (subst (λ mark. IsState (codes "open") cost mark atoms) (marks_open mark read.head) read)
+    where
+      of_opened : IsState (codes "open") cost opened atoms → IsNumbered rest f.atoms cost atoms
+      of_opened read =
+          let parts = and_parts (is_number cost && true) (rise f.atoms 0 atoms) read.within in
+          record {
+            is_number = (and_parts (is_number cost) true parts.0).0;
+            rising = parts.1;
+            splits = sym (some_same _ _ read.following) ∙ sym (words_after decimal (decimal cost) atoms);
+          }
 
   pub no_open : ((n : ℕ) (atoms : List ℕ) → IsNumbered rest f.atoms n atoms → ⊥) → (line : TextLine) → IsReadAs (codes "open") rest f line → ⊥
   no_open never = only_listed (codes "open") refl refl refl refl refl refl refl rest f (λ cost mark atoms read. never cost atoms (open_parts cost mark atoms read))
 
-  pub dead_is_read : IsTrue (is_mark f.version (dead of_all)) → (cost : ℕ) (atoms : List ℕ) → IsNumbered rest f.atoms cost atoms
-      → IsReadAs (codes "dead") rest f (listed (record { cost = cost; mark = dead of_all; atoms = atoms }))
+  pub dead_is_read : IsTrue (is_mark f.version (dead of_all)) → (cost : ℕ) (atoms : List ℕ) → IsNumbered rest f.atoms cost atoms → IsState (codes "dead") cost (dead of_all) atoms
   dead_is_read allowed cost atoms is = record {
     head = refl;
     following = ap Some (sym (words_after decimal (decimal cost) atoms) ∙ sym is.splits);
     within = and_all (is_number cost) (is_mark f.version (dead of_all)) (rise f.atoms 0 atoms) is.is_number allowed is.rising;
   }
 
-  pub dead_parts : (cost : ℕ) (mark : LineMark) (atoms : List ℕ) → IsReadAs (codes "dead") rest f (listed (record { cost = cost; mark = mark; atoms = atoms }))
-      → IsNumbered rest f.atoms cost atoms
-  dead_parts cost (dead of_all) atoms read =
-      let parts = and_parts (is_number cost && is_mark f.version (dead of_all)) (rise f.atoms 0 atoms) read.within in
-      record {
-        is_number = (and_parts (is_number cost) (is_mark f.version (dead of_all)) parts.0).0;
-        rising = parts.1;
-        splits = sym (some_same _ _ read.following) ∙ sym (words_after decimal (decimal cost) atoms);
-      }
-  dead_parts cost (cut of_all least) atoms read = absurd (unlike (codes "cut") (codes "dead") refl read.head)
-  dead_parts cost opened atoms read = absurd (unlike (codes "open") (codes "dead") refl read.head)
+  pub dead_parts : (cost : ℕ) (mark : LineMark) (atoms : List ℕ) → IsState (codes "dead") cost mark atoms → IsNumbered rest f.atoms cost atoms
+  dead_parts cost mark atoms read = of_dead (subst (λ mark. IsState (codes "dead") cost mark atoms) (marks_dead mark read.head) read)
+    where
+      of_dead : IsState (codes "dead") cost (dead of_all) atoms → IsNumbered rest f.atoms cost atoms
+      of_dead read =
+          let parts = and_parts (is_number cost && is_mark f.version (dead of_all)) (rise f.atoms 0 atoms) read.within in
+          record {
+            is_number = (and_parts (is_number cost) (is_mark f.version (dead of_all)) parts.0).0;
+            rising = parts.1;
+            splits = sym (some_same _ _ read.following) ∙ sym (words_after decimal (decimal cost) atoms);
+          }
 
   pub no_dead : ((n : ℕ) (atoms : List ℕ) → IsNumbered rest f.atoms n atoms → ⊥) → (line : TextLine) → IsReadAs (codes "dead") rest f line → ⊥
   no_dead never = only_listed (codes "dead") refl refl refl refl refl refl refl rest f (λ cost mark atoms read. never cost atoms (dead_parts cost mark atoms read))
 
 -- ---- cuts
-
--- the bytes are a number, followed by another with those of atoms
-pub record IsCut (rest : List ℕ) (count cost least : ℕ) (atoms : List ℕ) : Type 0 where
-  pub is_number : IsTrue (is_number cost)
-  pub bytes : List ℕ
-  pub numbered : IsNumbered bytes count least atoms
-  pub splits : rest ≡ with_rest (decimal cost) (Some bytes)
 
 cut_text : (cost least : ℕ) (atoms : List ℕ)
     → with_rest (decimal cost) (Some (with_rest (decimal least) (then_words (map decimal atoms) None)))
@@ -146,62 +220,177 @@ cut_text cost least atoms =
     ∙ append_assoc (decimal cost) (codes " ") (decimal least ++ flat_map (λ (number : ℕ). after_blank (decimal number)) atoms)
     ∙ sym (append_assoc (decimal cost) (codes " " ++ decimal least) (flat_map (λ (number : ℕ). after_blank (decimal number)) atoms))
 
+-- the bytes of a cut after its first word
+cut_splits : (rest : List ℕ) (count cost least : ℕ) (atoms : List ℕ) → IsCut rest count cost least atoms
+    → rest ≡ (decimal cost ++ after_blank (decimal least)) ++ flat_map (λ (number : ℕ). after_blank (decimal number)) atoms
+cut_splits rest count cost least atoms is = is.splits ∙ ap (λ bytes. with_rest (decimal cost) (Some bytes)) is.numbered.splits ∙ cut_text cost least atoms
+
+is_cut_text : (count cost least : ℕ) (atoms : List ℕ) → IsTrue (is_number cost) → IsTrue (is_number least) → IsTrue (rise count 0 atoms)
+    → IsCut ((decimal cost ++ after_blank (decimal least)) ++ flat_map (λ (number : ℕ). after_blank (decimal number)) atoms) count cost least atoms
+is_cut_text count cost least atoms cost_is least_is rising = record {
+  is_number = cost_is;
+  bytes = with_rest (decimal least) (then_words (map decimal atoms) None);
+  numbered = record { is_number = least_is; rising = rising; splits = refl };
+  splits = sym (cut_text cost least atoms);
+}
+
+module _ (rest : List ℕ) (count : ℕ) (word : List ℕ) (following : Option (List ℕ)) (first : IsFirstWord rest word following) where
+  cut_first : (cost least : ℕ) (atoms : List ℕ) (is : IsCut rest count cost least atoms) → (word ≡ decimal cost) × (following ≡ Some is.bytes)
+  cut_first cost least atoms is =
+      one_first word (decimal cost) following (Some is.bytes) first.is_word (number_is_word cost is.is_number) (sym first.splits ∙ is.splits)
+
+  pub no_cut_cost : ((n : ℕ) → IsTrue (is_number n) → decimal n ≡ word → ⊥) → (cost least : ℕ) (atoms : List ℕ) → IsCut rest count cost least atoms → ⊥
+  no_cut_cost never cost least atoms is = never cost is.is_number (sym (cut_first cost least atoms is).0)
+
+  pub no_cut_alone : following ≡ None → (cost least : ℕ) (atoms : List ℕ) → IsCut rest count cost least atoms → ⊥
+  no_cut_alone alone cost least atoms is = absurd (cc (sym alone ∙ (cut_first cost least atoms is).1))
+
+  pub no_cut_after : (bytes : List ℕ) → following ≡ Some bytes → ((n : ℕ) (atoms : List ℕ) → IsNumbered bytes count n atoms → ⊥)
+      → (cost least : ℕ) (atoms : List ℕ) → IsCut rest count cost least atoms → ⊥
+  no_cut_after bytes at never cost least atoms is =
+      let same : is.bytes ≡ bytes = cc (sym (cut_first cost least atoms is).1 ∙ at) in
+      never least atoms (subst (λ bytes. IsNumbered bytes count least atoms) same is.numbered)
+
+  pub is_cut : (bytes : List ℕ) → following ≡ Some bytes → (cost least : ℕ) (atoms : List ℕ) → IsTrue (is_number cost) → decimal cost ≡ word
+      → IsNumbered bytes count least atoms → IsCut rest count cost least atoms
+  is_cut bytes at cost least atoms is same numbered = record {
+    is_number = is;
+    bytes = bytes;
+    numbered = numbered;
+    splits = first.splits ∙ (λ i. with_rest (sym same i) (at i));
+  }
+
 module _ (rest : List ℕ) (f : Format) where
-  pub cut_is_read : (cost least : ℕ) (atoms : List ℕ) → IsCut rest f.atoms cost least atoms
-      → IsReadAs (codes "cut") rest f (listed (record { cost = cost; mark = cut of_all least; atoms = atoms }))
+  pub cut_is_read : (cost least : ℕ) (atoms : List ℕ) → IsCut rest f.atoms cost least atoms → IsState rest f (codes "cut") cost (cut of_all least) atoms
   cut_is_read cost least atoms is = record {
     head = refl;
-    following = ap Some (sym (cut_text cost least atoms) ∙ ap (λ bytes. with_rest (decimal cost) (Some bytes)) (sym is.numbered.splits) ∙ sym is.splits);
+    following = ap Some (sym (cut_splits rest f.atoms cost least atoms is));
     within = and_all (is_number cost) (is_number least) (rise f.atoms 0 atoms) is.is_number is.numbered.is_number is.numbered.rising;
   }
 
-  pub cut_of : (cost least : ℕ) (atoms : List ℕ) → IsReadAs (codes "cut") rest f (listed (record { cost = cost; mark = cut of_all least; atoms = atoms }))
-      → IsCut rest f.atoms cost least atoms
+  pub cut_of : (cost least : ℕ) (atoms : List ℕ) → IsState rest f (codes "cut") cost (cut of_all least) atoms → IsCut rest f.atoms cost least atoms
   cut_of cost least atoms read =
       let parts = and_parts (is_number cost && is_number least) (rise f.atoms 0 atoms) read.within in
       let numbers = and_parts (is_number cost) (is_number least) parts.0 in
-      record {
-        is_number = numbers.0;
-        bytes = with_rest (decimal least) (then_words (map decimal atoms) None);
-        numbered = record { is_number = numbers.1; rising = parts.1; splits = refl };
-        splits = sym (some_same _ _ read.following) ∙ sym (cut_text cost least atoms);
-      }
-
-  cut_parts : (cost : ℕ) (mark : LineMark) (atoms : List ℕ) → IsReadAs (codes "cut") rest f (listed (record { cost = cost; mark = mark; atoms = atoms }))
-      → (least : ℕ) × IsCut rest f.atoms cost least atoms
-  cut_parts cost opened atoms read = absurd (unlike (codes "open") (codes "cut") refl read.head)
-  cut_parts cost (dead of_all) atoms read = absurd (unlike (codes "dead") (codes "cut") refl read.head)
-  cut_parts cost (cut of_all least) atoms read = (least, cut_of cost least atoms read)
+      subst (λ rest. IsCut rest f.atoms cost least atoms) (some_same _ _ read.following) (is_cut_text f.atoms cost least atoms numbers.0 numbers.1 parts.1)
 
   pub no_cut : ((cost least : ℕ) (atoms : List ℕ) → IsCut rest f.atoms cost least atoms → ⊥) → (line : TextLine) → IsReadAs (codes "cut") rest f line → ⊥
-  no_cut never = only_listed (codes "cut") refl refl refl refl refl refl refl rest f
-      (λ cost mark atoms read. let (least, is) = cut_parts cost mark atoms read in never cost least atoms is)
+  no_cut never = only_listed (codes "cut") refl refl refl refl refl refl refl rest f (λ cost mark atoms read.
+      let (least, same) = marks_cut mark read.head in
+      never cost least atoms (cut_of cost least atoms (subst (λ mark. IsState rest f (codes "cut") cost mark atoms) same read)))
 
-  module _ (word : List ℕ) (following : Option (List ℕ)) (first : IsFirstWord rest word following) where
-    cut_first : (cost least : ℕ) (atoms : List ℕ) (is : IsCut rest f.atoms cost least atoms) → (word ≡ decimal cost) × (following ≡ Some is.bytes)
-    cut_first cost least atoms is =
-        one_first word (decimal cost) following (Some is.bytes) first.is_word (number_is_word cost is.is_number) (sym first.splits ∙ is.splits)
+-- ---- cuts and dead ends that rest on a landmark value
 
-    pub no_cut_cost : ((n : ℕ) → IsTrue (is_number n) → decimal n ≡ word → ⊥) → (line : TextLine) → IsReadAs (codes "cut") rest f line → ⊥
-    no_cut_cost never = no_cut (λ cost least atoms is. never cost is.is_number (sym (cut_first cost least atoms is).0))
+pub is_small : (number : ℕ) → nat_lt number most_values ≡ true → IsTrue (is_number number)
+is_small number few = lt-ltb number 1152921504606846976 (omega (arith, ltb-true number most_values few))
 
-    pub no_cut_alone : following ≡ None → (line : TextLine) → IsReadAs (codes "cut") rest f line → ⊥
-    no_cut_alone alone = no_cut (λ cost least atoms is. absurd (cc (sym alone ∙ (cut_first cost least atoms is).1)))
+-- a number and what follows it
+by_text : (number : ℕ) (text numbers : List ℕ) → (decimal number ++ after_blank text) ++ numbers ≡ with_rest (decimal number) (Some (text ++ numbers))
+by_text number text numbers = append_assoc (decimal number) (after_blank text) numbers ∙ sym (append_assoc (decimal number) (codes " ") (text ++ numbers))
 
-    pub no_cut_after : (bytes : List ℕ) → following ≡ Some bytes → ((n : ℕ) (atoms : List ℕ) → IsNumbered bytes f.atoms n atoms → ⊥)
-        → (line : TextLine) → IsReadAs (codes "cut") rest f line → ⊥
-    no_cut_after bytes at never = no_cut (λ cost least atoms is.
-        let same : is.bytes ≡ bytes = cc (sym (cut_first cost least atoms is).1 ∙ at) in
-        never least atoms (subst (λ bytes. IsNumbered bytes f.atoms least atoms) same is.numbered))
+pub one_basis : (bytes : List ℕ) (v : Version) (m n : ℕ) (r s : List ℕ) → IsBasisFirst bytes v m r → IsBasisFirst bytes v n s → (m ≡ n) × (r ≡ s)
+one_basis bytes v m n r s h g =
+    let m_is = is_small m (and_parts (has_landmarks v) (nat_lt m most_values) h.allowed).1 in
+    let n_is = is_small n (and_parts (has_landmarks v) (nat_lt n most_values) g.allowed).1 in
+    let both = one_first (decimal m) (decimal n) (Some r) (Some s) (number_is_word m m_is) (number_is_word n n_is) (sym h.splits ∙ g.splits) in
+    (same_number m n m_is n_is both.0, some_same r s both.1)
 
-    pub is_cut : (bytes : List ℕ) → following ≡ Some bytes → (cost least : ℕ) (atoms : List ℕ) → IsTrue (is_number cost) → decimal cost ≡ word
-        → IsNumbered bytes f.atoms least atoms → IsCut rest f.atoms cost least atoms
-    is_cut bytes at cost least atoms is same numbered = record {
-      is_number = is;
-      bytes = bytes;
-      numbered = numbered;
+module _ (bytes : List ℕ) (v : Version) where
+  pub no_landmarks : has_landmarks v ≡ false → (number : ℕ) (rest : List ℕ) → IsBasisFirst bytes v number rest → ⊥
+  no_landmarks none number rest is = absurd (cc (sym none ∙ (and_parts (has_landmarks v) (nat_lt number most_values) is.allowed).0))
+
+  module _ (word : List ℕ) (following : Option (List ℕ)) (first : IsFirstWord bytes word following) where
+    basis_first : (number : ℕ) (rest : List ℕ) → IsBasisFirst bytes v number rest → (word ≡ decimal number) × (following ≡ Some rest) × (number < most_values)
+    basis_first number rest is =
+        let few = (and_parts (has_landmarks v) (nat_lt number most_values) is.allowed).1 in
+        let both = one_first word (decimal number) following (Some rest) first.is_word (number_is_word number (is_small number few)) (sym first.splits ∙ is.splits) in
+        (both.0, both.1, ltb-true number most_values few)
+
+    pub no_basis_number : ((n : ℕ) → 0 ≤ n → n < most_values → decimal n ≢ word) → (number : ℕ) (rest : List ℕ) → IsBasisFirst bytes v number rest → ⊥
+    no_basis_number never number rest is =
+        let (same, _, few) = basis_first number rest is in
+        never number (omega arith) few (sym same)
+
+    pub no_basis_alone : following ≡ None → (number : ℕ) (rest : List ℕ) → IsBasisFirst bytes v number rest → ⊥
+    no_basis_alone alone number rest is = absurd (cc (sym alone ∙ (basis_first number rest is).1))
+
+    pub is_basis_first : has_landmarks v ≡ true → (number : ℕ) → number < most_values → decimal number ≡ word → (rest : List ℕ) → following ≡ Some rest → IsBasisFirst bytes v number rest
+    is_basis_first has number few same rest at = record {
+      allowed = (λ i. has i && lt-ltb number most_values few i);
       splits = first.splits ∙ (λ i. with_rest (sym same i) (at i));
     }
+
+-- only version 4 has marks that rest on landmark values
+pub dead_by_allowed : (v : Version) (number : ℕ) → IsTrue (is_mark v (dead (landmark number))) → IsTrue (has_landmarks v && nat_lt number most_values)
+dead_by_allowed one number is = absurd (cc is)
+dead_by_allowed two number is = is
+dead_by_allowed three number is = is
+dead_by_allowed four number is = is
+
+is_dead_by_mark : (v : Version) (number : ℕ) → IsTrue (has_landmarks v && nat_lt number most_values) → IsTrue (is_mark v (dead (landmark number)))
+is_dead_by_mark one number is = absurd (cc is)
+is_dead_by_mark two number is = is
+is_dead_by_mark three number is = is
+is_dead_by_mark four number is = is
+
+module _ (rest : List ℕ) (f : Format) where
+  pub cut_by_is_read : (number : ℕ) (bytes : List ℕ) → IsBasisFirst rest f.version number bytes → (cost least : ℕ) (atoms : List ℕ) → IsCut bytes f.atoms cost least atoms
+      → IsState rest f (codes "cut-by") cost (cut (landmark number) least) atoms
+  cut_by_is_read number bytes by cost least atoms is =
+      let allowed : IsTrue (is_mark f.version (cut (landmark number) least)) = λ i. by.allowed i && is.numbered.is_number i in
+      record {
+        head = refl;
+        following = ap Some (by_text number (decimal cost ++ after_blank (decimal least)) (flat_map (λ (number : ℕ). after_blank (decimal number)) atoms)
+            ∙ ap (λ bytes. with_rest (decimal number) (Some bytes)) (sym (cut_splits bytes f.atoms cost least atoms is)) ∙ sym by.splits);
+        within = and_all (is_number cost) (is_mark f.version (cut (landmark number) least)) (rise f.atoms 0 atoms) is.is_number allowed is.numbered.rising;
+      }
+
+  pub cut_by_of : (number cost least : ℕ) (atoms : List ℕ) → IsState rest f (codes "cut-by") cost (cut (landmark number) least) atoms
+      → (bytes : List ℕ) × IsBasisFirst rest f.version number bytes × IsCut bytes f.atoms cost least atoms
+  cut_by_of number cost least atoms read =
+      let parts = and_parts (is_number cost && is_mark f.version (cut (landmark number) least)) (rise f.atoms 0 atoms) read.within in
+      let (cost_is, marked) = and_parts (is_number cost) (is_mark f.version (cut (landmark number) least)) parts.0 in
+      let (allowed, least_is) = and_parts (has_landmarks f.version && nat_lt number most_values) (is_number least) marked in
+      let numbers : List ℕ = flat_map (λ (number : ℕ). after_blank (decimal number)) atoms in
+      let bytes : List ℕ = (decimal cost ++ after_blank (decimal least)) ++ numbers in (
+        bytes,
+        record { allowed = allowed; splits = sym (some_same _ _ read.following) ∙ by_text number (decimal cost ++ after_blank (decimal least)) numbers },
+        is_cut_text f.atoms cost least atoms cost_is least_is parts.1,
+      )
+
+  pub no_cut_by : ((number cost least : ℕ) (atoms bytes : List ℕ) → IsBasisFirst rest f.version number bytes → IsCut bytes f.atoms cost least atoms → ⊥)
+      → (line : TextLine) → IsReadAs (codes "cut-by") rest f line → ⊥
+  no_cut_by never = only_listed (codes "cut-by") refl refl refl refl refl refl refl rest f (λ cost mark atoms read.
+      let (number, least, same) = marks_cut_by mark read.head in
+      let (bytes, by, is) = cut_by_of number cost least atoms (subst (λ mark. IsState rest f (codes "cut-by") cost mark atoms) same read) in
+      never number cost least atoms bytes by is)
+
+  pub dead_by_is_read : (number : ℕ) (bytes : List ℕ) → IsBasisFirst rest f.version number bytes → (cost : ℕ) (atoms : List ℕ) → IsNumbered bytes f.atoms cost atoms
+      → IsState rest f (codes "dead-by") cost (dead (landmark number)) atoms
+  dead_by_is_read number bytes by cost atoms is = record {
+    head = refl;
+    following = ap Some (by_text number (decimal cost) (flat_map (λ (number : ℕ). after_blank (decimal number)) atoms)
+        ∙ ap (λ bytes. with_rest (decimal number) (Some bytes)) (sym (words_after decimal (decimal cost) atoms) ∙ sym is.splits) ∙ sym by.splits);
+    within = and_all (is_number cost) (is_mark f.version (dead (landmark number))) (rise f.atoms 0 atoms) is.is_number (is_dead_by_mark f.version number by.allowed) is.rising;
+  }
+
+  pub dead_by_of : (number cost : ℕ) (atoms : List ℕ) → IsState rest f (codes "dead-by") cost (dead (landmark number)) atoms
+      → (bytes : List ℕ) × IsBasisFirst rest f.version number bytes × IsNumbered bytes f.atoms cost atoms
+  dead_by_of number cost atoms read =
+      let parts = and_parts (is_number cost && is_mark f.version (dead (landmark number))) (rise f.atoms 0 atoms) read.within in
+      let (cost_is, marked) = and_parts (is_number cost) (is_mark f.version (dead (landmark number))) parts.0 in
+      let numbers : List ℕ = flat_map (λ (number : ℕ). after_blank (decimal number)) atoms in (
+        decimal cost ++ numbers,
+        record { allowed = dead_by_allowed f.version number marked; splits = sym (some_same _ _ read.following) ∙ by_text number (decimal cost) numbers },
+        record { is_number = cost_is; rising = parts.1; splits = sym (words_after decimal (decimal cost) atoms) },
+      )
+
+  pub no_dead_by : ((number cost : ℕ) (atoms bytes : List ℕ) → IsBasisFirst rest f.version number bytes → IsNumbered bytes f.atoms cost atoms → ⊥)
+      → (line : TextLine) → IsReadAs (codes "dead-by") rest f line → ⊥
+  no_dead_by never = only_listed (codes "dead-by") refl refl refl refl refl refl refl rest f (λ cost mark atoms read.
+      let (number, same) = marks_dead_by mark read.head in
+      let (bytes, by, is) = dead_by_of number cost atoms (subst (λ mark. IsState rest f (codes "dead-by") cost mark atoms) same read) in
+      never number cost atoms bytes by is)
 
 -- ---- weights, one for each value and one for dead ends
 
@@ -238,6 +427,7 @@ pub few_constants : (v : Version) (n : ℕ) → is_weight_count v n ≡ true →
 few_constants one n is = omega (arith, eqb-true n 1 is)
 few_constants two n is = omega (arith, eqb-true n 2 is)
 few_constants three n is = leb-true n 33 (and_parts (nat_le 2 n) (nat_le n 33) is).1
+few_constants four n is = leb-true n 33 (and_parts (nat_le 2 n) (nat_le n 33) is).1
 
 module _ (rest : List ℕ) (f : Format) where
   pub constant_leads : (k : List ℤ) → IsReadAs (codes "constant") rest f (constant k) → IsLeading (Some rest) 33 k None
@@ -252,7 +442,7 @@ module _ (rest : List ℕ) (f : Format) where
   only_constant never (swapped names) read = unlike (codes "swap") (codes "constant") refl read.head
   only_constant never (atom a) read = unlike (codes "atom") (codes "constant") refl read.head
   only_constant never (part p) read = is_no_part (codes "constant") refl p read.head
-  only_constant never (listed l) read = is_no_mark (codes "constant") refl refl refl l.mark read.head
+  only_constant never (listed l) read = is_no_mark (codes "constant") refl l.mark read.head
   only_constant never (last n) read = unlike (codes "end") (codes "constant") refl read.head
 
   module _ (w : List ℤ) (following : Option (List ℕ)) (is : IsLeading (Some rest) 33 w following) where
@@ -322,7 +512,7 @@ module _ (rest : List ℕ) (f : Format) where
   no_atom never (swapped names) read = unlike (codes "swap") (codes "atom") refl read.head
   no_atom never (atom a) read = never a read
   no_atom never (part p) read = is_no_part (codes "atom") refl p read.head
-  no_atom never (listed l) read = is_no_mark (codes "atom") refl refl refl l.mark read.head
+  no_atom never (listed l) read = is_no_mark (codes "atom") refl l.mark read.head
   no_atom never (last n) read = unlike (codes "end") (codes "atom") refl read.head
 
 -- ---- exchanges
@@ -335,7 +525,7 @@ module _ (rest : List ℕ) (f : Format) where
   only_swap never (swapped names) read = never names read
   only_swap never (atom a) read = unlike (codes "atom") (codes "swap") refl read.head
   only_swap never (part p) read = is_no_part (codes "swap") refl p read.head
-  only_swap never (listed l) read = is_no_mark (codes "swap") refl refl refl l.mark read.head
+  only_swap never (listed l) read = is_no_mark (codes "swap") refl l.mark read.head
   only_swap never (last n) read = unlike (codes "end") (codes "swap") refl read.head
 
   swap_parts : (names : List (List ℕ)) → IsReadAs (codes "swap") rest f (swapped names) → IsTrue (has_exchanges f.version) × IsTrue (are_exchanged names)

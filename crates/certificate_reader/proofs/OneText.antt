@@ -1,6 +1,6 @@
 -- A text is at most one certificate.
 use Rattle.std.proofs.Common.{◌≡◌, ℕ, ◌+◌, ◌≤◌, Bool, true, false, not, List, [], ◌∷◌, ◌++◌, codes, length, Option, None, Some, refl, sym, ap, ◌∙◌, subst, append_assoc, arith}
-use Rattle.std.specs.Prelude.{◌&&◌, ◌==◌, suc, ℤ, pos, negsuc, IsTrue, nat_le}
+use Rattle.std.specs.Prelude.{◌&&◌, ◌==◌, suc, ℤ, pos, negsuc, IsTrue, nat_le, nat_lt}
 use Rattle.std.specs.Char.{is_ascii_alphabetic}
 use Rattle.std.specs.Fmt.{decimal, signed_decimal}
 use Rattle.std.specs.List.{flat_map, list_all}
@@ -13,17 +13,21 @@ use Rattle.std.proofs.lemmas.Str.Parse.{tells_digits}
 use Rattle.model.specs.Words.{is_name, is_name_byte}
 use Rattle.model.specs.PlanWriting.{is_lower_name}
 use Rattle.model.specs.Claims.{bound, none}
-use Rattle.certificate_definitions.specs.Evidence.{of_all, LineMark, opened, cut, dead}
-use Rattle.certificate_definitions.specs.Certificates.{Version, one, two, three, is_mark, is_number, is_weight, are_weights, has_exchanges, has_tables, rise}
-use Rattle.certificate_definitions.specs.CertificateText.{scope, row, tabled, Part, part_text, is_part, Format, NamedCertificate, TextLine, version, claims, constant, swapped, atom, part, listed, last, after_blank, are_exchanged, are_paired, differ, is_weight_count, is_line, line_text, mark_text, weights_text, numbers_text, text_of, text_lines, IsCertificateText, longest_line, most_atoms}
+use Rattle.certificate_definitions.specs.Evidence.{of_all, landmark, LineMark, opened, cut, dead}
+use Rattle.certificate_definitions.specs.Certificates.{Version, one, two, three, four, is_basis, is_mark, is_number, is_weight, are_weights, has_exchanges, has_landmarks, has_tables, rise}
+use Rattle.landmark_functions.specs.LandmarkLines.{Share, zone, value, is_zone, is_value, most_values, most_zones, negated_text, number_text, share_text}
+use Rattle.landmark_functions.specs.LandmarkLines as landmarks
+use Rattle.certificate_definitions.specs.CertificateText.{scope, row, tabled, landmark_line, Part, part_text, is_part, Format, NamedCertificate, TextLine, version, claims, constant, swapped, atom, part, listed, last, after_blank, are_exchanged, are_paired, differ, is_weight_count, is_line, line_text, mark_text, weights_text, numbers_text, text_of, text_lines, IsCertificateText, longest_line, most_atoms}
 use Rattle.certificate_definitions.specs.CertificateMachine.{CertificatePlace, at_version, ended, format_at, next_place, place_from}
 use Rattle.certificate_definitions.proofs.Beginnings.{one_whole_text}
 use Rattle.certificate_definitions.proofs.Machine.{end_of_whole, never, place_same}
-use Rattle.certificate_reader.specs.Words.{are_lower}
+use Rattle.certificate_reader.specs.Words.{are_lower, may_be_share}
 use Rattle.certificate_reader.proofs.NumberLemmas.{is_below}
 use Rattle.certificate_reader.proofs.NumbersRead.{few_are_numbers, rise_parts}
 use Rattle.certificate_reader.proofs.WordLemmas.{same_head, same_tail}
 use Rattle.certificate_reader.specs.Stages.{IsWithin}
+use Rattle.certificate_reader.proofs.LandmarksRead.{share_numbers, value_may_be, value_within, zone_rises}
+use Rattle.certificate_reader.proofs.LinesRead.{dead_by_allowed, is_small}
 use Rattle.certificate_reader.proofs.OneLine.{one_line}
 use Rattle.certificate_reader.proofs.PlaceRead.{few_atoms, leads_line}
 use Rattle.certificate_reader.proofs.ReaderLemmas.{leads_within}
@@ -87,7 +91,13 @@ numbers_in_one count least [] few all = refl
 numbers_in_one count least (n ∷ numbers) few all =
     let (above, below, more) = rise_parts count least n numbers all in
     both (after_blank (decimal n)) (flat_map (λ (number : ℕ). after_blank (decimal number)) numbers)
-    (both (codes " ") (decimal n) refl (number_in_one n (few_are_numbers count n few below))) (numbers_in_one count (n + 1) numbers few more)
+    (both (codes " ") (decimal n) refl (number_in_one n (few_are_numbers count n (omega (arith, few)) below))) (numbers_in_one count (n + 1) numbers few more)
+
+number_text_in_one : (n : ℕ) → IsTrue (is_number n) → is_one_line (number_text n) ≡ true
+number_text_in_one n is = both (codes " ") (decimal n) refl (number_in_one n is)
+
+basis_is_number : (v : Version) (number : ℕ) → IsTrue (is_basis v (landmark number)) → IsTrue (is_number number)
+basis_is_number v number is = is_small number (and_parts (has_landmarks v) (nat_lt number most_values) is).1
 
 state_in_one : (f : Format) → f.atoms ≤ most_atoms → (cost : ℕ) (mark : LineMark) (numbers : List ℕ)
     → IsTrue (is_line f (listed (record { cost = cost; mark = mark; atoms = numbers }))) → is_one_line (line_text (listed (record { cost = cost; mark = mark; atoms = numbers }))) ≡ true
@@ -102,17 +112,37 @@ state_in_one f few cost mark numbers is =
     by_mark (cut of_all least) cost_is least_is =
         both (codes "cut " ++ decimal cost) (after_blank (decimal least)) (both (codes "cut ") (decimal cost) refl (number_in_one cost cost_is))
         (both (codes " ") (decimal least) refl (number_in_one least least_is))
+    by_mark (cut (landmark number) least) cost_is mark_is =
+        let (given, least_is) = and_parts (is_basis f.version (landmark number)) (is_number least) mark_is in
+        both (codes "cut-by") (number_text number ++ (number_text cost ++ number_text least)) refl
+        (both (number_text number) (number_text cost ++ number_text least) (number_text_in_one number (basis_is_number f.version number given))
+        (both (number_text cost) (number_text least) (number_text_in_one cost cost_is) (number_text_in_one least least_is)))
+    by_mark (dead (landmark number)) cost_is mark_is =
+        both (codes "dead-by") (number_text number ++ number_text cost) refl
+        (both (number_text number) (number_text cost) (number_text_in_one number (basis_is_number f.version number (dead_by_allowed f.version number mark_is))) (number_text_in_one cost cost_is))
 
 version_in_one : (v : Version) → is_one_line (line_text (version v)) ≡ true
 version_in_one one = both (codes "pddl-cert ") (decimal 1) refl (number_in_one 1 refl)
 version_in_one two = both (codes "pddl-cert ") (decimal 2) refl (number_in_one 2 refl)
 version_in_one three = both (codes "pddl-cert ") (decimal 3) refl (number_in_one 3 refl)
+version_in_one four = both (codes "pddl-cert ") (decimal 4) refl (number_in_one 4 refl)
 
 weights_in_one : (weights : List ℤ) → IsTrue (list_all is_weight weights) → is_one_line (weights_text weights) ≡ true
 weights_in_one [] all = refl
 weights_in_one (w ∷ weights) all =
     let (here, more) = and_parts (is_weight w) (list_all is_weight weights) all in
     both (after_blank (signed_decimal w)) (weights_text weights) (both (codes " ") (signed_decimal w) refl (weight_in_one w here)) (weights_in_one weights more)
+
+negated_in_one : (count : ℕ) (negated : List ℕ) → count ≤ most_atoms → rise count 0 negated ≡ true → is_one_line (negated_text negated) ≡ true
+negated_in_one count [] few rising = refl
+negated_in_one count (n ∷ others) few rising = both (codes " not") (landmarks.numbers_text (n ∷ others)) refl (numbers_in_one count 0 (n ∷ others) few rising)
+
+shares_in_one : (shares : List Share) → IsTrue (list_all may_be_share shares) → is_one_line (flat_map share_text shares) ≡ true
+shares_in_one [] all = refl
+shares_in_one (s ∷ shares) all =
+    let (here, more) = and_parts (may_be_share s) (list_all may_be_share shares) all in
+    let (zone_is, weight_is) = share_numbers s here in
+    both (share_text s) (flat_map share_text shares) (both (number_text s.zone) (number_text s.weight) (number_text_in_one s.zone zone_is) (number_text_in_one s.weight weight_is)) (shares_in_one shares more)
 
 part_in_one : (f : Format) → f.atoms ≤ most_atoms → (p : Part) → IsTrue (is_part f p) → is_one_line (part_text p) ≡ true
 part_in_one f few (tabled (scope s)) is =
@@ -123,6 +153,12 @@ part_in_one f few (tabled (row r)) is =
     both (codes "row" ++ weights_text r.weights) (numbers_text r.atoms)
     (both (codes "row") (weights_text r.weights) refl (weights_in_one r.weights (and_parts (length r.weights == f.weights) (list_all is_weight r.weights) weights).1))
     (numbers_in_one f.atoms 0 r.atoms few rising)
+part_in_one f few (landmark_line (zone z)) is =
+    let (rises, negated) = zone_rises f.atoms z (and_parts (has_landmarks f.version) (is_zone f.atoms z) is).1 in
+    both (codes "zone") (landmarks.numbers_text z.atoms ++ negated_text z.negated) refl
+    (both (landmarks.numbers_text z.atoms) (negated_text z.negated) (numbers_in_one f.atoms 0 z.atoms few rises) (negated_in_one f.atoms z.negated few negated))
+part_in_one f few (landmark_line (value shares)) is =
+    both (codes "marks") (flat_map share_text shares) refl (shares_in_one shares (value_may_be shares (value_within f shares is).1))
 
 pub line_in_one : (f : Format) → f.atoms ≤ most_atoms → (line : TextLine) → IsTrue (is_line f line) → is_one_line (line_text line) ≡ true
 line_in_one f few (version w) is = version_in_one w

@@ -1,5 +1,5 @@
 -- A line is parsed by its first word and what follows it.
-use Rattle.std.proofs.Common.{◌≡◌, ℕ, true, false, List, [], ◌∷◌, codes, arith, Option, None, Some, refl, sym, ap, ◌∙◌, subst}
+use Rattle.std.proofs.Common.{◌≡◌, ℕ, ◌+◌, true, false, not, List, [], ◌∷◌, codes, map, arith, Option, None, Some, refl, sym, ap, ◌∙◌, subst}
 use Rattle.std.specs.Prelude.{◌≢◌, ◌&&◌, ◌==◌, ◌≤◌, ℤ, length, nat_le, is_some, Result, Ok, Err, IsTrue}
 use Rattle.std.specs.List.{list_all}
 use Rattle.std.proofs.lemmas.Bool.{and_parts, eqb-true, leb-true}
@@ -7,33 +7,32 @@ use Rattle.std.specs.Borrow.{Bor}
 use Rattle.std.specs.Fmt.{decimal}
 use Rattle.std.specs.Str.{bytes_eq}
 use Rattle.std.proofs.lemmas.Slice.Eq.{bytes_eq-Decides}
-use Rattle.certificate_definitions.specs.Certificates.{Version, one, two, three, is_number, is_mark, is_weight, are_weights, has_exchanges, has_tables, rise}
+use Rattle.certificate_definitions.specs.Certificates.{Version, one, two, three, four, is_number, is_mark, is_weight, are_weights, has_exchanges, has_landmarks, has_tables, rise}
+use Rattle.landmark_functions.specs.LandmarkLines.{Share, zone, value, is_share, is_zone, is_value, most_zones}
+use Rattle.lower_bounds.specs.TableFunctions.{is_among}
 use Rattle.certificate_definitions.specs.Evidence.{of_all, dead}
 use Rattle.model.specs.PlanWriting.{is_lower_name}
 use Rattle.certificate_reader.specs.declared.line.CertLine.{CertLine}
 use Rattle.certificate_reader.specs.declared.line.Version as code
-use Rattle.certificate_reader.specs.declared.line.Version.TheVariants.{One, Two, Three}
+use Rattle.certificate_reader.specs.declared.line.Version.TheVariants.{One, Two, Three, Four}
 use Rattle.certificate_reader.specs.Lines.{text_line_of, version_of}
-use Rattle.certificate_definitions.specs.CertificateText.{WeightedAtom, scope, row, tabled, Part, is_part, Format, TextLine, version, claims, constant, swapped, atom, part, listed, last, are_exchanged, are_paired, differ, is_weight_count, is_line, line_text, longest_line, version_number}
+use Rattle.certificate_definitions.specs.CertificateText.{WeightedAtom, scope, row, tabled, landmark_line, Part, is_part, Format, TextLine, version, claims, constant, swapped, atom, part, listed, last, are_exchanged, are_paired, differ, is_weight_count, is_line, line_text, longest_line, version_number}
 use Rattle.certificate_reader.specs.declared.fault.NextFault.{NextFault}
 use Rattle.certificate_reader.specs.declared.fault.NextFault.TheVariants.{Text, NoMemory}
 use Rattle.certificate_reader.specs.declared.fault.TextFault.TheVariants as fault
 use Rattle.certificate_reader.specs.Parsing.{IsParsed, IsParsedAfter}
-use Rattle.certificate_reader.specs.Words.{IsFirstWord, IsReadAs, atom_rest, then_numbers, then_weights, then_words, line_head, line_rest, part_rest, text_in, with_rest}
+use Rattle.certificate_reader.specs.Words.{IsFirstWord, IsReadAs, atom_rest, numbers_then, shares_then, then_negated, then_numbers, then_weights, then_words, line_head, line_rest, part_rest, text_in, with_rest}
+use Rattle.certificate_reader.proofs.LandmarksRead.{value_within}
 use Rattle.certificate_reader.proofs.WordLemmas.{one_first}
 use Rattle.certificate_reader.proofs.LineLemmas.{head_is_word, line_splits, some_same}
 use Rattle.certificate_reader.proofs.LinesRead.{is_no_mark, is_no_part, no_atom, unlike}
+use Rattle.certificate_reader.proofs.NumbersRead.{version_is_number}
 
 -- ---- the first line
 
 pub is_version : (rest : List ℕ) (number : ℕ) (w : Version) → number ≡ version_number w → decimal number ≡ rest
     → (f : Format) → IsReadAs (codes "pddl-cert") rest f (version w)
 is_version rest number w is same f = record { head = refl; following = ap (λ n. Some (decimal n)) (sym is) ∙ ap Some same; within = refl }
-
-version_is_number : (v : Version) → IsTrue (is_number (version_number v))
-version_is_number one = refl
-version_is_number two = refl
-version_is_number three = refl
 
 pub no_version : (rest : List ℕ) → ((n : ℕ) → IsTrue (is_number n) → decimal n ≡ rest → ⊥)
     → (f : Format) (line : TextLine) → IsReadAs (codes "pddl-cert") rest f line → ⊥
@@ -43,7 +42,7 @@ no_version rest never f (constant k) read = unlike (codes "constant") (codes "pd
 no_version rest never f (swapped names) read = unlike (codes "swap") (codes "pddl-cert") refl read.head
 no_version rest never f (atom a) read = unlike (codes "atom") (codes "pddl-cert") refl read.head
 no_version rest never f (part p) read = is_no_part (codes "pddl-cert") refl p read.head
-no_version rest never f (listed l) read = is_no_mark (codes "pddl-cert") refl refl refl l.mark read.head
+no_version rest never f (listed l) read = is_no_mark (codes "pddl-cert") refl l.mark read.head
 no_version rest never f (last n) read = unlike (codes "end") (codes "pddl-cert") refl read.head
 
 -- a version that is not 1 has dead ends
@@ -51,6 +50,7 @@ pub has_dead_ends : (version : code.Version) → version ≢ One → IsTrue (is_
 has_dead_ends One other = absurd (other refl)
 has_dead_ends Two other = refl
 has_dead_ends Three other = refl
+has_dead_ends Four other = refl
 
 -- ---- invalid lines
 
@@ -80,8 +80,8 @@ parsed_as word own rest f r is reported = subst (λ word. IsParsedAfter word res
 whole : (bytes word rest : List ℕ) (f : Format) → IsFirstWord bytes word (Some rest) → (r : Result CertLine NextFault) → IsParsedAfter word rest f r → IsParsed bytes f r
 whole bytes word rest f first (Ok line) read =
     (line_splits (text_line_of line) ∙ (λ i. with_rest (read.head i) (read.following i)) ∙ sym first.splits, read.within)
-whole bytes word rest f first (Err (Text fault.Version)) (head, (n, is, not_one, not_two, not_three, same)) =
-    (n, is, not_one, not_two, not_three, (λ i. with_rest (sym head i) (Some (same i))) ∙ sym first.splits)
+whole bytes word rest f first (Err (Text fault.Version)) (head, (n, is, not_one, not_two, not_three, not_four, same)) =
+    (n, is, not_one, not_two, not_three, not_four, (λ i. with_rest (sym head i) (Some (same i))) ∙ sym first.splits)
 whole bytes word rest f first (Err (Text fault.Form)) (never, other) = (
   λ line within same.
       let both = one_first (line_head line) word (line_rest line) (Some rest) (head_is_word line) first.is_word (sym (line_splits line) ∙ same ∙ first.splits) in
@@ -116,10 +116,20 @@ some_names : (names : List (List ℕ)) → 2 ≤ length names → then_words nam
 some_names [] some none = absurd (omega (arith, some))
 some_names (name ∷ names) some none = absurd (cc none)
 
+some_literals : (atoms negated : List ℕ) → 1 ≤ length atoms + length negated → numbers_then atoms (then_negated negated) ≡ None → ⊥
+some_literals [] [] some none = absurd (omega (arith, some))
+some_literals [] (n ∷ negated) some none = absurd (cc none)
+some_literals (n ∷ atoms) negated some none = absurd (cc none)
+
+some_shares : (shares : List Share) → 1 ≤ length shares → shares_then shares None ≡ None → ⊥
+some_shares [] some none = absurd (omega (arith, some))
+some_shares (s ∷ shares) some none = absurd (cc none)
+
 constants_count : (v : Version) (n : ℕ) → is_weight_count v n ≡ true → 1 ≤ n
 constants_count one n is = omega (arith, eqb-true n 1 is)
 constants_count two n is = omega (arith, eqb-true n 2 is)
 constants_count three n is = omega (arith, leb-true 2 n (and_parts (nat_le 2 n) (nat_le n 33) is).0)
+constants_count four n is = omega (arith, leb-true 2 n (and_parts (nat_le 2 n) (nat_le n 33) is).0)
 
 part_has_rest : (f : Format) → 1 ≤ f.weights → (p : Part) → IsTrue (is_part f p) → part_rest p ≡ None → ⊥
 part_has_rest f some (tabled (scope s)) is none =
@@ -128,6 +138,12 @@ part_has_rest f some (tabled (row r)) is none =
     let weights = (and_parts (are_weights f.weights r.weights) (rise f.atoms 0 r.atoms) (and_parts (has_tables f.version) (are_weights f.weights r.weights && rise f.atoms 0 r.atoms) is).1).0 in
     let count = eqb-true (length r.weights) f.weights (and_parts (length r.weights == f.weights) (list_all is_weight r.weights) weights).0 in
     some_weights r.weights (then_numbers r.atoms) (omega (arith, some, count)) none
+part_has_rest f some (landmark_line (zone z)) is none =
+    let literals = (and_parts (rise f.atoms 0 z.atoms && rise f.atoms 0 z.negated) (nat_le 1 (length z.atoms + length z.negated)) (and_parts (rise f.atoms 0 z.atoms && rise f.atoms 0 z.negated && nat_le 1 (length z.atoms + length z.negated)) (list_all (λ number. not (is_among z.atoms number)) z.negated) (and_parts (has_landmarks f.version) (is_zone f.atoms z) is).1).0).1 in
+    some_literals z.atoms z.negated (leb-true 1 (length z.atoms + length z.negated) literals) none
+part_has_rest f some (landmark_line (value shares)) is none =
+    let front = (and_parts (rise most_zones 0 (map (λ (s : Share). s.zone) shares) && nat_le 1 (length shares)) (list_all is_share shares) (value_within f shares is).1).0 in
+    some_shares shares (leb-true 1 (length shares) (and_parts (rise most_zones 0 (map (λ (s : Share). s.zone) shares)) (nat_le 1 (length shares)) front).1) none
 
 -- each line has another word after its first one
 has_rest : (f : Format) → 1 ≤ f.weights → (line : TextLine) → IsTrue (is_line f line) → line_rest line ≡ None → ⊥

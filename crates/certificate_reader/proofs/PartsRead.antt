@@ -1,21 +1,21 @@
 -- The parts of a text, by what follows their first word.
-use Rattle.std.proofs.Common.{◌≡◌, ℕ, true, false, List, [], ◌∷◌, codes, length, Option, None, Some, refl, sym, ap, ◌∙◌, subst, arith}
-use Rattle.std.specs.Prelude.{◌&&◌, ◌<◌, ◌≤◌, ◌==◌, ℤ, IsTrue, Err, Result, nat_le}
+use Rattle.std.proofs.Common.{◌≡◌, ℕ, true, false, List, [], ◌∷◌, codes, length, Option, Some, refl, sym, ap, ◌∙◌, subst, arith}
+use Rattle.std.specs.Prelude.{◌&&◌, ◌<◌, ◌==◌, ℤ, IsTrue, Err, Result, nat_le}
 use Rattle.std.specs.List.{list_all}
 use Rattle.std.specs.Str.{bytes_eq}
 use Rattle.std.proofs.lemmas.Slice.Eq.{bytes_eq-Decides}
-use Rattle.std.proofs.lemmas.Bool.{and_parts, eqb-true, leb-true, le-leb}
+use Rattle.std.proofs.lemmas.Bool.{and_parts, eqb-true, le-leb}
 use Rattle.lower_bounds.specs.TableFunctions.{Row}
-use Rattle.certificate_definitions.specs.Evidence.{of_all, LineMark, opened, cut, dead}
+use Rattle.landmark_functions.specs.LandmarkLines.{zone, value}
 use Rattle.certificate_definitions.specs.Certificates.{is_weight, are_weights, has_tables, rise}
-use Rattle.certificate_definitions.specs.CertificateText.{scope, row, tabled, Part, Format, TextLine, version, claims, constant, swapped, atom, part, listed, last}
+use Rattle.certificate_definitions.specs.CertificateText.{scope, row, tabled, landmark_line, Part, Format, TextLine, version, claims, constant, swapped, atom, part, listed, last}
 use Rattle.certificate_reader.specs.declared.part_line.PartLine.{PartLine}
 use Rattle.certificate_reader.specs.declared.fault.NextFault.{NextFault}
 use Rattle.certificate_reader.specs.declared.fault.NextFault.TheVariants.{Text, NoMemory}
 use Rattle.certificate_reader.specs.declared.fault.TextFault.TheVariants as fault
 use Rattle.certificate_reader.specs.Parsing.{IsParsedAfter}
 use Rattle.certificate_reader.specs.Parts.{IsPartParsed}
-use Rattle.certificate_reader.specs.Words.{IsLeading, IsPartReadAs, IsReadAs, mark_head, then_numbers, then_weights}
+use Rattle.certificate_reader.specs.Words.{IsLeading, IsPartReadAs, IsReadAs, is_state_word, then_numbers, then_weights}
 use Rattle.certificate_reader.proofs.WeightsRead.{one_leading}
 use Rattle.certificate_reader.proofs.LinesRead.{is_no_mark, unlike, weights_lead, weights_within}
 
@@ -25,10 +25,14 @@ module _ (rest : List ℕ) (f : Format) where
   only_scope : ((s : List ℕ) → IsPartReadAs (codes "table") rest f (tabled (scope s)) → ⊥) → (p : Part) → IsPartReadAs (codes "table") rest f p → ⊥
   only_scope never (tabled (scope s)) read = never s read
   only_scope never (tabled (row r)) read = unlike (codes "row") (codes "table") refl read.head
+  only_scope never (landmark_line (zone z)) read = unlike (codes "zone") (codes "table") refl read.head
+  only_scope never (landmark_line (value shares)) read = unlike (codes "marks") (codes "table") refl read.head
 
   only_row : ((r : Row) → IsPartReadAs (codes "row") rest f (tabled (row r)) → ⊥) → (p : Part) → IsPartReadAs (codes "row") rest f p → ⊥
   only_row never (tabled (scope s)) read = unlike (codes "table") (codes "row") refl read.head
   only_row never (tabled (row r)) read = never r read
+  only_row never (landmark_line (zone z)) read = unlike (codes "zone") (codes "row") refl read.head
+  only_row never (landmark_line (value shares)) read = unlike (codes "marks") (codes "row") refl read.head
 
   -- a version without tables has neither line
   pub no_scopes : has_tables f.version ≡ false → (p : Part) → IsPartReadAs (codes "table") rest f p → ⊥
@@ -83,15 +87,18 @@ module _ (rest : List ℕ) (f : Format) where
 pub part_parsed_as : (word own rest : List ℕ) (f : Format) (r : Result PartLine NextFault) → bytes_eq word own ≡ true → IsPartParsed own rest f r → IsPartParsed word rest f r
 part_parsed_as word own rest f r is reported = subst (λ word. IsPartParsed word rest f r) (sym ((bytes_eq-Decides word own).0 is)) reported
 
--- a word that begins no other line begins a part, or no line at all
-module _ (word rest : List ℕ) (f : Format) (no_open : bytes_eq word (codes "open") ≡ false) (no_cut : bytes_eq word (codes "cut") ≡ false) (no_dead : bytes_eq word (codes "dead") ≡ false)
-    (no_atom : bytes_eq word (codes "atom") ≡ false) (no_swap : bytes_eq word (codes "swap") ≡ false) (no_end : bytes_eq word (codes "end") ≡ false) (no_claim : bytes_eq word (codes "claim") ≡ false)
-    (no_constant : bytes_eq word (codes "constant") ≡ false) (no_version : bytes_eq word (codes "pddl-cert") ≡ false) where
-  no_mark : (mark : LineMark) → mark_head mark ≡ word → ⊥
-  no_mark opened head = unlike word (codes "open") no_open (sym head)
-  no_mark (cut of_all least) head = unlike word (codes "cut") no_cut (sym head)
-  no_mark (dead of_all) head = unlike word (codes "dead") no_dead (sym head)
+-- a word that begins no part
+pub no_part : (word rest : List ℕ) (f : Format) → bytes_eq word (codes "row") ≡ false → bytes_eq word (codes "table") ≡ false → bytes_eq word (codes "zone") ≡ false → bytes_eq word (codes "marks") ≡ false
+    → (p : Part) → IsPartReadAs word rest f p → ⊥
+no_part word rest f no_row no_table no_zone no_marks (tabled (scope s)) read = unlike word (codes "table") no_table (sym read.head)
+no_part word rest f no_row no_table no_zone no_marks (tabled (row r)) read = unlike word (codes "row") no_row (sym read.head)
+no_part word rest f no_row no_table no_zone no_marks (landmark_line (zone z)) read = unlike word (codes "zone") no_zone (sym read.head)
+no_part word rest f no_row no_table no_zone no_marks (landmark_line (value shares)) read = unlike word (codes "marks") no_marks (sym read.head)
 
+-- a word that begins no other line begins a part, or no line at all
+module _ (word rest : List ℕ) (f : Format) (no_state : is_state_word word ≡ false) (no_atom : bytes_eq word (codes "atom") ≡ false) (no_swap : bytes_eq word (codes "swap") ≡ false)
+    (no_end : bytes_eq word (codes "end") ≡ false) (no_claim : bytes_eq word (codes "claim") ≡ false) (no_constant : bytes_eq word (codes "constant") ≡ false)
+    (no_version : bytes_eq word (codes "pddl-cert") ≡ false) where
   no_line : ((p : Part) → IsPartReadAs word rest f p → ⊥) → (line : TextLine) → IsReadAs word rest f line → ⊥
   no_line never (version w) read = unlike word (codes "pddl-cert") no_version (sym read.head)
   no_line never (claims claim) read = unlike word (codes "claim") no_claim (sym read.head)
@@ -99,7 +106,7 @@ module _ (word rest : List ℕ) (f : Format) (no_open : bytes_eq word (codes "op
   no_line never (swapped names) read = unlike word (codes "swap") no_swap (sym read.head)
   no_line never (atom a) read = unlike word (codes "atom") no_atom (sym read.head)
   no_line never (part p) read = never p (record { head = read.head; following = read.following; within = read.within })
-  no_line never (listed l) read = no_mark l.mark read.head
+  no_line never (listed l) read = is_no_mark word no_state l.mark read.head
   no_line never (last n) read = unlike word (codes "end") no_end (sym read.head)
 
   pub reported_as_part : (why : NextFault) → IsPartParsed word rest f (Err why) → IsParsedAfter word rest f (Err why)

@@ -3,9 +3,9 @@ use Rattle.std.proofs.Common.{◌≡◌, ◌≢◌, ℕ, ◌≤◌, List, ◌++�
 use Rattle.std.specs.Prelude.{length, ◌&&◌, ◌==◌, Err, IsTrue, nat_le, nat_lt}
 use Rattle.std.specs.Fmt.{decimal}
 use Rattle.std.proofs.lemmas.Bool.{and_parts, eqb-true, leb-true, lt-ltb}
-use Rattle.certificate_definitions.specs.Certificates.{Version, one, two, three, is_number}
+use Rattle.certificate_definitions.specs.Certificates.{Version, one, two, three, four, is_number}
 use Rattle.certificate_definitions.specs.CertificateText.{Format, TextLine, version, claims, constant, swapped, atom, part, listed, last, is_line, line_text, most_swaps, most_atoms, most_states, version_number}
-use Rattle.certificate_definitions.specs.CertificateMachine.{CertificatePlace, at_version, at_claim, at_constant, in_body, ended, no_format, no_body, format_at, swap_more, atom_more, part_more, state_more, swap_follows, atom_follows, part_follows, next_place}
+use Rattle.certificate_definitions.specs.CertificateMachine.{CertificatePlace, at_version, at_claim, at_constant, in_body, ended, no_format, no_body, format_at, swap_more, atom_more, part_more, state_more, swap_follows, atom_follows, part_follows, state_follows, next_place}
 use Rattle.certificate_definitions.specs.Parts.{are_few, has_room}
 use Rattle.certificate_definitions.proofs.Machine.{never, only_where}
 use Rattle.certificate_reader.specs.Stages.{IsOver, IsReadAt, IsStep, IsWithin}
@@ -69,7 +69,7 @@ leads_line (in_body b) within (constant k) next leads = never next leads
 leads_line (in_body b) within (swapped names) next leads = (and_parts (swap_follows b && nat_lt b.swaps most_swaps) (is_line b.format (swapped names)) (only_where (swap_follows b && nat_lt b.swaps most_swaps && is_line b.format (swapped names)) (in_body (swap_more b)) next leads).0).1
 leads_line (in_body b) within (atom a) next leads = (and_parts (atom_follows b && nat_lt b.format.atoms most_atoms) (is_line b.format (atom a)) (only_where (atom_follows b && nat_lt b.format.atoms most_atoms && is_line b.format (atom a)) (in_body (atom_more b)) next leads).0).1
 leads_line (in_body b) within (part p) next leads = (and_parts (part_follows p b && has_room b.parts p) (is_line b.format (part p)) (only_where (part_follows p b && has_room b.parts p && is_line b.format (part p)) (in_body (part_more p b)) next leads).0).1
-leads_line (in_body b) within (listed l) next leads = (and_parts (nat_lt b.states most_states) (is_line b.format (listed l)) (only_where (nat_lt b.states most_states && is_line b.format (listed l)) (in_body (state_more b)) next leads).0).1
+leads_line (in_body b) within (listed l) next leads = (and_parts (state_follows l b && nat_lt b.states most_states) (is_line b.format (listed l)) (only_where (state_follows l b && nat_lt b.states most_states && is_line b.format (listed l)) (in_body (state_more b)) next leads).0).1
 leads_line (in_body b) within (last count) next leads =
     lt-ltb count 1152921504606846976 (omega (arith, eqb-true count b.states (only_where (count == b.states) ended next leads).0, leb-true b.states most_states (and_parts _ (nat_le b.states most_states) (and_parts (nat_le 1 b.format.weights && nat_le b.swaps most_swaps) _ within).1).1))
 leads_line ended within (version w) next leads = never next leads
@@ -81,7 +81,7 @@ leads_line ended within (part p) next leads = never next leads
 leads_line ended within (listed l) next leads = never next leads
 leads_line ended within (last count) next leads = never next leads
 
--- the line of a version is that of 1, 2 or 3
+-- the line of a version is that of 1, 2, 3 or 4
 version_rest : (line : TextLine) → line_head line ≡ codes "pddl-cert" → (v : Version) × (line_rest line ≡ Some (decimal (version_number v)))
 version_rest (version v) head = (v, refl)
 version_rest (claims claim) head = absurd (unlike (codes "claim") (codes "pddl-cert") refl head)
@@ -90,18 +90,19 @@ version_rest (swapped names) head = absurd (unlike (codes "swap") (codes "pddl-c
 version_rest (atom a) head = absurd (unlike (codes "atom") (codes "pddl-cert") refl head)
 version_rest (part p) head = absurd (is_no_part (codes "pddl-cert") refl p head)
 version_rest (last count) head = absurd (unlike (codes "end") (codes "pddl-cert") refl head)
-version_rest (listed l) head = absurd (is_no_mark (codes "pddl-cert") refl refl refl l.mark head)
+version_rest (listed l) head = absurd (is_no_mark (codes "pddl-cert") refl l.mark head)
 
-neither : (n : ℕ) → IsTrue (is_number n) → n ≢ 1 → n ≢ 2 → n ≢ 3 → (v : Version) → decimal n ≡ decimal (version_number v) → ⊥
-neither n is not_one not_two not_three one same = not_one (same_number n 1 is refl same)
-neither n is not_one not_two not_three two same = not_two (same_number n 2 is refl same)
-neither n is not_one not_two not_three three same = not_three (same_number n 3 is refl same)
+neither : (n : ℕ) → IsTrue (is_number n) → n ≢ 1 → n ≢ 2 → n ≢ 3 → n ≢ 4 → (v : Version) → decimal n ≡ decimal (version_number v) → ⊥
+neither n is not_one not_two not_three not_four one same = not_one (same_number n 1 is refl same)
+neither n is not_one not_two not_three not_four two same = not_two (same_number n 2 is refl same)
+neither n is not_one not_two not_three not_four three same = not_three (same_number n 3 is refl same)
+neither n is not_one not_two not_three not_four four same = not_four (same_number n 4 is refl same)
 
-no_other_version : (line : TextLine) (n : ℕ) → IsTrue (is_number n) → n ≢ 1 → n ≢ 2 → n ≢ 3 → codes "pddl-cert " ++ decimal n ≡ line_text line → ⊥
-no_other_version line n is not_one not_two not_three same =
+no_other_version : (line : TextLine) (n : ℕ) → IsTrue (is_number n) → n ≢ 1 → n ≢ 2 → n ≢ 3 → n ≢ 4 → codes "pddl-cert " ++ decimal n ≡ line_text line → ⊥
+no_other_version line n is not_one not_two not_three not_four same =
     let both = one_first (codes "pddl-cert") (line_head line) (Some (decimal n)) (line_rest line) refl (head_is_word line) (same ∙ line_splits line) in
     let (v, rest) = version_rest line (sym both.0) in
-    neither n is not_one not_two not_three v (some_same (decimal n) (decimal (version_number v)) (both.1 ∙ rest))
+    neither n is not_one not_two not_three not_four v (some_same (decimal n) (decimal (version_number v)) (both.1 ∙ rest))
 
 -- what is reported for bytes that are not a line is reported at the stage
 malformed_at : (place : CertificatePlace) → IsWithin place → (bytes : List ℕ) (f : Format) → f ≡ format_at place → IsParsed bytes f (Err (Text fault.Form))
@@ -110,7 +111,7 @@ malformed_at place within bytes f f_is reported =
     let (never, other) = subst (λ f. IsParsed bytes f (Err (Text fault.Form))) f_is reported in (
       λ line next leads. never line (leads_line place within line next leads),
       λ line is over. never line is,
-      λ at n is not_one not_two not_three. other n is,
+      λ at n is not_one not_two not_three not_four. other n is,
     )
 
 -- the same for another fault of the bytes alone, except for another version, which is reported only for the first line
@@ -133,6 +134,6 @@ module _ (place : CertificatePlace) (within : IsWithin place) (line : TextLine) 
         let here = only_line other (leads_line place within other next leads) same in
         never next (sym nowhere ∙ ap (next_place place) (sym here) ∙ leads),
     λ other other_is over same. within_limits (subst (IsOver place) (only_line other other_is same) over),
-    λ at n n_is not_one not_two not_three same. no_other_version line n n_is not_one not_two not_three (same ∙ sym text),
+    λ at n n_is not_one not_two not_three not_four same. no_other_version line n n_is not_one not_two not_three not_four (same ∙ sym text),
   )
   reported_after _ reported = absurd reported

@@ -4,11 +4,11 @@ use Rattle.std.specs.Prelude.{◌&&◌, ◌==◌, nat_le, nat_lt, Err, Ok}
 use Rattle.std.proofs.lemmas.Bool.{and_parts, eqb-true, le-leb, leb-true, ltb-true}
 use Rattle.std.specs.List.{list_all}
 use Rattle.std.proofs.lemmas.List.{length-map}
-use Rattle.certificate_definitions.specs.Certificates.{Version, one, two, three, StateLine, is_weight}
+use Rattle.certificate_definitions.specs.Certificates.{Version, one, two, three, four, StateLine, has_basis, is_weight}
 use Rattle.certificate_definitions.proofs.Beginnings.{body_lines}
 use Rattle.certificate_definitions.specs.CertificateText.{Part, TextLine, version, claims, constant, swapped, atom, part, listed, last, is_line, most_swaps, most_atoms, most_states, is_weight_count, format_of, text_lines, WeightedAtom, Beginning, AreWhole, IsFaultAfter, trailing}
-use Rattle.certificate_definitions.specs.CertificateMachine.{CertificatePlace, at_version, at_claim, at_constant, in_body, ended, no_format, no_body, swap_more, atom_more, part_more, state_more, swap_follows, atom_follows, part_follows, next_place}
-use Rattle.certificate_definitions.specs.Parts.{are_few, has_room}
+use Rattle.certificate_definitions.specs.CertificateMachine.{CertificatePlace, at_version, at_claim, at_constant, in_body, ended, no_format, no_body, swap_more, atom_more, part_more, state_more, swap_follows, atom_follows, part_follows, state_follows, next_place}
+use Rattle.certificate_definitions.specs.Parts.{are_few, counts_after, has_room, no_parts}
 use Rattle.certificate_definitions.proofs.PartLemmas.{ordered_are_few, stays_few}
 use Rattle.certificate_definitions.proofs.Machine.{ComesBefore, begins, never, only_where, place_same}
 use Rattle.certificate_reader.specs.declared.line.CertLine.{CertLine}
@@ -28,6 +28,7 @@ some_constants : (v : Version) (n : ℕ) → is_weight_count v n ≡ true → na
 some_constants one n is = le-leb 1 n (omega (arith, eqb-true n 1 is))
 some_constants two n is = le-leb 1 n (omega (arith, eqb-true n 2 is))
 some_constants three n is = le-leb 1 n (omega (arith, leb-true 2 n (and_parts (nat_le 2 n) (nat_le n 33) is).0))
+some_constants four n is = le-leb 1 n (omega (arith, leb-true 2 n (and_parts (nat_le 2 n) (nat_le n 33) is).0))
 
 -- one more line leads to a state within the limits
 pub leads_within : (place : CertificatePlace) → IsWithin place → (line : TextLine) (next : CertificatePlace) → next_place place line ≡ Some next → IsWithin next
@@ -82,8 +83,8 @@ leads_within (in_body b) within (part p) next leads =
     let few = and_parts (nat_le b.format.atoms most_atoms) (are_few b.parts) more.0 in
     subst IsWithin same (λ i. all.0 i && (few.0 i && stays_few b.parts p few.1 room i && more.1 i))
 leads_within (in_body b) within (listed l) next leads =
-    let (holds, same) = only_where (nat_lt b.states most_states && is_line b.format (listed l)) (in_body (state_more b)) next leads in
-    let below : b.states < most_states = ltb-true b.states most_states (and_parts (nat_lt b.states most_states) (is_line b.format (listed l)) holds).0 in
+    let (holds, same) = only_where (state_follows l b && nat_lt b.states most_states && is_line b.format (listed l)) (in_body (state_more b)) next leads in
+    let below : b.states < most_states = ltb-true b.states most_states (and_parts (state_follows l b) (nat_lt b.states most_states) (and_parts (state_follows l b && nat_lt b.states most_states) (is_line b.format (listed l)) holds).0).1 in
     let all = and_parts (nat_le 1 b.format.weights && nat_le b.swaps most_swaps) (nat_le b.format.atoms most_atoms && are_few b.parts && nat_le b.states most_states) within in
     let more = and_parts (nat_le b.format.atoms most_atoms && are_few b.parts) (nat_le b.states most_states) all.1 in
     let few = and_parts (nat_le b.format.atoms most_atoms) (are_few b.parts) more.0 in
@@ -115,7 +116,7 @@ body_length swaps atoms parts states =
     )
 
 -- the number of lines is limited, so their count is exact
-pub few_lines : (lines : List TextLine) (place : CertificatePlace) → ComesBefore place lines → length lines < 30000000
+pub few_lines : (lines : List TextLine) (place : CertificatePlace) → ComesBefore place lines → length lines < 61000000
 few_lines lines at_version are = omega (arith, ap length are)
 few_lines lines (at_claim v) are = omega (arith, ap length are)
 few_lines lines (at_constant v) (claim, is, are) = omega (arith, ap length are)
@@ -124,7 +125,8 @@ few_lines lines (in_body b) body =
     omega (arith, ap length body.lines_are, body_length g.swaps g.atoms g.parts g.states, ordered_are_few g.parts body.keeps.in_order, body.keeps.few_swaps, body.keeps.few_atoms, body.keeps.few_states)
 few_lines lines ended (c, keeps, are) =
     let (counts, each) = and_parts _ (list_all (is_line (format_of c)) (text_lines c)) keeps in
-    let (bodies, states) = and_parts _ (nat_le (length c.lines) most_states) counts in
+    let (bodies, listing) = and_parts _ (nat_le (length c.lines) most_states && list_all (λ (l : StateLine). has_basis (counts_after no_parts c.parts).values l.mark) c.lines) counts in
+    let (states, _) = and_parts (nat_le (length c.lines) most_states) (list_all (λ (l : StateLine). has_basis (counts_after no_parts c.parts).values l.mark) c.lines) listing in
     let (fronts, ordered) = and_parts (nat_le (length c.swaps) most_swaps && nat_le (length c.atoms) most_atoms) _ bodies in
     let (swaps, atoms) = and_parts (nat_le (length c.swaps) most_swaps) (nat_le (length c.atoms) most_atoms) fronts in
     omega (

@@ -4,9 +4,9 @@ use Rattle.std.specs.Global.{Vec}
 use Rattle.certificate_reader.specs.declared.line.Claim.{Claim}
 use Rattle.certificate_reader.specs.declared.line.Claim.TheVariants.{Bound, Unsolvable}
 use Rattle.certificate_reader.specs.declared.line.Version.{Version}
-use Rattle.certificate_reader.specs.declared.line.Version.TheVariants.{One, Two, Three}
+use Rattle.certificate_reader.specs.declared.line.Version.TheVariants.{One, Two, Three, Four}
 use Rattle.certificate_reader.specs.declared.line.Basis.{Basis}
-use Rattle.certificate_reader.specs.declared.line.Basis.TheVariants.{OfAll}
+use Rattle.certificate_reader.specs.declared.line.Basis.TheVariants.{OfAll, Landmark}
 use Rattle.certificate_reader.specs.declared.line.Mark.{Mark}
 use Rattle.certificate_reader.specs.declared.line.Mark.TheVariants.{Open, Cut, Dead}
 use Rattle.certificate_reader.specs.declared.line.StateLine.{StateLine}
@@ -27,9 +27,11 @@ abbrev pub version_of : Version → certificates.Version
 version_of One = certificates.one
 version_of Two = certificates.two
 version_of Three = certificates.three
+version_of Four = certificates.four
 
 abbrev pub basis_of : Basis → evidence.Basis
 basis_of OfAll = evidence.of_all
+basis_of (Landmark number) = evidence.landmark number
 
 abbrev pub mark_of : Mark → evidence.LineMark
 mark_of Open = evidence.opened

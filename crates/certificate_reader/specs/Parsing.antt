@@ -14,7 +14,7 @@ use Rattle.certificate_reader.specs.Words.{IsReadAs}
 abbrev pub IsParsed : List ℕ → Format → Result CertLine NextFault → Type 0
 IsParsed bytes f (Ok line) = (line_text (text_line_of line) ≡ bytes) × IsTrue (is_line f (text_line_of line))
 IsParsed bytes f (Err (Text fault.Version)) =
-    (number : ℕ) × IsTrue (is_number number) × (number ≢ 1) × (number ≢ 2) × (number ≢ 3) × (codes "pddl-cert " ++ decimal number ≡ bytes)
+    (number : ℕ) × IsTrue (is_number number) × (number ≢ 1) × (number ≢ 2) × (number ≢ 3) × (number ≢ 4) × (codes "pddl-cert " ++ decimal number ≡ bytes)
 IsParsed bytes f (Err (Text fault.Form)) =
     ((line : TextLine) → IsTrue (is_line f line) → line_text line ≢ bytes)
     × ((number : ℕ) → IsTrue (is_number number) → codes "pddl-cert " ++ decimal number ≢ bytes)
@@ -25,7 +25,7 @@ IsParsed bytes f _ = ⊥
 abbrev pub IsParsedAfter : (word rest : List ℕ) → Format → Result CertLine NextFault → Type 0
 IsParsedAfter word rest f (Ok line) = IsReadAs word rest f (text_line_of line)
 IsParsedAfter word rest f (Err (Text fault.Version)) =
-    (word ≡ codes "pddl-cert") × ((number : ℕ) × IsTrue (is_number number) × (number ≢ 1) × (number ≢ 2) × (number ≢ 3) × (decimal number ≡ rest))
+    (word ≡ codes "pddl-cert") × ((number : ℕ) × IsTrue (is_number number) × (number ≢ 1) × (number ≢ 2) × (number ≢ 3) × (number ≢ 4) × (decimal number ≡ rest))
 IsParsedAfter word rest f (Err (Text fault.Form)) =
     ((line : TextLine) → IsReadAs word rest f line → ⊥)
     × (word ≡ codes "pddl-cert" → (number : ℕ) → IsTrue (is_number number) → decimal number ≢ rest)

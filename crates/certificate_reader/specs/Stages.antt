@@ -1,7 +1,7 @@
 -- The stage of the code's reader, and the result of a line there.
 use Rattle.std.specs.Prelude.{◌≡◌, ◌≢◌, ℕ, Bool, true, false, ◌&&◌, nat_le, List, ◌++◌, codes, None, Some, Result, Ok, Err, IsTrue}
 use Rattle.std.specs.Fmt.{decimal}
-use Rattle.certificate_definitions.specs.Certificates.{is_number}
+use Rattle.certificate_definitions.specs.Certificates.{has_basis, is_number}
 use Rattle.certificate_reader.specs.declared.line.CertLine.{CertLine}
 use Rattle.certificate_reader.specs.declared.format.Format.{Format}
 use Rattle.certificate_reader.specs.Lines.{text_line_of, version_of}
@@ -51,7 +51,7 @@ abbrev pub IsOver : CertificatePlace → TextLine → Type 0
 IsOver (in_body b) (swapped names) = (b.format.atoms ≡ 0) × (how_many b.parts ≡ 0) × (b.states ≡ 0) × (b.swaps ≡ most_swaps)
 IsOver (in_body b) (atom a) = (how_many b.parts ≡ 0) × (b.states ≡ 0) × (b.format.atoms ≡ most_atoms)
 IsOver (in_body b) (part p) = (b.states ≡ 0) × IsTrue (may_follow b.parts p) × (has_room b.parts p ≡ false)
-IsOver (in_body b) (listed l) = b.states ≡ most_states
+IsOver (in_body b) (listed l) = IsTrue (has_basis b.parts.values l.mark) × (b.states ≡ most_states)
 IsOver _ _ = ⊥
 
 -- the line leads to this stage, exceeds a limit, or is not allowed there
@@ -65,11 +65,11 @@ IsStep place line _ = ⊥
 abbrev pub IsReadAt : CertificatePlace → List ℕ → Result (CertLine × Stage) NextFault → Type 0
 IsReadAt place bytes (Ok (line, next)) = (line_text (text_line_of line) ≡ bytes) × (next_place place (text_line_of line) ≡ Some (place_of next))
 IsReadAt place bytes (Err (Text fault.Version)) =
-    (place ≡ at_version) × ((number : ℕ) × IsTrue (is_number number) × (number ≢ 1) × (number ≢ 2) × (number ≢ 3) × (codes "pddl-cert " ++ decimal number ≡ bytes))
+    (place ≡ at_version) × ((number : ℕ) × IsTrue (is_number number) × (number ≢ 1) × (number ≢ 2) × (number ≢ 3) × (number ≢ 4) × (codes "pddl-cert " ++ decimal number ≡ bytes))
 IsReadAt place bytes (Err (Text fault.Limit)) = (line : TextLine) × IsTrue (is_line (format_at place) line) × IsOver place line × (line_text line ≡ bytes)
 IsReadAt place bytes (Err (Text fault.Form)) =
     ((line : TextLine) (next : CertificatePlace) → next_place place line ≡ Some next → line_text line ≢ bytes)
     × ((line : TextLine) → IsTrue (is_line (format_at place) line) → IsOver place line → line_text line ≢ bytes)
-    × (place ≡ at_version → (number : ℕ) → IsTrue (is_number number) → number ≢ 1 → number ≢ 2 → number ≢ 3 → codes "pddl-cert " ++ decimal number ≢ bytes)
+    × (place ≡ at_version → (number : ℕ) → IsTrue (is_number number) → number ≢ 1 → number ≢ 2 → number ≢ 3 → number ≢ 4 → codes "pddl-cert " ++ decimal number ≢ bytes)
 IsReadAt place bytes (Err NoMemory) = Unit {0}
 IsReadAt place bytes _ = ⊥

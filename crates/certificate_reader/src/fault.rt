@@ -11,7 +11,7 @@ pub enum TextFault {
     Version,
     /// The text ends before its last line does: 42.
     Truncated,
-    /// More atoms, tables, rows or states than allowed: 55.
+    /// More exchanges, atoms, parts of a kind or states than allowed: 55.
     Limit,
 }
 

@@ -1,6 +1,6 @@
 //! The parameters that determine the form of lines.
 ghost use Rattle.std.specs.Prelude.{◌≡◌};
-ghost use Rattle.certificate_definitions.specs.Certificates.{has_exchanges, has_tables};
+ghost use Rattle.certificate_definitions.specs.Certificates.{has_exchanges, has_landmarks, has_tables};
 ghost use Rattle.certificate_definitions.specs.CertificateText.{is_weight_count};
 ghost use Rattle.certificate_reader.specs.Lines.{version_of};
 
@@ -24,7 +24,7 @@ pub(crate) fn is_weight_count(version: Version, count: usize) -> bool
     match version {
         Version::One => count == 1,
         Version::Two => count == 2,
-        Version::Three => 2 <= count && count <= MAX_CONSTANTS,
+        Version::Three | Version::Four => 2 <= count && count <= MAX_CONSTANTS,
     }
 }
 
@@ -34,7 +34,7 @@ pub(crate) fn has_tables(version: Version) -> bool
 {
     match version {
         Version::One | Version::Two => false,
-        Version::Three => true,
+        Version::Three | Version::Four => true,
     }
 }
 
@@ -42,5 +42,12 @@ pub(crate) fn has_tables(version: Version) -> bool
 pub(crate) fn has_exchanges(version: Version) -> bool
     ensures { result ≡ has_exchanges (version_of version) }
 {
-    version == Version::Three
+    version == Version::Three || version == Version::Four
+}
+
+/// Whether landmark values are allowed.
+pub(crate) fn has_landmarks(version: Version) -> bool
+    ensures { result ≡ has_landmarks (version_of version) }
+{
+    version == Version::Four
 }

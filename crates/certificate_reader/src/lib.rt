@@ -5,6 +5,7 @@ mod exchanged;
 mod fault;
 mod first_word;
 mod format;
+mod landmark_lines;
 mod laws;
 mod line;
 mod lower_names;
@@ -17,6 +18,7 @@ mod position;
 mod reader;
 mod ready;
 mod stage;
+mod state_line;
 mod waiting;
 
 pub use fault::TextFault;

@@ -32,7 +32,8 @@ pub enum Claim {
 }
 
 /// The version of a certificate's text. From version 2 on, states may be listed as dead ends, and each atom has a last weight,
-/// for detecting them. Version 3 allows up to 32 values, tables, and exchanges of objects.
+/// for detecting them. From version 3 on there may be up to 32 values, tables, and exchanges of objects. In version 4 a cut or a dead
+/// end may rest on a landmark value of its own.
 #[derive(Clone, Copy, Debug, PartialEq, Eq)]
 pub enum Version {
     /// `pddl-cert 1`.
@@ -41,6 +42,8 @@ pub enum Version {
     Two,
     /// `pddl-cert 3`.
     Three,
+    /// `pddl-cert 4`.
+    Four,
 }
 
 /// What a cut or a dead end rests on.
@@ -48,6 +51,8 @@ pub enum Version {
 pub enum Basis {
     /// The values of all states: for a cut the greatest of them, for a dead end the value for dead ends.
     OfAll,
+    /// The landmark value with this number, from 0. Only in version 4.
+    Landmark(u32),
 }
 
 /// The role of a state in a listing.
@@ -112,9 +117,9 @@ pub enum CertLine {
         /// The names of its objects, in order.
         objects: Vec<Vec<u8>>,
     },
-    /// A part, which gives what state lines rest on: `table 0 2`, `row 3 0 2`.
+    /// A part, which gives what state lines rest on: `table 0 2`, `row 3 0 2`, `zone 0 not 2`, `marks 0 3`.
     Part(PartLine),
-    /// A state: `open 3 0 2`, `cut 6 2 0 1`, `dead 1 2`.
+    /// A state: `open 3 0 2`, `cut 6 2 0 1`, `dead 1 2`, `cut-by 0 6 2 0 1`, `dead-by 0 1 2`.
     Listed(StateLine),
     /// The last line, with the number of state lines: `end 2`.
     Last {

@@ -13,17 +13,18 @@ use crate::exchanged::exchanged_names;
 use crate::fault::{NextFault, TextFault};
 use crate::first_word::{first_word, is};
 use crate::format::{Format, has_exchanges, is_weight_count};
-use crate::line::{Basis, CertLine, MAX_CONSTANTS, Mark, NamedAtom, StateLine, Version};
+use crate::line::{CertLine, MAX_CONSTANTS, NamedAtom, Version};
 use crate::lower_names::{copy, is_lower_name, names};
 use crate::number::number;
 use crate::part_line::parse_part;
-use crate::parts::{claim, leading_weights, numbered};
+use crate::parts::{claim, leading_weights};
+use crate::state_line::{is_state_word, parse_state};
 use std::alloc::{AllocError, Global};
 
 /// Parses these bytes, without LF, as a line of a text with this format.
 ///
 /// # Errors
-/// [`TextFault::Version`] for `pddl-cert N` if N is not 1, 2 or 3; [`TextFault::Form`] for anything else that is not a line;
+/// [`TextFault::Version`] for `pddl-cert N` if N is not 1, 2, 3 or 4; [`TextFault::Form`] for anything else that is not a line;
 /// [`NextFault::NoMemory`] if an allocation failed.
 pub(crate) fn parse(alloc: Global, bytes: &[u8], format: Format) -> Result<CertLine, NextFault>
     requires some { 1 ≤ format.weights }
@@ -49,14 +50,8 @@ fn parse_after(
     requires short { length (with_rest word.now (Some rest.now)) ≤ longest_line }
     ensures { IsParsedAfter word.now rest.now (format_of format) result }
 {
-    if is(word, b"open") {
-        return open_line(alloc, rest, format);
-    }
-    if is(word, b"cut") {
-        return cut_line(alloc, rest, format);
-    }
-    if is(word, b"dead") {
-        return dead_line(alloc, rest, format);
+    if is_state_word(word) {
+        return parse_state(alloc, word, rest, format);
     }
     if is(word, b"atom") {
         return atom_line(alloc, rest, format);
@@ -90,6 +85,7 @@ fn head_line(rest: &[u8]) -> Result<CertLine, NextFault>
         Some(1) => Ok(CertLine::Head(Version::One)),
         Some(2) => Ok(CertLine::Head(Version::Two)),
         Some(3) => Ok(CertLine::Head(Version::Three)),
+        Some(4) => Ok(CertLine::Head(Version::Four)),
         Some(_) => Err(NextFault::Text(TextFault::Version)),
         None => Err(NextFault::Text(TextFault::Form)),
     }
@@ -163,64 +159,6 @@ fn swap_line(alloc: Global, rest: &[u8], format: Format) -> Result<CertLine, Nex
     }
     match exchanged_names(alloc, rest)? {
         Some(objects) => Ok(CertLine::Swap { objects }),
-        None => Err(NextFault::Text(TextFault::Form)),
-    }
-}
-
-/// Parses an open state from what follows `open`.
-fn open_line(alloc: Global, rest: &[u8], format: Format) -> Result<CertLine, NextFault>
-    requires few { format.atoms ≤ most_atoms }
-    ensures { IsParsedAfter (codes "open") rest.now (format_of format) result }
-{
-    match numbered(alloc, rest, format.atoms)? {
-        Some((cost, atoms)) => Ok(CertLine::Listed(StateLine {
-            cost,
-            mark: Mark::Open,
-            atoms,
-        })),
-        None => Err(NextFault::Text(TextFault::Form)),
-    }
-}
-
-/// Parses a cut from what follows `cut`.
-fn cut_line(alloc: Global, rest: &[u8], format: Format) -> Result<CertLine, NextFault>
-    requires few { format.atoms ≤ most_atoms }
-    ensures { IsParsedAfter (codes "cut") rest.now (format_of format) result }
-{
-    let (word, following) = first_word(rest);
-    let Some(cost) = number(word) else {
-        return Err(NextFault::Text(TextFault::Form));
-    };
-    let Some(following) = following else {
-        return Err(NextFault::Text(TextFault::Form));
-    };
-    match numbered(alloc, following, format.atoms)? {
-        Some((least, atoms)) => Ok(CertLine::Listed(StateLine {
-            cost,
-            mark: Mark::Cut {
-                by: Basis::OfAll,
-                rest: least,
-            },
-            atoms,
-        })),
-        None => Err(NextFault::Text(TextFault::Form)),
-    }
-}
-
-/// Parses a dead end from what follows `dead`; version 1 has none.
-fn dead_line(alloc: Global, rest: &[u8], format: Format) -> Result<CertLine, NextFault>
-    requires few { format.atoms ≤ most_atoms }
-    ensures { IsParsedAfter (codes "dead") rest.now (format_of format) result }
-{
-    if let Version::One = format.version {
-        return Err(NextFault::Text(TextFault::Form));
-    }
-    match numbered(alloc, rest, format.atoms)? {
-        Some((cost, atoms)) => Ok(CertLine::Listed(StateLine {
-            cost,
-            mark: Mark::Dead { by: Basis::OfAll },
-            atoms,
-        })),
         None => Err(NextFault::Text(TextFault::Form)),
     }
 }

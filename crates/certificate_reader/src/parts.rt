@@ -5,7 +5,7 @@ ghost use Rattle.model.specs.Claims as model;
 ghost use Rattle.certificate_definitions.specs.Certificates.{is_claim, rise};
 ghost use Rattle.certificate_definitions.specs.CertificateText.{most_atoms};
 ghost use Rattle.certificate_reader.specs.Lines.{claim_of};
-ghost use Rattle.certificate_reader.specs.Words.{IsLeading, IsNumbered, claim_rest, text_in, then_words};
+ghost use Rattle.certificate_reader.specs.Words.{AreLeading, IsLeading, IsNumbered, claim_rest, text_in, then_words};
 
 use crate::first_word::{first_word, is};
 use crate::line::Claim;
@@ -93,19 +93,35 @@ pub(crate) fn numbers(
     ensures none { IfOk result (λ found. IfNone found ((numbers : List ℕ) → IsTrue (rise atom_count 0 numbers)
         → then_words (map decimal numbers) None ≢ text_in rest.entry)) }
 {
+    let (numbers, left) = leading_numbers(alloc, rest, atom_count)?;
+    if left.is_some() {
+        return Ok(None);
+    }
+    Ok(Some(numbers))
+}
+
+/// The atom numbers that the words begin with, in ascending order, and what follows them: never another number of that kind.
+pub(crate) fn leading_numbers(
+    alloc: Global,
+    rest: Option<&[u8]>,
+    atom_count: usize,
+) -> Result<(Vec<u32>, Option<&[u8]>), AllocError>
+    requires few { atom_count ≤ most_atoms }
+    ensures { IfOk result (λ read. AreLeading (text_in rest.entry) atom_count read.0.items (text_in read.1)) }
+{
     let mut numbers = Vec::with_capacity(alloc, most_numbers(rest).min(atom_count))?;
     let mut least = 0;
     let mut left = rest;
     'words: while let Some(bytes) = left {
         let (word, following) = first_word(bytes);
-        let Some(next) = next_number(word, least, atom_count) else {
-            return Ok(None);
+        let Some(next) = number_within(word, least, atom_count) else {
+            return Ok((numbers, left));
         };
         numbers.push(next)?;
         least = next + 1;
         left = following;
     }
-    Ok(Some(numbers))
+    Ok((numbers, None))
 }
 
 /// Upper bound of how many numbers the bytes contain: each has a digit, and a blank before the next.
@@ -116,16 +132,16 @@ fn most_numbers(rest: Option<&[u8]>) -> usize {
     }
 }
 
-/// The atom number denoted by a word, at least `least`; `None` if there is none.
-fn next_number(word: &[u8], least: u32, atom_count: usize) -> Option<u32>
-    requires few { atom_count ≤ most_atoms }
-    ensures some { IfSome result (λ n. (decimal n ≡ word.now) × (least ≤ n) × (n < atom_count)) }
-    ensures none { IfNone result ((n : ℕ) → least ≤ n → n < atom_count → decimal n ≢ word.now) }
+/// The number denoted by a word, if it is at least `least` and below the count.
+pub(crate) fn number_within(word: &[u8], least: u32, count: usize) -> Option<u32>
+    requires few { count ≤ 2147483648 }
+    ensures some { IfSome result (λ n. (decimal n ≡ word.now) × (least ≤ n) × (n < count)) }
+    ensures none { IfNone result ((n : ℕ) → least ≤ n → n < count → decimal n ≢ word.now) }
 {
     let Some(next) = number(word) else {
         return None;
     };
-    if u64::from(least) <= next && next < atom_count as u64 {
+    if u64::from(least) <= next && next < count as u64 {
         Some(next as u32)
     } else {
         None

@@ -1,16 +1,16 @@
 //! The stage of a reader: which line may come next.
 ghost use Rattle.std.specs.Prelude.{◌≡◌, ℕ, ◌≤◌, IsTrue, List, length};
-ghost use Rattle.certificate_definitions.specs.Certificates.{StateLine};
+ghost use Rattle.certificate_definitions.specs.Certificates.{StateLine, has_basis};
 ghost use Rattle.certificate_definitions.specs.CertificateText as text;
 ghost use Rattle.certificate_definitions.specs.CertificateText.{WeightedAtom, swapped, atom, listed, is_line, longest_line};
 ghost use Rattle.certificate_definitions.specs.CertificateMachine.{format_at, in_body, no_body, no_format};
-ghost use Rattle.certificate_reader.specs.Lines.{text_line_of, version_of};
-ghost use Rattle.certificate_reader.specs.Parts.{part_of};
+ghost use Rattle.certificate_reader.specs.Lines.{mark_of, text_line_of, version_of};
+ghost use Rattle.certificate_reader.specs.Parts.{counts_of, part_of};
 ghost use Rattle.certificate_reader.specs.Stages.{IsReadAt, IsStep, IsWithin, body_of, format_of, place_of};
 
 use crate::fault::{NextFault, TextFault};
 use crate::format::Format;
-use crate::line::{CertLine, MAX_ATOMS, MAX_STATE_LINES, MAX_SWAPS, Version};
+use crate::line::{Basis, CertLine, MAX_ATOMS, MAX_STATE_LINES, MAX_SWAPS, Mark, Version};
 use crate::parsing::parse;
 use crate::part_line::{PartCounts, PartLine};
 use std::alloc::Global;
@@ -103,7 +103,7 @@ fn no_body(version: Version, weights: usize) -> Body
             atoms: 0,
         },
         swaps: 0,
-        parts: PartCounts { tables: 0, rows: 0 },
+        parts: PartCounts::none(),
         states: 0,
     }
 }
@@ -119,7 +119,7 @@ impl Body {
             CertLine::Swap { .. } => self.after_swap(),
             CertLine::Weight { .. } => self.after_atom(),
             CertLine::Part(part) => self.after_part(part),
-            CertLine::Listed(_) => self.after_state(),
+            CertLine::Listed(line) => self.after_state(line.mark),
             CertLine::Last { count } => {
                 if *count == self.states as u64 {
                     Ok(Stage::Ended)
@@ -193,11 +193,14 @@ impl Body {
         }
     }
 
-    /// The stage after a state, or its fault.
-    fn after_state(self) -> Result<Stage, TextFault>
+    /// The stage after a state with this mark, or its fault. The landmark value that it rests on has come.
+    fn after_state(self, mark: Mark) -> Result<Stage, TextFault>
         requires within { IsWithin (in_body (body_of self)) }
-        ensures { (l : StateLine) → IsTrue (is_line (format_of self.format) (listed l)) → IsStep (in_body (body_of self)) (listed l) result }
+        ensures { (l : StateLine) → l.mark ≡ mark_of mark → IsTrue (is_line (format_of self.format) (listed l)) → IsStep (in_body (body_of self)) (listed l) result }
     {
+        if !self.has_basis(mark) {
+            return Err(TextFault::Form);
+        }
         if self.states >= MAX_STATE_LINES {
             return Err(TextFault::Limit);
         }
@@ -207,6 +210,19 @@ impl Body {
             parts: self.parts,
             states: self.states + 1,
         }))
+    }
+
+    /// Whether there is what a state with this mark rests on.
+    fn has_basis(self, mark: Mark) -> bool
+        ensures { result ≡ has_basis (counts_of self.parts).values (mark_of mark) }
+    {
+        match mark {
+            Mark::Open => true,
+            Mark::Cut { by, .. } | Mark::Dead { by } => match by {
+                Basis::OfAll => true,
+                Basis::Landmark(value) => (value as usize) < self.parts.values,
+            },
+        }
     }
 }
 

@@ -4,17 +4,17 @@ ghost use Rattle.std.specs.Prelude.{◌≡◌, IfOk, Some, map, slice_get};
 ghost use Rattle.potentials.specs.Potentials.{potentials_of};
 ghost use Rattle.cost_partitioning.specs.ValuePotentials.{potentials_in_value};
 
+use crate::cost_partition::CostPartition;
 use crate::costs::Costs;
-use crate::divider::Divider;
-use crate::division::Division;
 use crate::draft::Effort;
 use crate::orders::Order;
+use crate::partitioner::Partitioner;
 use crate::rests::{left_by, potentials_of_rest, score};
 use crate::states::Sampled;
 use abstractions::RowGraph;
 use faults::NoMemory;
 use potentials::Potentials;
-use potentials_drafted::Tables;
+use potentials_drafted::ProgramInput;
 use std::alloc::Global;
 
 /// The maximum number of values.
@@ -38,24 +38,24 @@ const MAX_WORK_OF_STATES: u64 = 20_000_000;
 
 /// A value: a cost partition over tables, plus potentials.
 #[derive(Drop)]
-pub(crate) struct Value {
+pub(crate) struct PartitionedValue {
     /// `None` if no table takes anything.
-    pub(crate) division: Option<Division>,
+    pub(crate) partition: Option<CostPartition>,
     pub(crate) potentials: Potentials,
 }
 
 /// A candidate value, and its value in each state.
 #[derive(Drop)]
-struct Candidate {
-    value: Value,
+struct CandidateValue {
+    value: PartitionedValue,
     given: Vec<i64>,
 }
 
 /// The search for orders, the candidates, and the greatest value of each state: by all parts, and by tables alone.
 #[derive(Drop)]
-struct Candidates<'a> {
-    divider: Divider<'a>,
-    all: Vec<Candidate>,
+struct CandidateValues<'a> {
+    partitioner: Partitioner<'a>,
+    all: Vec<CandidateValue>,
     most: Vec<i64>,
     most_by_tables: Vec<i64>,
     /// How often potentials were drafted for remaining costs.
@@ -75,10 +75,10 @@ pub(crate) struct Choosing<'a> {
 
 impl Choosing<'_> {
     /// The values: the potentials alone, and others that raise the value of some state.
-    pub(crate) fn values(&self, tables: &mut Tables) -> Result<Vec<Value>, NoMemory>
+    pub(crate) fn values(&self, input: &mut ProgramInput) -> Result<Vec<PartitionedValue>, NoMemory>
         ensures { IfOk result (λ values. slice_get (map potentials_in_value values.items) 0 ≡ Some (potentials_of self.now.potentials.now)) }
     {
-        let candidates = self.candidates(tables)?;
+        let candidates = self.candidates(input)?;
         self.chosen(candidates)
     }
 
@@ -88,30 +88,32 @@ impl Choosing<'_> {
     }
 
     /// The candidates: by an order for the initial state, and by orders for other states.
-    fn candidates(&self, tables: &mut Tables) -> Result<Vec<Candidate>, NoMemory> {
+    fn candidates(&self, input: &mut ProgramInput) -> Result<Vec<CandidateValue>, NoMemory> {
         let states = self.sampled.rows.len();
-        let mut candidates = Candidates {
-            divider: Divider::new(self.alloc, self.graphs, self.costs, self.sampled.rows)?,
+        let mut candidates = CandidateValues {
+            partitioner: Partitioner::new(self.alloc, self.graphs, self.costs, self.sampled.rows)?,
             all: Vec::new(self.alloc),
             most: vec![in self.alloc; 0; states]?,
             most_by_tables: vec![in self.alloc; 0; states]?,
             rests: 0,
         };
-        candidates.divider.allow(MAX_WORK_OF_PRUNING);
-        let order = candidates.divider.best_order()?;
-        candidates.divider.allow(self.part_of(MAX_WORK));
-        let order = candidates.divider.improved(order, TRIALS)?;
-        self.add(tables, &order, &mut candidates)?;
-        self.add_after_potentials(tables, &order, &mut candidates)?;
-        candidates.divider.allow(self.part_of(MAX_WORK_OF_STATES));
+        candidates.partitioner.allow(MAX_WORK_OF_PRUNING);
+        let order = candidates.partitioner.best_order()?;
+        candidates.partitioner.allow(self.part_of(MAX_WORK));
+        let order = candidates.partitioner.improved(order, TRIALS)?;
+        self.add(input, &order, &mut candidates)?;
+        self.add_after_potentials(input, &order, &mut candidates)?;
+        candidates
+            .partitioner
+            .allow(self.part_of(MAX_WORK_OF_STATES));
         for state in 1..states {
-            if candidates.divider.is_done() {
+            if candidates.partitioner.is_done() {
                 break;
             }
-            let order = candidates.divider.order_for(state, TRIALS_OF_STATE)?;
-            self.add(tables, &order, &mut candidates)?;
+            let order = candidates.partitioner.order_for(state, TRIALS_OF_STATE)?;
+            self.add(input, &order, &mut candidates)?;
         }
-        let Candidates { all, .. } = candidates;
+        let CandidateValues { all, .. } = candidates;
         Ok(all)
     }
 
@@ -119,22 +121,22 @@ impl Choosing<'_> {
     /// state.
     fn add(
         &self,
-        tables: &mut Tables,
+        input: &mut ProgramInput,
         order: &Order,
-        candidates: &mut Candidates<'_>,
+        candidates: &mut CandidateValues<'_>,
     ) -> Result<(), NoMemory> {
-        let division = candidates.divider.divide(order)?;
-        let given = candidates.divider.values(&division)?;
+        let partition = candidates.partitioner.divide(order)?;
+        let given = candidates.partitioner.values(&partition)?;
         if !raise(&mut candidates.most_by_tables, &given)
             || candidates.rests >= self.part_of(MAX_CANDIDATES)
         {
             return Ok(());
         }
         candidates.rests = candidates.rests.saturating_add(1);
-        match potentials_of_rest(self.alloc, tables, &division.left)? {
+        match potentials_of_rest(self.alloc, input, &partition.left)? {
             Some(potentials) => self.push(
-                Value {
-                    division: Some(division),
+                PartitionedValue {
+                    partition: Some(partition),
                     potentials,
                 },
                 candidates,
@@ -146,18 +148,18 @@ impl Choosing<'_> {
     /// Adds the partition by this order of the costs that potentials leave.
     fn add_after_potentials(
         &self,
-        tables: &mut Tables,
+        input: &mut ProgramInput,
         order: &Order,
-        candidates: &mut Candidates<'_>,
+        candidates: &mut CandidateValues<'_>,
     ) -> Result<(), NoMemory> {
-        let Some(potentials) = potentials_of_rest(self.alloc, tables, self.costs)? else {
+        let Some(potentials) = potentials_of_rest(self.alloc, input, self.costs)? else {
             return Ok(());
         };
-        let left = left_by(self.alloc, tables, self.costs, potentials.weights())?;
-        let division = Division::new(self.alloc, self.graphs, order, &left)?;
+        let left = left_by(self.alloc, input, self.costs, potentials.weights())?;
+        let partition = CostPartition::new(self.alloc, self.graphs, order, &left)?;
         self.push(
-            Value {
-                division: Some(division),
+            PartitionedValue {
+                partition: Some(partition),
                 potentials,
             },
             candidates,
@@ -165,20 +167,24 @@ impl Choosing<'_> {
     }
 
     /// Adds the value if it raises the value of some state.
-    fn push(&self, value: Value, candidates: &mut Candidates<'_>) -> Result<(), NoMemory> {
+    fn push(
+        &self,
+        value: PartitionedValue,
+        candidates: &mut CandidateValues<'_>,
+    ) -> Result<(), NoMemory> {
         let given = self.given(&value)?;
         if raise(&mut candidates.most, &given) {
-            candidates.all.push(Candidate { value, given })?;
+            candidates.all.push(CandidateValue { value, given })?;
         }
         Ok(())
     }
 
     /// The value in each state, at least 0.
-    fn given(&self, value: &Value) -> Result<Vec<i64>, NoMemory> {
+    fn given(&self, value: &PartitionedValue) -> Result<Vec<i64>, NoMemory> {
         let mut given = Vec::with_capacity(self.alloc, self.sampled.rows.len())?;
         for (rows, atoms) in self.sampled.rows.iter().zip(self.sampled.atoms) {
-            let by_tables = match &value.division {
-                Some(division) => division.value(rows).unwrap_or(0),
+            let by_tables = match &value.partition {
+                Some(partition) => partition.value(rows).unwrap_or(0),
                 None => 0,
             };
             let sum = by_tables.saturating_add(score(&value.potentials, atoms));
@@ -190,12 +196,12 @@ impl Choosing<'_> {
     /// The potentials alone, then repeatedly the candidate by which the initial state, and next all states, gain most, as long as
     /// there is a gain.
     #[tactic(auto, using(crate::proofs::ValueLemmas::first_kept))]
-    fn chosen(&self, mut candidates: Vec<Candidate>) -> Result<Vec<Value>, NoMemory>
+    fn chosen(&self, mut candidates: Vec<CandidateValue>) -> Result<Vec<PartitionedValue>, NoMemory>
         ensures { IfOk result (λ values. slice_get (map potentials_in_value values.items) 0 ≡ Some (potentials_of self.now.potentials.now)) }
     {
         let mut values = Vec::new(self.alloc);
-        let alone = Value {
-            division: None,
+        let alone = PartitionedValue {
+            partition: None,
             potentials: self.potentials.copied(self.alloc)?,
         };
         let mut most = self.given(&alone)?;
@@ -207,7 +213,7 @@ impl Choosing<'_> {
             if place >= candidates.len() {
                 return Ok(values);
             }
-            let Candidate { value, given } = candidates.swap_remove(place);
+            let CandidateValue { value, given } = candidates.swap_remove(place);
             for (before, value) in most.iter_mut().zip(&given) {
                 *before = (*before).max(*value);
             }
@@ -230,7 +236,7 @@ fn raise(most: &mut [i64], given: &[i64]) -> bool {
 }
 
 /// The index of the candidate with the greatest gain, where the initial state has priority; `None` if there is no gain.
-fn best(candidates: &[Candidate], most: &[i64]) -> Option<usize> {
+fn best(candidates: &[CandidateValue], most: &[i64]) -> Option<usize> {
     let mut best = None;
     let mut greatest = (0i64, 0i64);
     for (place, candidate) in candidates.iter().enumerate() {

@@ -61,7 +61,7 @@ enum Use {
 
 /// A candidate table: its variables, and the number of combinations of their values.
 #[derive(Debug, PartialEq, Eq, PartialOrd, Ord, Drop)]
-struct Candidate {
+struct CandidateTable {
     combinations: u32,
     variables: Vec<u32>,
 }
@@ -113,11 +113,11 @@ impl Collecting<'_, '_> {
     }
 
     /// The sets of variables that are not too large, those with the fewest combinations first.
-    fn candidates(&self, level: Vec<Vec<u32>>) -> Result<Vec<Candidate>, NoMemory> {
+    fn candidates(&self, level: Vec<Vec<u32>>) -> Result<Vec<CandidateTable>, NoMemory> {
         let mut candidates = Vec::new(self.alloc);
         for variables in level {
             if let Some(combinations) = self.reaching.combinations(&variables) {
-                candidates.push(Candidate {
+                candidates.push(CandidateTable {
                     combinations,
                     variables,
                 })?;
@@ -129,7 +129,11 @@ impl Collecting<'_, '_> {
     }
 
     /// The sets, extended by one variable related to one of theirs.
-    fn grown(&self, links: &Links, candidates: &[Candidate]) -> Result<Vec<Vec<u32>>, NoMemory> {
+    fn grown(
+        &self,
+        links: &Links,
+        candidates: &[CandidateTable],
+    ) -> Result<Vec<Vec<u32>>, NoMemory> {
         let mut level: Vec<Vec<u32>> = Vec::new(self.alloc);
         for candidate in candidates {
             for variable in &candidate.variables {

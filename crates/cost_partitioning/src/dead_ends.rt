@@ -1,6 +1,6 @@
 //! Sampled states that tables show to be dead ends.
-use crate::divider::StateRows;
 use crate::goal_distances::NO_WAY;
+use crate::partitioner::StateRows;
 use abstractions::place_of;
 use faults::NoMemory;
 use std::alloc::Global;

@@ -3,7 +3,7 @@ ghost use Rattle.std.specs.Prelude.{◌≡◌, IfOk, IfSome, Some, map, slice_ge
 ghost use Rattle.potentials.specs.Potentials.{potentials_of};
 ghost use Rattle.cost_partitioning.specs.ValuePotentials.{potentials_in_value};
 
-use crate::chosen::{Choosing, Value};
+use crate::chosen::{Choosing, PartitionedValue};
 use crate::collected::{Collected, Collecting, costs_of};
 use crate::costs::Costs;
 use crate::dead_ends::DeadEnds;
@@ -16,7 +16,7 @@ use abstractions::{
 use faults::NoMemory;
 use grounding::Ground;
 use potentials::Potentials;
-use potentials_drafted::Tables;
+use potentials_drafted::ProgramInput;
 use std::alloc::Global;
 use table_rows::Table;
 
@@ -114,7 +114,7 @@ pub fn drafted_tables(
     let groups = found_groups(alloc, ground, &initial)?;
     let variables = Variables::new(alloc, ground.width(), &groups)?;
     drop(groups);
-    let mut tables = Tables::new(alloc, ground, &initial)?;
+    let mut input = ProgramInput::new(alloc, ground, &initial)?;
     drop(initial);
     let subject = Subject {
         alloc,
@@ -122,19 +122,19 @@ pub fn drafted_tables(
         variables: &variables,
         wanted,
     };
-    let draft = subject.draft(&mut tables)?;
+    let draft = subject.draft(&mut input)?;
     Ok(draft)
 }
 
 impl Subject<'_, '_> {
-    /// The draft, whose potentials are made by these tables of potentials.
-    fn draft(&self, tables: &mut Tables) -> Result<Option<DraftedTables>, NoMemory>
+    /// The draft, whose potentials are drafted from this input.
+    fn draft(&self, input: &mut ProgramInput) -> Result<Option<DraftedTables>, NoMemory>
         ensures first { IfOk result (λ o. IfSome o (λ draft. slice_get (map potentials_of draft.values.items) 0 ≡ Some (potentials_of self.now.wanted.now.potentials.now))) }
         ensures dead_ends { IfOk result (λ o. IfSome o (λ draft. potentials_of draft.dead_ends ≡ potentials_of self.now.wanted.now.dead_ends.now)) }
     {
-        let atoms = samples(self.alloc, tables.states(), self.wanted.states)?;
+        let atoms = samples(self.alloc, input.states(), self.wanted.states)?;
         let values = values_of_all(self.alloc, self.variables, &atoms)?;
-        let starts = samples(self.alloc, first_of(tables.states()), self.wanted.starts)?;
+        let starts = samples(self.alloc, first_of(input.states()), self.wanted.starts)?;
         let starts = values_of_all(self.alloc, self.variables, &starts)?;
         let Some(steps) = Steps::new(self.alloc, self.ground, self.variables)? else {
             return Ok(None);
@@ -146,7 +146,7 @@ impl Subject<'_, '_> {
             atoms: &atoms,
             rows: &rows,
         };
-        let draft = self.draft_by(&known, sampled, tables)?;
+        let draft = self.draft_by(&known, sampled, input)?;
         Ok(draft)
     }
 
@@ -193,12 +193,12 @@ impl Subject<'_, '_> {
         Ok(Known { collected, costs })
     }
 
-    /// The draft from known tables.
+    /// The draft over known tables.
     fn draft_by<'k>(
         &self,
         known: &'k Known,
         sampled: Sampled<'k>,
-        tables: &mut Tables,
+        input: &mut ProgramInput,
     ) -> Result<Option<DraftedTables>, NoMemory>
         ensures first { IfOk result (λ o. IfSome o (λ draft. slice_get (map potentials_of draft.values.items) 0 ≡ Some (potentials_of self.now.wanted.now.potentials.now))) }
         ensures dead_ends { IfOk result (λ o. IfSome o (λ draft. potentials_of draft.dead_ends ≡ potentials_of self.now.wanted.now.dead_ends.now)) }
@@ -212,7 +212,7 @@ impl Subject<'_, '_> {
             potentials: wanted.potentials,
             effort: wanted.effort,
         };
-        let values = choosing.values(tables)?;
+        let values = choosing.values(input)?;
         let Some(written) = self.tables_of_use(known, &values, sampled)? else {
             return Ok(None);
         };
@@ -228,7 +228,7 @@ impl Subject<'_, '_> {
     fn tables_of_use(
         &self,
         known: &Known,
-        values: &[Value],
+        values: &[PartitionedValue],
         sampled: Sampled<'_>,
     ) -> Result<Option<Vec<Table>>, NoMemory> {
         let writing = Writing {
@@ -259,14 +259,14 @@ impl Subject<'_, '_> {
 
 impl Known {
     /// Whether the table at this index shuts out instances, or has a part in one of these values.
-    fn is_used(&self, place: usize, values: &[Value]) -> bool {
+    fn is_used(&self, place: usize, values: &[PartitionedValue]) -> bool {
         self.collected.is_shutting(place)
             || values.iter().any(|value| part_of(value, place).is_some())
     }
 }
 
 /// The potentials of the values.
-fn potentials_in(alloc: Global, values: &[Value]) -> Result<Vec<Potentials>, NoMemory>
+fn potentials_in(alloc: Global, values: &[PartitionedValue]) -> Result<Vec<Potentials>, NoMemory>
     ensures { IfOk result (λ potentials. map potentials_of potentials.items ≡ map potentials_in_value values.now) }
 {
     let mut potentials = Vec::new(alloc);

@@ -9,14 +9,14 @@
 
 mod chosen;
 mod collected;
+mod cost_partition;
 mod costs;
 mod dead_ends;
-mod divider;
-mod division;
 mod draft;
 mod goal_distances;
 mod links;
 mod orders;
+mod partitioner;
 mod rests;
 mod states;
 mod written;

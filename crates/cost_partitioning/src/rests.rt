@@ -2,7 +2,7 @@
 use crate::costs::Costs;
 use faults::NoMemory;
 use potentials::{Potentials, is_in_range};
-use potentials_drafted::{Tables, drafted_weights};
+use potentials_drafted::{ProgramInput, drafted_weights};
 use std::alloc::Global;
 
 /// The cost of a shut-out instance for potentials.
@@ -23,7 +23,7 @@ pub(crate) fn rest_of(alloc: Global, costs: &Costs) -> Result<Vec<i64>, NoMemory
 /// The costs that the weights leave of these.
 pub(crate) fn left_by(
     alloc: Global,
-    tables: &Tables,
+    input: &ProgramInput,
     costs: &Costs,
     weights: &[i64],
 ) -> Result<Costs, NoMemory> {
@@ -31,7 +31,7 @@ pub(crate) fn left_by(
     let mut number = 0u32;
     for cost in costs.left() {
         left.push(match cost {
-            Some(cost) => Some(cost.saturating_sub(tables.loss(number, weights))),
+            Some(cost) => Some(cost.saturating_sub(input.loss(number, weights))),
             None => None,
         })?;
         number = number.saturating_add(1);
@@ -42,13 +42,13 @@ pub(crate) fn left_by(
 /// Potentials that are fair for the remaining costs, if some are found.
 pub(crate) fn potentials_of_rest(
     alloc: Global,
-    tables: &mut Tables,
+    input: &mut ProgramInput,
     left: &Costs,
 ) -> Result<Option<Potentials>, NoMemory> {
-    tables.set_costs(rest_of(alloc, left)?);
-    let zero = vec![in alloc; 0; tables.width() as usize]?;
-    let weights = drafted_weights(alloc, tables, &zero)?;
-    let constant = tables.constant(&weights);
+    input.set_costs(rest_of(alloc, left)?);
+    let zero = vec![in alloc; 0; input.width() as usize]?;
+    let weights = drafted_weights(alloc, input, &zero)?;
+    let constant = input.constant(&weights);
     if !is_in_range(constant) {
         return Ok(None);
     }

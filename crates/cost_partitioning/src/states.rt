@@ -1,5 +1,5 @@
 //! States whose values are to be raised.
-use crate::divider::StateRows;
+use crate::partitioner::StateRows;
 use abstractions::{RowGraph, Variables, place_of};
 use faults::NoMemory;
 use std::alloc::Global;

@@ -3,8 +3,8 @@ ghost use Rattle.std.specs.Prelude.{◌≡◌, nat_lt, slice_get, true};
 ghost use Rattle.std.specs.Option.{option_map_or};
 ghost use Rattle.table_rows.specs.Rows as rows;
 
-use crate::chosen::Value;
-use crate::division::Part;
+use crate::chosen::PartitionedValue;
+use crate::cost_partition::Part;
 use crate::goal_distances::NO_WAY;
 use abstractions::{RowGraph, Variables, number_of, place_of};
 use faults::NoMemory;
@@ -21,7 +21,7 @@ const WEIGHT_OF_DEAD: i64 = 1_073_741_824;
 pub(crate) struct Writing<'a> {
     pub(crate) alloc: Global,
     pub(crate) variables: &'a Variables,
-    pub(crate) values: &'a [Value],
+    pub(crate) values: &'a [PartitionedValue],
     /// The weight, for dead ends, of a row without a path to the goal.
     pub(crate) weight_of_dead: i64,
 }
@@ -91,9 +91,9 @@ impl Writing<'_> {
 }
 
 /// The table's part of the value.
-pub(crate) fn part_of(value: &Value, table: usize) -> Option<&Part> {
-    match &value.division {
-        Some(division) => division.parts.iter().find(|part| part.table == table),
+pub(crate) fn part_of(value: &PartitionedValue, table: usize) -> Option<&Part> {
+    match &value.partition {
+        Some(partition) => partition.parts.iter().find(|part| part.table == table),
         None => None,
     }
 }

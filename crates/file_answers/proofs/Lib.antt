@@ -3,4 +3,5 @@ mod ExplanationLemmas
 mod FurtherLemmas
 pub mod FilesRead
 mod QuantifiedLemmas
+mod ShortLines
 pub mod NamedExchanges

@@ -8,7 +8,7 @@ mod values;
 mod zones;
 
 pub use landmarks::Landmarks;
-pub use limits::{MAX_ENTRIES, MAX_VALUES, MAX_ZONES};
+pub use limits::{MAX_ENTRIES, MAX_SHARE_WEIGHT, MAX_VALUES, MAX_ZONES, is_value, is_zone};
 pub use line_text::{add_cut_by, add_dead_by, add_value, add_zone};
 pub use values::Share;
 pub use zones::ZoneRef;

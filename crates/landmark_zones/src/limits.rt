@@ -18,11 +18,11 @@ pub const MAX_VALUES: usize = 16_777_216;
 /// The maximum number of literals of all zones of a text, and of zones of all its values.
 pub const MAX_ENTRIES: usize = 67_108_864;
 
-/// The maximum weight of a zone.
-const MAX_WEIGHT: u32 = 2_147_483_647;
+/// The maximum weight of a zone in a value.
+pub const MAX_SHARE_WEIGHT: u32 = 2_147_483_647;
 
 /// Whether a text with this many atoms may have this zone: at least one literal, each of another atom, in ascending order.
-pub(crate) fn is_zone(zone: ZoneRef<'_>, atom_count: usize) -> bool
+pub fn is_zone(zone: ZoneRef<'_>, atom_count: usize) -> bool
     ensures { result ≡ is_zone atom_count (record { atoms = zone.entry.atoms.now; negated = zone.entry.negated.now }) }
 {
     rise(zone.atoms, atom_count)
@@ -53,7 +53,7 @@ fn are_others(atoms: &[u32], numbers: &[u32], atom_count: usize) -> bool
 
 /// Whether a text with this many zones may have this value: at least one zone, in ascending order, each with a weight within the
 /// limits.
-pub(crate) fn is_value(shares: &[Share], zone_count: usize) -> bool
+pub fn is_value(shares: &[Share], zone_count: usize) -> bool
     ensures { result ≡ is_value zone_count (map share_of shares.now) }
 {
     zones_rise(shares, zone_count) && !shares.is_empty() && are_shares(shares)
@@ -75,7 +75,7 @@ fn are_shares(shares: &[Share]) -> bool
 fn is_share(share: Share) -> bool
     ensures { result ≡ is_share (share_of share) }
 {
-    1 <= share.weight && share.weight <= MAX_WEIGHT
+    1 <= share.weight && share.weight <= MAX_SHARE_WEIGHT
 }
 
 /// Whether the numbers of the zones are strictly ascending and below the count.

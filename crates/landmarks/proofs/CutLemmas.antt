@@ -18,10 +18,10 @@ use Rattle.landmark_functions.specs.FairLandmarks.{makes_one, may_take_effect, m
 use Rattle.landmark_zones.specs.declared.values.Share.{Share}
 use Rattle.landmark_zones.specs.Landmarks.{share_of}
 use Rattle.landmarks.specs.declared.counters.Counters.{Counters}
-use Rattle.landmarks.specs.declared.cut_index.Allowance.{Allowance}
+use Rattle.potentials.specs.declared.allowance.Allowance.{Allowance}
 use Rattle.landmarks.specs.declared.cut_index.CutIndex.{CutIndex}
 use Rattle.landmarks.specs.declared.makers.Makers.{Makers}
-use Rattle.landmarks.specs.Rows.{row_at}
+use Rattle.table_rows.specs.Lists.{list_at}
 use Rattle.landmarks.specs.Makers.{row_for, AreMakers}
 use Rattle.landmarks.specs.Counters.{counter_at, AreCounters}
 use Rattle.landmarks.specs.CutIndex.{candidates, charging, share_charging, share_charge_at, task_of, atoms_of, AreStanding, total_at, AreAllWithin, IsSomeBeyond, Decides}
@@ -45,8 +45,8 @@ among-flat f (y ∷ xs) x k at there = elim (or_cases (y == x) (is_among xs x) a
 
 module _ (task : Task) (atoms : List Atom) (asked : List ℕ) (m : Makers) (made : AreMakers task atoms asked m) where
   of-literal : (z : Zone) (k atom : ℕ) (value : Bool) → is_in z (record { atom = atom; value = value }) ≡ true → is_among (row_for m atom value) k ≡ true → is_among (candidates m z) k ≡ true
-  of-literal z k atom true is there = among-left (flat_map (row_at m.adding) z.atoms) (flat_map (row_at m.deleting) z.negated) k (among-flat (row_at m.adding) z.atoms atom k is there)
-  of-literal z k atom false is there = among-right (flat_map (row_at m.adding) z.atoms) (flat_map (row_at m.deleting) z.negated) k (among-flat (row_at m.deleting) z.negated atom k is there)
+  of-literal z k atom true is there = among-left (flat_map (list_at m.adding) z.atoms) (flat_map (list_at m.deleting) z.negated) k (among-flat (list_at m.adding) z.atoms atom k is there)
+  of-literal z k atom false is there = among-right (flat_map (list_at m.adding) z.atoms) (flat_map (list_at m.deleting) z.negated) k (among-flat (list_at m.deleting) z.negated atom k is there)
 
   pub candidate : (z : Zone) (k : ℕ) → is_among asked k ≡ true → may_break (literals_of_number task atoms k) (conditional_of_number task atoms k) z ≡ true → is_among (candidates m z) k ≡ true
   candidate z k at breaks =

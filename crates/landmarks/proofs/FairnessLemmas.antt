@@ -1,5 +1,5 @@
 -- What is known of fairness by what instances are charged.
-use Rattle.std.proofs.Common.{◌≡◌, ◌∙◌, ℕ, ◌+◌, ◌<◌, ◌≤◌, inl, inr, true, false, true≢false, List, [], map, length, get_or, sum_by, Some, sym, ap, subst, arith, refl}
+use Rattle.std.proofs.Common.{◌≡◌, ◌∙◌, ℕ, ◌+◌, ◌<◌, ◌≤◌, ◌⊎◌, zero, suc, inl, inr, true, false, true≢false, List, [], ◌∷◌, ◌++◌, map, length, get_or, sum_by, Some, sym, ap, subst, arith, refl}
 use Rattle.std.specs.Prelude.{All, slice_get}
 use Rattle.std.specs.List.{list_all}
 use Rattle.std.specs.Option.{option_map_or}
@@ -18,11 +18,11 @@ use Rattle.landmark_functions.specs.FairLandmarks.{charge, charges, AreFairAt, I
 use Rattle.landmark_functions.specs.LandmarkLines.{Share, NumberedLandmarks, share_count}
 use Rattle.landmark_zones.specs.declared.values.Share as in_memory
 use Rattle.landmark_zones.specs.Landmarks.{share_of}
-use Rattle.landmarks.specs.declared.cut_index.Allowance.TheVariants.{Cost, Nothing}
+use Rattle.potentials.specs.declared.allowance.Allowance.TheVariants.{Cost, Nothing}
 use Rattle.landmarks.specs.declared.testing.Fairness.{Fairness}
 use Rattle.landmarks.specs.declared.testing.Fairness.TheVariants.{DeadFair, Fair, Unfair}
 use Rattle.landmarks.specs.CutIndex.{allowed_at, total_at, AreAllWithin, IsSomeBeyond}
-use Rattle.landmarks.specs.Fairness.{AreAsked, IsFairness, charged_at, has_one, is_unfair, function_over, IsFairValue, IsFirstUnfair, is_dead_fair, IsDeadFairValue, IsFirstNotDead}
+use Rattle.landmarks.specs.Fairness.{AreAsked, IsFairness, charged_at, has_one, is_unfair, function_over, is_dead_fair}
 use Rattle.landmarks.proofs.AmongLemmas.{among-all}
 use Rattle.landmarks.proofs.ValueLemmas.{all-count}
 
@@ -110,7 +110,7 @@ unfair-of task atoms h DeadFair is so = absurd (true≢false (sym is))
 unfair-of task atoms h Fair is so = absurd (true≢false (sym is))
 unfair-of task atoms h Unfair is so = so
 
--- ---- the first that is unfair
+-- ---- one of several
 
 -- a row is no longer than all together
 pub few-of : (values : List (List Share)) (number count : ℕ) (found : List Share) → slice_get values number ≡ Some found → share_count values ≤ count → length found ≤ count
@@ -118,49 +118,41 @@ few-of values number count found at few =
     let one = get_or-le-sum_by length values number [] (slice_get_within values number found at) in
     omega (arith, ap length (get_or_from_slice_get values number found [] at))
 
-module _ (task : Task) (atoms : List Atom) (beside : List Table) (l : NumberedLandmarks) (number : ℕ) (shares : List Share) (at : slice_get l.values number ≡ Some shares)
-    (f : Fairness) (so : IsFairness task atoms (function_over beside l.zones shares) f) (before : (k : ℕ) → k < number → IsFairValue task atoms beside l k) where
-  is-at : get_or l.values number [] ≡ shares
-  is-at = get_or_from_slice_get l.values number shares [] at
+-- ---- dead-fair, or not
 
-  pub found-unfair : is_unfair f ≡ true → IsFirstUnfair task atoms beside l (Some number)
-  found-unfair is = (
-    slice_get_within l.values number shares at,
-    subst (λ s. ¬ IsFair task atoms (function_over beside l.zones s)) (sym is-at) (unfair-of task atoms (function_over beside l.zones shares) f is so),
-    before,
-  )
-
-  pub one-more : is_unfair f ≡ false → (k : ℕ) → k < number + 1 → IsFairValue task atoms beside l k
-  one-more isnt k below = elim (cases_eq k number) [
-    | inl here ↦ subst (IsFairValue task atoms beside l) (sym here) (subst (λ s. IsFair task atoms (function_over beside l.zones s)) (sym is-at) (fair-of task atoms (function_over beside l.zones shares) f isnt so))
-    | inr other ↦ before k (omega (arith, other))
-  ]
-
--- ---- the first that is not dead-fair
-
-dead-of : (task : Task) (atoms : List Atom) (h : LandmarkFunction) (f : Fairness) → is_dead_fair f ≡ true → IsFairness task atoms h f → IsDeadFair task atoms h
+pub dead-of : (task : Task) (atoms : List Atom) (h : LandmarkFunction) (f : Fairness) → is_dead_fair f ≡ true → IsFairness task atoms h f → IsDeadFair task atoms h
 dead-of task atoms h DeadFair is so = so
 dead-of task atoms h Fair is so = absurd (true≢false (sym is))
 dead-of task atoms h Unfair is so = absurd (true≢false (sym is))
 
-undead-of : (task : Task) (atoms : List Atom) (h : LandmarkFunction) (f : Fairness) → is_dead_fair f ≡ false → IsFairness task atoms h f → ¬ IsDeadFair task atoms h
+pub undead-of : (task : Task) (atoms : List Atom) (h : LandmarkFunction) (f : Fairness) → is_dead_fair f ≡ false → IsFairness task atoms h f → ¬ IsDeadFair task atoms h
 undead-of task atoms h DeadFair isnt so = absurd (true≢false isnt)
 undead-of task atoms h Fair isnt so = so.1
 undead-of task atoms h Unfair isnt so = λ dead. so (less-fair task atoms h dead)
 
-module _ (task : Task) (atoms : List Atom) (beside : List Table) (l : NumberedLandmarks) (numbers : List ℕ) (place : ℕ) (within : place < length numbers) (shares : List Share)
-    (at : slice_get l.values (get_or numbers place 0) ≡ Some shares) (f : Fairness) (so : IsFairness task atoms (function_over beside l.zones shares) f)
-    (before : (k : ℕ) → k < place → IsDeadFairValue task atoms beside l (get_or numbers k 0)) where
-  is-so : get_or l.values (get_or numbers place 0) [] ≡ shares
-  is-so = get_or_from_slice_get l.values (get_or numbers place 0) shares [] at
+-- ---- one after another
 
-  pub found-undead : is_dead_fair f ≡ false → IsFirstNotDead task atoms beside l numbers (Some place)
-  found-undead isnt =
-      (within, subst (λ s. ¬ IsDeadFair task atoms (function_over beside l.zones s)) (sym is-so) (undead-of task atoms (function_over beside l.zones shares) f isnt so), before)
+-- an element of a list and one more is one before, or the last
+got-push : {X : Type 0} (xs : List X) (y x : X) (k : ℕ) → slice_get (xs ++ y ∷ []) k ≡ Some x → (slice_get xs k ≡ Some x) ⊎ ((k ≡ length xs) × (y ≡ x))
+got-push [] y x zero at = inr (refl, some-is y x at)
+  where
+    some-is : {X : Type 0} (y x : X) → Some y ≡ Some x → y ≡ x
+    some-is y x same = cc same
+got-push [] y x (suc k) at = absurd (cc at)
+got-push (z ∷ xs) y x zero at = inl at
+got-push (z ∷ xs) y x (suc k) at = elim (got-push xs y x k at) [
+  | inl there ↦ inl there
+  | inr (here, is) ↦ inr (ap suc here, is)
+]
 
-  pub one-more-dead : is_dead_fair f ≡ true → (k : ℕ) → k < place + 1 → IsDeadFairValue task atoms beside l (get_or numbers k 0)
-  one-more-dead is k below = elim (cases_eq k place) [
-    | inl here ↦ subst (λ p. IsDeadFairValue task atoms beside l (get_or numbers p 0)) (sym here)
-        (subst (λ s. IsDeadFair task atoms (function_over beside l.zones s)) (sym is-so) (dead-of task atoms (function_over beside l.zones shares) f is so))
-    | inr other ↦ before k (omega (arith, other))
-  ]
+-- what was found of each value so far, and of the next
+pub found-more : (task : Task) (atoms : List Atom) (beside : List Table) (l : NumberedLandmarks) (number : ℕ) (shares : List Share) → slice_get l.values number ≡ Some shares
+    → (found : List Fairness) (next : Fairness) → length found ≡ number → IsFairness task atoms (function_over beside l.zones shares) next
+    → ((k : ℕ) (f : Fairness) → slice_get found k ≡ Some f → IsFairness task atoms (function_over beside l.zones (get_or l.values k [])) f)
+    → (k : ℕ) (f : Fairness) → slice_get (found ++ next ∷ []) k ≡ Some f → IsFairness task atoms (function_over beside l.zones (get_or l.values k [])) f
+found-more task atoms beside l number shares there found next many so before k f at = elim (got-push found next f k at) [
+  | inl earlier ↦ before k f earlier
+  | inr (here, is) ↦
+      let same : shares ≡ get_or l.values k [] = sym (ap (λ n. get_or l.values n []) (here ∙ many) ∙ get_or_from_slice_get l.values number shares [] there) in
+      subst (IsFairness task atoms (function_over beside l.zones (get_or l.values k []))) is (subst (λ s. IsFairness task atoms (function_over beside l.zones s) next) same so)
+]

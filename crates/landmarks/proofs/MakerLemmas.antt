@@ -15,33 +15,33 @@ use Rattle.lower_bounds.specs.TableFunctions.{is_among}
 use Rattle.lower_bounds.proofs.Numbers.{counting-below}
 use Rattle.lower_bounds.proofs.TableLists.{among-here}
 use Rattle.landmarks.specs.declared.makers.Makers.{Makers}
-use Rattle.landmarks.specs.declared.rows.Rows.{Rows}
-use Rattle.landmarks.specs.Rows.{row_at}
+use Rattle.table_rows.specs.declared.lists.Lists.{Lists}
+use Rattle.table_rows.specs.Lists.{list_at, place_count}
 use Rattle.landmarks.specs.Makers.{row_for, AreFiled, AreMakers}
 use Rattle.landmarks.proofs.AmongLemmas.{among-left, among-right, among-cases, among-one}
 
 -- ---- one row more
 
-abbrev IsPushed : ℕ → ℕ → Rows → Rows → Type 0
-IsPushed atom number old new = (k : ℕ) → row_at new k ≡ (if k == atom then row_at old k ++ number ∷ [] else row_at old k)
+abbrev IsPushed : ℕ → ℕ → Lists → Lists → Type 0
+IsPushed atom number old new = (k : ℕ) → list_at new k ≡ (if k == atom then list_at old k ++ number ∷ [] else list_at old k)
 
-pushed-kept : (atom number : ℕ) (old new : Rows) → IsPushed atom number old new → (a k : ℕ) → is_among (row_at old a) k ≡ true → is_among (row_at new a) k ≡ true
+pushed-kept : (atom number : ℕ) (old new : Lists) → IsPushed atom number old new → (a k : ℕ) → is_among (list_at old a) k ≡ true → is_among (list_at new a) k ≡ true
 pushed-kept atom number old new rows a k there = subst (λ row. is_among row k ≡ true) (sym (rows a)) (of (a == atom))
   where
-    of : (b : Bool) → is_among (if b then row_at old a ++ number ∷ [] else row_at old a) k ≡ true
-    of true = among-left (row_at old a) (number ∷ []) k there
+    of : (b : Bool) → is_among (if b then list_at old a ++ number ∷ [] else list_at old a) k ≡ true
+    of true = among-left (list_at old a) (number ∷ []) k there
     of false = there
 
-pushed-here : (atom number : ℕ) (old new : Rows) → IsPushed atom number old new → is_among (row_at new atom) number ≡ true
+pushed-here : (atom number : ℕ) (old new : Lists) → IsPushed atom number old new → is_among (list_at new atom) number ≡ true
 pushed-here atom number old new rows =
-    subst (λ row. is_among row number ≡ true) (sym (rows atom ∙ ap (λ b. if b then row_at old atom ++ number ∷ [] else row_at old atom) (eq-eqb atom atom refl)))
-    (among-right (row_at old atom) (number ∷ []) number (among-here number []))
+    subst (λ row. is_among row number ≡ true) (sym (rows atom ∙ ap (λ b. if b then list_at old atom ++ number ∷ [] else list_at old atom) (eq-eqb atom atom refl)))
+    (among-right (list_at old atom) (number ∷ []) number (among-here number []))
 
-pushed-only : (atom number : ℕ) (old new : Rows) → IsPushed atom number old new → (a k : ℕ) → is_among (row_at new a) k ≡ true → (is_among (row_at old a) k ≡ true) ⊎ (k ≡ number)
+pushed-only : (atom number : ℕ) (old new : Lists) → IsPushed atom number old new → (a k : ℕ) → is_among (list_at new a) k ≡ true → (is_among (list_at old a) k ≡ true) ⊎ (k ≡ number)
 pushed-only atom number old new rows a k there = of (a == atom) (subst (λ row. is_among row k ≡ true) (rows a) there)
   where
-    of : (b : Bool) → is_among (if b then row_at old a ++ number ∷ [] else row_at old a) k ≡ true → (is_among (row_at old a) k ≡ true) ⊎ (k ≡ number)
-    of true at = elim (among-cases (row_at old a) (number ∷ []) k at) [
+    of : (b : Bool) → is_among (if b then list_at old a ++ number ∷ [] else list_at old a) k ≡ true → (is_among (list_at old a) k ≡ true) ⊎ (k ≡ number)
+    of true at = elim (among-cases (list_at old a) (number ∷ []) k at) [
       | inl first ↦ inl first
       | inr last ↦ inr (sym (among-one number k last))
     ]
@@ -54,11 +54,11 @@ only-one c d at = elim (Contains-cases c [] d at) [
 ]
 
 module _ (number : ℕ) (c : ConditionalChange) (old new : Makers) where
-  pub filed-adding : c.change.value ≡ true → new.deleting ≡ old.deleting → length new.adding.rows.items ≡ length old.adding.rows.items → IsPushed c.change.atom number old.adding new.adding
+  pub filed-adding : c.change.value ≡ true → new.deleting ≡ old.deleting → place_count new.adding ≡ place_count old.adding → IsPushed c.change.atom number old.adding new.adding
       → AreFiled number (c ∷ []) old new
   filed-adding adds others width rows = record {
     adding = width;
-    deleting = ap (λ (r : Rows). length r.rows.items) others;
+    deleting = ap (λ (r : Lists). place_count r) others;
     kept = kept;
     filed = λ d at. subst (λ (e : ConditionalChange). is_among (row_for new e.change.atom e.change.value) number ≡ true) (only-one c d at)
         (subst (λ v. is_among (row_for new c.change.atom v) number ≡ true) (sym adds) (pushed-here c.change.atom number old.adding new.adding rows));
@@ -67,16 +67,16 @@ module _ (number : ℕ) (c : ConditionalChange) (old new : Makers) where
     where
       kept : (atom : ℕ) (value : Bool) (k : ℕ) → is_among (row_for old atom value) k ≡ true → is_among (row_for new atom value) k ≡ true
       kept atom true k there = pushed-kept c.change.atom number old.adding new.adding rows atom k there
-      kept atom false k there = subst (λ (r : Rows). is_among (row_at r atom) k ≡ true) (sym others) there
+      kept atom false k there = subst (λ (r : Lists). is_among (list_at r atom) k ≡ true) (sym others) there
 
       only : (atom : ℕ) (value : Bool) (k : ℕ) → is_among (row_for new atom value) k ≡ true → (is_among (row_for old atom value) k ≡ true) ⊎ (k ≡ number)
       only atom true k there = pushed-only c.change.atom number old.adding new.adding rows atom k there
-      only atom false k there = inl (subst (λ (r : Rows). is_among (row_at r atom) k ≡ true) others there)
+      only atom false k there = inl (subst (λ (r : Lists). is_among (list_at r atom) k ≡ true) others there)
 
-  pub filed-deleting : c.change.value ≡ false → new.adding ≡ old.adding → length new.deleting.rows.items ≡ length old.deleting.rows.items → IsPushed c.change.atom number old.deleting new.deleting
+  pub filed-deleting : c.change.value ≡ false → new.adding ≡ old.adding → place_count new.deleting ≡ place_count old.deleting → IsPushed c.change.atom number old.deleting new.deleting
       → AreFiled number (c ∷ []) old new
   filed-deleting deletes others width rows = record {
-    adding = ap (λ (r : Rows). length r.rows.items) others;
+    adding = ap (λ (r : Lists). place_count r) others;
     deleting = width;
     kept = kept;
     filed = λ d at. subst (λ (e : ConditionalChange). is_among (row_for new e.change.atom e.change.value) number ≡ true) (only-one c d at)
@@ -85,11 +85,11 @@ module _ (number : ℕ) (c : ConditionalChange) (old new : Makers) where
   }
     where
       kept : (atom : ℕ) (value : Bool) (k : ℕ) → is_among (row_for old atom value) k ≡ true → is_among (row_for new atom value) k ≡ true
-      kept atom true k there = subst (λ (r : Rows). is_among (row_at r atom) k ≡ true) (sym others) there
+      kept atom true k there = subst (λ (r : Lists). is_among (list_at r atom) k ≡ true) (sym others) there
       kept atom false k there = pushed-kept c.change.atom number old.deleting new.deleting rows atom k there
 
       only : (atom : ℕ) (value : Bool) (k : ℕ) → is_among (row_for new atom value) k ≡ true → (is_among (row_for old atom value) k ≡ true) ⊎ (k ≡ number)
-      only atom true k there = inl (subst (λ (r : Rows). is_among (row_at r atom) k ≡ true) others there)
+      only atom true k there = inl (subst (λ (r : Lists). is_among (list_at r atom) k ≡ true) others there)
       only atom false k there = pushed-only c.change.atom number old.deleting new.deleting rows atom k there
 
 -- ---- the changes of an instance

@@ -13,14 +13,14 @@ use Rattle.landmark_functions.specs.FairLandmarks.{charge}
 use Rattle.landmark_functions.specs.LandmarkLines.{Share}
 use Rattle.landmark_zones.specs.declared.values.Share as in_memory
 use Rattle.landmark_zones.specs.Landmarks.{share_of}
-use Rattle.landmarks.specs.declared.cut_index.Allowance.{Allowance}
-use Rattle.landmarks.specs.declared.cut_index.Allowance.TheVariants.{Cost, Nothing}
+use Rattle.potentials.specs.declared.allowance.Allowance.{Allowance}
+use Rattle.potentials.specs.declared.allowance.Allowance.TheVariants.{Cost, Nothing}
 use Rattle.landmarks.specs.declared.cut_index.Charge as declared
 use Rattle.landmarks.specs.declared.cut_index.CutIndex.{CutIndex}
 use Rattle.landmarks.specs.declared.counters.Counters.{Counters}
 use Rattle.landmarks.specs.declared.makers.Makers.{Makers}
 use Rattle.landmarks.specs.Breaking.{zone_in}
-use Rattle.landmarks.specs.Rows.{row_at}
+use Rattle.table_rows.specs.Lists.{list_at}
 use Rattle.landmarks.specs.Counters.{AreCounters, charged_by, counter_at}
 use Rattle.landmarks.specs.Values.{share_charge}
 
@@ -42,7 +42,7 @@ count_in index = length (kept_instances (task_of index))
 
 -- the instances that make a literal of the zone true, those that may break it among them
 abbrev pub candidates : Makers → Zone → List ℕ
-candidates m z = flat_map (row_at m.adding) z.atoms ++ flat_map (row_at m.deleting) z.negated
+candidates m z = flat_map (list_at m.adding) z.atoms ++ flat_map (list_at m.deleting) z.negated
 
 -- ---- charges
 

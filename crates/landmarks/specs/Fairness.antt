@@ -30,25 +30,10 @@ IsFairness task atoms h DeadFair = IsDeadFair task atoms h
 IsFairness task atoms h Fair = IsFair task atoms h × ¬ IsDeadFair task atoms h
 IsFairness task atoms h Unfair = ¬ IsFair task atoms h
 
--- the value with this number, beside these tables, is fair
-abbrev pub IsFairValue : Task → List Atom → List Table → NumberedLandmarks → ℕ → Type 0
-IsFairValue task atoms beside l number = IsFair task atoms (function_over beside l.zones (get_or l.values number []))
-
--- the first value that is not
-abbrev pub IsFirstUnfair : Task → List Atom → List Table → NumberedLandmarks → Option ℕ → Type 0
-IsFirstUnfair task atoms beside l None = (k : ℕ) → k < length l.values → IsFairValue task atoms beside l k
-IsFirstUnfair task atoms beside l (Some number) =
-    (number < length l.values) × (¬ IsFairValue task atoms beside l number) × ((k : ℕ) → k < number → IsFairValue task atoms beside l k)
-
--- the value with this number is dead-fair
-abbrev pub IsDeadFairValue : Task → List Atom → List Table → NumberedLandmarks → ℕ → Type 0
-IsDeadFairValue task atoms beside l number = IsDeadFair task atoms (function_over beside l.zones (get_or l.values number []))
-
--- the place of the first of these values that is not
-abbrev pub IsFirstNotDead : Task → List Atom → List Table → NumberedLandmarks → List ℕ → Option ℕ → Type 0
-IsFirstNotDead task atoms beside l numbers None = (k : ℕ) → k < length numbers → IsDeadFairValue task atoms beside l (get_or numbers k 0)
-IsFirstNotDead task atoms beside l numbers (Some place) =
-    (place < length numbers) × (¬ IsDeadFairValue task atoms beside l (get_or numbers place 0)) × ((k : ℕ) → k < place → IsDeadFairValue task atoms beside l (get_or numbers k 0))
+-- what was found of each of the values, beside these tables
+pub record AreFairness (task : Task) (atoms : List Atom) (beside : List Table) (l : NumberedLandmarks) (found : List Fairness) : Type 0 where
+  pub as_many : length found ≡ length l.values
+  pub each : (k : ℕ) (f : Fairness) → slice_get found k ≡ Some f → IsFairness task atoms (function_over beside l.zones (get_or l.values k [])) f
 
 -- ---- parts
 

@@ -1,6 +1,5 @@
 pub mod Breaking
 pub mod Values
-pub mod Rows
 pub mod Makers
 pub mod Counters
 pub mod CutIndex

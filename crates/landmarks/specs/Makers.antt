@@ -4,17 +4,17 @@ use Rattle.model.specs.Task.{Atom, Task}
 use Rattle.model.specs.ConditionalChanges.{ConditionalChange, conditional_of_number}
 use Rattle.lower_bounds.specs.TableFunctions.{is_among}
 use Rattle.landmarks.specs.declared.makers.Makers.{Makers}
-use Rattle.landmarks.specs.Rows.{row_at}
+use Rattle.table_rows.specs.Lists.{list_at, place_count}
 
 -- the instances with a change that makes the literal of this atom with this truth value true
 abbrev pub row_for : Makers → ℕ → Bool → List ℕ
-row_for m atom true = row_at m.adding atom
-row_for m atom false = row_at m.deleting atom
+row_for m atom true = list_at m.adding atom
+row_for m atom false = list_at m.deleting atom
 
 -- the number is appended to the rows of the literals that these changes make true, and to no other
 pub record AreFiled (number : ℕ) (changes : List ConditionalChange) (old new : Makers) : Type 0 where
-  pub adding : length new.adding.rows.items ≡ length old.adding.rows.items
-  pub deleting : length new.deleting.rows.items ≡ length old.deleting.rows.items
+  pub adding : place_count new.adding ≡ place_count old.adding
+  pub deleting : place_count new.deleting ≡ place_count old.deleting
   pub kept : (atom : ℕ) (value : Bool) (k : ℕ) → is_among (row_for old atom value) k ≡ true → is_among (row_for new atom value) k ≡ true
   pub filed : (c : ConditionalChange) → Contains changes c → is_among (row_for new c.change.atom c.change.value) number ≡ true
   pub only : (atom : ℕ) (value : Bool) (k : ℕ) → is_among (row_for new atom value) k ≡ true → (is_among (row_for old atom value) k ≡ true) ⊎ (k ≡ number)

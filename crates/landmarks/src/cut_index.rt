@@ -10,27 +10,19 @@ ghost use Rattle.lower_bounds.specs.TableFunctions.{is_among};
 ghost use Rattle.landmark_functions.specs.FairLandmarks as fair;
 ghost use Rattle.landmark_zones.specs.Landmarks.{landmarks_of, share_of};
 ghost use Rattle.landmarks.specs.Breaking.{AreSorted, IsSorted, zone_in};
-ghost use Rattle.landmarks.specs.Rows.{row_at};
+ghost use Rattle.table_rows.specs.Lists.{list_at};
 ghost use Rattle.landmarks.specs.Makers.{AreMakers};
 ghost use Rattle.landmarks.specs.Counters.{AreCounters};
 
 use crate::breaking::may_break;
 use crate::counters::Counters;
 use crate::makers::Makers;
-use crate::rows::Rows;
 use faults::NoMemory;
 use grounding::Ground;
 use landmark_zones::{Landmarks, Share, ZoneRef};
+use potentials::Allowance;
 use std::alloc::Global;
-
-/// What instances may be charged.
-#[derive(Clone, Copy)]
-pub(crate) enum Allowance {
-    /// What they cost.
-    Cost,
-    /// Nothing.
-    Nothing,
-}
+use table_rows::Lists;
 
 /// What the instances that may break a zone are charged for it.
 #[derive(Clone, Copy)]
@@ -154,14 +146,14 @@ impl<'a, 't> CutIndex<'a, 't> {
     fn charge_rows(
         &self,
         counters: &mut Counters,
-        rows: &Rows,
+        rows: &Lists,
         atoms: &[u32],
         by: Charge<'_>,
     ) -> bool
         requires sorted { IsSorted (zone_in by.zone) }
         requires counted { AreCounters (count_in self.now) counters.old }
-        requires asked { (atom number : ℕ) → is_among (row_at rows.now atom) number ≡ true → is_among (asked_in self.now) number ≡ true }
-        ensures { Charges (charging_by self.now by.entry) (flat_map (row_at rows.now) atoms.now) counters.old counters.new result }
+        requires asked { (atom number : ℕ) → is_among (list_at rows.now atom) number ≡ true → is_among (asked_in self.now) number ≡ true }
+        ensures { Charges (charging_by self.now by.entry) (flat_map (list_at rows.now) atoms.now) counters.old counters.new result }
     {
         for atom in atoms {
             if !self.charge_all(counters, rows.of(*atom), by) {

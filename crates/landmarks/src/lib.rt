@@ -7,7 +7,6 @@ mod counters;
 mod cut_index;
 mod laws;
 mod makers;
-mod rows;
 mod testing;
 mod values;
 

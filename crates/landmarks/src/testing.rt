@@ -1,5 +1,5 @@
 //! Whether a value is fair for a ground task.
-ghost use Rattle.std.specs.Prelude.{◌≡◌, ◌<◌, ◌≤◌, ◌∷◌, [], All, List, length, map};
+ghost use Rattle.std.specs.Prelude.{◌≡◌, ◌≤◌, ◌∷◌, [], IfOk, List, length, map};
 ghost use Rattle.std.specs.List.{filter_map, list_all};
 ghost use Rattle.grounding.specs.Views.{numbered_of};
 ghost use Rattle.lower_bounds.specs.TableFunctions as tables;
@@ -7,13 +7,16 @@ ghost use Rattle.landmark_functions.specs.LandmarkLines.{landmark_of, share_coun
 ghost use Rattle.landmark_zones.specs.Landmarks.{landmarks_of, share_of};
 ghost use Rattle.landmarks.specs.Breaking.{AreSorted};
 ghost use Rattle.landmarks.specs.Counters.{AreCounters};
-ghost use Rattle.landmarks.specs.Fairness.{AreAsked, IsFairness, IsFirstNotDead, IsFirstUnfair, function_over, has_one, is_dead_fair, is_unfair};
+ghost use Rattle.landmarks.specs.Fairness.{AreAsked, AreFairness, IsFairness, function_over, has_one, is_dead_fair, is_unfair};
 
 use crate::breaking::has_any;
 use crate::counters::Counters;
-use crate::cut_index::{Allowance, CutIndex};
+use crate::cut_index::CutIndex;
+use faults::NoMemory;
 use grounding::NumberedLiteral;
 use landmark_zones::{Landmarks, Share};
+use potentials::Allowance;
+use std::alloc::Global;
 
 /// Whether a value is fair.
 #[derive(Clone, Copy, Debug, PartialEq, Eq)]
@@ -28,7 +31,7 @@ pub enum Fairness {
 
 impl Fairness {
     /// Whether it is not fair.
-    fn is_unfair(self) -> bool
+    pub fn is_unfair(self) -> bool
         ensures { result ≡ is_unfair self }
     {
         match self {
@@ -38,7 +41,7 @@ impl Fairness {
     }
 
     /// Whether no instance is charged at all.
-    fn is_dead_fair(self) -> bool
+    pub fn is_dead_fair(self) -> bool
         ensures { result ≡ is_dead_fair self }
     {
         match self {
@@ -51,49 +54,27 @@ impl Fairness {
 impl CutIndex<'_, '_> {
     ghost use Rattle.landmarks.specs.CutIndex.{asked_in, atoms_of, count_in, task_of};
 
-    /// The number of the first value that is not fair for the ground task, if there is one.
-    pub fn first_unfair(&self, counters: &mut Counters, landmarks: &Landmarks) -> Option<usize>
+    /// Whether each of the values is fair for the ground task, in their order.
+    ///
+    /// # Errors
+    /// An allocation failed.
+    pub fn fairness_of_all(
+        &self,
+        alloc: Global,
+        landmarks: &Landmarks,
+    ) -> Result<Vec<Fairness>, NoMemory>
         requires sorted { AreSorted (landmarks_of landmarks.now).zones }
         requires few { share_count (landmarks_of landmarks.now).values ≤ 67108864 }
-        requires counted { AreCounters (count_in self.now) counters.old }
-        ensures counted { AreCounters (count_in self.now) counters.new }
-        ensures first { (beside : List tables.Table) → AreAsked (task_of self.now) (atoms_of self.now) beside (asked_in self.now)
-            → IsFirstUnfair (task_of self.now) (atoms_of self.now) beside (landmarks_of landmarks.now) result }
+        ensures { IfOk result (λ found. (beside : List tables.Table) → AreAsked (task_of self.now) (atoms_of self.now) beside (asked_in self.now)
+            → AreFairness (task_of self.now) (atoms_of self.now) beside (landmarks_of landmarks.now) found.items) }
     {
+        let mut counters = self.counters(alloc)?;
+        let mut found = Vec::new(alloc);
         for number in 0..landmarks.value_count() {
             let shares = landmarks.value(number);
-            if self.fairness_for(counters, landmarks, shares).is_unfair() {
-                return Some(number);
-            }
+            found.push(self.fairness_for(&mut counters, landmarks, shares))?;
         }
-        None
-    }
-
-    /// The place of the first of the values with these numbers that is not dead-fair for the ground task, if there is one.
-    pub fn first_not_dead(
-        &self,
-        counters: &mut Counters,
-        landmarks: &Landmarks,
-        numbers: &[u32],
-    ) -> Option<usize>
-        requires sorted { AreSorted (landmarks_of landmarks.now).zones }
-        requires few { share_count (landmarks_of landmarks.now).values ≤ 67108864 }
-        requires numbered { All (λ number. number < length (landmarks_of landmarks.now).values) numbers.now }
-        requires counted { AreCounters (count_in self.now) counters.old }
-        ensures counted { AreCounters (count_in self.now) counters.new }
-        ensures first { (beside : List tables.Table) → AreAsked (task_of self.now) (atoms_of self.now) beside (asked_in self.now)
-            → IsFirstNotDead (task_of self.now) (atoms_of self.now) beside (landmarks_of landmarks.now) numbers.now result }
-    {
-        for place in 0..numbers.len() {
-            let shares = landmarks.value(numbers[place] as usize);
-            if !self
-                .fairness_for(counters, landmarks, shares)
-                .is_dead_fair()
-            {
-                return Some(place);
-            }
-        }
-        None
+        Ok(found)
     }
 
     /// Whether the value with these shares is fair for the ground task. It costs what the zones touch: the instances that make one

@@ -7,7 +7,7 @@ use Rattle.certificate_definitions.specs.CertificateChecking.{IsLineFault}
 use Rattle.certificate_reader.specs.declared.reader.CertReader.{CertReader}
 use Rattle.certificate_reader.specs.Reader.{source_of}
 use Rattle.cert_checker.specs.declared.refusal.RefusalCode.{RefusalCode}
-use Rattle.cert_checker.specs.declared.refusal.RefusalCode.TheVariants.{CertForm, CertVersion, Truncated, NotFluent, Repeated, NoInitial, Unfair, UnfairGoal, GoalOpen, SuccessorMissing, SuccessorDearer, CutWeak, CutNotAllowed, PlanInvalid, PlanDearer, Limit, DeadUnfair, DeadUnfairGoal, NotDead, NotSymmetry}
+use Rattle.cert_checker.specs.declared.refusal.RefusalCode.TheVariants.{CertForm, CertVersion, Truncated, NotFluent, Repeated, NoInitial, Unfair, UnfairGoal, GoalOpen, SuccessorMissing, SuccessorDearer, CutWeak, CutNotAllowed, PlanInvalid, PlanDearer, Limit, DeadUnfair, DeadUnfairGoal, NotDead, NotSymmetry, ValueUnfair, ValueNotDead}
 use Rattle.cert_checker.specs.declared.refusal.Refusal.{Refusal}
 use Rattle.cert_checker.specs.declared.refusal.Refusal.TheVariants as refusal
 use Rattle.cert_checker.specs.RefusalCode.{number_of}
@@ -73,6 +73,8 @@ module _ {R : Type 0} (remaining : R → Option (List ℕ)) (task : Task) (first
   line_of_text DeadUnfairGoal line said = of_beginning (number_of DeadUnfairGoal) line said
   line_of_text NotDead line said = of_beginning (number_of NotDead) line said
   line_of_text NotSymmetry line said = of_beginning (number_of NotSymmetry) line said
+  line_of_text ValueUnfair line said = of_beginning (number_of ValueUnfair) line said
+  line_of_text ValueNotDead line said = of_beginning (number_of ValueNotDead) line said
 
   module _ (plan : Option (List Instance)) (most : ℕ) where
     of_certificate : (refusal : Refusal) (c : Certificate) → IsRead remaining task first now c → IsTrueRefusal task c plan most refusal → IsFirstRefusal task c plan most refusal

@@ -5,8 +5,8 @@ use Rattle.model.specs.Meaning.{cost_of}
 use Rattle.model.specs.StaticallyFalse.{kept_instances}
 use Rattle.lower_bounds.specs.PotentialFunctions.{PotentialFunction}
 use Rattle.lower_bounds.specs.FairPotentials.{IsFairAt, IsFairAtGoals, AreFairAt, nothing, IsFirstUnfairAt}
-use Rattle.potentials.specs.declared.fairness.Allowance.{Allowance}
-use Rattle.potentials.specs.declared.fairness.Allowance.TheVariants.{Cost, Nothing}
+use Rattle.potentials.specs.declared.allowance.Allowance.{Allowance}
+use Rattle.potentials.specs.declared.allowance.Allowance.TheVariants.{Cost, Nothing}
 use Rattle.potentials.specs.declared.fairness.Fairness.{Fairness}
 use Rattle.potentials.specs.declared.fairness.Fairness.TheVariants.{Fair, Goal}
 use Rattle.potentials.specs.declared.fairness.Fairness.TheVariants as reported

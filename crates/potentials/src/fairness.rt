@@ -8,6 +8,7 @@ ghost use Rattle.lower_bounds.specs.FairPotentials.{nothing, IsFairAt, IsFairAtG
 ghost use Rattle.potentials.specs.Potentials.{potentials_of};
 ghost use Rattle.potentials.specs.Fairness.{allowed_by, AreInstancesFairAt, ReportsAt, Reports, DetectsDead};
 
+use crate::allowance::Allowance;
 use crate::goals::GoalAtoms;
 use crate::instances::instance_count;
 use crate::losses::loses_at_most;
@@ -25,15 +26,6 @@ pub enum Fairness {
     Instance(u32),
     /// Each kept instance is fair, but the goal condition is violated.
     Goal,
-}
-
-/// The amount that an instance may lose.
-#[derive(Clone, Copy, Debug)]
-enum Allowance {
-    /// Its cost.
-    Cost,
-    /// Nothing.
-    Nothing,
 }
 
 impl Potentials {
@@ -139,19 +131,6 @@ impl Potentials {
             self.weights(),
         );
         is_at_most(losses, allowance.of(ground, number))
-    }
-}
-
-impl Allowance {
-    /// The allowance of the instance with this number.
-    fn of(self, ground: &Ground<'_>, number: u32) -> u32
-        requires { number < length (kept_instances (task_in ground.now)) }
-        ensures { (i : Instance) → slice_get (kept_instances (task_in ground.now)) number ≡ Some i → result ≡ allowed_by self (task_in ground.now) i }
-    {
-        match self {
-            Allowance::Cost => ground.cost(number),
-            Allowance::Nothing => 0,
-        }
     }
 }
 

@@ -1,6 +1,7 @@
 //! Potential functions in memory: their values, and the test of fairness.
 #![tactic(auto)]
 
+mod allowance;
 mod fairness;
 mod goals;
 mod instances;
@@ -12,6 +13,7 @@ mod said;
 mod swing;
 mod words;
 
+pub use allowance::Allowance;
 pub use fairness::Fairness;
 pub use goals::GoalAtoms;
 pub use instances::instance_count;

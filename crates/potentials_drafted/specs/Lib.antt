@@ -1,2 +1,2 @@
 pub mod Incidence
-pub mod Tables
+pub mod ProgramInputs

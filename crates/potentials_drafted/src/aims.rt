@@ -1,12 +1,12 @@
 //! The objective: the states whose values are to be raised.
-use crate::tables::Tables;
+use crate::program_input::ProgramInput;
 use faults::NoMemory;
 use std::alloc::Global;
 use std::num::nearest_i64_to_f64;
 
 /// A change of an atom's weight by one.
 #[derive(Clone, Copy)]
-pub(crate) struct Move {
+pub(crate) struct WeightStep {
     pub(crate) atom: u32,
     pub(crate) by: i64,
 }
@@ -92,15 +92,15 @@ impl Aims {
     }
 
     /// The gain of the initial state by the move, if the atom's weight is `before`.
-    pub(crate) fn gain(&self, tables: &Tables, step: Move, before: i64) -> i64 {
+    pub(crate) fn gain(&self, input: &ProgramInput, step: WeightStep, before: i64) -> i64 {
         let after = before.saturating_add(step.by);
-        let less = tables.at_goal(step.atom).less(before, after);
+        let less = input.at_goal(step.atom).less(before, after);
         self.initial.gain(step.atom, step.by, less)
     }
 
     /// The gain of the initial state by the move from weight 0, plus `share` times the average gain of the sampled states.
-    pub(crate) fn shared_gain(&self, tables: &Tables, step: Move, share: f64) -> f64 {
-        let less = tables.at_goal(step.atom).less(0, step.by);
+    pub(crate) fn shared_gain(&self, input: &ProgramInput, step: WeightStep, share: f64) -> f64 {
+        let less = input.at_goal(step.atom).less(0, step.by);
         let initial = self.initial.gain(step.atom, step.by, less);
         let sampled = self.sampled.gain(step.atom, step.by, less);
         let states = self.sampled.states.max(1);
@@ -109,11 +109,11 @@ impl Aims {
     }
 
     /// The gains by these weights.
-    pub(crate) fn gain_of_all(&self, tables: &Tables, weights: &[i64]) -> Gain {
+    pub(crate) fn gain_of_all(&self, input: &ProgramInput, weights: &[i64]) -> Gain {
         let (mut initial, mut sampled) = (0i64, 0i64);
         let mut atom = 0u32;
         for weight in weights {
-            let less = tables.at_goal(atom).less(0, *weight);
+            let less = input.at_goal(atom).less(0, *weight);
             initial = initial.saturating_add(self.initial.gain(atom, *weight, less));
             sampled = sampled.saturating_add(self.sampled.gain(atom, *weight, less));
             atom = atom.saturating_add(1);

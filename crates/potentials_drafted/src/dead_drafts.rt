@@ -5,8 +5,8 @@
 use crate::aims::{Aim, Aims};
 use crate::linear_program::LinearProgram;
 use crate::mending::is_whole;
+use crate::program_input::ProgramInput;
 use crate::simplex::{Allowance, Vertex};
-use crate::tables::Tables;
 use faults::NoMemory;
 use std::alloc::Global;
 use std::num::{nearest_i64_to_f64, saturating_f64_to_i64};
@@ -28,8 +28,8 @@ const NOTHING: f64 = 1e-9;
 /// The states that weights are drafted for, and the linear program.
 #[derive(Drop)]
 pub struct DeadDrafts<'a> {
-    tables: &'a Tables,
-    program: LinearProgram,
+    input: &'a ProgramInput,
+    program: LinearProgram<'a>,
     vertex: Vertex,
     /// The true atoms of the initial state and then of the sampled states.
     states: &'a [Vec<u32>],
@@ -46,15 +46,15 @@ struct Reported {
 
 impl<'a> DeadDrafts<'a> {
     /// Drafts for the initial state and for some states reached by random walks from it.
-    pub fn new(alloc: Global, tables: &'a Tables) -> Result<DeadDrafts<'a>, NoMemory> {
-        let all = tables.states();
+    pub fn new(alloc: Global, input: &'a ProgramInput) -> Result<DeadDrafts<'a>, NoMemory> {
+        let all = input.states();
         let states = &all[..all.len().min(MAX_STATES)];
-        let width = tables.width();
+        let width = input.width();
         let aims = Aims::new(Aim::none(alloc, width)?, Aim::all(alloc, width, states)?);
-        let program = LinearProgram::new(alloc, tables, &aims)?;
-        let vertex = Vertex::new(alloc, tables, &program, Allowance::Nothing, MAX_WORK)?;
+        let program = LinearProgram::new(alloc, input, &aims)?;
+        let vertex = Vertex::new(alloc, &program, Allowance::Nothing, MAX_WORK)?;
         Ok(DeadDrafts {
-            tables,
+            input,
             program,
             vertex,
             states,
@@ -116,12 +116,9 @@ impl<'a> DeadDrafts<'a> {
         let Some(atoms) = self.states.get(place) else {
             return Ok(None);
         };
-        let width = self.tables.width();
+        let width = self.input.width();
         let aims = Aims::new(Aim::one(alloc, width, atoms)?, Aim::none(alloc, width)?);
-        let Some(along) = self
-            .vertex
-            .unbounded_ray(self.tables, &self.program, &aims)?
-        else {
+        let Some(along) = self.vertex.unbounded_ray(&self.program, &aims)? else {
             return Ok(None);
         };
         let weights = self.program.weights(alloc, along)?;
@@ -130,7 +127,7 @@ impl<'a> DeadDrafts<'a> {
 
     /// Which of the states these weights detect as dead ends, with the greatest constant that the goal allows.
     fn reported(&self, weights: &[i64]) -> Reported {
-        let constant = self.tables.constant(weights);
+        let constant = self.input.constant(weights);
         let mut states = 0usize;
         for atoms in self.states {
             if score(constant, weights, atoms) > 0 {
@@ -146,7 +143,7 @@ impl<'a> DeadDrafts<'a> {
     /// Whether they detect the state at this index.
     fn is_reported(&self, place: usize, weights: &[i64]) -> bool {
         match self.states.get(place) {
-            Some(atoms) => score(self.tables.constant(weights), weights, atoms) > 0,
+            Some(atoms) => score(self.input.constant(weights), weights, atoms) > 0,
             None => false,
         }
     }

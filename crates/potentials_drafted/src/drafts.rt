@@ -2,8 +2,8 @@
 use crate::aims::{Aim, Aims};
 use crate::linear_program::LinearProgram;
 use crate::mending::Mending;
+use crate::program_input::ProgramInput;
 use crate::simplex::{Allowance, Vertex};
-use crate::tables::Tables;
 use faults::NoMemory;
 use std::alloc::Global;
 
@@ -20,27 +20,27 @@ const MAX_WORK: u64 = 4_194_304;
 /// Both objectives are from Seipp, Pommerening & Helmert 2015, "New Optimization Functions for Potential Heuristics".
 pub fn drafted_weights(
     alloc: Global,
-    tables: &Tables,
+    input: &ProgramInput,
     weights: &[i64],
 ) -> Result<Vec<i64>, NoMemory> {
-    let aims = aims(alloc, tables)?;
-    let program = LinearProgram::new(alloc, tables, &aims)?;
-    let mut vertex = Vertex::new(alloc, tables, &program, Allowance::Cost, MAX_WORK)?;
-    let mut mending = Mending::new(alloc, tables, &aims, weights)?;
+    let aims = aims(alloc, input)?;
+    let program = LinearProgram::new(alloc, input, &aims)?;
+    let mut vertex = Vertex::new(alloc, &program, Allowance::Cost, MAX_WORK)?;
+    let mut mending = Mending::new(alloc, input, &aims, weights)?;
     for share in SHARES {
-        if vertex.climb(tables, &program, &aims, share)? {
-            let grown = vertex.grown(alloc, tables)?;
+        if vertex.climb(&program, &aims, share)? {
+            let grown = vertex.grown(alloc, input)?;
             let solution = program.weights(alloc, &grown)?;
-            mending.take(tables, &aims, &solution)?;
+            mending.take(input, &aims, &solution)?;
         }
     }
     Ok(mending.into_best())
 }
 
 /// The initial state, and the sampled ones.
-fn aims(alloc: Global, tables: &Tables) -> Result<Aims, NoMemory> {
-    let width = tables.width();
-    let states = tables.states();
+fn aims(alloc: Global, input: &ProgramInput) -> Result<Aims, NoMemory> {
+    let width = input.width();
+    let states = input.states();
     let first = states.len().min(1);
     Ok(Aims::new(
         Aim::all(alloc, width, &states[..first])?,

@@ -31,6 +31,14 @@ impl IncidenceEntry {
     }
 }
 
+/// An instance that is added: its number, its literals and its changes.
+#[derive(Clone, Copy)]
+struct AddedInstance<'a, 't> {
+    number: u32,
+    literals: &'a [NumberedLiteral],
+    changes: &'a [CountingChange<'t>],
+}
+
 /// For each numbered atom the instances that touch it, and for each instance the atoms that it touches.
 #[derive(Drop)]
 pub struct Incidence {
@@ -79,25 +87,29 @@ impl Incidence {
         ensures { OnOk result (IsAdded number (map counting_of changes.now) self.old self.new) }
     {
         for place in 0..changes.len() {
-            self.add_change(number, literals, changes, place)?;
+            let instance = AddedInstance {
+                number,
+                literals,
+                changes,
+            };
+            self.add_change(instance, place)?;
         }
         self.ends.push(self.atoms.len())?;
         Ok(())
     }
 
     /// Adds that the instance touches the atom of the change at this index, unless an earlier change is of the same atom.
-    fn add_change(
-        &mut self,
-        number: u32,
-        literals: &[NumberedLiteral],
-        changes: &[CountingChange<'_>],
-        place: usize,
-    ) -> Result<(), NoMemory>
-        requires within { place < length changes.now }
-        requires below { All (λ (c : NumberedChange). c.atom < length self.old.rows.items) (map counting_of changes.now) }
-        ensures { OnOk result ((first : Incidence) → IsAdded number (map counting_of (take place changes.now)) first self.old
-            → IsAdded number (map counting_of (take (place + 1) changes.now)) first self.new) }
+    fn add_change(&mut self, instance: AddedInstance<'_, '_>, place: usize) -> Result<(), NoMemory>
+        requires within { place < length instance.changes.now }
+        requires below { All (λ (c : NumberedChange). c.atom < length self.old.rows.items) (map counting_of instance.changes.now) }
+        ensures { OnOk result ((first : Incidence) → IsAdded instance.entry.number (map counting_of (take place instance.entry.changes.now)) first self.old
+            → IsAdded instance.entry.number (map counting_of (take (place + 1) instance.entry.changes.now)) first self.new) }
     {
+        let AddedInstance {
+            number,
+            literals,
+            changes,
+        } = instance;
         let atom = changes[place].atom;
         if touches(&changes[..place], atom) {
             return Ok(());

@@ -10,12 +10,12 @@ mod drafts;
 mod incidence;
 mod linear_program;
 mod mending;
+mod program_input;
 mod samples;
 mod simplex;
-mod tables;
 
 pub use dead_drafts::DeadDrafts;
 pub use drafts::drafted_weights;
 pub use incidence::{Incidence, IncidenceEntry};
+pub use program_input::ProgramInput;
 pub use samples::Chance;
-pub use tables::Tables;

@@ -3,8 +3,8 @@
 //!
 //! A weight is the difference of two non-negative variables: its positive and its negative part. The loss of an instance is then
 //! at most a sum of variables, each at most once, and so is the contribution in goal states.
-use crate::aims::{Aims, Move};
-use crate::tables::Tables;
+use crate::aims::{Aims, WeightStep};
+use crate::program_input::ProgramInput;
 use faults::NoMemory;
 use std::alloc::Global;
 use std::num::nearest_i64_to_f64;
@@ -18,27 +18,29 @@ struct WeightVariables {
 
 /// The variables of the program, with an index by atom.
 #[derive(Drop)]
-pub(crate) struct LinearProgram {
+pub(crate) struct LinearProgram<'a> {
+    input: &'a ProgramInput,
     /// The move of a weight that each variable stands for.
-    variables: Vec<Move>,
+    variables: Vec<WeightStep>,
     pairs: Vec<WeightVariables>,
 }
 
-impl LinearProgram {
-    /// The program for these tables. A variable is left out if no state gains by it and no instance loses less.
+impl<'a> LinearProgram<'a> {
+    /// The program for this input. A variable is left out if no state gains by it and no instance loses less.
     pub(crate) fn new(
         alloc: Global,
-        tables: &Tables,
+        input: &'a ProgramInput,
         aims: &Aims,
-    ) -> Result<LinearProgram, NoMemory> {
+    ) -> Result<LinearProgram<'a>, NoMemory> {
         let mut program = LinearProgram {
+            input,
             variables: Vec::new(alloc),
             pairs: Vec::new(alloc),
         };
-        for atom in 0..tables.width() {
+        for atom in 0..input.width() {
             let pair = WeightVariables {
-                below: program.add(tables, aims, Move { atom, by: -1 })?,
-                above: program.add(tables, aims, Move { atom, by: 1 })?,
+                below: program.add(aims, WeightStep { atom, by: -1 })?,
+                above: program.add(aims, WeightStep { atom, by: 1 })?,
             };
             program.pairs.push(pair)?;
         }
@@ -46,9 +48,10 @@ impl LinearProgram {
     }
 
     /// Adds the variable for this move if it is useful. Returns its index.
-    fn add(&mut self, tables: &Tables, aims: &Aims, step: Move) -> Result<Option<usize>, NoMemory> {
-        let is_of_use = aims.shared_gain(tables, step, 1.0) > 0.0
-            || tables
+    fn add(&mut self, aims: &Aims, step: WeightStep) -> Result<Option<usize>, NoMemory> {
+        let input = self.input;
+        let is_of_use = aims.shared_gain(input, step, 1.0) > 0.0
+            || input
                 .instances_of(step.atom)
                 .iter()
                 .any(|touch| touch.loss(step.by) < 0);
@@ -60,8 +63,13 @@ impl LinearProgram {
         Ok(Some(place))
     }
 
+    /// The data that the program is made of.
+    pub(crate) fn input(&self) -> &'a ProgramInput {
+        self.input
+    }
+
     /// The move of a weight that each variable stands for.
-    pub(crate) fn variables(&self) -> &[Move] {
+    pub(crate) fn variables(&self) -> &[WeightStep] {
         &self.variables
     }
 

@@ -1,7 +1,7 @@
 //! Integral weights: rounded ones, repaired where they are not fair.
-use crate::aims::{Aims, Gain, Move};
+use crate::aims::{Aims, Gain, WeightStep};
 use crate::incidence::IncidenceEntry;
-use crate::tables::Tables;
+use crate::program_input::ProgramInput;
 use faults::NoMemory;
 use potentials::is_in_range;
 use std::alloc::Global;
@@ -23,6 +23,15 @@ const NEAR: f64 = 0.01;
 /// The rounding modes: each is an offset added to a weight before rounding to the nearest integer.
 const LIFTS: [f64; 5] = [0.48, 0.25, 0.0, -0.25, -0.48];
 
+/// Where moves may lead.
+#[derive(Clone, Copy)]
+enum Direction {
+    /// Toward zero, and away from it.
+    Any,
+    /// Toward zero.
+    TowardZero,
+}
+
 /// The weights under repair, and the best weights so far.
 #[derive(Drop)]
 pub(crate) struct Mending {
@@ -30,6 +39,8 @@ pub(crate) struct Mending {
     /// The slack of each instance, and the instances with negative slack.
     slacks: Vec<i64>,
     unfair: Vec<u32>,
+    /// Where moves may lead now.
+    direction: Direction,
     work: u64,
     best: Vec<i64>,
     gain: Gain,
@@ -39,7 +50,7 @@ impl Mending {
     /// Starts with these weights as the best so far.
     pub(crate) fn new(
         alloc: Global,
-        tables: &Tables,
+        input: &ProgramInput,
         aims: &Aims,
         weights: &[i64],
     ) -> Result<Mending, NoMemory> {
@@ -47,9 +58,10 @@ impl Mending {
             weights: Vec::new(alloc),
             slacks: Vec::new(alloc),
             unfair: Vec::new(alloc),
+            direction: Direction::Any,
             work: 0,
             best: Vec::from_slice(alloc, weights)?,
-            gain: aims.gain_of_all(tables, weights),
+            gain: aims.gain_of_all(input, weights),
         })
     }
 
@@ -61,14 +73,14 @@ impl Mending {
     /// Rounds the weights in each mode, unless they are integral, repairs them, and keeps them if they are better than the best.
     pub(crate) fn take(
         &mut self,
-        tables: &Tables,
+        input: &ProgramInput,
         aims: &Aims,
         weights: &[f64],
     ) -> Result<(), NoMemory> {
         for lift in LIFTS {
-            self.start(tables, weights, lift)?;
-            if self.mend(tables, aims)? {
-                self.keep_if_better(tables, aims);
+            self.start(input, weights, lift)?;
+            if self.mend(input, aims)? {
+                self.keep_if_better(input, aims);
             }
             if weights.iter().all(|weight| is_whole(*weight)) {
                 return Ok(());
@@ -78,7 +90,7 @@ impl Mending {
     }
 
     /// Rounds the weights, and lists the instances that are then unfair.
-    fn start(&mut self, tables: &Tables, weights: &[f64], lift: f64) -> Result<(), NoMemory> {
+    fn start(&mut self, input: &ProgramInput, weights: &[f64], lift: f64) -> Result<(), NoMemory> {
         self.weights.clear();
         for weight in weights {
             self.weights
@@ -87,8 +99,8 @@ impl Mending {
         self.slacks.clear();
         self.unfair.clear();
         let mut number = 0u32;
-        for cost in tables.costs() {
-            let slack = self.slack(tables.atoms_of(number), *cost);
+        for cost in input.costs() {
+            let slack = self.slack(input.atoms_of(number), *cost);
             self.slacks.push(slack)?;
             if slack < 0 {
                 self.unfair.push(number)?;
@@ -108,8 +120,8 @@ impl Mending {
     }
 
     /// Makes the weights the best, if they are better and in range.
-    fn keep_if_better(&mut self, tables: &Tables, aims: &Aims) {
-        let gain = aims.gain_of_all(tables, &self.weights);
+    fn keep_if_better(&mut self, input: &ProgramInput, aims: &Aims) {
+        let gain = aims.gain_of_all(input, &self.weights);
         let are_in_range = self.weights.iter().all(|weight| is_in_range(*weight));
         if are_in_range && gain.is_better_than(self.gain) {
             self.gain = gain;
@@ -118,44 +130,47 @@ impl Mending {
     }
 
     /// Changes single weights by one until each instance is fair. Returns whether that succeeds.
-    fn mend(&mut self, tables: &Tables, aims: &Aims) -> Result<bool, NoMemory> {
+    fn mend(&mut self, input: &ProgramInput, aims: &Aims) -> Result<bool, NoMemory> {
         for moves in 0..MAX_MOVES {
             let Some(number) = self.unfair.pop() else {
                 return Ok(true);
             };
             if self.slack_of(number) < 0 {
-                let may_lead_away = moves < MAX_MOVES_AWAY && self.work <= MAX_WORK_AWAY;
-                let Some(step) = self.best_move(tables, aims, number, may_lead_away) else {
+                self.choose_direction(moves);
+                let Some(step) = self.best_move(input, aims, number) else {
                     return Ok(false);
                 };
                 if self.work > MAX_WORK {
                     return Ok(false);
                 }
                 self.unfair.push(number)?;
-                self.shift(tables, step)?;
+                self.shift(input, step)?;
             }
         }
         Ok(false)
     }
 
+    /// Moves lead away from zero only at first: as long as few were made, with little work.
+    fn choose_direction(&mut self, moves: u32) {
+        self.direction = if moves < MAX_MOVES_AWAY && self.work <= MAX_WORK_AWAY {
+            Direction::Any
+        } else {
+            Direction::TowardZero
+        };
+    }
+
     /// The best move that reduces the loss of the instance; the first of equal ones.
-    fn best_move(
-        &mut self,
-        tables: &Tables,
-        aims: &Aims,
-        number: u32,
-        may_lead_away: bool,
-    ) -> Option<Move> {
+    fn best_move(&mut self, input: &ProgramInput, aims: &Aims, number: u32) -> Option<WeightStep> {
         let mut best = None;
         let mut most = i64::MIN;
-        for touch in tables.atoms_of(number) {
+        for touch in input.atoms_of(number) {
             for by in [-1, 1] {
-                let step = Move {
+                let step = WeightStep {
                     atom: touch.number,
                     by,
                 };
-                if self.is_of_use(*touch, by, may_lead_away) {
-                    let score = self.score(tables, aims, step);
+                if self.is_of_use(*touch, by) {
+                    let score = self.score(input, aims, step);
                     if best.is_none() || score > most {
                         best = Some(step);
                         most = score;
@@ -166,26 +181,29 @@ impl Mending {
         best
     }
 
-    /// Whether the move reduces the loss of an instance with this touch, and leads toward zero or may lead away from it.
-    fn is_of_use(&self, touch: IncidenceEntry, by: i64, may_lead_away: bool) -> bool {
+    /// Whether the move reduces the loss of an instance with this touch, and leads where it may.
+    fn is_of_use(&self, touch: IncidenceEntry, by: i64) -> bool {
         let before = self.weight(touch.number);
         let after = before.saturating_add(by);
-        let leads_away = after.saturating_abs() > before.saturating_abs();
-        touch.loss(after) < touch.loss(before) && (may_lead_away || !leads_away)
+        let may_be_made = match self.direction {
+            Direction::Any => true,
+            Direction::TowardZero => after.saturating_abs() <= before.saturating_abs(),
+        };
+        may_be_made && touch.loss(after) < touch.loss(before)
     }
 
     /// The score of the move: the gain of the initial state and the reduction of unfairness.
-    fn score(&mut self, tables: &Tables, aims: &Aims, step: Move) -> i64 {
-        let gain = aims.gain(tables, step, self.weight(step.atom));
-        let mended = self.mended(tables, step);
+    fn score(&mut self, input: &ProgramInput, aims: &Aims, step: WeightStep) -> i64 {
+        let gain = aims.gain(input, step, self.weight(step.atom));
+        let mended = self.mended(input, step);
         gain.saturating_mul(4).saturating_add(mended)
     }
 
     /// The total reduction of unfairness by the move.
-    fn mended(&mut self, tables: &Tables, step: Move) -> i64 {
+    fn mended(&mut self, input: &ProgramInput, step: WeightStep) -> i64 {
         let before = self.weight(step.atom);
         let after = before.saturating_add(step.by);
-        let touches = tables.instances_of(step.atom);
+        let touches = input.instances_of(step.atom);
         let mut mended = 0i64;
         for touch in touches {
             let slack = self.slack_of(touch.number);
@@ -198,11 +216,11 @@ impl Mending {
     }
 
     /// Makes the move, and lists the instances that become unfair.
-    fn shift(&mut self, tables: &Tables, step: Move) -> Result<(), NoMemory> {
+    fn shift(&mut self, input: &ProgramInput, step: WeightStep) -> Result<(), NoMemory> {
         let before = self.weight(step.atom);
         let after = before.saturating_add(step.by);
         self.set_weight(step.atom, after);
-        let touches = tables.instances_of(step.atom);
+        let touches = input.instances_of(step.atom);
         for touch in touches {
             self.shift_slack(*touch, before, after)?;
         }

@@ -7,8 +7,8 @@
 //! (Charnes 1952).
 use crate::aims::Aims;
 use crate::linear_program::LinearProgram;
+use crate::program_input::ProgramInput;
 use crate::samples::Chance;
-use crate::tables::Tables;
 use faults::NoMemory;
 use std::alloc::Global;
 use std::num::nearest_i64_to_f64;
@@ -47,6 +47,13 @@ struct Edge {
     along: Vec<f64>,
     gain: f64,
     square: f64,
+}
+
+/// A constraint: a variable is at least 0, or the instance at an index loses no more than allowed.
+#[derive(Clone, Copy)]
+enum Constraint {
+    Variable(usize),
+    Instance(usize),
 }
 
 /// A constraint that blocks an edge, its distance, and the rate at which it approaches.
@@ -99,12 +106,12 @@ impl Vertex {
     /// The vertex with all weights 0, for this allowance and this work limit.
     pub(crate) fn new(
         alloc: Global,
-        tables: &Tables,
-        program: &LinearProgram,
+        program: &LinearProgram<'_>,
         allowance: Allowance,
         max_work: u64,
     ) -> Result<Vertex, NoMemory> {
-        let instances = tables.costs().len();
+        let input = program.input();
+        let instances = input.costs().len();
         let variables = program.variables().len();
         let mut vertex = Vertex {
             edges: Vec::new(alloc),
@@ -116,7 +123,7 @@ impl Vertex {
             work: 0,
             max_work,
         };
-        vertex.fill_slacks(tables.costs(), allowance)?;
+        vertex.fill_slacks(input.costs(), allowance)?;
         for variable in 0..variables {
             vertex.add_edge(alloc, variable)?;
         }
@@ -156,15 +163,14 @@ impl Vertex {
     /// whether a step was taken.
     pub(crate) fn climb(
         &mut self,
-        tables: &Tables,
-        program: &LinearProgram,
+        program: &LinearProgram<'_>,
         aims: &Aims,
         share: f64,
     ) -> Result<bool, NoMemory> {
-        self.aim_at(tables, program, aims, share);
+        self.aim_at(program, aims, share);
         let before = self.work;
         for _ in 0..MAX_PIVOTS {
-            if self.work > self.max_work || self.pivot(tables, program)? != Pivot::Made {
+            if self.work > self.max_work || self.pivot(program)? != Pivot::Made {
                 return Ok(self.work > before);
             }
         }
@@ -174,16 +180,15 @@ impl Vertex {
     /// Pivots until it finds an unbounded ray along which the initial state gains. Returns the growth of each variable along it.
     pub(crate) fn unbounded_ray(
         &mut self,
-        tables: &Tables,
-        program: &LinearProgram,
+        program: &LinearProgram<'_>,
         aims: &Aims,
     ) -> Result<Option<&[f64]>, NoMemory> {
-        self.aim_at(tables, program, aims, 0.0);
+        self.aim_at(program, aims, 0.0);
         for _ in 0..MAX_PIVOTS {
             if self.work > self.max_work {
                 return Ok(None);
             }
-            match self.pivot(tables, program)? {
+            match self.pivot(program)? {
                 Pivot::Made => {}
                 Pivot::Optimal => return Ok(None),
                 Pivot::Unbounded => {
@@ -203,17 +208,17 @@ impl Vertex {
     }
 
     /// Computes the gain along each edge.
-    fn aim_at(&mut self, tables: &Tables, program: &LinearProgram, aims: &Aims, share: f64) {
+    fn aim_at(&mut self, program: &LinearProgram<'_>, aims: &Aims, share: f64) {
         let mut read = self.edges.len();
         for edge in self.edges.iter_mut() {
-            edge.aim_at(tables, program, aims, share);
+            edge.aim_at(program, aims, share);
             read = read.saturating_add(edge.along.len());
         }
         self.count(read);
     }
 
     /// Moves to the next vertex, if there is one.
-    fn pivot(&mut self, tables: &Tables, program: &LinearProgram) -> Result<Pivot, NoMemory> {
+    fn pivot(&mut self, program: &LinearProgram<'_>) -> Result<Pivot, NoMemory> {
         let Some(place) = self.steepest_edge() else {
             return Ok(Pivot::Optimal);
         };
@@ -222,7 +227,7 @@ impl Vertex {
         }
         let mut edge = self.edges.swap_remove(place);
         edge.fill(self.variables)?;
-        self.fill_rates(tables, program, &edge)?;
+        self.fill_rates(program, &edge)?;
         let blocking = self.blocking_constraint();
         self.advance(blocking);
         let mut pivot = Pivot::Unbounded;
@@ -230,7 +235,7 @@ impl Vertex {
             self.set_slack(edge.constraint, blocking.far);
             self.set_slack(blocking.constraint, TIGHT);
             edge.exchange(blocking);
-            self.update_edges(tables, program, &edge)?;
+            self.update_edges(program, &edge)?;
             pivot = Pivot::Made;
         }
         self.edges.push(edge)?;
@@ -252,17 +257,13 @@ impl Vertex {
     }
 
     /// Computes the rate at which each constraint approaches along the edge.
-    fn fill_rates(
-        &mut self,
-        tables: &Tables,
-        program: &LinearProgram,
-        edge: &Edge,
-    ) -> Result<(), NoMemory> {
+    fn fill_rates(&mut self, program: &LinearProgram<'_>, edge: &Edge) -> Result<(), NoMemory> {
+        let input = program.input();
         let mut constraint = self.instances;
         for (step, far) in program.variables().iter().zip(&edge.along) {
             if *far != 0.0 {
                 self.add_rate(constraint, -*far)?;
-                for touch in tables.instances_of(step.atom) {
+                for touch in input.instances_of(step.atom) {
                     let loss = touch.loss(step.by);
                     if loss != 0 {
                         self.add_rate(touch.number as usize, nearest_i64_to_f64(loss) * *far)?;
@@ -322,23 +323,25 @@ impl Vertex {
     }
 
     /// Updates the other edges so that the new constraint stays tight along them.
-    fn update_edges(
-        &mut self,
-        tables: &Tables,
-        program: &LinearProgram,
-        by: &Edge,
-    ) -> Result<(), NoMemory> {
-        let variable = by.constraint.checked_sub(self.instances);
+    fn update_edges(&mut self, program: &LinearProgram<'_>, by: &Edge) -> Result<(), NoMemory> {
+        let constraint = match by.constraint.checked_sub(self.instances) {
+            Some(variable) => Constraint::Variable(variable),
+            None => Constraint::Instance(by.constraint),
+        };
         let mut updated = 0usize;
         for edge in self.edges.iter_mut() {
-            let rate = edge.rate(tables, program, by.constraint, variable);
+            let rate = edge.rate(program, constraint);
             if rate.abs() > ERROR {
                 edge.fill(by.along.len())?;
                 edge.add(rate, by);
                 updated = updated.saturating_add(1);
             }
         }
-        let read = tables.atoms_at(by.constraint).len().saturating_add(1);
+        let read = program
+            .input()
+            .atoms_at(by.constraint)
+            .len()
+            .saturating_add(1);
         let edges = self.edges.len();
         self.count(read.saturating_mul(edges));
         self.count(updated.saturating_mul(by.along.len()));
@@ -346,10 +349,10 @@ impl Vertex {
     }
 
     /// The value of each variable, for the unperturbed costs.
-    pub(crate) fn grown(&self, alloc: Global, tables: &Tables) -> Result<Vec<f64>, NoMemory> {
+    pub(crate) fn grown(&self, alloc: Global, input: &ProgramInput) -> Result<Vec<f64>, NoMemory> {
         let mut grown = vec![in alloc; 0.0; self.variables]?;
         for edge in &self.edges {
-            if let Some(cost) = tables.costs().get(edge.constraint) {
+            if let Some(cost) = input.costs().get(edge.constraint) {
                 let back = nearest_i64_to_f64(*cost);
                 for (sum, far) in grown.iter_mut().zip(&edge.along) {
                     *sum -= back * *far;
@@ -374,14 +377,14 @@ impl Vertex {
 
 impl Edge {
     /// Computes the gain along the edge.
-    fn aim_at(&mut self, tables: &Tables, program: &LinearProgram, aims: &Aims, share: f64) {
+    fn aim_at(&mut self, program: &LinearProgram<'_>, aims: &Aims, share: f64) {
         self.gain = match program.variables().get(self.alone) {
-            Some(step) if self.along.is_empty() => aims.shared_gain(tables, *step, share),
+            Some(step) if self.along.is_empty() => aims.shared_gain(program.input(), *step, share),
             _ => 0.0,
         };
         for (step, far) in program.variables().iter().zip(&self.along) {
             if *far != 0.0 {
-                self.gain += *far * aims.shared_gain(tables, *step, share);
+                self.gain += *far * aims.shared_gain(program.input(), *step, share);
             }
         }
     }
@@ -396,19 +399,18 @@ impl Edge {
         }
     }
 
-    /// The rate at which a constraint approaches along the edge: that of a variable, or of the instance at this index.
-    fn rate(
-        &self,
-        tables: &Tables,
-        program: &LinearProgram,
-        place: usize,
-        variable: Option<usize>,
-    ) -> f64 {
-        if let Some(variable) = variable {
-            return -self.growth(variable);
+    /// The rate at which the constraint approaches along the edge.
+    fn rate(&self, program: &LinearProgram<'_>, constraint: Constraint) -> f64 {
+        match constraint {
+            Constraint::Variable(variable) => -self.growth(variable),
+            Constraint::Instance(place) => self.rate_of_instance(program, place),
         }
+    }
+
+    /// The rate at which the loss of the instance at this index grows along the edge.
+    fn rate_of_instance(&self, program: &LinearProgram<'_>, place: usize) -> f64 {
         let mut rate = 0.0;
-        for touch in tables.atoms_at(place) {
+        for touch in program.input().atoms_at(place) {
             for by in [-1, 1] {
                 if let Some(variable) = program.variable(touch.number, by) {
                     rate += nearest_i64_to_f64(touch.loss(by)) * self.growth(variable);

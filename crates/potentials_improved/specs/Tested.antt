@@ -7,7 +7,7 @@ use Rattle.model.specs.NumberedLiterals.{counting_of_number}
 use Rattle.grounding.specs.declared.ground.Ground.{Ground}
 use Rattle.grounding.specs.Ground.{task_in, atoms_in}
 use Rattle.lower_bounds.specs.FairPotentials.{touches}
-use Rattle.potentials_drafted.specs.declared.tables.Tables.{Tables}
+use Rattle.potentials_drafted.specs.declared.program_input.ProgramInput.{ProgramInput}
 use Rattle.potentials_drafted.specs.declared.incidence.Incidence.{Incidence}
 use Rattle.potentials_drafted.specs.Incidence.{row_of}
 
@@ -17,6 +17,6 @@ pub record IsTestedIncidence (task : Task) (atoms : List Atom) (count : ℕ) (t 
   pub within : (a n : ℕ) → list_any (nat_eq n) (row_of t a) ≡ true → n < count
   pub covers : (a n : ℕ) → n < count → touches (counting_of_number task atoms n) a ≡ true → list_any (nat_eq n) (row_of t a) ≡ true
 
--- `AreTablesOf`, likewise
-abbrev pub AreTestedTables : Ground → Tables → Type 0
-AreTestedTables g t = IsTestedIncidence (task_in g) (atoms_in g) (length (kept_instances (task_in g))) t.incidence
+-- `IsInputOf`, likewise
+abbrev pub IsTestedInput : Ground → ProgramInput → Type 0
+IsTestedInput g t = IsTestedIncidence (task_in g) (atoms_in g) (length (kept_instances (task_in g))) t.incidence

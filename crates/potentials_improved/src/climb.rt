@@ -171,7 +171,7 @@ impl Climb {
     {
         let old = self.potentials.weight(trial.atom);
         self.potentials.set_weight(trial.atom, trial.weight);
-        let touching = groundwork.tables.incidence().of(trial.atom);
+        let touching = groundwork.input.incidence().of(trial.atom);
         if !are_fair_at::<A>(&self.potentials, groundwork.ground, touching) {
             self.potentials.set_weight(trial.atom, old);
             return false;

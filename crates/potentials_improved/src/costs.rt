@@ -56,7 +56,7 @@ impl Drafts for Costs {
         groundwork: &Groundwork<'_, '_>,
         _rounds: u32,
     ) -> Result<Potentials, NoMemory> {
-        let weights = drafted_weights(alloc, &groundwork.tables, potentials.weights())?;
+        let weights = drafted_weights(alloc, &groundwork.input, potentials.weights())?;
         no_worse::<Costs>(alloc, potentials, groundwork, weights)
     }
 }

@@ -41,14 +41,14 @@ impl Allowance for DeadEnds {
 
 impl Drafts for DeadEnds {
     /// One draft a round at most: one that makes the initial state a dead end, or more of the sampled states than before. The
-    /// result does not rest on the tables.
+    /// result does not rest on the drafts' input.
     fn drafted(
         alloc: Global,
         potentials: Potentials,
         groundwork: &Groundwork<'_, '_>,
         rounds: u32,
     ) -> Result<Potentials, NoMemory> {
-        let mut drafts = DeadDrafts::new(alloc, &groundwork.tables)?;
+        let mut drafts = DeadDrafts::new(alloc, &groundwork.input)?;
         let mut best = potentials;
         for _ in 0..rounds {
             let Some(weights) = drafts.next(alloc, best.weights())? else {

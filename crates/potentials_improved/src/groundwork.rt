@@ -6,24 +6,24 @@ ghost use Rattle.grounding.specs.Ground.{task_in, atoms_in};
 ghost use Rattle.model.specs.NumberedLiterals.{literals_of_goal};
 ghost use Rattle.model.specs.Grounding.{ground_system};
 ghost use Rattle.potentials.specs.Goals.{AreSaid};
-ghost use Rattle.potentials_improved.specs.Tested.{AreTestedTables};
+ghost use Rattle.potentials_improved.specs.Tested.{IsTestedInput};
 
 use faults::NoMemory;
 use grounding::Ground;
 use packed_state::Packed;
 use potentials::GoalAtoms;
-use potentials_drafted::Tables;
+use potentials_drafted::ProgramInput;
 use std::alloc::Global;
 
-/// What improving potentials of a ground task needs, at any allowance: its tables of instances and atoms, its initial state, and what
+/// What improving potentials of a ground task needs, at any allowance: the input of drafts, its initial state, and what
 /// its goal says of each atom. Made once.
 #[derive(Drop)]
 pub struct Groundwork<'g, 't> {
     pub(crate) ground: &'g Ground<'t>,
-    pub(crate) tables: Tables,
+    pub(crate) input: ProgramInput,
     pub(crate) initial: Packed,
     pub(crate) goal: GoalAtoms,
-    ghost incidence: { AreTestedTables ground.now tables } by { Prim.hlevel props },
+    ghost incidence: { IsTestedInput ground.now input } by { Prim.hlevel props },
     ghost initial_is: { bits_of initial ≡ (ground_system (task_in ground.now) (atoms_in ground.now)).initial } by { Prim.hlevel props },
     ghost goal_is: { AreSaid (literals_of_goal (task_in ground.now) (atoms_in ground.now)) (length (atoms_in ground.now)) goal } by { Prim.hlevel props },
 }
@@ -40,11 +40,11 @@ impl<'g, 't> Groundwork<'g, 't> {
         ensures { IfOk result (λ g. ground_under g ≡ ground.now) }
     {
         let initial = ground.initial(alloc)?;
-        let tables = Tables::new(alloc, ground, &initial)?;
+        let input = ProgramInput::new(alloc, ground, &initial)?;
         let goal = GoalAtoms::new(alloc, ground.goal_literals(), ground.width())?;
         Ok(Groundwork {
             ground,
-            tables,
+            input,
             initial,
             goal,
         })

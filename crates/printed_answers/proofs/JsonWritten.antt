@@ -13,7 +13,7 @@ use Rattle.serde_json.specs.Data as built
 use Rattle.serde_json.specs.View.{items_of}
 use Rattle.serde_json.specs.Written.{compact_text, items_text, members_text, comma_if, outline, items_outline, members_outline, has_float, items_have_float, IsInOrder}
 use Rattle.serde_json.proofs.Texts.{tokens_from_order}
-use Rattle.printed_answers.specs.JsonText.{Value, Member, number, text, texts, escaped, string_text, joined, value_text, member_text, object_text}
+use Rattle.printed_answers.specs.JsonText.{MemberValue, Member, number, text, texts, escaped, string_text, joined, value_text, member_text, object_text}
 use Rattle.printed_answers.specs.Members.{strings_read, value_read, members_read}
 use Rattle.printed_answers.specs.MembersBuilt.{value_built, members_built}
 
@@ -35,7 +35,7 @@ strings_written later s (next ∷ rest) =
     ap₂ (λ (t following : List ℕ). comma_if later ++ (t ++ following)) (quoted_same s) (strings_written true next rest)
     ∙ ap (λ (t : List ℕ). comma_if later ++ t) (sym (append_assoc (string_text s) (44 ∷ joined (map string_text (next ∷ rest))) (93 ∷ [])))
 
-value_written : (v : Value) → compact_text (value_built v) ≡ value_text v
+value_written : (v : MemberValue) → compact_text (value_built v) ≡ value_text v
 value_written (number n) = refl
 value_written (text s) = quoted_same s
 value_written (texts []) = refl
@@ -63,7 +63,7 @@ strings_whole : (list : List (List ℕ)) → items_have_float (items_of (map bui
 strings_whole [] = refl
 strings_whole (s ∷ rest) = strings_whole rest
 
-value_whole : (v : Value) → has_float (value_built v) ≡ false
+value_whole : (v : MemberValue) → has_float (value_built v) ≡ false
 value_whole (number n) = refl
 value_whole (text s) = refl
 value_whole (texts list) = strings_whole list
@@ -78,7 +78,7 @@ strings_outlined : (list : List (List ℕ)) → items_outline (items_of (map bui
 strings_outlined [] = refl
 strings_outlined (s ∷ rest) = ap (json.item (json.string s)) (strings_outlined rest)
 
-value_outlined : (v : Value) → outline (value_built v) ≡ value_read v
+value_outlined : (v : MemberValue) → outline (value_built v) ≡ value_read v
 value_outlined (number n) = refl
 value_outlined (text s) = refl
 value_outlined (texts list) = ap json.array (strings_outlined list)
@@ -91,7 +91,7 @@ strings_depth : (list : List (List ℕ)) → items_depth (strings_read list) ≤
 strings_depth [] = omega arith
 strings_depth (s ∷ rest) = omega (arith, strings_depth rest)
 
-value_depth : (v : Value) → depth (value_read v) ≤ 1
+value_depth : (v : MemberValue) → depth (value_read v) ≤ 1
 value_depth (number n) = omega arith
 value_depth (text s) = omega arith
 value_depth (texts list) = omega (arith, strings_depth list)

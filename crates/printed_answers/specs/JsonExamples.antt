@@ -1,8 +1,8 @@
 -- Worked examples of the text of objects.
 use Rattle.std.specs.Prelude.{◌≡◌, ℕ, true, false, List, [], ◌∷◌, codes}
-use Rattle.printed_answers.specs.JsonText.{Value, Member, number, text, texts, string_text, object_text, ascend}
+use Rattle.printed_answers.specs.JsonText.{MemberValue, Member, number, text, texts, string_text, object_text, ascend}
 
-abbrev pub member : List ℕ → Value → Member
+abbrev pub member : List ℕ → MemberValue → Member
 member key value = record { key = key; value = value }
 
 pub record AreWritten : Type 0 where

@@ -7,14 +7,14 @@ use Rattle.std.specs.Cmp.Lexicographic.{slice_cmp}
 use Rattle.std.specs.Ordering.{nat_cmp, match_ordering}
 
 -- the value of a member: a number, a string or an array of strings
-pub data Value : Type 0 where
-  number : ℕ → Value
-  text : List ℕ → Value
-  texts : List (List ℕ) → Value
+pub data MemberValue : Type 0 where
+  number : ℕ → MemberValue
+  text : List ℕ → MemberValue
+  texts : List (List ℕ) → MemberValue
 
 pub record Member : Type 0 where
   pub key : List ℕ
-  pub value : Value
+  pub value : MemberValue
 
 -- The bytes of a string for a character (section 7): a quotation mark and a backslash are preceded by a backslash, as are the
 -- letters that stand for backspace, form feed, line feed, carriage return and tab; another control character is `\u00` and two
@@ -41,7 +41,7 @@ joined (first ∷ []) = first
 joined (first ∷ second ∷ rest) = first ++ (codes "," ++ joined (second ∷ rest))
 
 -- a number in decimal digits, a string, or an array between brackets
-abbrev pub value_text : Value → List ℕ
+abbrev pub value_text : MemberValue → List ℕ
 value_text (number n) = decimal n
 value_text (text s) = string_text s
 value_text (texts list) = codes "[" ++ (joined (map string_text list) ++ codes "]")

@@ -5,11 +5,11 @@ use Rattle.std.specs.String.{string_bytes}
 use Rattle.json.specs.Json as json
 use Rattle.printed_answers.specs.JsonText as text
 use Rattle.printed_answers.specs.declared.members.Member.{Member}
-use Rattle.printed_answers.specs.declared.members.Value.{Value}
-use Rattle.printed_answers.specs.declared.members.Value.TheVariants.{Number, Text, Texts}
+use Rattle.printed_answers.specs.declared.members.MemberValue.{MemberValue}
+use Rattle.printed_answers.specs.declared.members.MemberValue.TheVariants.{Number, Text, Texts}
 
 -- the value of the code, and the member
-abbrev pub value_of : Value → text.Value
+abbrev pub value_of : MemberValue → text.MemberValue
 value_of (Number n) = text.number n
 value_of (Text s) = text.text s.now
 value_of (Texts list) = text.texts (map string_bytes list.now)
@@ -28,7 +28,7 @@ abbrev pub strings_read : List (List ℕ) → json.Items
 strings_read [] = json.no_items
 strings_read (s ∷ rest) = json.item (json.string s) (strings_read rest)
 
-abbrev pub value_read : text.Value → json.Json
+abbrev pub value_read : text.MemberValue → json.Json
 value_read (text.number n) = json.number (decimal n)
 value_read (text.text s) = json.string s
 value_read (text.texts list) = json.array (strings_read list)

@@ -3,9 +3,9 @@ use Rattle.std.specs.Prelude.{List, [], ◌∷◌, map}
 use Rattle.serde_json.specs.Data.{Data, unsigned, array, Members, no_members}
 use Rattle.serde_json.specs.Data as built
 use Rattle.serde_json.specs.View.{items_of}
-use Rattle.printed_answers.specs.JsonText.{Value, Member, number, text, texts}
+use Rattle.printed_answers.specs.JsonText.{MemberValue, Member, number, text, texts}
 
-abbrev pub value_built : Value → Data
+abbrev pub value_built : MemberValue → Data
 value_built (number n) = built.number (unsigned n)
 value_built (text s) = built.string s
 value_built (texts list) = array (items_of (map built.string list))

@@ -1,6 +1,6 @@
 -- Answers as JSON objects: a command, a result and what belongs to it, with the keys in bytewise order.
 use Rattle.std.specs.Prelude.{ℕ, List, [], ◌∷◌, ◌++◌, codes, map, Result, Ok, Err}
-use Rattle.printed_answers.specs.JsonText.{Value, Member, number, text, texts, object_text}
+use Rattle.printed_answers.specs.JsonText.{MemberValue, Member, number, text, texts, object_text}
 use Rattle.formulas.specs.State.{plan_of}
 use Rattle.solver.specs.declared.answer.Answer.{Answer}
 use Rattle.solver.specs.declared.answer.Answer.TheVariants as answer
@@ -17,7 +17,7 @@ use Rattle.model.specs.Runs.{Verdict, valid, not_applicable, goal_missed}
 use Rattle.model.specs.Task.{Task, Instance}
 use Rattle.model.specs.PlanWriting.{step_text}
 
-abbrev pub member : List ℕ → Value → Member
+abbrev pub member : List ℕ → MemberValue → Member
 member key value = record { key = key; value = value }
 
 -- the command of an answer, and its result

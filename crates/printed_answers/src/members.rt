@@ -13,7 +13,7 @@ use std::alloc::{AllocError, Global};
 
 /// The value of a member.
 #[derive(Clone, Copy)]
-pub(crate) enum Value<'a> {
+pub(crate) enum MemberValue<'a> {
     /// A number.
     Number(u64),
     /// A string.
@@ -28,37 +28,37 @@ pub(crate) struct Member<'a> {
     /// Its key.
     pub(crate) key: &'a str,
     /// Its value.
-    pub(crate) value: Value<'a>,
+    pub(crate) value: MemberValue<'a>,
 }
 
 impl<'a> Member<'a> {
     /// A member with a number.
     pub(crate) fn number(key: &'a str, number: u64) -> Member<'a>
-        ensures { result ≡ record { key = key.entry; value = Value.Number number } }
+        ensures { result ≡ record { key = key.entry; value = MemberValue.Number number } }
     {
         Member {
             key,
-            value: Value::Number(number),
+            value: MemberValue::Number(number),
         }
     }
 
     /// A member with a string.
     pub(crate) fn text(key: &'a str, text: &'a str) -> Member<'a>
-        ensures { result ≡ record { key = key.entry; value = Value.Text text.entry } }
+        ensures { result ≡ record { key = key.entry; value = MemberValue.Text text.entry } }
     {
         Member {
             key,
-            value: Value::Text(text),
+            value: MemberValue::Text(text),
         }
     }
 
     /// A member with an array of strings.
     pub(crate) fn texts(key: &'a str, texts: &'a [String]) -> Member<'a>
-        ensures { result ≡ record { key = key.entry; value = Value.Texts texts.entry } }
+        ensures { result ≡ record { key = key.entry; value = MemberValue.Texts texts.entry } }
     {
         Member {
             key,
-            value: Value::Texts(texts),
+            value: MemberValue::Texts(texts),
         }
     }
 }
@@ -91,19 +91,19 @@ pub fn json_examples_are_written()
 {}
 
 /// A member's value as a JSON value.
-fn built_value(alloc: Global, value: Value<'_>) -> Result<serde_json::Value, AllocError>
+fn built_value(alloc: Global, value: MemberValue<'_>) -> Result<serde_json::Value, AllocError>
     ensures { IfOk result (λ built. view built ≡ value_built (value_of value.entry)) }
 {
     match value {
-        Value::Number(number) => Ok(serde_json::Value::from(number)),
-        Value::Text(text) => serde_json::Value::try_from_str(alloc, text),
-        Value::Texts(texts) => built_texts(alloc, texts),
+        MemberValue::Number(number) => Ok(serde_json::Value::from(number)),
+        MemberValue::Text(text) => serde_json::Value::try_from_str(alloc, text),
+        MemberValue::Texts(texts) => built_texts(alloc, texts),
     }
 }
 
 /// An array of strings as a JSON value.
 fn built_texts(alloc: Global, texts: &[String]) -> Result<serde_json::Value, AllocError>
-    ensures { IfOk result (λ built. view built ≡ value_built (value_of (Value.Texts texts.entry))) }
+    ensures { IfOk result (λ built. view built ≡ value_built (value_of (MemberValue.Texts texts.entry))) }
 {
     let mut array = Vec::with_capacity(alloc, texts.len())?;
     'texts: for text in texts {

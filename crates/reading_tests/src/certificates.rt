@@ -1,5 +1,7 @@
 //! Tests of the limits of certificates that are made in memory.
-use certificate::{Basis, Bounds, Cert, Claim, Header, Mark, Potential, StateLine, Version};
+use certificate::{
+    Basis, Cert, Claim, Evidence, Header, Landmarks, Mark, Potential, StateLine, Version,
+};
 use faults::NoMemory;
 use indexmap::IndexSet;
 use std::alloc::{AllocError, Global};
@@ -30,7 +32,7 @@ const START: Line = (0, Mark::Open, &[]);
 
 /// Claims and states; weights of values; versions, and weights of dead ends.
 #[rattlefmt::skip]
-static ROWS: [Row; 28] = [
+static ROWS: [Row; 32] = [
     (Version::One, Claim::Bound(MOST), LARGEST, ZERO, (MOST, Mark::Cut { by: Basis::OfAll, rest: MOST }, &[0, 1]), true),
     (Version::One, Claim::Bound(0), LARGEST, ZERO, (0, Mark::Cut { by: Basis::OfAll, rest: 0 }, &[1]), true),
     (Version::One, Claim::Unsolvable, LARGEST, ZERO, START, true),
@@ -61,6 +63,11 @@ static ROWS: [Row; 28] = [
     (Version::Two, Claim::Unsolvable, ZERO, (2_147_483_648, &[0, 0]), (0, Mark::Dead { by: Basis::OfAll }, &[]), false),
     (Version::Two, Claim::Unsolvable, ZERO, (0, &[0, -2_147_483_648]), (0, Mark::Dead { by: Basis::OfAll }, &[]), false),
     (Version::Two, Claim::Unsolvable, ZERO, (0, &[0]), (0, Mark::Dead { by: Basis::OfAll }, &[]), false),
+    // Lines by landmark values, of which there are none.
+    (Version::Four, Claim::Bound(0), ZERO, ZERO, (0, Mark::Cut { by: Basis::OfAll, rest: 0 }, &[]), true),
+    (Version::Four, Claim::Unsolvable, ZERO, ZERO, (0, Mark::Dead { by: Basis::OfAll }, &[]), true),
+    (Version::Four, Claim::Bound(0), ZERO, ZERO, (0, Mark::Cut { by: Basis::Landmark(0), rest: 0 }, &[]), false),
+    (Version::Four, Claim::Unsolvable, ZERO, ZERO, (0, Mark::Dead { by: Basis::Landmark(0) }, &[]), false),
 ];
 
 /// The potential function with this constant and these weights.
@@ -79,17 +86,18 @@ pub(crate) fn atoms(alloc: Global, rows: &[Application]) -> Result<IndexSet<Atom
     Ok(atoms)
 }
 
-/// The bounds with these weights of one value and of dead ends, without tables.
-pub(crate) fn bounds(
+/// The evidence with these weights of one value and of dead ends, with neither tables nor landmark values.
+pub(crate) fn evidence(
     alloc: Global,
     value: &Weights,
     dead_ends: &Weights,
-) -> Result<Bounds, NoMemory> {
+) -> Result<Evidence, NoMemory> {
     let values = vec![in alloc; potential(alloc, value)?]?;
-    Ok(Bounds {
+    Ok(Evidence {
         values,
         dead_ends: potential(alloc, dead_ends)?,
         tables: Vec::new(alloc),
+        landmarks: Landmarks::none(alloc),
     })
 }
 
@@ -101,7 +109,7 @@ fn header(alloc: Global, row: &Row) -> Result<Header, NoMemory> {
         claim: row.1,
         exchanges: Vec::new(alloc),
         atoms,
-        bounds: bounds(alloc, &row.2, &row.3)?,
+        evidence: evidence(alloc, &row.2, &row.3)?,
     })
 }
 

@@ -10,6 +10,8 @@ mod explained;
 #[cfg(test)]
 mod ground_tasks;
 #[cfg(test)]
+mod landmark_certificates;
+#[cfg(test)]
 mod landmark_lines;
 #[cfg(test)]
 mod laws;

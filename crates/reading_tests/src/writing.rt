@@ -1,5 +1,5 @@
 //! Tests of certificates written to sinks that fail.
-use crate::certificates::{Weights, atoms, bounds};
+use crate::certificates::{Weights, atoms, evidence};
 use certificate::{Basis, Cert, Claim, Header, Mark, StateLine, Version, write_cert};
 use devices::{IoFault, Memory};
 use faults::NoMemory;
@@ -59,7 +59,7 @@ fn header(alloc: Global) -> Result<Header, NoMemory> {
         claim: Claim::Bound(0),
         exchanges: Vec::new(alloc),
         atoms,
-        bounds: bounds(alloc, &VALUE, &DEAD_ENDS)?,
+        evidence: evidence(alloc, &VALUE, &DEAD_ENDS)?,
     })
 }
 

@@ -1,6 +1,7 @@
 -- The lines of the found states, and what they say of each.
-use Rattle.std.proofs.Common.{◌≡◌, ◌∙◌, ℕ, zero, suc, ◌+◌, ◌<◌, Bool, true, false, List, [], ◌∷◌, ◌++◌, length, map, take, Some, inl, inr, refl, sym, ap, arith}
-use Rattle.std.specs.Prelude.{◌⊎◌, slice_get, Contains, if◌then◌else◌}
+use Rattle.std.proofs.Common.{◌≡◌, ◌∙◌, ℕ, zero, suc, ◌+◌, ◌<◌, Bool, true, false, List, [], ◌∷◌, ◌++◌, length, map, take, Option, None, Some, inl, inr, refl, sym, ap, arith}
+use Rattle.std.specs.Prelude.{◌⊎◌, ◌&&◌, slice_get, Contains, if◌then◌else◌}
+use Rattle.std.specs.List.{cons_option, filter_map, list_all}
 use Rattle.std.proofs.lemmas.Bool.{true≢false}
 use Rattle.std.proofs.lemmas.List.{length-map, map-append}
 use Rattle.search.specs.declared.nodes.Node.{Node}
@@ -14,6 +15,7 @@ use Rattle.certificate.specs.CertificateParts.{listed_of}
 use Rattle.solver.specs.Listing.{by_all, mark_of_line, state_line}
 use Rattle.certificate_definitions.specs.Evidence as evidence
 use Rattle.certificate_definitions.specs.Evidence.{of_all, bare}
+use Rattle.certificate_definitions.specs.Certificates.{StateLine, has_basis, is_dead_by_landmark}
 use Rattle.model.specs.Claims.{Mark, opened, cut, dead, Line}
 use Rattle.model.proofs.ListLemmas.{Contains-cases, Contains-none, Contains-got}
 
@@ -137,6 +139,26 @@ pub bare-by_all : (mark : Mark) → bare (by_all mark) ≡ mark
 bare-by_all opened = refl
 bare-by_all (cut rest) = refl
 bare-by_all dead = refl
+
+-- none rests on a landmark value
+no_landmark : (mark : Mark) → is_dead_by_landmark (by_all mark) ≡ None
+no_landmark opened = refl
+no_landmark (cut rest) = refl
+no_landmark dead = refl
+
+pub none-dead_by : (lines : List (Line (List Bool))) → filter_map (λ (l : StateLine). is_dead_by_landmark l.mark) (map state_line lines) ≡ []
+none-dead_by [] = refl
+none-dead_by (line ∷ lines) = λ i. cons_option (no_landmark line.mark i) (none-dead_by lines i)
+
+-- so there is what each rests on
+there_is : (count : ℕ) (mark : Mark) → has_basis count (by_all mark) ≡ true
+there_is count opened = refl
+there_is count (cut rest) = refl
+there_is count dead = refl
+
+pub have_bases : (count : ℕ) (lines : List (Line (List Bool))) → list_all (λ (l : StateLine). has_basis count l.mark) (map state_line lines) ≡ true
+have_bases count [] = refl
+have_bases count (line ∷ lines) = λ i. there_is count line.mark i && have_bases count lines i
 
 module _ (value : List Bool → ℕ) (is_dead : List Bool → Bool) where
   -- the lines of the marks and the states are those of the found states

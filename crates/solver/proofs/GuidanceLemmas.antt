@@ -16,8 +16,8 @@ use Rattle.model.proofs.LimitsLemmas.{numbered_again}
 use Rattle.model.proofs.GroundTaskLemmas.{initial-numbered, packs_states}
 use Rattle.search.specs.declared.nodes.Node.{Node}
 use Rattle.symmetries_definitions.specs.Exchanges.{Exchange}
-use Rattle.certificate_definitions.specs.Certificates.{Version, two, three, is_value_count, is_weight, is_mark, are_potentials, is_dead_end_weight, are_tables, are_weights, has_tables, is_row, is_table, rows_of, rise, value_of, is_dead_end_of, AreFairFor}
-use Rattle.certificate.specs.CertificateParts.{are_bounds}
+use Rattle.certificate_definitions.specs.Certificates.{Version, two, three, no_landmarks, are_landmarks, is_value_count, is_weight, is_mark, are_potentials, is_dead_end_weight, are_tables, are_weights, has_tables, is_row, is_table, rows_of, rise, value_of, is_dead_end_of, AreFairFor}
+use Rattle.certificate.specs.Evidence.{is_evidence}
 use Rattle.lower_bounds.specs.PotentialFunctions.{PotentialFunction, score, given, IsInRange, AreInRange}
 use Rattle.lower_bounds.specs.FairPotentials as potentials
 use Rattle.lower_bounds.proofs.PotentialFalls.{or_zero-most}
@@ -41,20 +41,23 @@ pub record AreLimits (version : Version) (count : ℕ) (s : SeveralValues) : Typ
   pub tables : are_tables version count (length s.values + 1) s.tables ≡ true
   pub few_tables : nat_le (length s.tables) 4194304 ≡ true
   pub few_rows : nat_le (length (rows_of s.tables)) 4194304 ≡ true
+  pub landmarks : are_landmarks version count no_landmarks ≡ true
 
-pub limits_of : (version : Version) (count : ℕ) (s : SeveralValues) → are_bounds version count s ≡ true → AreLimits version count s
+pub limits_of : (version : Version) (count : ℕ) (s : SeveralValues) → is_evidence version count s no_landmarks ≡ true → AreLimits version count s
 limits_of version count s are =
     let value_count = is_value_count version (length s.values) in
     let values = list_all (are_potentials is_weight count) s.values in
     let dead_ends = are_potentials (is_dead_end_weight version) count s.dead_ends in
     let tables = are_tables version count (length s.values + 1) s.tables in
     let few_tables = nat_le (length s.tables) 4194304 in
-    let (first, few_rows) = and_parts (value_count && values && dead_ends && tables && few_tables) (nat_le (length (rows_of s.tables)) 4194304) are in
+    let few_rows = nat_le (length (rows_of s.tables)) 4194304 in
+    let (first, landmarks) = and_parts (value_count && values && dead_ends && tables && few_tables && few_rows) (are_landmarks version count no_landmarks) are in
+    let (first, few_rows) = and_parts (value_count && values && dead_ends && tables && few_tables) few_rows first in
     let (first, few_tables) = and_parts (value_count && values && dead_ends && tables) few_tables first in
     let (first, tables) = and_parts (value_count && values && dead_ends) tables first in
     let (first, dead_ends) = and_parts (value_count && values) dead_ends first in
     let (value_count, values) = and_parts value_count values first in
-    record { value_count = value_count; values = values; dead_ends = dead_ends; tables = tables; few_tables = few_tables; few_rows = few_rows }
+    record { value_count = value_count; values = values; dead_ends = dead_ends; tables = tables; few_tables = few_tables; few_rows = few_rows; landmarks = landmarks }
 
 -- a weight for each of so many atoms
 pub one_weight_each : (is_in_range : ℤ → Bool) (count : ℕ) (p : PotentialFunction) → are_potentials is_in_range count p ≡ true → length p.weights ≡ count
@@ -91,7 +94,7 @@ potentials-written count p dead_ends range dead_range long dead_long =
     let value_passes = potentials-pass p count range long in
     let dead_ends_pass = potentials-pass dead_ends count dead_range dead_long in
     record {
-      within_limits = λ i. ((((true && (value_passes i && true)) && dead_ends_pass i) && true) && true) && true;
+      within_limits = λ i. (((((true && (value_passes i && true)) && dead_ends_pass i) && true) && true) && true) && true;
       rows_are_distinct = All-nil (λ (t : Table). AllPairs (λ (q r : Row). q.atoms ≢ r.atoms) t.rows);
     }
 
@@ -158,7 +161,7 @@ module _ (count weight_count : ℕ) (tables : List Table) (are : are_tables thre
       let rest = greatest-most (suc place) values more in
       omega arith
 
-pub estimate-most : (count : ℕ) (guidance : Guidance) → are_bounds (version_by guidance) count (values_by guidance) ≡ true → (bits : List Bool) → length bits ≤ 1048576 → estimate_by guidance bits ≤ most_value
+pub estimate-most : (count : ℕ) (guidance : Guidance) → is_evidence (version_by guidance) count (values_by guidance) no_landmarks ≡ true → (bits : List Bool) → length bits ≤ 1048576 → estimate_by guidance bits ≤ most_value
 estimate-most count (by_potentials p dead_ends) are bits short =
     let limits = limits_of two count (values_by (by_potentials p dead_ends)) are in
     let here = (and_parts (are_potentials is_weight count p) true limits.values).0 in

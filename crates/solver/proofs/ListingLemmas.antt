@@ -22,7 +22,8 @@ use Rattle.solver.proofs.TypedLemmas.{numbered_typed}
 use Rattle.ground_listings.proofs.GroundLemmas.{distinct_states}
 use Rattle.solver.specs.Guidance.{Guidance, by_potentials, by_tables, CanBeWritten, AreFairBy, estimate_by, reports_dead, version_by, values_by, first_value}
 use Rattle.solver.proofs.GuidanceLemmas.{AreLimits, limits_of, one_weight_each, weights_of_each, most_value, estimate-most, mark-passes, value-found, value-at-start, dead-found, fair-found}
-use Rattle.solver.proofs.FoundLines.{bare-by_all, expanded_of_open, dead_of_reported, found_line, length-lines, node_at}
+use Rattle.solver.proofs.FoundLines.{bare-by_all, expanded_of_open, dead_of_reported, found_line, have_bases, length-lines, node_at, none-dead_by}
+use Rattle.landmark_functions.specs.FairLandmarks.{IsFair, IsDeadFair}
 use Rattle.model.specs.Task.{Task, Atom}
 use Rattle.model.specs.WellTyped.{is_task, is_atom}
 use Rattle.model.specs.Runs.{System}
@@ -31,7 +32,7 @@ use Rattle.model.specs.Meaning.{State, initial_state, system_of}
 use Rattle.model.specs.Fluents.{is_fluent, static_atoms}
 use Rattle.model.specs.NumberedAtoms.{occurs_in, are_distinct, numbered_atoms}
 use Rattle.model.specs.Grounding.{chosen, state_of_bits, ground_system, NamesKept}
-use Rattle.certificate_definitions.specs.Certificates.{two, three, Certificate, StateLine, is_number, is_claim, is_mark, is_dead_end_weight, is_state_line, keeps_limits, rise, state_of_line, lines_of, AreAlikeFor, are_exchanges, value_of, is_dead_end_of, IsSupported}
+use Rattle.certificate_definitions.specs.Certificates.{two, three, Certificate, StateLine, is_number, is_claim, is_mark, is_dead_end_weight, is_state_line, keeps_limits, rise, state_of_line, lines_of, AreAlikeFor, are_exchanges, value_of, is_dead_end_of, IsSupported, landmark_function}
 use Rattle.certificate_definitions.specs.Evidence.{bare}
 use Rattle.symmetries_definitions.specs.Exchanges.{Exchange}
 use Rattle.symmetries_definitions.specs.Symmetries.{is_symmetry}
@@ -250,6 +251,11 @@ module _ (task : Task) (claim : Claim) (most : ℕ) (exchanges : List Exchange) 
         one_weight_an_atom = weights_of_each (length atoms) values.values limits.values;
         one_dead_end_weight_an_atom = one_weight_each (is_dead_end_weight (version_by guidance)) (length atoms) values.dead_ends limits.dead_ends;
         tables_are_over_atoms = limits.tables;
+        landmarks_are_over_atoms = limits.landmarks;
+        landmarks_are_fair = record {
+          values = All-nil (IsFair task (numbered_atoms task atoms));
+          dead_ends = subst (All (λ (number : ℕ). IsDeadFair task (numbered_atoms task atoms) (landmark_function made number))) (sym (none-dead_by lines)) (All-nil (λ (number : ℕ). IsDeadFair task (numbered_atoms task atoms) (landmark_function made number)));
+        };
         are_fair = fair-found task claim exchanges states nodes guidance fair;
         rows_are_distinct = written.rows_are_distinct;
         atoms_are_fluent = λ k d below.
@@ -306,7 +312,7 @@ module _ (task : Task) (claim : Claim) (most : ℕ) (exchanges : List Exchange) 
           (all_pass states nodes found_width small_value (λ k node at. omega (arith, found.cheap k node at, found.within_limit, few))) in
           let limits = limits_of (version_by guidance) (length atoms) (values_by guidance) written.within_limits in
           let few_enough = le-leb (length exchanges) 1048576 few_exchanges in
-          λ i. (((((((listed i && limits.value_count i) && limits.values i) && limits.dead_ends i) && limits.tables i) && limits.few_tables i) && limits.few_rows i) && exchanges_written i) && few_enough i
+          λ i. (((((((((listed i && limits.value_count i) && limits.values i) && limits.dead_ends i) && limits.tables i) && limits.few_tables i) && limits.few_rows i) && exchanges_written i) && few_enough i) && limits.landmarks i) && have_bases 0 lines i
         where
           all_pass : (ss : List (List Bool)) (ns : List Node) → ((k : ℕ) (bits : List Bool) → slice_get ss k ≡ Some bits → length bits ≡ length atoms)
               → ((k : ℕ) (bits : List Bool) → slice_get ss k ≡ Some bits → estimate_by guidance bits ≤ most_value)

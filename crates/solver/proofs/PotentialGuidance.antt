@@ -58,7 +58,7 @@ written-over_none count p dead_ends range dead_range long dead_long =
     let value_passes = potentials-pass p count range long in
     let dead_ends_pass = potentials-pass dead_ends count dead_range dead_long in
     record {
-      within_limits = λ i. ((((true && (value_passes i && true)) && dead_ends_pass i) && true) && true) && true;
+      within_limits = λ i. (((((true && (value_passes i && true)) && dead_ends_pass i) && true) && true) && true) && true;
       rows_are_distinct = All-nil (λ (t : Table). AllPairs (λ (q r : Row). q.atoms ≢ r.atoms) t.rows);
     }
 

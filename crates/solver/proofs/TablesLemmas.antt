@@ -4,9 +4,9 @@ use Rattle.std.specs.Prelude.{All, AllPairs, ◌≢◌, IsTrue, ◌==◌, nat_le
 use Rattle.std.specs.List.{list_all}
 use Rattle.std.proofs.lemmas.Bool.{and_parts, eqb-true, leb-true}
 use Rattle.std.proofs.lemmas.List.Elements.{All-cons, All-nil}
-use Rattle.certificate.specs.CertificateParts.{are_bounds, bounds_of}
-use Rattle.certificate.specs.declared.header.Bounds.{Bounds}
-use Rattle.certificate_definitions.specs.Certificates.{three, are_potentials, are_tables, are_weights, has_tables, is_dead_end_weight, is_row, is_table, is_value_count, is_weight, rise}
+use Rattle.certificate.specs.Evidence.{is_evidence, evidence_of}
+use Rattle.certificate.specs.declared.evidence.Evidence.{Evidence}
+use Rattle.certificate_definitions.specs.Certificates.{three, no_landmarks, are_potentials, are_tables, are_weights, has_tables, is_dead_end_weight, is_row, is_table, is_value_count, is_weight, rise}
 use Rattle.lower_bounds.specs.PotentialFunctions.{IsInRange}
 use Rattle.potentials.specs.Potentials.{potentials_of}
 use Rattle.potentials.specs.declared.potentials.Potentials.{Potentials}
@@ -25,11 +25,11 @@ rows_apart [] = All-nil (λ (t : model.Table). AllPairs (λ (q r : Row). q.atoms
 rows_apart (t ∷ tables) = All-cons (λ (u : model.Table). AllPairs (λ (q r : Row). q.atoms ≢ r.atoms) u.rows) (table_of t) (map table_of tables) (rows-distinct t) (rows_apart tables)
 
 -- so what bounds the costs of plans within the limits can be written
-pub tables-written : (count : ℕ) (bounds : Bounds) → are_bounds three count (bounds_of bounds) ≡ true → CanBeWritten count (by_tables (bounds_of bounds))
-tables-written count bounds are = record { within_limits = are; rows_are_distinct = rows_apart bounds.tables.items }
+pub tables-written : (count : ℕ) (evidence : Evidence) → is_evidence three count (evidence_of evidence) no_landmarks ≡ true → CanBeWritten count (by_tables (evidence_of evidence))
+tables-written count evidence are = record { within_limits = are; rows_are_distinct = rows_apart evidence.tables.items }
 
 -- the value of dead ends has a weight for each atom
-pub dead_ends_weighed : (count : ℕ) (s : model.SeveralValues) → are_bounds three count s ≡ true → length s.dead_ends.weights ≡ count
+pub dead_ends_weighed : (count : ℕ) (s : model.SeveralValues) → is_evidence three count s no_landmarks ≡ true → length s.dead_ends.weights ≡ count
 dead_ends_weighed count s are = one_weight_each (is_dead_end_weight three) count s.dead_ends (limits_of three count s are).dead_ends
 
 pub few_values : (count : ℕ) → is_value_count three count ≡ true → count ≤ 32

@@ -1,8 +1,8 @@
 -- What a search goes by, as a certificate has it.
 use Rattle.std.specs.Prelude.{ℕ, Bool, IsTrue, List, [], ◌∷◌, All, AllPairs, ◌≢◌, pos, get_or}
 use Rattle.model.specs.Task.{Task, Atom}
-use Rattle.certificate.specs.CertificateParts.{are_bounds}
-use Rattle.certificate_definitions.specs.Certificates.{Version, two, three}
+use Rattle.certificate.specs.Evidence.{is_evidence}
+use Rattle.certificate_definitions.specs.Certificates.{Version, two, three, no_landmarks}
 use Rattle.lower_bounds.specs.PotentialFunctions as potential
 use Rattle.lower_bounds.specs.PotentialFunctions.{PotentialFunction}
 use Rattle.lower_bounds.specs.FairPotentials as potentials
@@ -46,9 +46,9 @@ values_by (by_tables s) = s
 abbrev pub first_value : Guidance → PotentialFunction
 first_value guidance = get_or (values_by guidance).values 0 (record { constant = pos 0; weights = [] })
 
--- A certificate of so many atoms can have them.
+-- A certificate of so many atoms can have them, beside no landmark values.
 pub record CanBeWritten (atom_count : ℕ) (guidance : Guidance) : Type 0 where
-  pub within_limits : IsTrue (are_bounds (version_by guidance) atom_count (values_by guidance))
+  pub within_limits : IsTrue (is_evidence (version_by guidance) atom_count (values_by guidance) no_landmarks)
   pub rows_are_distinct : All (λ (t : Table). AllPairs (λ (q r : Row). q.atoms ≢ r.atoms) t.rows) (values_by guidance).tables
 
 -- The values are fair for the ground task of these atoms, and that of dead ends is dead-fair.

@@ -11,7 +11,7 @@ use Rattle.model.specs.Claims.{Claim, Mark, opened, cut, dead, Line}
 use Rattle.certificate_definitions.specs.Evidence as evidence
 use Rattle.certificate_definitions.specs.Evidence.{of_all, LineMark}
 use Rattle.symmetries_definitions.specs.Exchanges.{Exchange}
-use Rattle.certificate_definitions.specs.Certificates.{two, three, Certificate, StateLine, IsClosedFor, keeps_limits, lines_of, value_of, is_dead_end_of}
+use Rattle.certificate_definitions.specs.Certificates.{two, three, no_landmarks, Certificate, StateLine, IsClosedFor, keeps_limits, lines_of, value_of, is_dead_end_of}
 use Rattle.certificate.specs.ListedSets.{Marked}
 use Rattle.model.specs.NumberedAtoms.{numbered_atoms}
 use Rattle.ground_listings.specs.Exchanges.{can_be_named}
@@ -46,6 +46,7 @@ found_certificate claim exchanges atoms guidance states nodes = record {
   values = (values_by guidance).values;
   dead_ends = (values_by guidance).dead_ends;
   tables = (values_by guidance).tables;
+  landmarks = no_landmarks;
   lines = map state_line (search.lines_of (estimate_by guidance) (reports_dead guidance) states nodes);
 }
 

@@ -1,5 +1,5 @@
 -- The code's guidance, as the guidance that it is.
-use Rattle.certificate.specs.CertificateParts.{bounds_of, potential_of}
+use Rattle.certificate.specs.Evidence.{evidence_of, potential_of}
 use Rattle.lower_bounds.specs.PotentialFunctions.{PotentialFunction}
 use Rattle.solver.specs.Guidance.{Guidance, by_potentials, by_tables, over_no_tables}
 use Rattle.ground_listings.specs.declared.search_space.SearchSpace.{SearchSpace}
@@ -9,7 +9,7 @@ use Rattle.solver.specs.declared.guidance.Guidance.TheVariants.{Potentials, Tabl
 
 abbrev pub guidance_of : written.Guidance → Guidance
 guidance_of (Potentials value dead_ends) = by_potentials (potential_of value) (potential_of dead_ends)
-guidance_of (Tables bounds) = by_tables (bounds_of bounds)
+guidance_of (Tables evidence) = by_tables (evidence_of evidence)
 
 -- potentials, as the certificate of a search in this space has them: version 2 has no exchanges
 abbrev pub by_potentials_of : SearchSpace → PotentialFunction → PotentialFunction → Guidance

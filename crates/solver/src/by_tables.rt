@@ -5,8 +5,8 @@
 //! search.
 ghost use Rattle.std.specs.Prelude.{◌≡◌, ◌==◌, ◌≤◌, [], IfOk, IfSome, IsTrue, Some, length, map, slice_get};
 ghost use Rattle.std.specs.List.{list_all};
-ghost use Rattle.certificate.specs.CertificateParts.{are_bounds, bounds_of, potential_of};
-ghost use Rattle.certificate_definitions.specs.Certificates.{three};
+ghost use Rattle.certificate.specs.Evidence.{is_evidence, evidence_of, potential_of};
+ghost use Rattle.certificate_definitions.specs.Certificates.{no_landmarks, three};
 ghost use Rattle.grounding.specs.Ground.{task_in, atoms_in, IsGroundOf};
 ghost use Rattle.model.specs.Grounding.{ground_system};
 ghost use Rattle.ground_listings.specs.GroundListing.{listed_width};
@@ -34,7 +34,7 @@ use crate::guidance::{Guidance, potential_of};
 use crate::searched::{Ending, search_by};
 use crate::setting::Setting;
 use crate::stopped::Stopped;
-use certificate::{Bounds, Potential, Version};
+use certificate::{Evidence, Landmarks, Potential, Version};
 use cost_partitioning::{DraftedTables, Wanted, drafted_tables};
 use devices::Sink;
 use devices_clock::Clock;
@@ -50,7 +50,7 @@ use tables::{IndexedTables, TableFunctions, ValuesFairness};
 /// A draft of values over tables: as a certificate has them, and their constants and weights of atoms as potentials.
 #[derive(Drop)]
 struct Draft {
-    bounds: Bounds,
+    evidence: Evidence,
     values: Vec<Potentials>,
     dead_ends: Potentials,
 }
@@ -58,7 +58,7 @@ struct Draft {
 /// A draft of which the certificate's part is only lent.
 #[derive(Drop)]
 struct ValuesOver<'a> {
-    bounds: &'a Bounds,
+    evidence: &'a Evidence,
     values: Vec<Potentials>,
     dead_ends: Potentials,
 }
@@ -91,16 +91,17 @@ pub(crate) fn solve_by_tables<E: Sink + Clock>(
         values,
         dead_ends,
     } = draft;
-    let bounds = Bounds {
+    let evidence = Evidence {
         values: written(alloc, &values)?,
         dead_ends: potential_of(alloc, &dead_ends)?,
         tables,
+        landmarks: Landmarks::none(alloc),
     };
-    if !bounds.keep_limits(Version::Three, space.ground().width() as usize) {
+    if !evidence.keep_limits(Version::Three, space.ground().width() as usize) {
         return Ok(Attempt::InVain);
     }
     let draft = Draft {
-        bounds,
+        evidence,
         values,
         dead_ends,
     };
@@ -150,32 +151,32 @@ fn answer_by_tables<E: Sink + Clock>(
 ) -> Result<Attempt<Answer>, NoMemory>
     requires space { IsSearchSpace setting.space }
     requires ground { IsGroundOf (task_in (ground_in setting.space)) [] setting.limits.instances (ground_in setting.space) }
-    requires within_limits { IsTrue (are_bounds three (length (atoms_in (ground_in setting.space))) (bounds_of draft.bounds)) }
-    requires values { map potentials_of draft.values.items ≡ (bounds_of draft.bounds).values }
-    requires dead_ends { potentials_of draft.dead_ends ≡ (bounds_of draft.bounds).dead_ends }
-    requires first { first_value (by_tables (bounds_of draft.bounds)) ≡ potentials_of stopped.now.potentials.now }
+    requires within_limits { IsTrue (is_evidence three (length (atoms_in (ground_in setting.space))) (evidence_of draft.evidence) no_landmarks) }
+    requires values { map potentials_of draft.values.items ≡ (evidence_of draft.evidence).values }
+    requires dead_ends { potentials_of draft.dead_ends ≡ (evidence_of draft.evidence).dead_ends }
+    requires first { first_value (by_tables (evidence_of draft.evidence)) ≡ potentials_of stopped.now.potentials.now }
     requires stopped { IsStopped stopped.now.listing.now stopped.now.nodes.now }
     requires store_width { listed_width stopped.now.listing.now ≡ length (atoms_in (ground_in setting.space)) }
     requires width { length (potentials_of stopped.now.potentials.now).weights ≡ length (atoms_in (ground_in setting.space)) }
     requires improved { AreSettledOrHigh (task_in (ground_in setting.space)) (atoms_in (ground_in setting.space)) (potentials_of stopped.now.potentials.now) }
-    requires dead_ends_improved { AreDeadSettledOrHigh (task_in (ground_in setting.space)) (atoms_in (ground_in setting.space)) (bounds_of draft.bounds).dead_ends }
+    requires dead_ends_improved { AreDeadSettledOrHigh (task_in (ground_in setting.space)) (atoms_in (ground_in setting.space)) (evidence_of draft.evidence).dead_ends }
     ensures answer { IfOk result (IfDone (IsTrueAnswer (task_in (ground_in setting.entry.space)) setting.entry.limits.seconds setting.entry.limits.states setting.entry.limits.instances)) }
     ensures said { GoesOn (IsTrueLine (task_in (ground_in setting.entry.space))) E.wants_memory (E.failures err.old) (E.taken err.old) (E.failures err.new) (E.taken err.new) }
 {
     let Draft {
-        bounds,
+        evidence,
         values,
         dead_ends,
     } = draft;
     let over = ValuesOver {
-        bounds: &bounds,
+        evidence: &evidence,
         values,
         dead_ends,
     };
     let attempt = search_by_tables(setting, over, stopped, err)?;
     match attempt {
         Attempt::Done(ending) => {
-            let guidance = Guidance::Tables(bounds);
+            let guidance = Guidance::Tables(evidence);
             let answer = answer_of(setting, guidance, ending)?;
             Ok(Attempt::Done(answer))
         }
@@ -193,25 +194,25 @@ fn search_by_tables<'l, 't, E: Sink + Clock>(
     err: &mut E,
 ) -> Result<Attempt<Ending<'l, 't>>, NoMemory>
     requires space { IsSearchSpace setting.space }
-    requires within_limits { IsTrue (are_bounds three (length (atoms_in (ground_in setting.space))) (bounds_of over.bounds.now)) }
-    requires values { map potentials_of over.values.items ≡ (bounds_of over.bounds.now).values }
-    requires dead_ends { potentials_of over.dead_ends ≡ (bounds_of over.bounds.now).dead_ends }
+    requires within_limits { IsTrue (is_evidence three (length (atoms_in (ground_in setting.space))) (evidence_of over.evidence.now) no_landmarks) }
+    requires values { map potentials_of over.values.items ≡ (evidence_of over.evidence.now).values }
+    requires dead_ends { potentials_of over.dead_ends ≡ (evidence_of over.evidence.now).dead_ends }
     requires stopped { IsStopped stopped.now.listing.now stopped.now.nodes.now }
     requires store_width { listed_width stopped.now.listing.now ≡ length (atoms_in (ground_in setting.space)) }
     requires width { length (potentials_of stopped.now.potentials.now).weights ≡ length (atoms_in (ground_in setting.space)) }
-    ensures fair { IfOk result (IfDone (λ _. AreFair (task_in (ground_in setting.entry.space)) (atoms_in (ground_in setting.entry.space)) (bounds_of over.entry.bounds.now))) }
-    ensures no_lower { IfOk result (IfDone (λ _. initial_value (task_in (ground_in setting.entry.space)) (atoms_in (ground_in setting.entry.space)) (potentials_of stopped.now.potentials.now) ≤ estimate_by (by_tables (bounds_of over.entry.bounds.now)) (ground_system (task_in (ground_in setting.entry.space)) (atoms_in (ground_in setting.entry.space))).initial)) }
-    ensures ending { IfOk result (IfDone (IsEnding setting.entry.space (estimate_by (by_tables (bounds_of over.entry.bounds.now))) (reports_dead (by_tables (bounds_of over.entry.bounds.now))) setting.entry.limits)) }
+    ensures fair { IfOk result (IfDone (λ _. AreFair (task_in (ground_in setting.entry.space)) (atoms_in (ground_in setting.entry.space)) (evidence_of over.entry.evidence.now))) }
+    ensures no_lower { IfOk result (IfDone (λ _. initial_value (task_in (ground_in setting.entry.space)) (atoms_in (ground_in setting.entry.space)) (potentials_of stopped.now.potentials.now) ≤ estimate_by (by_tables (evidence_of over.entry.evidence.now)) (ground_system (task_in (ground_in setting.entry.space)) (atoms_in (ground_in setting.entry.space))).initial)) }
+    ensures ending { IfOk result (IfDone (IsEnding setting.entry.space (estimate_by (by_tables (evidence_of over.entry.evidence.now))) (reports_dead (by_tables (evidence_of over.entry.evidence.now))) setting.entry.limits)) }
     ensures said { GoesOn (IsTrueLine (task_in (ground_in setting.entry.space))) E.wants_memory (E.failures err.old) (E.taken err.old) (E.failures err.new) (E.taken err.new) }
 {
     let alloc = setting.alloc;
     let ground = setting.space.ground();
     let ValuesOver {
-        bounds,
+        evidence,
         values,
         dead_ends,
     } = over;
-    let Some(functions) = functions_over(alloc, ground, &bounds.tables, values, dead_ends)? else {
+    let Some(functions) = functions_over(alloc, ground, &evidence.tables, values, dead_ends)? else {
         return Ok(Attempt::InVain);
     };
     if !starts_no_lower(alloc, ground, &functions, stopped.potentials)? {
@@ -221,7 +222,7 @@ fn search_by_tables<'l, 't, E: Sink + Clock>(
         return Ok(Attempt::InVain);
     }
     let saving = stopped.saving_by(alloc, &functions)?;
-    if saving.is_worth(bounds.tables.len()) {
+    if saving.is_worth(evidence.tables.len()) {
         return search_if_fair(setting, functions, err);
     }
     if saving.is_promising() {
@@ -281,7 +282,7 @@ fn functions_over<'a>(
     values: Vec<Potentials>,
     dead_ends: Potentials,
 ) -> Result<Option<TableFunctions<'a>>, NoMemory>
-    requires within_limits { IsTrue (are_bounds three (length (atoms_in ground.now)) (several_over values.items dead_ends tables.now)) }
+    requires within_limits { IsTrue (is_evidence three (length (atoms_in ground.now)) (several_over values.items dead_ends tables.now) no_landmarks) }
     ensures { IfOk result (λ o. IfSome o (λ f. several_of f ≡ several_over values.items dead_ends tables.now)) }
 {
     let count = values.len() as u32 + 1;

@@ -1,12 +1,14 @@
 //! The values that guide a search, as its certificate has them.
 ghost use Rattle.std.specs.Prelude.{◌≡◌, IfOk};
-ghost use Rattle.certificate.specs.CertificateParts as parts;
+ghost use Rattle.certificate.specs.Evidence as parts;
+ghost use Rattle.certificate_definitions.specs.Certificates.{no_landmarks};
 ghost use Rattle.certificate_reader.specs.Lines.{version_of};
+ghost use Rattle.landmark_zones.specs.Landmarks.{landmarks_of};
 ghost use Rattle.potentials_improved.specs.Potentials.{potentials_of};
 ghost use Rattle.solver.specs.Guidance as guidance;
 ghost use Rattle.solver.specs.Written.{guidance_of, by_potentials_of};
 
-use certificate::{Bounds, Potential, Version};
+use certificate::{Evidence, Landmarks, Potential, Version};
 use faults::NoMemory;
 use ground_listings::SearchSpace;
 use potentials_improved::Potentials;
@@ -23,7 +25,7 @@ pub(crate) enum Guidance {
         dead_ends: Potential,
     },
     /// Several values over tables, the greatest of which is the lower bound, and one for dead ends.
-    Tables(Bounds),
+    Tables(Evidence),
 }
 
 impl Guidance {
@@ -37,13 +39,18 @@ impl Guidance {
         }
     }
 
-    /// The values and tables of the certificate.
-    pub(crate) fn into_bounds(self, alloc: Global) -> Result<Bounds, NoMemory>
-        ensures { IfOk result (λ bounds. parts.bounds_of bounds ≡ guidance.values_by (guidance_of self)) }
+    /// The evidence of the certificate: the values and tables. It has no landmark values, since each line rests on the values of
+    /// all states.
+    pub(crate) fn into_evidence(self, alloc: Global) -> Result<Evidence, NoMemory>
+        ensures values { IfOk result (λ evidence. parts.evidence_of evidence ≡ guidance.values_by (guidance_of self)) }
+        ensures landmarks { IfOk result (λ evidence. landmarks_of evidence.landmarks ≡ no_landmarks) }
     {
         match self {
-            Guidance::Potentials { value, dead_ends } => bounds_of(alloc, value, dead_ends),
-            Guidance::Tables(bounds) => Ok(bounds),
+            Guidance::Potentials { value, dead_ends } => evidence_of(alloc, value, dead_ends),
+            Guidance::Tables(evidence) => Ok(Evidence {
+                landmarks: Landmarks::none(alloc),
+                ..evidence
+            }),
         }
     }
 }
@@ -62,22 +69,24 @@ pub(crate) fn guidance_by(
     match space {
         SearchSpace::Alone(_) => Ok(Guidance::Potentials { value, dead_ends }),
         SearchSpace::Orbits(_) => {
-            let bounds = bounds_of(alloc, value, dead_ends)?;
-            Ok(Guidance::Tables(bounds))
+            let evidence = evidence_of(alloc, value, dead_ends)?;
+            Ok(Guidance::Tables(evidence))
         }
     }
 }
 
-/// One value, one for dead ends, and no tables.
-fn bounds_of(alloc: Global, value: Potential, dead_ends: Potential) -> Result<Bounds, NoMemory>
-    ensures { IfOk result (λ bounds. parts.bounds_of bounds ≡ guidance.values_by (guidance.by_potentials (parts.potential_of value) (parts.potential_of dead_ends))) }
+/// One value, one for dead ends, and neither tables nor landmark values.
+fn evidence_of(alloc: Global, value: Potential, dead_ends: Potential) -> Result<Evidence, NoMemory>
+    ensures values { IfOk result (λ evidence. parts.evidence_of evidence ≡ guidance.values_by (guidance.by_potentials (parts.potential_of value) (parts.potential_of dead_ends))) }
+    ensures landmarks { IfOk result (λ evidence. landmarks_of evidence.landmarks ≡ no_landmarks) }
 {
     let mut values = Vec::new(alloc);
     values.push(value)?;
-    Ok(Bounds {
+    Ok(Evidence {
         values,
         dead_ends,
         tables: Vec::new(alloc),
+        landmarks: Landmarks::none(alloc),
     })
 }
 

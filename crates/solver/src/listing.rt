@@ -56,7 +56,7 @@ pub(crate) fn cert_of(
         claim,
         exchanges: space.written_exchanges(alloc)?,
         atoms: copied(alloc, space.ground().atoms().as_slice())?,
-        bounds: guidance.into_bounds(alloc)?,
+        evidence: guidance.into_evidence(alloc)?,
     };
     let sets = sets_of(alloc, found.store)?;
     Ok(Cert::from_parts(header, States { marks, sets }))

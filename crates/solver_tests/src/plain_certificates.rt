@@ -162,7 +162,7 @@ fn is_found_by(
 ) -> Result<bool, NoMemory>
     requires { ground_in fair.now ≡ ground.now }
 {
-    let said = &cert.bounds().dead_ends;
+    let said = &cert.evidence().dead_ends;
     let Some(potentials) = weighing(alloc, said.constant, &said.weights)? else {
         return Ok(false);
     };
@@ -182,7 +182,7 @@ fn is_found_by_both(
     most: u32,
     cert: &Cert,
 ) -> Result<bool, NoMemory> {
-    let [value] = cert.bounds().values.as_slice() else {
+    let [value] = cert.evidence().values.as_slice() else {
         return Ok(false);
     };
     let Some(potentials) = weighing(alloc, value.constant, &value.weights)? else {

@@ -6,7 +6,7 @@ use Rattle.table_rows.specs.PlacedChanges.{changes_of, FitsWidth}
 use Rattle.table_rows.specs.Tables.{table_of}
 use Rattle.table_rows.specs.declared.table.Table.{Table}
 use Rattle.table_rows.specs.declared.losses.Question.{Question}
-use Rattle.table_rows.specs.declared.afters.Room.{Room}
+use Rattle.table_rows.specs.declared.afters.Scratch.{Scratch}
 
 -- the instance's places are in the scope
 pub record FitsTable (t : Table) (q : Question) : Type 0 where
@@ -14,6 +14,6 @@ pub record FitsTable (t : Table) (q : Question) : Type 0 where
   pub changes : FitsWidth (length (table_of t).scope) (changes_of q.changes.now)
 
 -- the scratch is for rows of this width
-pub record HasWidth (width : ℕ) (r : Room) : Type 0 where
+pub record HasWidth (width : ℕ) (r : Scratch) : Type 0 where
   pub row : length (bits_of r.row) ≡ width
   pub left : length (bits_of r.left) ≡ width

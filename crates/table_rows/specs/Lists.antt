@@ -1,4 +1,4 @@
--- Lists of numbers by place, as the code keeps them.
+-- Lists of numbers by place.
 use Rattle.std.specs.Prelude.{◌≡◌, ℕ, ◌<◌, ◌==◌, Bool, true, ◌&&◌, ◌||◌, if◌then◌else◌, List, [], ◌∷◌, ◌++◌, length, slice_get, Some}
 use Rattle.std.specs.Option.{option_map_or}
 use Rattle.std.specs.Global.{Vec}
@@ -6,6 +6,11 @@ use Rattle.packed_state.specs.Sets.{has}
 use Rattle.lower_bounds.specs.TableFunctions.{is_among}
 use Rattle.table_rows.specs.declared.lists.Lists.{Lists}
 
+-- the number of places that have a list
+abbrev pub place_count : Lists → ℕ
+place_count l = length l.lists.items
+
+-- the list of this place; empty past the width
 abbrev pub list_at : Lists → ℕ → List ℕ
 list_at l place = option_map_or (λ (v : Vec ℕ). v.items) (slice_get l.lists.items place) []
 

@@ -39,21 +39,21 @@ const ENOUGH: usize = 25;
 /// Scratch for one row: the row, what unconditional changes make of it, and its free places: those that changes under a
 /// `when` may still turn.
 #[derive(Drop)]
-pub(crate) struct Room {
+pub(crate) struct Scratch {
     pub(crate) row: Packed,
     pub(crate) left: Packed,
     pub(crate) free: Vec<u32>,
 }
 
-impl Room {
+impl Scratch {
     /// Scratch for rows of this width.
-    pub(crate) fn new(alloc: Global, width: u32) -> Result<Room, NoMemory>
+    pub(crate) fn new(alloc: Global, width: u32) -> Result<Scratch, NoMemory>
         ensures { IfOk result (HasWidth width) }
     {
         let row = Packed::empty(alloc, width)?;
         let left = Packed::empty(alloc, width)?;
         let free = Vec::new(alloc);
-        Ok(Room { row, left, free })
+        Ok(Scratch { row, left, free })
     }
 
     /// Finds what the changes make of the row, and the row's free places, or enough of them.

@@ -3,7 +3,7 @@ ghost use Rattle.std.specs.Prelude.{◌≡◌, ℕ, ◌<◌, ◌++◌, ◌∷◌
 ghost use Rattle.packed_state.specs.Sets.{has};
 ghost use Rattle.packed_state.specs.Packed.{bits_of};
 ghost use Rattle.lower_bounds.specs.TableFunctions.{is_among};
-ghost use Rattle.table_rows.specs.Lists.{list_at, IsFiled, IsFiledAt};
+ghost use Rattle.table_rows.specs.Lists.{place_count, list_at, IsFiled, IsFiledAt};
 
 use faults::NoMemory;
 use packed_state::Packed;
@@ -21,7 +21,7 @@ impl Lists {
     /// # Errors
     /// An allocation failed.
     pub fn empty(alloc: Global, width: u32) -> Result<Lists, NoMemory>
-        ensures width { IfOk result (λ l. length l.lists.items ≡ width) }
+        ensures width { IfOk result (λ l. place_count l ≡ width) }
         ensures empty { IfOk result (λ l. (place : ℕ) → list_at l place ≡ []) }
     {
         let mut lists = Vec::new(alloc);
@@ -31,10 +31,13 @@ impl Lists {
         Ok(Lists { lists })
     }
 
-    /// Appends the number to the list of this place.
-    pub(crate) fn push(&mut self, place: u32, number: u32) -> Result<(), NoMemory>
-        requires { place < length self.old.lists.items }
-        ensures width { OnOk result (length self.new.lists.items ≡ length self.old.lists.items) }
+    /// Appends the number to the list of this place, which is below the width.
+    ///
+    /// # Errors
+    /// An allocation failed.
+    pub fn push(&mut self, place: u32, number: u32) -> Result<(), NoMemory>
+        requires { place < place_count self.old }
+        ensures width { OnOk result (place_count self.new ≡ place_count self.old) }
         ensures lists { OnOk result ((k : ℕ) → list_at self.new k ≡ (if k == place then list_at self.old k ++ number ∷ [] else list_at self.old k)) }
     {
         self.lists[place as usize].push(number)?;
@@ -71,7 +74,7 @@ impl Lists {
     /// # Errors
     /// An allocation failed.
     pub fn file_at_all(&mut self, places: &[u32], number: u32) -> Result<(), NoMemory>
-        requires { All (λ place. place < length self.old.lists.items) places.now }
+        requires { All (λ place. place < place_count self.old) places.now }
         ensures { OnOk result (IsFiledAt places.now number self.old self.new) }
     {
         for place in places {
@@ -93,7 +96,7 @@ impl Lists {
     }
 
     /// The list of this place; empty past the width.
-    pub(crate) fn of(&self, place: u32) -> &[u32]
+    pub fn of(&self, place: u32) -> &[u32]
         ensures { result.now ≡ list_at self.now place }
     {
         match self.lists.get(place as usize) {

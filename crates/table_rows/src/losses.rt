@@ -13,7 +13,7 @@ ghost use Rattle.table_rows.specs.Fates.{question_of};
 ghost use Rattle.table_rows.specs.FitsTable.{FitsTable, HasWidth};
 ghost use Rattle.table_rows.specs.Tables.{table_of, weight_count_of};
 
-use crate::afters::{PlacedChanges, Room};
+use crate::afters::{PlacedChanges, Scratch};
 use crate::columns::{NOTHING_YET, fill, raise, settle};
 use crate::indexed::IndexedTable;
 use crate::placed::{PlacedLiteral, all_are_so, placed};
@@ -72,12 +72,12 @@ impl IndexedTable<'_> {
         requires long { length most.old ≡ weight_count_of self.now.table.now }
         ensures { IfOk result (LosesInEach (question_of self.now.table.now question.now) most.new) }
     {
-        let mut room = Room::new(alloc, self.table.width())?;
+        let mut scratch = Scratch::new(alloc, self.table.width())?;
         let candidates = self.candidates(question.literals);
         fill(most, NOTHING_YET);
         for k in 0..candidates.len() {
             let row = candidates.at(k);
-            if !self.raise_from(question, row, &mut room, most)? {
+            if !self.raise_from(question, row, &mut scratch, most)? {
                 return Ok(false);
             }
         }
@@ -90,26 +90,31 @@ impl IndexedTable<'_> {
         &self,
         question: &Question<'_>,
         row: u32,
-        room: &mut Room,
+        scratch: &mut Scratch,
         most: &mut [i64],
     ) -> Result<bool, NoMemory>
         requires fits { FitsTable self.now.table.now question.now }
         requires there { row < length (table_of self.now.table.now).rows }
-        requires room { HasWidth (length (table_of self.now.table.now).scope) room.old }
+        requires scratch { HasWidth (length (table_of self.now.table.now).scope) scratch.old }
         requires long { length most.old ≡ weight_count_of self.now.table.now }
         requires range { All IsMost most.old }
         ensures raised { IfOk result (RaisesFrom (question_of self.now.table.now question.now) row most.old most.new) }
-        ensures room { OnOk result (HasWidth (length (table_of self.now.table.now).scope) room.new) }
+        ensures scratch { OnOk result (HasWidth (length (table_of self.now.table.now).scope) scratch.new) }
     {
-        self.table.get(row, &mut room.row);
-        if !all_are_so(&room.row, question.literals) {
+        self.table.get(row, &mut scratch.row);
+        if !all_are_so(&scratch.row, question.literals) {
             return Ok(true);
         }
-        room.find(question.changes)?;
-        if self.is_outnumbered(room.free.len()) {
+        scratch.find(question.changes)?;
+        if self.is_outnumbered(scratch.free.len()) {
             return Ok(false);
         }
-        Ok(self.raise_to(&mut room.left, &room.free, self.table.weights(row), most))
+        Ok(self.raise_to(
+            &mut scratch.left,
+            &scratch.free,
+            self.table.weights(row),
+            most,
+        ))
     }
 
     /// Whether the ways to turn some of this many places are more than the rows: one of them then makes a set that is no row.

@@ -1,5 +1,6 @@
 pub mod KeysLemmas
 pub mod TablesLemmas
+pub mod AskedLemmas
 pub mod FairnessLemmas
 pub mod SeveralLemmas
 pub mod TotalLemmas

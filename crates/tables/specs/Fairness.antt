@@ -1,18 +1,14 @@
--- A value over tables, and the losses that instances are allowed.
+-- A value over tables.
 use Rattle.std.specs.Prelude.{◌≡◌, ℕ, ◌<◌, IsTrue, All, List, length}
 use Rattle.grounding.specs.declared.ground.Ground.{Ground}
 use Rattle.grounding.specs.Ground.{atoms_in}
 use Rattle.model.specs.Task.{Atom, Task, Instance}
-use Rattle.model.specs.Meaning.{cost_of}
 use Rattle.model.specs.StaticallyFalse.{kept_instances}
 use Rattle.potentials.specs.Potentials.{potentials_of}
-use Rattle.lower_bounds.specs.FairPotentials.{nothing}
 use Rattle.lower_bounds.specs.TableFunctions.{TableFunction}
 use Rattle.lower_bounds.specs.FairTables.{is_asked, IsFairAt}
 use Rattle.tables.specs.AllTables.{tables_of, count_of}
 use Rattle.tables.specs.declared.fairness.TableValue.{TableValue}
-use Rattle.tables.specs.declared.fairness.Allowance.{Allowance}
-use Rattle.tables.specs.declared.fairness.Allowance.TheVariants.{Cost, Nothing}
 
 abbrev pub function_of : TableValue → TableFunction
 function_of v = record { potentials = potentials_of v.potentials.now; tables = tables_of v.tables.now; place = v.place }
@@ -21,11 +17,6 @@ function_of v = record { potentials = potentials_of v.potentials.now; tables = t
 pub record FitsGround (g : Ground) (v : TableValue) : Type 0 where
   pub width : length (potentials_of v.potentials.now).weights ≡ length (atoms_in g)
   pub place : v.place < count_of v.tables.now
-
--- the loss that an instance is allowed
-abbrev pub allowed_by : Allowance → Task → Instance → ℕ
-allowed_by Cost task = cost_of task
-allowed_by Nothing task = nothing
 
 -- each kept instance that is not shut out loses at most what it is allowed
 abbrev pub AreInstancesFairAt : (Instance → ℕ) → Task → List Atom → TableFunction → Type 0

@@ -6,14 +6,15 @@ ghost use Rattle.model.specs.NumberedLiterals.{literals_of_number};
 ghost use Rattle.model.specs.ConditionalChanges.{conditional_of_number};
 ghost use Rattle.model.specs.StaticallyFalse.{kept_instances};
 ghost use Rattle.lower_bounds.specs.FairTables as model;
+ghost use Rattle.potentials.specs.Fairness.{allowed_by};
 ghost use Rattle.tables.specs.AllTables.{tables_of};
 ghost use Rattle.tables.specs.ByAtom.{LosesByAll};
-ghost use Rattle.tables.specs.Fairness.{function_of, allowed_by, FitsGround};
+ghost use Rattle.tables.specs.Fairness.{function_of, FitsGround};
 
 use crate::tables::IndexedTables;
 use faults::NoMemory;
 use grounding::Ground;
-use potentials::{GoalAtoms, Potentials, loses_at_most};
+use potentials::{Allowance, GoalAtoms, Potentials, loses_at_most};
 use std::alloc::Global;
 
 /// One of several values, with what instances may lose of it.
@@ -27,15 +28,6 @@ pub(crate) struct TableValue<'a, 't> {
     pub(crate) place: u32,
     /// The most that an instance may lose.
     pub(crate) allowance: Allowance,
-}
-
-/// The most that an instance may lose.
-#[derive(Clone, Copy, Debug)]
-pub(crate) enum Allowance {
-    /// Its cost.
-    Cost,
-    /// Nothing.
-    Nothing,
 }
 
 impl TableValue<'_, '_> {
@@ -92,19 +84,6 @@ pub fn is_instance_shut_out(
         return Ok(true);
     }
     tables.is_shut_out(alloc, ground.literals(number))
-}
-
-impl Allowance {
-    /// The most that this instance may lose.
-    fn of(self, ground: &Ground<'_>, number: u32) -> u32
-        requires { number < length (kept_instances (task_in ground.now)) }
-        ensures { (i : Instance) → slice_get (kept_instances (task_in ground.now)) number ≡ Some i → result ≡ allowed_by self (task_in ground.now) i }
-    {
-        match self {
-            Allowance::Cost => ground.cost(number),
-            Allowance::Nothing => 0,
-        }
-    }
 }
 
 /// Whether the number is at most the other.

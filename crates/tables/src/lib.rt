@@ -1,6 +1,7 @@
 //! Values over several tables: the test whether they are fair, and the value of a state, found by what is known of another.
 #![tactic(auto)]
 
+mod asked;
 mod fairness;
 mod known_rows;
 mod known_state;

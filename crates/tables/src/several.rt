@@ -2,12 +2,12 @@
 ghost use Rattle.std.proofs.Props.{props};
 ghost use Rattle.tables.specs.Together.{FitTogether};
 
-use crate::fairness::{Allowance, TableValue};
+use crate::fairness::TableValue;
 use crate::tables::IndexedTables;
 use crate::unfair::Unfair;
 use faults::NoMemory;
 use grounding::Ground;
-use potentials::Potentials;
+use potentials::{Allowance, Potentials};
 use std::alloc::Global;
 
 /// Several values over the same tables, of which the greatest counts, and one for dead ends. A row has a weight for each value, in
@@ -53,7 +53,8 @@ impl<'a> TableFunctions<'a> {
     ghost use Rattle.model.specs.Task.{Task};
     ghost use Rattle.potentials.specs.Potentials.{potentials_of};
     ghost use Rattle.tables.specs.AllTables.{tables_of, count_of};
-    ghost use Rattle.tables.specs.Fairness.{function_of, allowed_by};
+    ghost use Rattle.potentials.specs.Fairness.{allowed_by};
+    ghost use Rattle.tables.specs.Fairness.{function_of};
     ghost use Rattle.tables.specs.Reports.{goals_report, instance_report, first_report};
     ghost use Rattle.tables.specs.Several.{several_of, width_of, ReportsValues};
     ghost use Rattle.tables.specs.Unfair.{function_in, allowance_in};

@@ -39,6 +39,17 @@ impl TableFunctions<'_> {
         self.is_worth_with_rows(least, known)
     }
 
+    /// Whether each table has a row for the state. Brings `known` to the state. No memory is taken.
+    pub fn has_rows(&self, state: &Packed, known: &mut KnownState) -> bool
+        requires width { length (bits_of state.now) ≡ width_of self.now }
+        requires known { Knows self.now known.old }
+        ensures rows { result ≡ has_rows (several_of self.now).tables (bits_of state.now) }
+        ensures known { Knows self.now known.new }
+    {
+        self.move_to(state, known);
+        known.rows.are_all()
+    }
+
     /// The greatest of the values of the state, unless it is dead. Brings `known` to the state. No memory is taken.
     pub fn value_unless_dead(&self, state: &Packed, known: &mut KnownState) -> Option<u64>
         requires width { length (bits_of state.now) ≡ width_of self.now }

@@ -3,31 +3,30 @@ ghost use Rattle.std.proofs.Props.{props};
 ghost use Rattle.grounding.specs.Ground.{task_in, atoms_in};
 ghost use Rattle.certificate.specs.Certificate.{certificate_of, store_in};
 ghost use Rattle.cert_checker.specs.PackedLines.{IsPackedListing};
-ghost use Rattle.cert_checker.specs.Weights.{HaveTheirWeights};
+ghost use Rattle.cert_checker.specs.GroundEvidence.{IsEvidenceOf};
 ghost use Rattle.cert_checker.specs.CheckedLines.{AreSymmetries};
 ghost use Rattle.cert_checker.specs.Classified.{AreClassified};
 ghost use Rattle.std.specs.Prelude.{length};
-ghost use Rattle.tables.specs.Several as values_in_memory;
-ghost use Rattle.certificate_definitions.specs.Certificates as certificates;
 
 use crate::checker::classes::{Classes, cost_at};
+use crate::checker::evidence::GroundEvidence;
 use certificate::{Basis, Cert};
 use faults::NoMemory;
 use grounding::Ground;
 use packed_state::{Packed, StateStore};
 use std::alloc::Global;
-use tables::{KnownState, TableFunctions};
+use tables::KnownState;
 
-/// A certificate over a ground task that numbers the certificate's atoms first: its packed states, its values with a weight for
-/// each numbered atom, and its classes of alike states. Versions 1 and 2 have values over no tables, and no classes.
+/// A certificate over a ground task that numbers the certificate's atoms first: its packed states, what its lines rest on, and its
+/// classes of alike states. Versions 1 and 2 have no classes.
 #[derive(Drop)]
 pub(super) struct PackedListing<'a, 't> {
     pub(super) grounded: &'a Ground<'t>,
     pub(super) cert: &'a Cert,
-    values: TableFunctions<'a>,
+    evidence: GroundEvidence<'a>,
     classes: Option<Classes<'a, 't>>,
     ghost listed: { IsPackedListing (task_in grounded.now) (atoms_in grounded.now) (certificate_of cert.now) (store_in cert.now) } by { Prim.hlevel props },
-    ghost valued: { HaveTheirWeights (certificates.several_of (certificate_of cert.now)) (length (atoms_in grounded.now)) (values_in_memory.several_of values) } by { Prim.hlevel props },
+    ghost valued: { IsEvidenceOf (certificate_of cert.now) (length (atoms_in grounded.now)) evidence } by { Prim.hlevel props },
     ghost symmetric: { AreSymmetries (task_in grounded.now) (certificate_of cert.now) } by { Prim.hlevel props },
     ghost classified: { AreClassified (task_in grounded.now) (atoms_in grounded.now) (certificate_of cert.now) (store_in cert.now) classes } by { Prim.hlevel props },
 }
@@ -39,7 +38,7 @@ impl<'a, 't> PackedListing<'a, 't> {
     ghost use Rattle.packed_state.specs.PooledView.{pooled_width};
     ghost use Rattle.cert_checker.specs.FluentAtoms.{AreFluent};
     ghost use Rattle.cert_checker.specs.CheckedLines.{HasCost, IsCheapestAt, IsLeastCost, IsListedBy};
-    ghost use Rattle.cert_checker.specs.PackedListing.{task_at, certificate_at, state_at, IsPacked, IsKnownIn};
+    ghost use Rattle.cert_checker.specs.PackedListing.{task_at, certificate_at, has_basis_at, state_at, IsPacked, IsKnownIn};
     ghost use Rattle.model.specs.NumberedAtoms.{numbered_atoms};
     ghost use Rattle.certificate_definitions.specs.Certificates.{is_dead_end_by, lines_of, value_by, AreAlikeFor};
     ghost use Rattle.certificate_definitions.specs.CertificateRefusals.{IsListed};
@@ -48,13 +47,13 @@ impl<'a, 't> PackedListing<'a, 't> {
     pub(super) fn new(
         grounded: &'a Ground<'t>,
         cert: &'a Cert,
-        values: TableFunctions<'a>,
+        evidence: GroundEvidence<'a>,
         classes: Option<Classes<'a, 't>>,
     ) -> PackedListing<'a, 't>
         requires fluent { AreFluent (task_in grounded.now) (certificate_of cert.now).atoms }
         requires numbered { atoms_in grounded.now ≡ numbered_atoms (task_in grounded.now) (certificate_of cert.now).atoms }
         requires width { pooled_width (store_in cert.now) ≡ length (atoms_in grounded.now) }
-        requires weights { HaveTheirWeights (certificates.several_of (certificate_of cert.now)) (length (atoms_in grounded.now)) (values_in_memory.several_of values) }
+        requires evidence { IsEvidenceOf (certificate_of cert.now) (length (atoms_in grounded.now)) evidence }
         requires symmetric { AreSymmetries (task_in grounded.now) (certificate_of cert.now) }
         requires classified { AreClassified (task_in grounded.now) (atoms_in grounded.now) (certificate_of cert.now) (store_in cert.now) classes }
         ensures same { (task_at result ≡ task_in grounded.now) × (certificate_at result ≡ certificate_of cert.now) }
@@ -62,7 +61,7 @@ impl<'a, 't> PackedListing<'a, 't> {
         PackedListing {
             grounded,
             cert,
-            values,
+            evidence,
             classes,
         }
     }
@@ -110,7 +109,7 @@ impl<'a, 't> PackedListing<'a, 't> {
     pub(super) fn known_state(&self, alloc: Global) -> Result<KnownState, NoMemory>
         ensures { IfOk result (IsKnownIn self.now) }
     {
-        self.values.known_state(alloc)
+        self.evidence.known_state(alloc)
     }
 
     /// Whether the state's value by this basis, a lower bound on the remaining cost, is at least this.
@@ -122,24 +121,22 @@ impl<'a, 't> PackedListing<'a, 't> {
         known: &mut KnownState,
     ) -> bool
         requires state { IsPacked self.now state.now }
+        requires basis { IsTrue (has_basis_at self.now (basis_of by)) }
         requires known { IsKnownIn self.now known.old }
         ensures worth { IsTrue result ↔ (least ≤ value_by (task_at self.now) (certificate_at self.now) (basis_of by) (state_at self.now state.now)) }
         ensures known { IsKnownIn self.now known.new }
     {
-        match by {
-            Basis::OfAll => self.values.is_worth(least, state, known),
-        }
+        self.evidence.is_worth(by, least, state, known)
     }
 
     /// Whether this basis shows that the state is a dead end.
-    pub(super) fn is_dead_end(&self, by: Basis, state: &Packed, known: &mut KnownState) -> bool
+    pub(super) fn shows_dead_end(&self, by: Basis, state: &Packed, known: &mut KnownState) -> bool
         requires state { IsPacked self.now state.now }
+        requires basis { IsTrue (has_basis_at self.now (basis_of by)) }
         requires known { IsKnownIn self.now known.old }
         ensures dead { result ≡ is_dead_end_by (task_at self.now) (certificate_at self.now) (basis_of by) (state_at self.now state.now) }
         ensures known { IsKnownIn self.now known.new }
     {
-        match by {
-            Basis::OfAll => self.values.is_dead_end(state, known),
-        }
+        self.evidence.shows_dead_end(by, state, known)
     }
 }

@@ -20,15 +20,15 @@ ghost use Rattle.model.specs.Claims.{opened, Allows, IsListedWithin};
 ghost use Rattle.certificate_definitions.specs.Evidence.{cut, dead};
 ghost use Rattle.model.specs.NumberedAtoms.{numbered_atoms};
 ghost use Rattle.model.specs.Grounding.{applicable_numbers};
-ghost use Rattle.certificate_definitions.specs.Certificates.{is_dead_end_by, lines_of, AreAlikeFor, AreFairFor, StateLine};
+ghost use Rattle.certificate_definitions.specs.Certificates.{is_dead_end_by, lines_of, AreAlikeFor, AreFairFor, AreLandmarksFair, StateLine};
 ghost use Rattle.cert_checker.specs.Weights.{AreCounted};
 ghost use Rattle.certificate_definitions.specs.CertificateRefusals.{state_line};
 ghost use Rattle.cert_checker.specs.declared.refusal.Refusal.TheVariants as Refusal;
 
 use crate::checker::classes::classes_by;
+use crate::checker::evidence::GroundEvidence;
 use crate::checker::packed::PackedListing;
 use crate::checker::symmetry::symmetric_exchanges;
-use crate::checker::values::fair_values;
 use crate::refusal::{Refusal, RefusalCode};
 use certificate::{Basis, Cert, Claim, Mark};
 use grounding::{Ground, GroundFault};
@@ -38,7 +38,8 @@ use symmetries::Exchange;
 use tables::KnownState;
 use task::Task;
 
-/// Grounds the task and checks, in this order: the exchanges are symmetries; the values are fair, that for dead ends dead-fair;
+/// Grounds the task and checks, in this order: the exchanges are symmetries; the values are fair, that for dead ends dead-fair; so
+/// are the landmark values, and those that dead ends rest on;
 /// a state alike the initial one is listed at cost 0; each state line is right.
 pub(super) fn check_cert(
     alloc: Global,
@@ -112,16 +113,17 @@ fn check_symmetric(
     ensures wrong { IfErr result (IsTrueAnyway (task_in grounded.now) (certificate_of cert.now)) }
     ensures first { IfErr result (IsFirstGrounded (task_in grounded.now) (certificate_of cert.now)) }
 {
-    let values = fair_values(alloc, cert, grounded)?;
+    let evidence = GroundEvidence::fair(alloc, cert, grounded)?;
     let classes = classes_by(alloc, grounded, cert, exchanges)?;
-    let packed = PackedListing::new(grounded, cert, values, classes);
+    let packed = PackedListing::new(grounded, cert, evidence, classes);
     check_packed(alloc, &packed)
 }
 
 /// Checks the listing of a certificate with fair values: a state alike the initial one is listed at cost 0, and each state line is
 /// right.
 fn check_packed(alloc: Global, listing: &PackedListing) -> Result<(), Refusal>
-    requires { AreFairFor (task_at listing.now) (certificate_at listing.now) }
+    requires fair { AreFairFor (task_at listing.now) (certificate_at listing.now) }
+    requires landmarks { AreLandmarksFair (task_at listing.now) (certificate_at listing.now) }
     ensures right { OnOk result (IsRightGrounded (task_at listing.now) (certificate_at listing.now)) }
     ensures wrong { IfErr result (IsTrueAnyway (task_at listing.now) (certificate_at listing.now)) }
     ensures first { IfErr result (IsFirstGrounded (task_at listing.now) (certificate_at listing.now)) }
@@ -134,7 +136,7 @@ fn check_packed(alloc: Global, listing: &PackedListing) -> Result<(), Refusal>
 fn check_initial(alloc: Global, listing: &PackedListing) -> Result<(), Refusal>
     ensures right { OnOk result (IsListedWithin (AreAlikeFor (task_at listing.now) (certificate_at listing.now)) (lines_of (task_at listing.now) (certificate_at listing.now)) (meaning.system_of (task_at listing.now)).initial 0) }
     ensures wrong { IfErr result (IsTrueAnyway (task_at listing.now) (certificate_at listing.now)) }
-    ensures first { AreFairFor (task_at listing.now) (certificate_at listing.now)
+    ensures first { AreFairFor (task_at listing.now) (certificate_at listing.now) → AreLandmarksFair (task_at listing.now) (certificate_at listing.now)
         → IfErr result (IsFirstGrounded (task_at listing.now) (certificate_at listing.now)) }
 {
     let mut initial = listing.grounded.initial(alloc)?;
@@ -352,7 +354,7 @@ fn check_dead(
     ensures first { IfErr result (λ e. (plan : Option (List model_task.Instance)) (most : ℕ) → IsRightUpTo (task_at listing.now) (certificate_at listing.now) most line.place
         → IsFirstRefusal (task_at listing.now) (certificate_at listing.now) plan most e) }
 {
-    if listing.is_dead_end(line.by, state, known) {
+    if listing.shows_dead_end(line.by, state, known) {
         Ok(())
     } else {
         Err(state_line(RefusalCode::NotDead, listing.cert, line.place))
@@ -370,7 +372,7 @@ fn allows(claim: Claim, cost: u64) -> bool
 }
 
 /// Refuses the state line at this place, from 0, by its line.
-fn state_line(code: RefusalCode, cert: &Cert, place: usize) -> Refusal
+pub(super) fn state_line(code: RefusalCode, cert: &Cert, place: usize) -> Refusal
     requires { place < length (certificate_of cert.now).lines }
     ensures { result ≡ Refusal.Line code (state_line (certificate_of cert.now) place) }
 {

@@ -4,8 +4,8 @@ ghost use Rattle.grounding.specs.Ground.{task_in, atoms_in};
 ghost use Rattle.potentials.specs.Potentials.{potentials_of};
 ghost use Rattle.potentials.specs.declared.potentials.Potentials as in_memory;
 ghost use Rattle.certificate.specs.Certificate.{certificate_of};
-ghost use Rattle.certificate.specs.CertificateParts.{potential_of};
-ghost use Rattle.certificate.specs.declared.header.Potential as header;
+ghost use Rattle.certificate.specs.Evidence.{potential_of};
+ghost use Rattle.certificate.specs.declared.evidence.Potential as code;
 ghost use Rattle.certificate_definitions.specs.Certificates as certificates;
 ghost use Rattle.certificate_definitions.specs.Certificates.{has_tables, AreFairFor};
 ghost use Rattle.lower_bounds.specs.PotentialFunctions.{PotentialFunction, AreInRange};
@@ -41,7 +41,7 @@ pub(super) fn fair_values<'a>(
 {
     match cert.version() {
         Version::One | Version::Two => fair_without_tables(alloc, cert, grounded),
-        Version::Three => fair_with_tables(alloc, cert, grounded),
+        Version::Three | Version::Four => fair_with_tables(alloc, cert, grounded),
     }
 }
 
@@ -67,7 +67,7 @@ fn fair_without_tables<'a>(
     Ok(functions)
 }
 
-/// The values of version 3, over tables.
+/// The values of versions 3 and 4, over tables.
 fn fair_with_tables<'a>(
     alloc: Global,
     cert: &'a Cert,
@@ -82,10 +82,10 @@ fn fair_with_tables<'a>(
     ensures wrong { IfErr result (IsTrueAnyway (task_in grounded.now) (certificate_of cert.now)) }
     ensures first { IfErr result (IsFirstSymmetric (task_in grounded.now) (certificate_of cert.now)) }
 {
-    let bounds = cert.bounds();
+    let evidence = cert.evidence();
     let width = grounded.width();
-    let values = all_at_width(alloc, &bounds.values, width)?;
-    let dead_ends = at_width(alloc, &bounds.dead_ends, width)?;
+    let values = all_at_width(alloc, &evidence.values, width)?;
+    let dead_ends = at_width(alloc, &evidence.dead_ends, width)?;
     let functions = over_tables(alloc, cert, values, dead_ends, grounded)?;
     check_fairness(alloc, cert, &functions, grounded)?;
     Ok(functions)
@@ -135,14 +135,14 @@ fn over_tables<'a>(
     ensures { IfOk result (λ f. several_of f ≡ record { values = map potentials_of values.items; dead_ends = potentials_of dead_ends; tables = (certificate_of cert.now).tables }) }
 {
     let count = values.len() as u32 + 1;
-    let tables = IndexedTables::index(alloc, grounded.width(), count, &cert.bounds().tables)?;
+    let tables = IndexedTables::index(alloc, grounded.width(), count, &cert.evidence().tables)?;
     Ok(TableFunctions::new(values, dead_ends, tables))
 }
 
 /// Copies of these potentials, widened by weights of 0.
 fn all_at_width(alloc: Global, said: &[Potential], width: u32) -> Result<Vec<Potentials>, NoMemory>
-    requires range { All (λ (p : header.Potential). AreInRange (potential_of p)) said.now }
-    requires enough { All (λ (p : header.Potential). length (potential_of p).weights ≤ width) said.now }
+    requires range { All (λ (p : code.Potential). AreInRange (potential_of p)) said.now }
+    requires enough { All (λ (p : code.Potential). length (potential_of p).weights ≤ width) said.now }
     ensures { IfOk result (λ made. AreWidened (map potential_of said.now) width (map potentials_of made.items)) }
 {
     let mut made = Vec::new(alloc);

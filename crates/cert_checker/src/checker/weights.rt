@@ -5,7 +5,7 @@ ghost use Rattle.grounding.specs.Ground.{task_in, atoms_in};
 ghost use Rattle.potentials.specs.Fairness.{DetectsDead};
 ghost use Rattle.potentials.specs.Potentials.{potentials_of};
 ghost use Rattle.certificate.specs.Certificate.{certificate_of};
-ghost use Rattle.certificate.specs.CertificateParts.{potential_of};
+ghost use Rattle.certificate.specs.Evidence.{potential_of};
 ghost use Rattle.certificate_definitions.specs.Certificates as certificates;
 ghost use Rattle.certificate_definitions.specs.Certificates.{has_tables};
 ghost use Rattle.cert_checker.specs.FluentAtoms.{AreFluent};
@@ -38,7 +38,7 @@ pub(super) fn fair_potentials(
     ensures wrong { IfErr result (IsTrueAnyway (task_in grounded.now) (certificate_of cert.now)) }
     ensures first { IfErr result (IsFirstSymmetric (task_in grounded.now) (certificate_of cert.now)) }
 {
-    let potentials = at_width(alloc, &cert.bounds().values[0], grounded.width())?;
+    let potentials = at_width(alloc, &cert.evidence().values[0], grounded.width())?;
     match potentials.fair(alloc, grounded)? {
         Fairness::Fair => Ok(potentials),
         Fairness::Instance(number) => Err(Refusal::Unfair(kept_instance(grounded, number))),
@@ -62,7 +62,7 @@ pub(super) fn dead_fair_potentials(
     ensures wrong { IfErr result (IsTrueAnyway (task_in grounded.now) (certificate_of cert.now)) }
     ensures first { IfErr result (IsFirstSymmetric (task_in grounded.now) (certificate_of cert.now)) }
 {
-    let potentials = at_width(alloc, &cert.bounds().dead_ends, grounded.width())?;
+    let potentials = at_width(alloc, &cert.evidence().dead_ends, grounded.width())?;
     match dead_fairness(alloc, &potentials, grounded)? {
         Fairness::Fair => Ok(potentials),
         Fairness::Instance(number) => Err(Refusal::DeadUnfair(kept_instance(grounded, number))),

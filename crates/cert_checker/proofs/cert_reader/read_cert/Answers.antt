@@ -10,7 +10,8 @@ use Rattle.certificate_reader.specs.Reader.{lines_read, source_of}
 use Rattle.std.specs.Option.{option_map_or}
 use Rattle.certificate_definitions.specs.Certificates.{Certificate}
 use Rattle.certificate.specs.Certificate.{certificate_of, tables_in}
-use Rattle.certificate.specs.CertificateParts.{listed_of, potential_of}
+use Rattle.certificate.specs.CertificateParts.{listed_of}
+use Rattle.certificate.specs.Evidence.{potential_of}
 use Rattle.cert_checker.specs.CertFaults.{refusal_of}
 use Rattle.cert_checker.specs.Tabled.{HaveWeights}
 use Rattle.cert_checker.specs.Taking.{heading_of}
@@ -92,7 +93,7 @@ states-smaller g c =
     let states = c.take_line.new.states in
     let (before, at, reported, have, body) = rw c.in-Some.is at c.states.invariant.so_far in
     let taken = c.in_ok-take_line.ensures.taken task before (heading_of header) refl body reported have in
-    subst (λ next. (30000000 - lines_read c.next_line.new.self) + option_map_or (λ (line : CertLine). 1) c.in_ok-next.next 0 < (30000000 - lines_read c.states.reader) + option_map_or (λ (line : CertLine). 1) next 0)
+    subst (λ next. (70000000 - lines_read c.next_line.new.self) + option_map_or (λ (line : CertLine). 1) c.in_ok-next.next 0 < (70000000 - lines_read c.states.reader) + option_map_or (λ (line : CertLine). 1) next 0)
     (sym c.in-Some.is)
     (fewer_left g.R.Source.remaining task c.args.reader.now c.states.reader header (pooled_width c.states.states.sets) (map listed_of states.marks.items) (pooled_states states.sets)
     before line at taken.0 taken.1 body c.next_line.new.self c.in_ok-next.ensures.failed c.in_ok-next.next (c.in_ok-next.ensures.reported (before ++ line ∷ []) at.read at.going))
@@ -134,11 +135,11 @@ from_parts-requires-clause-marked g c =
 
 pub returns-clause-weighed : goal.returns-clause-weighed
 returns-clause-weighed g c =
-    let bounds = c.in_ok-header.header.bounds in
+    let evidence = c.in_ok-header.header.evidence in
     let cert = c.from_parts.result in
-    let count : length (certificate_of cert).values + 1 ≡ length bounds.values.items + 1 =
-    ap (λ (k : Certificate). length k.values + 1) c.from_parts.ensures.certificate ∙ ap (λ n. n + 1) (length-map bounds.values.items potential_of) in
-    subst (λ n. HaveWeights n (tables_in cert)) (sym count) (subst (HaveWeights (length bounds.values.items + 1)) (sym c.from_parts.ensures.tables) c.in_ok-header.ensures.weighed)
+    let count : length (certificate_of cert).values + 1 ≡ length evidence.values.items + 1 =
+    ap (λ (k : Certificate). length k.values + 1) c.from_parts.ensures.certificate ∙ ap (λ n. n + 1) (length-map evidence.values.items potential_of) in
+    subst (λ n. HaveWeights n (tables_in cert)) (sym count) (subst (HaveWeights (length evidence.values.items + 1)) (sym c.from_parts.ensures.tables) c.in_ok-header.ensures.weighed)
 
 pub returns-clause-read : goal.returns-clause-read
 returns-clause-read g c =

@@ -19,4 +19,4 @@ invariant-states g l = record {
 }
 
 abbrev pub decreases-states : goal.decreases-states
-decreases-states g l = (30000000 - lines_read l.reader) + option_map_or (λ _. 1) l.next 0
+decreases-states g l = (70000000 - lines_read l.reader) + option_map_or (λ _. 1) l.next 0

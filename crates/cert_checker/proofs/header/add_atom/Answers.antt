@@ -5,7 +5,11 @@ use Rattle.certificate_reader.specs.Lines.{claim_of, named_atom_of, version_of}
 use Rattle.certificate_definitions.specs.CertificateText.{WeightedAtom, atom}
 use Rattle.certificate_definitions.specs.CertificateChecking.{not_fluent}
 use Rattle.certificate.specs.CertificateParts.{exchange_in}
-use Rattle.cert_checker.specs.Given.{HaveGiven}
+use Rattle.lower_bounds.specs.TableFunctions.{SeveralValues}
+use Rattle.landmark_zones.specs.Landmarks.{landmarks_of}
+use Rattle.landmark_zones.specs.declared.landmarks.Landmarks.{Landmarks}
+use Rattle.certificate.specs.Evidence.{evidence_of}
+use Rattle.cert_checker.specs.Given.{HaveGiven, Heading}
 use Rattle.cert_checker.specs.Taking.{heading_of}
 use Rattle.cert_checker.proofs.AtomsLemmas.{new_is_reported, again_is_wrong}
 use Rattle.cert_checker.proofs.header.add_atom.Goals as goal
@@ -27,7 +31,16 @@ returns-clause-reported c = λ before begun reported.
     let task = task_of c.args.task.now in
     let header = c.args.header.now in
     let said : WeightedAtom = record { weights = c.args.weights.now; atom = named_atom_of c.args.name.now } in
-    subst (λ bounds. HaveGiven task (before ++ atom said ∷ []) (record { version = version_of header.version; claim = claim_of header.claim; exchanges = map exchange_in header.exchanges.items; atoms = map atom_of c.insert.new.self.keys; bounds = bounds }))
-    (sym c.in_ok-take_weights.ensures)
+    let heading : SeveralValues → Landmarks → Heading =
+    λ evidence landmarks. record {
+      version = version_of header.version;
+      claim = claim_of header.claim;
+      exchanges = map exchange_in header.exchanges.items;
+      atoms = map atom_of c.insert.new.self.keys;
+      evidence = evidence;
+      landmarks = landmarks_of landmarks;
+    } in
+    subst (λ landmarks. HaveGiven task (before ++ atom said ∷ []) (heading (evidence_of c.take_weights.new.evidence) landmarks)) (sym c.take_weights.ensures.landmarks)
+    (subst (λ evidence. HaveGiven task (before ++ atom said ∷ []) (heading evidence header.evidence.landmarks)) (sym c.in_ok-take_weights.ensures.taken)
     (new_is_reported task before (heading_of header) header.atoms.keys refl reported said c.in-Some.atom
-    c.in-Some.ensures.names c.in-Some.ensures.typed c.in-Some.ensures.fluent c.in_ok-insert.field-0 c.in_ok-insert.ensures.added c.if-not-branch.false begun c.insert.new.self.keys c.in_ok-insert.ensures.keys)
+    c.in-Some.ensures.names c.in-Some.ensures.typed c.in-Some.ensures.fluent c.in_ok-insert.field-0 c.in_ok-insert.ensures.added c.if-not-branch.false begun c.insert.new.self.keys c.in_ok-insert.ensures.keys))

@@ -14,10 +14,10 @@ invariant-lines g l = record {
   lines : List TextLine;
   at : IsAt g.R.Source.remaining l.initial.reader l.reader lines;
   reported : HasTaken (task_of l.task) lines l.header;
-  weighed : AreWeighed l.header.bounds;
+  weighed : AreWeighed l.header.evidence;
   no_state : states_given lines ≡ [];
   failures : g.R.Source.failures (source_of l.reader) ≡ g.R.Source.failures (source_of l.initial.reader);
 }
 
 abbrev pub decreases-lines : goal.decreases-lines
-decreases-lines g l = 30000000 - lines_read l.reader
+decreases-lines g l = 70000000 - lines_read l.reader

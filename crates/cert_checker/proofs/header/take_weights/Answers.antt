@@ -4,17 +4,17 @@ use Rattle.std.proofs.lemmas.Int.{to_z-of_z}
 use Rattle.std.proofs.lemmas.List.{length-map}
 use Rattle.table_rows.specs.Tables.{table_of}
 use Rattle.certificate_definitions.specs.CertificateNames.{weight_said}
-use Rattle.certificate.specs.CertificateParts.{potential_of}
+use Rattle.certificate.specs.Evidence.{potential_of}
 use Rattle.cert_checker.specs.Given.{push_at}
 use Rattle.cert_checker.proofs.HeaderLemmas.{length-pushed, pushed_all, pushed_more, pushed_to}
 use Rattle.cert_checker.proofs.header.take_weights.Goals as goal
 
 pub push_weight-requires : goal.push_weight-requires
 push_weight-requires c =
-    let before = c.args.bounds.now.values.items in
+    let before = c.args.evidence.now.values.items in
     omega (
       arith,
-      length-map c.loop-place.bounds.values.items potential_of,
+      length-map c.loop-place.evidence.values.items potential_of,
       ap length c.loop-place.invariant.values,
       length-pushed 0 c.loop-place.place c.args.weights.now (map potential_of before),
       length-map before potential_of,
@@ -24,7 +24,7 @@ push_weight-requires c =
 
 pub loop-place-preserved : goal.loop-place-preserved
 loop-place-preserved c =
-    let before = c.args.bounds.now.values.items in
+    let before = c.args.evidence.now.values.items in
     let place = c.loop-place.place in
     let weights = c.args.weights.now in
     let next : suc place ≡ place + 1 = omega arith in
@@ -39,11 +39,12 @@ loop-place-preserved c =
           ∙ ap (λ n. pushed_to 0 n weights (map potential_of before)) next;
       dead_ends = c.loop-place.invariant.dead_ends;
       tables = c.loop-place.invariant.tables;
+      landmarks = c.loop-place.invariant.landmarks;
     }
 
-pub returns : goal.returns
-returns c =
-    let before = c.args.bounds.now.values.items in
+pub returns-clause-taken : goal.returns-clause-taken
+returns-clause-taken c =
+    let before = c.args.evidence.now.values.items in
     let weights = c.args.weights.now in
     let place = c.loop-place.place in
     let many = length-map before potential_of in

@@ -1,7 +1,7 @@
 use Rattle.std.proofs.Common.{◌≡◌, drop, map}
 use Rattle.std.specs.List.{list_all}
 use Rattle.certificate_definitions.specs.Certificates.{are_potentials, is_weight}
-use Rattle.certificate.specs.CertificateParts.{potential_of}
+use Rattle.certificate.specs.Evidence.{potential_of}
 use Rattle.certificate.proofs.limits.are_values.Given as goal
 
 -- the remaining values decide

@@ -6,14 +6,14 @@ use Rattle.model.specs.PlanWriting.{object_text}
 use Rattle.certificate_reader.specs.Lines.{version_of}
 use Rattle.certificate_definitions.specs.CertificateNames.{predicate_name}
 use Rattle.certificate_definitions.specs.CertificateText.{weights_text}
-use Rattle.certificate.specs.CertificateParts.{bounds_of, weights_at}
+use Rattle.certificate.specs.Evidence.{evidence_of, weights_at}
 use Rattle.certificate.proofs.LineTextLemmas.{where_added, atom_text}
 use Rattle.certificate.proofs.line_text.add_atom.Goals as goal
 
 pub returns : goal.returns
 returns c =
     let task = task_of c.args.task.now in
-    let weights = weights_at (version_of c.args.version) (bounds_of c.args.bounds.now) c.args.place in
+    let weights = weights_at (version_of c.args.version) (evidence_of c.args.evidence.now) c.args.place in
     let names = flat_map (object_text task) (map object_of c.args.atom.now.objects.items) in
     let name = predicate_name task c.args.atom.now.predicate.0 in
     let objects = ap (λ os. flat_map (object_text task) (map object_of os)) c.as_slice.ensures.value in

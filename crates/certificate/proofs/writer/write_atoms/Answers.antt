@@ -6,7 +6,7 @@ use Rattle.task.specs.TaskParts.{atom_of}
 use Rattle.certificate_definitions.specs.CertificateText.{WeightedAtom}
 use Rattle.certificate_definitions.specs.CertificateNames.{named_atom}
 use Rattle.certificate_reader.specs.Lines.{version_of}
-use Rattle.certificate.specs.CertificateParts.{bounds_of, potential_of, weights_at}
+use Rattle.certificate.specs.Evidence.{evidence_of, potential_of, weights_at}
 use Rattle.certificate.specs.Gathering.{atom_line, atoms_weighed}
 use Rattle.certificate.specs.Certificate.{certificate_of}
 use Rattle.certificate.proofs.GatheringLemmas.{added_begun, added_passed, all_passed, atoms_past, next_begun, next_passed, so_far_begun, weighed_at}
@@ -21,8 +21,8 @@ add_atom-requires g c =
     let within : c.loop-place.place < length cert.atoms =
     omega (arith, c.loop-place-test.true, ap length c.atoms-atoms.ensures.atoms, length-map c.atoms-atoms.result.now atom_of) in
     record {
-      values = λ k d there. omega (arith, within, weight_count (length cert.atoms) (potential_of (get_or c.bounds-bounds.result.now.values.items k d)) (c.bounds-bounds.ensures.values k d there));
-      dead_ends = omega (arith, within, weight_count (length cert.atoms) (potential_of c.bounds-bounds.result.now.dead_ends) c.bounds-bounds.ensures.dead_ends);
+      values = λ k d there. omega (arith, within, weight_count (length cert.atoms) (potential_of (get_or c.evidence-evidence.result.now.values.items k d)) (c.evidence-evidence.ensures.values k d there));
+      dead_ends = omega (arith, within, weight_count (length cert.atoms) (potential_of c.evidence-evidence.result.now.dead_ends) c.evidence-evidence.ensures.dead_ends);
     }
 
 -- what is written so far is a prefix
@@ -33,13 +33,13 @@ returns-in_err-add_atom-clause-beginning g c =
 -- the atom whose line is added
 abbrev added : (g : Over) → In_ok-add_atom g → WeightedAtom
 added g c =
-    record { weights = weights_at (version_of c.version-version.result) (bounds_of c.bounds-bounds.result.now) c.loop-place.place; atom = named_atom (task_of c.args.task.now) (atom_of c.index-atoms-place.result) }
+    record { weights = weights_at (version_of c.version-version.result) (evidence_of c.evidence-evidence.result.now) c.loop-place.place; atom = named_atom (task_of c.args.task.now) (atom_of c.index-atoms-place.result) }
 
 there : (g : Over) (c : In_ok-add_atom g) → slice_get (atoms_weighed (task_of c.args.task.now) (certificate_of c.args.cert.now)) c.loop-place.place ≡ Some (added g c)
 there g c =
     let i = c.loop-place.place in
     weighed_at (task_of c.args.task.now) (certificate_of c.args.cert.now) atom_of c.atoms-atoms.result.now c.atoms-atoms.ensures.atoms i c.index-atoms-place.result c.loop-place-test.true c.index-atoms-place.is
-    ∙ (λ j. Some (record { weights = weights_at (sym c.version-version.ensures j) (sym c.bounds-bounds.ensures.bounds j) i; atom = named_atom (task_of c.args.task.now) (atom_of c.index-atoms-place.result) }))
+    ∙ (λ j. Some (record { weights = weights_at (sym c.version-version.ensures j) (sym c.evidence-evidence.ensures.evidence j) i; atom = named_atom (task_of c.args.task.now) (atom_of c.index-atoms-place.result) }))
 
 pub returns-in_err-pass_on-clause-beginning : goal.returns-in_err-pass_on-clause-beginning
 returns-in_err-pass_on-clause-beginning g c =

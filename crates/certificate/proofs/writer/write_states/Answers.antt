@@ -1,8 +1,8 @@
-use Rattle.std.proofs.Common.{◌∙◌, ap, length, refl}
+use Rattle.std.proofs.Common.{◌∙◌, ap, arith, length, refl}
 use Rattle.std.proofs.lemmas.List.FromFn.{length-map-range_with_len}
 use Rattle.certificate_reader.specs.Lines.{line_of}
 use Rattle.certificate.specs.Gathering.{state_line}
-use Rattle.certificate.proofs.GatheringLemmas.{added_begun, added_passed, next_begun, next_passed, passed_nothing, so_far_begun}
+use Rattle.certificate.proofs.GatheringLemmas.{added_begun, added_passed, all_passed, next_begun, next_passed, passed_nothing, so_far_begun}
 use Rattle.packed_state.specs.PooledView.{pooled_width}
 use Rattle.certificate.specs.Certificate.{certificate_of}
 use Rattle.certificate.proofs.writer.write_states.Goals as goal
@@ -38,3 +38,10 @@ loop-place-preserved g c =
       failures = c.in_ok-pass_on.ensures.failures ∙ c.loop-place.invariant.failures;
       name = c.in_ok-pass_on.ensures.name ∙ c.loop-place.invariant.name;
     }
+
+pub returns-clause-text : goal.returns-clause-text
+returns-clause-text g c =
+    all_passed state_line (certificate_of c.args.cert.now).lines _ _ _ _ c.loop-place.place c.loop-place.invariant.passed (omega (arith, c.loop-place-test.false, c.line_count-place-end.ensures))
+
+pub returns-clause-beginning : goal.returns-clause-beginning
+returns-clause-beginning g c = let passed = returns-clause-text g c in (passed.0, c.loop-place.held.items, passed.2, passed.1)

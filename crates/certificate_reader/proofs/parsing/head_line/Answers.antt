@@ -1,5 +1,5 @@
 use Rattle.std.proofs.Common.{◌≡◌, arith}
-use Rattle.certificate_definitions.specs.Certificates.{one, two, three}
+use Rattle.certificate_definitions.specs.Certificates.{one, two, three, four}
 use Rattle.certificate_reader.proofs.ParseLemmas.{is_version, no_version}
 use Rattle.certificate_reader.proofs.parsing.head_line.Goals as goal
 
@@ -17,6 +17,11 @@ pub returns-in-Some-eq3 : goal.returns-in-Some-eq3
 returns-in-Some-eq3 c =
     let third : c.in-Some-eq3.field-0 ≡ 3 = omega (arith, c.in-Some-eq3.field-0-test) in
     is_version c.args.rest.now c.in-Some-eq3.field-0 three third c.in-Some-eq3.ensures.some.1
+
+pub returns-in-Some-eq4 : goal.returns-in-Some-eq4
+returns-in-Some-eq4 c =
+    let fourth : c.in-Some-eq4.field-0 ≡ 4 = omega (arith, c.in-Some-eq4.field-0-test) in
+    is_version c.args.rest.now c.in-Some-eq4.field-0 four fourth c.in-Some-eq4.ensures.some.1
 
 pub returns-in-None : goal.returns-in-None
 returns-in-None c = λ f. (no_version c.args.rest.now c.in-None.ensures.none f, λ same. c.in-None.ensures.none)

@@ -1,36 +1,18 @@
-use Rattle.std.proofs.Common.{◌<◌, ◌++◌, map, sym, ap, ◌∙◌, subst}
-use Rattle.std.specs.Fmt.{decimal}
-use Rattle.certificate_definitions.specs.Certificates.{rise}
-use Rattle.certificate_reader.specs.Words.{text_in, then_words}
-use Rattle.certificate_reader.proofs.NumbersRead.{bytes_left, fewer_left, no_numbers, one_more_read, one_more_rises, done_rise}
+use Rattle.std.proofs.Common.{ap, sym, ◌∙◌}
+use Rattle.std.specs.Prelude.{is_some}
+use Rattle.certificate_reader.specs.Words.{numbers_then, text_in}
+use Rattle.certificate_reader.proofs.LandmarksRead.{ends_there}
+use Rattle.certificate_reader.proofs.NumbersRead.{no_numbers}
+use Rattle.certificate_reader.proofs.ParseLemmas.{goes_on}
 use Rattle.certificate_reader.proofs.parts.numbers.Goals as goal
 
-pub returns-in_default-next_number-clause-none : goal.returns-in_default-next_number-clause-none
-returns-in_default-next_number-clause-none c =
-    let done = c.words.numbers.items in
-    no_numbers c.args.atom_count c.requires.few _ done c.words.least c.words.invariant.rises c.in-Some.bytes.now _ _ c.first_word.ensures
-    (ap (λ left. then_words (map decimal done) (text_in left)) (sym c.in-Some.is) ∙ c.words.invariant.read) c.in_default-next_number.ensures.none
-
-pub words-smaller : goal.words-smaller
-words-smaller c =
-    subst (λ left. bytes_left (text_in c.first_word.result.1) < bytes_left (text_in left)) (sym c.in-Some.is) (fewer_left _ _ _ c.first_word.ensures)
-
-pub words-preserved : goal.words-preserved
-words-preserved c =
-    let done = c.words.numbers.items in
-    let read = ap (λ left. then_words (map decimal done) (text_in left)) (sym c.in-Some.is) ∙ c.words.invariant.read in
-    let next = c.in-Some-next_number.ensures.some in
-    record {
-      read = ap (λ items. then_words (map decimal items) (text_in c.first_word.result.1)) c.in_ok-push.ensures.items
-          ∙ one_more_read c.args.atom_count c.requires.few _ done c.words.least c.words.invariant.rises c.in-Some.bytes.now _ _ c.first_word.ensures read
-          c.in-Some-next_number.next next.0 next.1 next.2;
-      rises = λ more. ap (λ items. rise c.args.atom_count 0 (items ++ more)) c.in_ok-push.ensures.items
-          ∙ one_more_rises c.args.atom_count c.requires.few _ done c.words.least c.words.invariant.rises c.in-Some.bytes.now _ _ c.first_word.ensures read
-          c.in-Some-next_number.next next.0 next.1 next.2 more;
-    }
+pub returns-then-is_some-clause-none : goal.returns-then-is_some-clause-none
+returns-then-is_some-clause-none c =
+    let (bytes, at) = goes_on c.in_ok-numbers.left (sym c.is_some.ensures ∙ c.if-is_some.true) in
+    no_numbers (text_in c.args.rest) c.args.atom_count c.requires.few c.in_ok-numbers.numbers.items (text_in c.in_ok-numbers.left) c.in_ok-numbers.ensures (ap is_some at)
 
 pub returns-clause-some : goal.returns-clause-some
 returns-clause-some c = (
-  done_rise c.args.atom_count c.requires.few (text_in c.args.rest) c.words.numbers.items c.words.least c.words.invariant.rises,
-  ap (λ left. then_words (map decimal c.words.numbers.items) (text_in left)) (sym c.in_default.is) ∙ c.words.invariant.read,
+  c.in_ok-numbers.ensures.rising,
+  ap (numbers_then c.in_ok-numbers.numbers.items) (sym (ends_there c.in_ok-numbers.left (sym c.is_some.ensures ∙ c.if-is_some.false))) ∙ c.in_ok-numbers.ensures.splits,
 )

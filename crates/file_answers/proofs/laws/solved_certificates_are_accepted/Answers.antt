@@ -18,13 +18,15 @@ use Rattle.model.proofs.LimitsLemmas.{limits_alike}
 use Rattle.model.proofs.TaskNames.{task_has_atom_names}
 use Rattle.typing.proofs.TypedTasks.{task_is_typed}
 use Rattle.file_answers.proofs.NamedExchanges.{named_exchanges}
+use Rattle.file_answers.proofs.ShortLines.{short_without}
 use Rattle.file_answers.proofs.laws.solved_certificates_are_accepted.Goals as goal
 
 pub returns-clause-accepted : goal.returns-clause-accepted
 returns-clause-accepted c = λ domain problem task claim k most_states most plan read shown reported within.
     let well = task_is_typed domain problem task read in
     let has_names = task_has_atom_names domain problem task read in
-    let (exchanged, short) = named_exchanges task has_names k.exchanges shown.exchanges in (
+    let (exchanged, swaps) = named_exchanges task has_names k.exchanges shown.exchanges in
+    let short = short_without task k shown.within_limits shown.version swaps in (
       closed_reads_back task k well has_names exchanged short shown.within_limits shown.closed,
       closed_is_accepted task k plan well has_names exchanged short shown.within_limits shown.closed (subst (λ claim. IsPlanWithin task claim plan) (sym shown.claims) within),
       subst (λ atoms. exceeded_limit most max_numbered_atoms task atoms ≡ None) (sym shown.atoms) (limits_alike most max_numbered_atoms task reported),
@@ -37,7 +39,8 @@ bound_is_accepted domain problem task states instances least cert read reported 
     let k = certificate_of cert in
     let well = task_is_typed domain problem task read in
     let has_names = task_has_atom_names domain problem task read in
-    let (exchanged, short) = named_exchanges task has_names k.exchanges shown.exchanges in
+    let (exchanged, swaps) = named_exchanges task has_names k.exchanges shown.exchanges in
+    let short = short_without task k shown.within_limits shown.version swaps in
     record {
       accepted = record {
         certificate = k;

@@ -1,5 +1,5 @@
 use Rattle.std.proofs.Common.{◌≤◌, length, sym, subst}
-use Rattle.certificate.specs.CertificateParts.{bounds_of}
+use Rattle.certificate.specs.Evidence.{evidence_of}
 use Rattle.grounding.specs.Ground.{task_in, atoms_in}
 use Rattle.model.specs.Grounding.{ground_system}
 use Rattle.lower_bounds.specs.PotentialFunctions.{PotentialFunction}
@@ -20,10 +20,10 @@ answer_of-requires-clause-guidance g c =
     let known = ground_in c.args.setting.space in
     let task = task_in known in
     let atoms = atoms_in known in
-    let values = bounds_of c.args.draft.bounds in
+    let values = evidence_of c.args.draft.evidence in
     let start = estimate_by (by_tables values) (ground_system task atoms).initial in
     record {
-      written = tables-written (length atoms) c.args.draft.bounds c.requires.within_limits;
+      written = tables-written (length atoms) c.args.draft.evidence c.requires.within_limits;
       exchanges = c.requires.space.written;
       fair = subst (IfDone (λ (s : Ending). AreFair task atoms values)) c.in-Done.is c.in_ok-attempt.ensures.fair;
       improved = subst (AreSettledOrHigh task atoms) (sym c.requires.first) c.requires.improved;
@@ -34,5 +34,5 @@ answer_of-requires-clause-guidance g c =
 
 pub answer_of-requires-clause-ending : goal.answer_of-requires-clause-ending
 answer_of-requires-clause-ending g c =
-    let guidance = by_tables (bounds_of c.args.draft.bounds) in
+    let guidance = by_tables (evidence_of c.args.draft.evidence) in
     subst (IfDone (IsEnding c.args.setting.space (estimate_by guidance) (reports_dead guidance) c.args.setting.limits)) c.in-Done.is c.in_ok-attempt.ensures.ending

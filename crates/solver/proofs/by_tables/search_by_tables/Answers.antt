@@ -1,7 +1,7 @@
 use Rattle.std.proofs.Common.{◌≡◌, ◌∙◌, ◌≤◌, length, map, Option, Result, Ok, Err, sym, ap, subst}
 use Rattle.std.specs.Prelude.{IfOk, IfSome, IsTrue}
-use Rattle.certificate.specs.CertificateParts.{are_bounds, bounds_of}
-use Rattle.certificate_definitions.specs.Certificates.{three}
+use Rattle.certificate.specs.Evidence.{is_evidence, evidence_of}
+use Rattle.certificate_definitions.specs.Certificates.{no_landmarks, three}
 use Rattle.faults.specs.declared.refused.NoMemory.{NoMemory}
 use Rattle.grounding.specs.declared.ground.Ground.{Ground}
 use Rattle.grounding.specs.Ground.{task_in, atoms_in}
@@ -26,24 +26,24 @@ use Rattle.solver.proofs.by_tables.search_by_tables.Given.{Over}
 use Rattle.solver.proofs.by_tables.search_by_tables.Goals as goal
 use Rattle.solver.proofs.by_tables.search_by_tables.Goals.{After-deref, In-Some}
 
--- the values are those of the bounds
-same : (g : Over) (c : After-deref g) → several_over c.args.over.values.items c.args.over.dead_ends c.deref.result.now ≡ bounds_of c.args.over.bounds.now
+-- the values are those of the evidence
+same : (g : Over) (c : After-deref g) → several_over c.args.over.values.items c.args.over.dead_ends c.deref.result.now ≡ evidence_of c.args.over.evidence.now
 same g c = λ i. record { values = c.requires.values i; dead_ends = c.requires.dead_ends i; tables = map table_of (c.deref.ensures.value i) }
 
 pub functions_over-requires : goal.functions_over-requires
 functions_over-requires g c = record {
-  within_limits = subst (λ (s : SeveralValues). IsTrue (are_bounds three (length (atoms_in c.ground-ground.result.now)) s)) (sym (same g (goal.at.functions_over-requires g c).After-deref))
-      (subst (λ (k : Ground). IsTrue (are_bounds three (length (atoms_in k)) (bounds_of c.args.over.bounds.now))) (sym c.ground-ground.ensures) c.requires.within_limits);
+  within_limits = subst (λ (s : SeveralValues). IsTrue (is_evidence three (length (atoms_in c.ground-ground.result.now)) s no_landmarks)) (sym (same g (goal.at.functions_over-requires g c).After-deref))
+      (subst (λ (k : Ground). IsTrue (is_evidence three (length (atoms_in k)) (evidence_of c.args.over.evidence.now) no_landmarks)) (sym c.ground-ground.ensures) c.requires.within_limits);
 }
 
 -- and so are those in memory
-in_memory : (g : Over) (c : In-Some g) → several_of c.in-Some.functions ≡ bounds_of c.args.over.bounds.now
+in_memory : (g : Over) (c : In-Some g) → several_of c.in-Some.functions ≡ evidence_of c.args.over.evidence.now
 in_memory g c =
     subst (λ (o : Option TableFunctions). IfSome o (λ (f : TableFunctions). several_of f ≡ several_over c.args.over.values.items c.args.over.dead_ends c.deref.result.now)) c.in-Some.is c.in_ok-functions.ensures
     ∙ (λ i. record { values = c.requires.values i; dead_ends = c.requires.dead_ends i; tables = map table_of (c.deref.ensures.value i) })
 
 width : (g : Over) (c : In-Some g) → width_of c.in-Some.functions ≡ length (atoms_in (ground_in c.args.setting.space))
-width g c = ap (λ (s : SeveralValues). length s.dead_ends.weights) (in_memory g c) ∙ dead_ends_weighed (length (atoms_in (ground_in c.args.setting.space))) (bounds_of c.args.over.bounds.now) c.requires.within_limits
+width g c = ap (λ (s : SeveralValues). length s.dead_ends.weights) (in_memory g c) ∙ dead_ends_weighed (length (atoms_in (ground_in c.args.setting.space))) (evidence_of c.args.over.evidence.now) c.requires.within_limits
 
 pub starts_no_lower-requires-clause-functions : goal.starts_no_lower-requires-clause-functions
 starts_no_lower-requires-clause-functions g c = width g (goal.at.starts_no_lower-requires-clause-functions g c).In-Some ∙ ap (λ (k : Ground). length (atoms_in k)) (sym c.ground-ground.ensures)

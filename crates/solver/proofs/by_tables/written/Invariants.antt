@@ -1,5 +1,5 @@
 use Rattle.std.proofs.Common.{◌≡◌, map, take}
-use Rattle.certificate.specs.CertificateParts.{potential_of}
+use Rattle.certificate.specs.Evidence.{potential_of}
 use Rattle.potentials.specs.Potentials.{potentials_of}
 use Rattle.solver.proofs.by_tables.written.Given as goal
 

@@ -24,7 +24,7 @@ sets_of-requires c = c.requires.found.within_limit
 
 -- the certificate of the parts is that of what was found
 made : (c : In_ok-sets)
-    → certificate_with (record { version = c.version.result; claim = c.args.claim; exchanges = c.in_ok-written_exchanges.field-0; atoms = c.in_ok-copied.field-0; bounds = c.in_ok-into_bounds.field-0 }) (record { marks = c.args.marks; sets = c.in_ok-sets.sets })
+    → certificate_with (record { version = c.version.result; claim = c.args.claim; exchanges = c.in_ok-written_exchanges.field-0; atoms = c.in_ok-copied.field-0; evidence = c.in_ok-into_evidence.field-0 }) (record { marks = c.args.marks; sets = c.in_ok-sets.sets })
     ≡ found_certificate (claim_of c.args.claim) (exchanges_in c.args.space) (atoms_in (ground_in c.args.space)) (guidance_of c.args.guidance) (listed_states c.args.found.store) c.args.found.nodes.items
 made c =
     let guidance = guidance_of c.args.guidance in
@@ -32,9 +32,9 @@ made c =
     let nodes = c.args.found.nodes.items in
     let atoms = c.in_ok-copied.ensures ∙ ap (map atom_of) c.as_slice.ensures.keys ∙ c.atoms.ensures ∙ ap atoms_in c.ground.ensures in
     let lines = (λ i. lines_with (c.requires.marks i) (c.in_ok-sets.ensures i)) ∙ lines_of_marks (estimate_by guidance) (reports_dead guidance) states nodes in
-    let bounds = c.in_ok-into_bounds.ensures in
+    let evidence = c.in_ok-into_evidence.ensures.values in
     let exchanges = c.in_ok-written_exchanges.ensures in
-    λ i. record { version = c.version.ensures i; claim = claim_of c.args.claim; exchanges = exchanges i; atoms = atoms i; values = (bounds i).values; dead_ends = (bounds i).dead_ends; tables = (bounds i).tables; lines = lines i }
+    λ i. record { version = c.version.ensures i; claim = claim_of c.args.claim; exchanges = exchanges i; atoms = atoms i; values = (evidence i).values; dead_ends = (evidence i).dead_ends; tables = (evidence i).tables; landmarks = c.in_ok-into_evidence.ensures.landmarks i; lines = lines i }
 
 pub from_parts-requires-clause-limits : goal.from_parts-requires-clause-limits
 from_parts-requires-clause-limits c =

@@ -6,6 +6,8 @@ use Rattle.certificate_reader.specs.Lines.{basis_of, claim_of}
 use Rattle.cert_checker.specs.PackedListing.{task_at, certificate_at, state_at}
 use Rattle.cert_checker.specs.declared.refusal.RefusalCode.TheVariants.{CutWeak}
 use Rattle.certificate_definitions.specs.CertificateRefusals.{cut_weak, state_line}
+use Rattle.cert_checker.proofs.CertCheckerLemmas.{cut_has_basis}
+use Rattle.cert_checker.proofs.EvidenceLemmas.{basis_there}
 use Rattle.cert_checker.proofs.OrderLemmas.{first_in_line}
 use Rattle.cert_checker.proofs.FirstLemmas.{reported_first}
 use Rattle.cert_checker.proofs.RefusalsLemmas.{reported, wrong_cut, not_allowed}
@@ -18,6 +20,13 @@ not-worth rest value b worth fails = elim (cases_lt value rest) [
   | inl less ↦ less
   | inr enough ↦ absurd (true≢false (sym (worth.1 enough) ∙ fails))
 ]
+
+-- the line rests on a value that there is
+pub is_worth-requires-clause-basis : goal.is_worth-requires-clause-basis
+is_worth-requires-clause-basis c =
+    let listing = c.args.listing.now in
+    basis_there (certificate_at listing) listing.evidence listing.valued.landmarks (basis_of c.args.line.by)
+    (cut_has_basis (task_at listing) (certificate_at listing) c.args.line.place (state_at listing c.args.state.now) c.args.line.cost (basis_of c.args.line.by) c.args.line.rest listing.cert.now.within_limits c.requires.listed)
 
 pub returns-else-is_worth-clause-wrong : goal.returns-else-is_worth-clause-wrong
 returns-else-is_worth-clause-wrong c =

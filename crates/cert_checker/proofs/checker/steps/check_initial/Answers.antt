@@ -36,8 +36,8 @@ returns-clause-wrong c =
 
 pub returns-clause-first : goal.returns-clause-first
 returns-clause-first c =
-    λ fair distinct allowed plan most within.
+    λ fair landmarks distinct allowed plan most within.
     let listing = c.args.listing.now in
     let task = task_at listing in
     let cert = certificate_at listing in
-    first_initial task cert plan most (atoms_right task cert listing.listed.fluent) (states_right_all task cert distinct allowed) within listing.symmetric fair
+    first_initial task cert plan most (atoms_right task cert listing.listed.fluent) (states_right_all task cert distinct allowed) within listing.symmetric fair landmarks

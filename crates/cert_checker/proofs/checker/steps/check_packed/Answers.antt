@@ -17,7 +17,7 @@ use Rattle.cert_checker.proofs.checker.steps.check_packed.Goals.{In_ok-check_ini
 
 pub returns-in_err-check_initial-clause-first : goal.returns-in_err-check_initial-clause-first
 returns-in_err-check_initial-clause-first c =
-    passed_on (IsFirstGrounded (task_at c.args.listing.now) (certificate_at c.args.listing.now)) c.from_residual.result c.in_err-check_initial.field-0.0 c.from_residual.ensures.1 (c.in_err-check_initial.ensures.first c.requires)
+    passed_on (IsFirstGrounded (task_at c.args.listing.now) (certificate_at c.args.listing.now)) c.from_residual.result c.in_err-check_initial.field-0.0 c.from_residual.ensures.1 (c.in_err-check_initial.ensures.first c.requires.fair c.requires.landmarks)
 
 -- all is right up to the first state line
 begun : (c : In_ok-check_initial) (most : ℕ) → AreApart (task_at c.args.listing.now) (certificate_at c.args.listing.now)
@@ -27,7 +27,7 @@ begun : (c : In_ok-check_initial) (most : ℕ) → AreApart (task_at c.args.list
 begun c most distinct allowed within =
     let listing = c.args.listing.now in
     let keeps = listing.cert.now.within_limits in
-    right_from (task_at listing) (certificate_at listing) most keeps (rows_apart (tables_in listing.cert.now)) distinct listing.listed.fluent allowed within listing.symmetric c.requires c.in_ok-check_initial.ensures.right
+    right_from (task_at listing) (certificate_at listing) most keeps (rows_apart (tables_in listing.cert.now)) distinct listing.listed.fluent allowed within listing.symmetric c.requires.fair c.requires.landmarks c.in_ok-check_initial.ensures.right
 
 pub returns-clause-right : goal.returns-clause-right
 returns-clause-right c =

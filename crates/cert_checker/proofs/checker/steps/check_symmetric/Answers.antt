@@ -8,7 +8,7 @@ use Rattle.model.specs.Task.{Task}
 use Rattle.model.specs.NumberedAtoms.{numbered_atoms}
 use Rattle.symmetries_definitions.specs.Orbits.{keeps_atoms}
 use Rattle.symmetries.specs.Exchange.{exchange_of}
-use Rattle.certificate_definitions.specs.Certificates.{Certificate, AreFairFor}
+use Rattle.certificate_definitions.specs.Certificates.{Certificate, AreFairFor, AreLandmarksFair}
 use Rattle.cert_checker.specs.CheckedLines.{IsFirstGrounded, IsRightGrounded, IsTrueAnyway}
 use Rattle.cert_checker.specs.PackedListing.{task_at, certificate_at}
 use Rattle.cert_checker.proofs.SymmetriesLemmas.{all_keep_atoms}
@@ -26,16 +26,17 @@ classes_by-requires-clause-kept c =
     subst (λ atoms. list_all (keeps_atoms atoms) (map exchange_of c.args.exchanges.now) ≡ true) (sym c.requires.numbered)
     (subst (λ exchanges. list_all (keeps_atoms (numbered_atoms (task_in g) cert.atoms)) exchanges ≡ true) (sym c.requires.exchanges) (all_keep_atoms (task_in g) cert c.requires.symmetric))
 
-pub returns-in_err-values-clause-first : goal.returns-in_err-values-clause-first
-returns-in_err-values-clause-first c =
-    passed_on (IsFirstGrounded (task_in c.args.grounded.now) (certificate_of c.args.cert.now)) c.from_residual.result c.in_err-values.field-0.0
-    c.from_residual.ensures.1 (c.in_err-values.ensures.first c.requires.symmetric)
+pub returns-in_err-evidence-clause-first : goal.returns-in_err-evidence-clause-first
+returns-in_err-evidence-clause-first c =
+    passed_on (IsFirstGrounded (task_in c.args.grounded.now) (certificate_of c.args.cert.now)) c.from_residual.result c.in_err-evidence.field-0.0
+    c.from_residual.ensures.1 (c.in_err-evidence.ensures.first c.requires.symmetric)
 
 pub check_packed-requires : goal.check_packed-requires
 check_packed-requires c =
     let packed = c.new-packed.result in
-    along AreFairFor (task_in c.args.grounded.now) (task_at packed) (certificate_of c.args.cert.now) (certificate_at packed)
-    (sym c.new-packed.ensures.same.0) (sym c.new-packed.ensures.same.1) c.in_ok-values.ensures.fair
+    let there : (P : Task → Certificate → Type 0) → P (task_in c.args.grounded.now) (certificate_of c.args.cert.now) → P (task_at packed) (certificate_at packed)
+    = λ P. along P (task_in c.args.grounded.now) (task_at packed) (certificate_of c.args.cert.now) (certificate_at packed) (sym c.new-packed.ensures.same.0) (sym c.new-packed.ensures.same.1) in
+    record { fair = there AreFairFor c.in_ok-evidence.ensures.fair; landmarks = there AreLandmarksFair c.in_ok-evidence.ensures.landmarks }
 
 pub returns-clause-right : goal.returns-clause-right
 returns-clause-right c =

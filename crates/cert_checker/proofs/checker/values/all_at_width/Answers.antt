@@ -1,8 +1,8 @@
 use Rattle.std.proofs.Common.{◌∙◌, ◌++◌, ◌∷◌, [], ◌≤◌, length, map, take, Some, sym, ap, subst}
 use Rattle.std.proofs.lemmas.List.{map_push}
 use Rattle.std.proofs.lemmas.Option.{slice_get-get_or}
-use Rattle.certificate.specs.declared.header.Potential.{Potential}
-use Rattle.certificate.specs.CertificateParts.{potential_of}
+use Rattle.certificate.specs.declared.evidence.Potential.{Potential}
+use Rattle.certificate.specs.Evidence.{potential_of}
 use Rattle.potentials.specs.Potentials.{potentials_of}
 use Rattle.potentials.proofs.ListLemmas.{map-take-more}
 use Rattle.lower_bounds.specs.PotentialFunctions.{AreInRange}

@@ -30,7 +30,7 @@ pub overflow_add-count : goal.overflow_add-count
 overflow_add-count c = omega (arith, few (goal.at.overflow_add-count c).After-len)
 
 same_tables : (c : After-deref) → c.deref.result.now ≡ tables_in c.args.cert.now
-same_tables c = c.deref.ensures.value ∙ c.bounds.ensures.in_memory
+same_tables c = c.deref.ensures.value ∙ c.evidence.ensures.in_memory
 
 pub index-requires-clause-few : goal.index-requires-clause-few
 index-requires-clause-few c =

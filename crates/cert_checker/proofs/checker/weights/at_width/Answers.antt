@@ -3,7 +3,7 @@ use Rattle.std.specs.Int.{w64}
 use Rattle.std.proofs.lemmas.Int.{to_z-of_z}
 use Rattle.std.specs.Prelude.{IfSome}
 use Rattle.lower_bounds.specs.PotentialFunctions.{PotentialFunction}
-use Rattle.certificate.specs.CertificateParts.{potential_of}
+use Rattle.certificate.specs.Evidence.{potential_of}
 use Rattle.potentials.specs.Potentials.{potentials_of}
 use Rattle.cert_checker.specs.Weights.{HasItsWeights}
 use Rattle.cert_checker.proofs.WeightsLemmas.{widened, widened_in_range}

@@ -6,7 +6,7 @@ use Rattle.lower_bounds.specs.FairPotentials.{nothing}
 use Rattle.potentials.specs.Potentials.{potentials_of}
 use Rattle.potentials.specs.Fairness.{DetectsDead}
 use Rattle.certificate.specs.Certificate.{certificate_of}
-use Rattle.certificate.specs.CertificateParts.{potential_of}
+use Rattle.certificate.specs.Evidence.{potential_of}
 use Rattle.lower_bounds.specs.TableFunctions.{SeveralValues}
 use Rattle.certificate_definitions.specs.Certificates.{is_weight}
 use Rattle.model.specs.StaticallyFalse.{kept_instances}
@@ -20,13 +20,13 @@ use Rattle.cert_checker.proofs.checker.weights.dead_fair_potentials.Goals as goa
 use Rattle.cert_checker.proofs.checker.weights.dead_fair_potentials.Goals.{In_ok-potentials}
 
 pub at_width-requires-clause-range : goal.at_width-requires-clause-range
-at_width-requires-clause-range c = said_in_range (length (certificate_of c.args.cert.now).atoms) (potential_of c.bounds.result.now.dead_ends) c.bounds.ensures.dead_ends
+at_width-requires-clause-range c = said_in_range (length (certificate_of c.args.cert.now).atoms) (potential_of c.evidence.result.now.dead_ends) c.evidence.ensures.dead_ends
 
 pub at_width-requires-clause-enough : goal.at_width-requires-clause-enough
 at_width-requires-clause-enough c =
     let task = task_in c.args.grounded.now in
     let cert = certificate_of c.args.cert.now in
-    let weighed = one_weight_each is_weight (length cert.atoms) (potential_of c.bounds.result.now.dead_ends) c.bounds.ensures.dead_ends in
+    let weighed = one_weight_each is_weight (length cert.atoms) (potential_of c.evidence.result.now.dead_ends) c.evidence.ensures.dead_ends in
     omega (arith, numbered_after task (atoms_in c.args.grounded.now) cert c.requires.fluent c.requires.numbered, c.width.ensures, weighed)
 
 -- they have the certificate's weights
@@ -35,7 +35,7 @@ has c =
     let cert = certificate_of c.args.cert.now in
     let p = potentials_of c.in_ok-potentials.potentials in
     subst (λ width. HasItsWeights cert.dead_ends width p) c.width.ensures
-    (subst (λ (s : SeveralValues). HasItsWeights s.dead_ends c.width.result p) c.bounds.ensures.bounds c.in_ok-potentials.ensures)
+    (subst (λ (s : SeveralValues). HasItsWeights s.dead_ends c.width.result p) c.evidence.ensures.evidence c.in_ok-potentials.ensures)
 
 -- nothing is wrong with the value
 values_are_asked : (c : In_ok-potentials) → let cert = certificate_of c.args.cert.now in AreFairUpTo (task_in c.args.grounded.now) cert (length cert.values) 2

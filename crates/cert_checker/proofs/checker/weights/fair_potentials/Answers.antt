@@ -7,7 +7,7 @@ use Rattle.model.specs.Meaning.{cost_of}
 use Rattle.potentials.specs.Potentials.{potentials_of}
 use Rattle.potentials.specs.Fairness.{Reports}
 use Rattle.certificate.specs.Certificate.{certificate_of}
-use Rattle.certificate.specs.CertificateParts.{potential_of}
+use Rattle.certificate.specs.Evidence.{potential_of}
 use Rattle.model.specs.StaticallyFalse.{kept_instances}
 use Rattle.certificate_definitions.specs.Certificates as certificates
 use Rattle.certificate_definitions.specs.Certificates.{is_weight}
@@ -26,7 +26,7 @@ at_width-requires-clause-range c =
     let cert = certificate_of c.args.cert.now in
     let first = c.index.result.now in
     said_in_range (length cert.atoms) (potential_of first)
-    (first_within cert.version (length cert.atoms) c.bounds.result.now.values.items first c.bounds.ensures.value_count c.bounds.ensures.values c.index.ensures)
+    (first_within cert.version (length cert.atoms) c.evidence.result.now.values.items first c.evidence.ensures.value_count c.evidence.ensures.values c.index.ensures)
 
 pub at_width-requires-clause-enough : goal.at_width-requires-clause-enough
 at_width-requires-clause-enough c =
@@ -34,7 +34,7 @@ at_width-requires-clause-enough c =
     let cert = certificate_of c.args.cert.now in
     let first = c.index.result.now in
     let weighed = one_weight_each is_weight (length cert.atoms) (potential_of first)
-    (first_within cert.version (length cert.atoms) c.bounds.result.now.values.items first c.bounds.ensures.value_count c.bounds.ensures.values c.index.ensures) in
+    (first_within cert.version (length cert.atoms) c.evidence.result.now.values.items first c.evidence.ensures.value_count c.evidence.ensures.values c.index.ensures) in
     omega (arith, numbered_after task (atoms_in c.args.grounded.now) cert c.requires.fluent c.requires.numbered, c.width.ensures, weighed)
 
 -- they have the certificate's weights
@@ -42,7 +42,7 @@ has : (c : In_ok-potentials) → let cert = certificate_of c.args.cert.now in Ha
 has c =
     let cert = certificate_of c.args.cert.now in
     let p = potentials_of c.in_ok-potentials.potentials in
-    let said_is = first_value cert c.bounds.result.now c.index.result.now c.bounds.ensures.value_count c.bounds.ensures.bounds c.index.ensures in
+    let said_is = first_value cert c.evidence.result.now c.index.result.now c.evidence.ensures.value_count c.evidence.ensures.evidence c.index.ensures in
     subst (λ width. HasItsWeights (certificates.potentials_of cert) width p) c.width.ensures
     (subst (λ (said : PotentialFunction). HasItsWeights said c.width.result p) said_is c.in_ok-potentials.ensures)
 

@@ -3,7 +3,7 @@ use Rattle.std.proofs.lemmas.List.{length-map}
 use Rattle.certificate.specs.ListedSets.{marked}
 use Rattle.certificate.specs.Certificate.{certificate_of}
 use Rattle.certificate.specs.CertificateParts.{listed_of}
-use Rattle.certificate.proofs.NumbersLemmas.{few_lines, marks_are}
+use Rattle.certificate.proofs.NumbersLemmas.{few_lines, limits, marks_are}
 use Rattle.certificate.proofs.cert.Cert.marks.Goals as goal
 
 pub returns-clause-marks : goal.returns-clause-marks
@@ -20,3 +20,6 @@ returns-clause-at_most c =
       ap length (marks_are cert),
       length-map (certificate_of cert).lines marked,
     )
+
+pub returns-clause-bases : goal.returns-clause-bases
+returns-clause-bases c = (limits c.args.self.now).bases

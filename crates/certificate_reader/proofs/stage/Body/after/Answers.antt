@@ -1,4 +1,4 @@
-use Rattle.std.proofs.Common.{ap, map, sym, subst, IsTrue}
+use Rattle.std.proofs.Common.{ap, map, refl, sym, subst, IsTrue}
 use Rattle.certificate_reader.specs.Lines.{line_of, name_of, text_line_of}
 use Rattle.certificate_definitions.specs.CertificateText.{is_line}
 use Rattle.certificate_definitions.specs.CertificateMachine.{in_body}
@@ -27,4 +27,4 @@ pub returns-in-Listed : goal.returns-in-Listed
 returns-in-Listed c =
     let is = ap text_line_of c.in-Listed.is in
     subst (λ line. IsStep (in_body (body_of c.args.self)) line c.after_state.result) (sym is)
-    (c.after_state.ensures (line_of c.in-Listed.field-0) (subst (λ line. IsTrue (is_line (format_of c.args.self.format) line)) is c.requires.line))
+    (c.after_state.ensures (line_of c.in-Listed.line) refl (subst (λ line. IsTrue (is_line (format_of c.args.self.format) line)) is c.requires.line))

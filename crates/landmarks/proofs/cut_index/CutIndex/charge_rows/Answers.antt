@@ -2,7 +2,7 @@ use Rattle.std.proofs.Common.{◌≡◌, true, take, get_or, sym, subst, List, �
 use Rattle.std.specs.List.{flat_map}
 use Rattle.std.proofs.lemmas.List.{take_all}
 use Rattle.lower_bounds.specs.TableFunctions.{is_among}
-use Rattle.landmarks.specs.Rows.{row_at}
+use Rattle.table_rows.specs.Lists.{list_at}
 use Rattle.landmarks.specs.CutIndex.{charging_by, HaveBeenCharged}
 use Rattle.landmarks.proofs.CutLemmas.{flat-more}
 use Rattle.landmarks.proofs.ChargeLemmas.{beyond-later, charged-more, charged-none, when-beyond, when-charged}
@@ -23,13 +23,13 @@ returns-then-not-charge_all c =
     let g = charging_by c.args.self.now c.args.by in
     let atoms = c.args.atoms.now in
     let i = c.loop-atom.atom-index in
-    beyond-later g (flat_map (row_at c.args.rows.now) (take i atoms)) c.args.counters.now c.loop-atom.counters c.charge_all.new.counters c.loop-atom.invariant
+    beyond-later g (flat_map (list_at c.args.rows.now) (take i atoms)) c.args.counters.now c.loop-atom.counters c.charge_all.new.counters c.loop-atom.invariant
     (when-beyond g c.of.result.now c.loop-atom.counters c.charge_all.new.counters c.charge_all.result c.charge_all.ensures c.if-not-charge_all.true)
 
 pub loop-atom-preserved : goal.loop-atom-preserved
 loop-atom-preserved c =
     let g = charging_by c.args.self.now c.args.by in
-    let row = row_at c.args.rows.now in
+    let row = list_at c.args.rows.now in
     let atoms = c.args.atoms.now in
     let i = c.loop-atom.atom-index in
     let one = subst (λ (l : List ℕ). HaveBeenCharged g l c.loop-atom.counters c.charge_all.new.counters) c.of.ensures
@@ -39,5 +39,5 @@ loop-atom-preserved c =
 
 pub returns : goal.returns
 returns c =
-    subst (λ (l : List ℕ). HaveBeenCharged (charging_by c.args.self.now c.args.by) (flat_map (row_at c.args.rows.now) l) c.args.counters.now c.loop-atom.counters)
+    subst (λ (l : List ℕ). HaveBeenCharged (charging_by c.args.self.now c.args.by) (flat_map (list_at c.args.rows.now) l) c.args.counters.now c.loop-atom.counters)
     (take_all c.loop-atom.atom-index c.args.atoms.now c.loop-atom-test.false) c.loop-atom.invariant

@@ -2,7 +2,7 @@ use Rattle.std.proofs.Common.{◌≡◌, ◌∙◌, true, false, map, sym, subst
 use Rattle.std.specs.List.{list_all}
 use Rattle.model.specs.NumberedLiterals.{literals_of_goal}
 use Rattle.landmark_zones.specs.Landmarks.{landmarks_of, share_of}
-use Rattle.landmarks.specs.declared.cut_index.Allowance.TheVariants.{Cost, Nothing}
+use Rattle.potentials.specs.declared.allowance.Allowance.TheVariants.{Cost, Nothing}
 use Rattle.landmarks.specs.CutIndex.{allowed_at, asked_in, atoms_of, task_of, total_at}
 use Rattle.landmarks.specs.Fairness.{function_over, has_one}
 use Rattle.landmarks.proofs.FairnessLemmas.{dead-fair-as, fair-as, not-of-goal, unfair-as}

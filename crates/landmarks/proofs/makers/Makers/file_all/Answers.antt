@@ -2,6 +2,7 @@ use Rattle.std.proofs.Common.{◌∙◌, ◌≡◌, ◌++◌, ◌∷◌, [], ◌
 use Rattle.std.proofs.lemmas.List.{take_all, map_more}
 use Rattle.grounding.specs.Changes.{conditional_of}
 use Rattle.model.specs.ConditionalChanges.{ConditionalChange}
+use Rattle.table_rows.specs.Lists.{place_count}
 use Rattle.landmarks.specs.Makers.{AreFiled}
 use Rattle.landmarks.proofs.MakerLemmas.{change-within, filed-none, filed-more}
 use Rattle.landmarks.proofs.makers.Makers.file_all.Goals as goal
@@ -11,12 +12,12 @@ loop-change-init c = filed-none c.args.number c.args.self.now
 
 pub file-requires-clause-adding : goal.file-requires-clause-adding
 file-requires-clause-adding c =
-    let below = change-within (length c.args.self.now.adding.rows.items) c.args.changes.now c.loop-change.change-index c.change-item.result c.loop-change-test.true c.change-item.is c.requires.adding in
+    let below = change-within (place_count c.args.self.now.adding) c.args.changes.now c.loop-change.change-index c.change-item.result c.loop-change-test.true c.change-item.is c.requires.adding in
     omega (arith, below, c.loop-change.invariant.adding)
 
 pub file-requires-clause-deleting : goal.file-requires-clause-deleting
 file-requires-clause-deleting c =
-    let below = change-within (length c.args.self.now.deleting.rows.items) c.args.changes.now c.loop-change.change-index c.change-item.result c.loop-change-test.true c.change-item.is c.requires.deleting in
+    let below = change-within (place_count c.args.self.now.deleting) c.args.changes.now c.loop-change.change-index c.change-item.result c.loop-change-test.true c.change-item.is c.requires.deleting in
     omega (arith, below, c.loop-change.invariant.deleting)
 
 pub loop-change-preserved : goal.loop-change-preserved

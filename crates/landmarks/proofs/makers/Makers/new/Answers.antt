@@ -3,6 +3,7 @@ use Rattle.std.proofs.lemmas.List.{take_all, take_more}
 use Rattle.grounding.specs.Ground.{atoms_in, task_in}
 use Rattle.grounding.specs.Changes.{counting_of}
 use Rattle.model.specs.ConditionalChanges.{ConditionalChange}
+use Rattle.table_rows.specs.Lists.{place_count}
 use Rattle.landmarks.specs.Makers.{AreFiled, AreMakers}
 use Rattle.landmarks.proofs.MakerLemmas.{counting-within, makers-none, makers-more}
 use Rattle.landmarks.proofs.makers.Makers.new.Goals as goal
@@ -19,12 +20,12 @@ counting-requires c = c.requires c.loop-number.number-index 0 c.loop-number-test
 
 pub file_all-requires-clause-adding : goal.file_all-requires-clause-adding
 file_all-requires-clause-adding c =
-    counting-within (task_in c.args.ground.now) (atoms_in c.args.ground.now) (get_or c.args.asked.now c.loop-number.number-index 0) (length c.loop-number.makers.adding.rows.items)
+    counting-within (task_in c.args.ground.now) (atoms_in c.args.ground.now) (get_or c.args.asked.now c.loop-number.number-index 0) (place_count c.loop-number.makers.adding)
     (map counting_of c.counting.result.now) c.counting.ensures.counting c.loop-number.invariant.adding
 
 pub file_all-requires-clause-deleting : goal.file_all-requires-clause-deleting
 file_all-requires-clause-deleting c =
-    counting-within (task_in c.args.ground.now) (atoms_in c.args.ground.now) (get_or c.args.asked.now c.loop-number.number-index 0) (length c.loop-number.makers.deleting.rows.items)
+    counting-within (task_in c.args.ground.now) (atoms_in c.args.ground.now) (get_or c.args.asked.now c.loop-number.number-index 0) (place_count c.loop-number.makers.deleting)
     (map counting_of c.counting.result.now) c.counting.ensures.counting c.loop-number.invariant.deleting
 
 pub loop-number-preserved : goal.loop-number-preserved

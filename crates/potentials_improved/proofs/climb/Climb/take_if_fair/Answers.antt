@@ -28,7 +28,7 @@ are_fair_at-requires-clause-within g c =
     let t = task_in c.args.groundwork.now.ground.now in
     let a = atoms_in c.args.groundwork.now.ground.now in
     let incidence : IsIncidence t a (length (kept_instances t)) c.incidence.result.now
-    = subst (IsIncidence t a (length (kept_instances t))) (sym c.incidence.ensures) (untested t a (length (kept_instances t)) c.args.groundwork.now.tables.incidence c.args.groundwork.now.incidence) in
+    = subst (IsIncidence t a (length (kept_instances t))) (sym c.incidence.ensures) (untested t a (length (kept_instances t)) c.args.groundwork.now.input.incidence c.args.groundwork.now.incidence) in
     row-below t a c.incidence.result.now c.args.trial.atom (map number_of c.of-touching.result.now) incidence (ap (map number_of) c.of-touching.ensures)
 
 pub set_weight-requires-then-not-are_fair_at-clause-within : goal.set_weight-requires-then-not-are_fair_at-clause-within
@@ -54,7 +54,7 @@ returns g c =
     let t = task_in c.args.groundwork.now.ground.now in
     let a = atoms_in c.args.groundwork.now.ground.now in
     let incidence : IsIncidence t a (length (kept_instances t)) c.incidence.result.now
-    = subst (IsIncidence t a (length (kept_instances t))) (sym c.incidence.ensures) (untested t a (length (kept_instances t)) c.args.groundwork.now.tables.incidence c.args.groundwork.now.incidence) in
+    = subst (IsIncidence t a (length (kept_instances t))) (sym c.incidence.ensures) (untested t a (length (kept_instances t)) c.args.groundwork.now.input.incidence c.args.groundwork.now.incidence) in
     let old = c.args.self.now in
     let n = c.args.next in
     let ew = to_z-of_z w64 c.args.trial.weight (search rules) in

@@ -14,7 +14,7 @@ use Rattle.table_rows.proofs.indexed.IndexedTable.most_lost.Goals as goal
 
 pub loop-k-init : goal.loop-k-init
 loop-k-init c = record {
-  room = subst (λ n. HasWidth n c.in_ok-room.room) c.width.ensures c.in_ok-room.ensures;
+  scratch = subst (λ n. HasWidth n c.in_ok-scratch.scratch) c.width.ensures c.in_ok-scratch.ensures;
   lost = nothing-raised (question_of c.args.self.now.table.now c.args.question.now) (weight_count_of c.args.self.now.table.now) c.args.most.now c.fill.new.most c.requires.long c.fill.ensures;
 }
 
@@ -37,7 +37,7 @@ loop-k-preserved c =
     let q = question_of c.args.self.now.table.now c.args.question.now in
     let rows = candidates_of c.candidates-candidates.result in
     record {
-      room = c.in_ok-raise_from.ensures.room;
+      scratch = c.in_ok-raise_from.ensures.scratch;
       lost = raised-more q rows c.loop-k.k c.at-row.result (weight_count_of c.args.self.now.table.now) c.loop-k.most c.raise_from.new.most c.at-row.ensures c.loop-k.invariant.lost
           (subst (RaisesFrom q c.at-row.result c.loop-k.most c.raise_from.new.most) c.if-not-branch.false c.in_ok-raise_from.ensures.raised);
     }

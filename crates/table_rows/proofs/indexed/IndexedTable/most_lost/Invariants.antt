@@ -8,6 +8,6 @@ use Rattle.table_rows.proofs.indexed.IndexedTable.most_lost.Given as goal
 
 abbrev pub invariant-loop-k : goal.invariant-loop-k
 invariant-loop-k l = record {
-  room : HasWidth (length (table_of l.self.table.now).scope) l.room;
+  scratch : HasWidth (length (table_of l.self.table.now).scope) l.scratch;
   lost : AreRaisedSoFar (question_of l.self.table.now l.question) (take l.k (candidates_of l.candidates)) (weight_count_of l.self.table.now) l.most;
 }

@@ -34,10 +34,10 @@ whole c enough =
     listed-whole (length (table_of t).rows) _ c.find.new.self.free.items (omega (arith, few-sets t.rows.sets, rows)) c.in_ok-find.ensures.free
     (ap (λ n. nat_lt (length (table_of t).rows) (2 ^ n)) (sym count) ∙ sym c.is_outnumbered.ensures ∙ enough)
 
-pub returns-then-is_outnumbered-clause-room : goal.returns-then-is_outnumbered-clause-room
-returns-then-is_outnumbered-clause-room c = record {
+pub returns-then-is_outnumbered-clause-scratch : goal.returns-then-is_outnumbered-clause-scratch
+returns-then-is_outnumbered-clause-scratch c = record {
   row = ap length c.in_ok-find.ensures.row ∙ c.get.ensures.width;
-  left = left-long (goal.at.returns-then-is_outnumbered-clause-room c).After-is_outnumbered;
+  left = left-long (goal.at.returns-then-is_outnumbered-clause-scratch c).After-is_outnumbered;
 }
 
 pub returns-then-is_outnumbered-clause-raised : goal.returns-then-is_outnumbered-clause-raised
@@ -93,8 +93,8 @@ returns-clause-raised c =
     (subst (λ (from : List ℤ). RaisesTo (table_of t) from (ways (left_of changes set) (free_places changes.whens set (left_of changes set))) c.args.most.now c.raise_to.new.most c.raise_to.result) weights
     (subst (λ ws. RaisesTo (table_of t) c.weights.result.now ws c.args.most.now c.raise_to.new.most c.raise_to.result) (λ i. ways (left i) (free i)) c.raise_to.ensures.raised))
 
-pub returns-clause-room : goal.returns-clause-room
-returns-clause-room c = record {
+pub returns-clause-scratch : goal.returns-clause-scratch
+returns-clause-scratch c = record {
   row = ap length c.in_ok-find.ensures.row ∙ c.get.ensures.width;
-  left = ap length c.raise_to.ensures.set ∙ left-long (goal.at.returns-clause-room c).After-is_outnumbered;
+  left = ap length c.raise_to.ensures.set ∙ left-long (goal.at.returns-clause-scratch c).After-is_outnumbered;
 }

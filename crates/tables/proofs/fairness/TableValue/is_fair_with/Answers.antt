@@ -14,7 +14,8 @@ use Rattle.potentials.proofs.GroundLemmas.{few-atoms}
 use Rattle.potentials.proofs.FairLemmas.{below-counting}
 use Rattle.tables.specs.AllTables.{tables_of}
 use Rattle.tables.specs.ByAtom.{LosesByAll}
-use Rattle.tables.specs.Fairness.{function_of, allowed_by}
+use Rattle.potentials.specs.Fairness.{allowed_by}
+use Rattle.tables.specs.Fairness.{function_of}
 use Rattle.table_rows.specs.Losses.{indexed_of}
 use Rattle.tables.proofs.FairnessLemmas.{atoms-range, decides-within}
 use Rattle.table_rows.proofs.PlacingLemmas.{changes-in}

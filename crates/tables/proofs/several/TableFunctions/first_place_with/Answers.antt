@@ -12,7 +12,8 @@ use Rattle.lower_bounds.specs.FairTables.{IsFairAt}
 use Rattle.table_rows.specs.Losses.{indexed_of}
 use Rattle.tables.specs.AllTables.{tables_of, count_of}
 use Rattle.tables.specs.ByAtom.{LosesByAll}
-use Rattle.tables.specs.Fairness.{function_of, allowed_by}
+use Rattle.potentials.specs.Fairness.{allowed_by}
+use Rattle.tables.specs.Fairness.{function_of}
 use Rattle.tables.specs.Several.{several_of}
 use Rattle.tables.specs.Unfair.{function_in, allowance_in}
 use Rattle.tables.specs.declared.tables.IndexedTables.{IndexedTables}

@@ -1,0 +1,5 @@
+(define (domain tour)
+  (:predicates (near ?a ?b) (at ?a) (seen ?a))
+  (:action step :parameters (?a ?b)
+    :precondition (and (near ?a ?b) (at ?a) (not (seen ?b)))
+    :effect (and (not (at ?a)) (at ?b) (seen ?b))))

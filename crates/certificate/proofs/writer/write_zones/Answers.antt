@@ -1,0 +1,33 @@
+use Rattle.std.proofs.Common.{◌∙◌, arith, refl}
+use Rattle.landmark_zones.specs.Landmarks.{landmarks_of}
+use Rattle.certificate.specs.Gathering.{zone_line}
+use Rattle.certificate.proofs.GatheringLemmas.{added_begun, added_passed, all_passed, next_begun, next_passed, passed_nothing, so_far_begun}
+use Rattle.certificate.proofs.writer.write_zones.Goals as goal
+
+pub loop-number-init : goal.loop-number-init
+loop-number-init g c = record { passed = passed_nothing _ _; failures = refl; name = refl }
+
+-- what is written so far is a prefix
+pub returns-in_err-add_zone-clause-beginning : goal.returns-in_err-add_zone-clause-beginning
+returns-in_err-add_zone-clause-beginning g c = so_far_begun zone_line (landmarks_of c.args.landmarks.now).zones _ _ _ _ c.loop-number.number c.loop-number.invariant.passed
+
+pub returns-in_err-pass_on-clause-beginning : goal.returns-in_err-pass_on-clause-beginning
+returns-in_err-pass_on-clause-beginning g c =
+    next_begun zone_line (landmarks_of c.args.landmarks.now).zones _ _ _ _ c.loop-number.number c.loop-number.invariant.passed (record { atoms = c.zone.result.atoms.now; negated = c.zone.result.negated.now }) c.zone.ensures _
+    (added_begun _ _ c.loop-number.held.items _ (zone_line (record { atoms = c.zone.result.atoms.now; negated = c.zone.result.negated.now })) c.in_ok-add_zone.ensures c.pass_on.ensures.beginning)
+
+pub loop-number-preserved : goal.loop-number-preserved
+loop-number-preserved g c =
+    record {
+      passed = next_passed zone_line (landmarks_of c.args.landmarks.now).zones _ _ _ _ c.loop-number.number c.loop-number.invariant.passed (record { atoms = c.zone.result.atoms.now; negated = c.zone.result.negated.now }) c.zone.ensures _ _
+          (added_passed _ _ c.loop-number.held.items _ (zone_line (record { atoms = c.zone.result.atoms.now; negated = c.zone.result.negated.now })) c.in_ok-add_zone.ensures _ c.in_ok-pass_on.ensures.text);
+      failures = c.in_ok-pass_on.ensures.failures ∙ c.loop-number.invariant.failures;
+      name = c.in_ok-pass_on.ensures.name ∙ c.loop-number.invariant.name;
+    }
+
+pub returns-clause-text : goal.returns-clause-text
+returns-clause-text g c =
+    all_passed zone_line (landmarks_of c.args.landmarks.now).zones _ _ _ _ c.loop-number.number c.loop-number.invariant.passed (omega (arith, c.loop-number-test.false, c.zone_count-number-end.ensures))
+
+pub returns-clause-beginning : goal.returns-clause-beginning
+returns-clause-beginning g c = let passed = returns-clause-text g c in (passed.0, c.loop-number.held.items, passed.2, passed.1)

@@ -1,0 +1,265 @@
+//! The search for orders that give states great values.
+use crate::cost_partition::CostPartition;
+use crate::costs::Costs;
+use crate::goal_distances::{NO_WAY, distance_of, distances, taken};
+use crate::orders::{Order, Worth};
+use abstractions::RowGraph;
+use faults::NoMemory;
+use potentials_drafted::Chance;
+use std::alloc::Global;
+
+/// The part, in thousandths, of the states' sum of values that is left without tables that add little.
+const NEARLY_ALL: i64 = 998;
+
+/// The rows of a state, by table index.
+pub(crate) type StateRows = Vec<u32>;
+
+/// The search for orders: tables, costs of instances, and the states whose values are to be raised.
+#[derive(Drop)]
+pub(crate) struct Partitioner<'a> {
+    alloc: Global,
+    graphs: &'a [RowGraph],
+    costs: &'a Costs,
+    /// The first is the initial state.
+    states: &'a [StateRows],
+    /// For each table, the value of each state if it comes first in the order.
+    alone: Vec<Vec<i64>>,
+    /// The saturated costs of each table in that case.
+    taken: Vec<i64>,
+    chance: Chance,
+    /// Work counter (arcs, rows and instances), and its limit, after which no order is modified any more.
+    work: u64,
+    max_work: u64,
+}
+
+/// The quality of a partition: the value of the given state, and the sum of the values of all states.
+#[derive(Clone, Copy, Debug, PartialEq, Eq, PartialOrd, Ord)]
+struct Merit {
+    first: i64,
+    all: i64,
+}
+
+/// An order, with its quality.
+#[derive(Drop)]
+struct Ranked {
+    order: Order,
+    merit: Merit,
+}
+
+impl Merit {
+    /// Whether the given state has no lower value than by the other, and all states have nearly as much.
+    fn is_nearly(self, other: Merit) -> bool {
+        self.first >= other.first
+            && self.all.saturating_mul(1000) >= other.all.saturating_mul(NEARLY_ALL)
+    }
+}
+
+impl<'a> Partitioner<'a> {
+    /// A search for these tables, costs and states.
+    pub(crate) fn new(
+        alloc: Global,
+        graphs: &'a [RowGraph],
+        costs: &'a Costs,
+        states: &'a [StateRows],
+    ) -> Result<Partitioner<'a>, NoMemory> {
+        let mut partitioner = Partitioner {
+            alloc,
+            graphs,
+            costs,
+            states,
+            alone: Vec::new(alloc),
+            taken: Vec::new(alloc),
+            chance: Chance::new(),
+            work: 0,
+            max_work: 0,
+        };
+        for (table, graph) in graphs.iter().enumerate() {
+            partitioner.add(table, graph)?;
+        }
+        Ok(partitioner)
+    }
+
+    /// Records the values and the saturated costs of the table if it comes first.
+    fn add(&mut self, table: usize, graph: &RowGraph) -> Result<(), NoMemory> {
+        let alloc = self.alloc;
+        let distances = distances(alloc, graph, self.costs)?;
+        let mut given = Vec::with_capacity(alloc, self.states.len())?;
+        for rows in self.states {
+            given.push(match rows.get(table) {
+                Some(row) => or_nothing(distance_of(&distances, *row)),
+                None => 0,
+            })?;
+        }
+        self.taken
+            .push(taken(alloc, graph, &distances, self.costs)?)?;
+        self.alone.push(given)?;
+        self.count(graph);
+        Ok(())
+    }
+
+    /// Allows this much further work.
+    pub(crate) fn allow(&mut self, more: u64) {
+        self.max_work = self.work.saturating_add(more);
+    }
+
+    /// Whether the work limit is reached.
+    pub(crate) fn is_done(&self) -> bool {
+        self.work > self.max_work
+    }
+
+    /// Counts the table's arcs, rows and instances as work.
+    fn count(&mut self, graph: &RowGraph) {
+        let looks = graph
+            .arc_count()
+            .saturating_add(graph.row_count())
+            .saturating_add(graph.instance_count());
+        self.work = self.work.saturating_add(looks as u64);
+    }
+
+    /// The worth of each table for the state at this index, for the tables with a positive value in some state.
+    fn worths(&self, state: usize) -> Result<Vec<Worth>, NoMemory> {
+        let mut worths = Vec::new(self.alloc);
+        for (table, (given, taken)) in self.alone.iter().zip(&self.taken).enumerate() {
+            if given.iter().any(|value| *value > 0) {
+                worths.push(Worth {
+                    table,
+                    given: match given.get(state) {
+                        Some(value) => *value,
+                        None => 0,
+                    },
+                    taken: *taken,
+                })?;
+            }
+        }
+        Ok(worths)
+    }
+
+    /// The greedy order for the state at this index.
+    fn greedy(&self, state: usize) -> Result<Order, NoMemory> {
+        Order::by_worth(self.alloc, self.worths(state)?)
+    }
+
+    /// The partition by this order.
+    pub(crate) fn divide(&mut self, order: &Order) -> Result<CostPartition, NoMemory> {
+        for table in order.tables() {
+            if let Some(graph) = self.graphs.get(*table) {
+                self.count(graph);
+            }
+        }
+        CostPartition::new(self.alloc, self.graphs, order, self.costs)
+    }
+
+    /// The value of each state by the partition; 0 if the state is a known dead end.
+    pub(crate) fn values(&self, partition: &CostPartition) -> Result<Vec<i64>, NoMemory> {
+        let mut values = Vec::with_capacity(self.alloc, self.states.len())?;
+        for rows in self.states {
+            values.push(partition.value(rows).unwrap_or(0))?;
+        }
+        Ok(values)
+    }
+
+    /// An order that gives the initial state a great value, and among equals one with a great sum over all states: the better of
+    /// two orders, without tables that add little.
+    pub(crate) fn best_order(&mut self) -> Result<Order, NoMemory> {
+        let mut best = self.ranked(self.greedy(0)?, 0)?;
+        let other = Order::by_given(self.alloc, self.worths(0)?)?;
+        let other = self.ranked(other, 0)?;
+        if other.merit > best.merit {
+            best = other;
+        }
+        let Ranked { order, .. } = self.pruned(&best.order, 0)?;
+        Ok(order)
+    }
+
+    /// The order, improved for the initial state by hill climbing within this many trials.
+    pub(crate) fn improved(&mut self, order: Order, trials: u32) -> Result<Order, NoMemory> {
+        let ranked = self.ranked(order, 0)?;
+        self.climb(ranked, 0, trials)
+    }
+
+    /// An order with a great value of the state at this index.
+    pub(crate) fn order_for(&mut self, state: usize, trials: u32) -> Result<Order, NoMemory> {
+        let order = self.greedy(state)?;
+        let pruned = self.pruned(&order, state)?;
+        self.climb(pruned, state, trials)
+    }
+
+    /// The order without tables that add little: after them the state at this index has no lower value, and all states have
+    /// nearly as much. It drops halves, then quarters, and at last single tables, those from the end first.
+    fn pruned(&mut self, order: &Order, state: usize) -> Result<Ranked, NoMemory> {
+        let partition = self.divide(order)?;
+        let order = partition.order(self.alloc)?;
+        let mut best = self.ranked(order, state)?;
+        let mut size = best.order.tables().len();
+        for _ in 0..usize::BITS {
+            if size == 0 {
+                break;
+            }
+            best = self.pruned_by(best, state, size)?;
+            size /= 2;
+        }
+        Ok(best)
+    }
+
+    /// The same, dropping this many tables at a time.
+    fn pruned_by(&mut self, ranked: Ranked, state: usize, size: usize) -> Result<Ranked, NoMemory> {
+        let mut best = ranked;
+        let mut end = best.order.tables().len();
+        for _ in 0..best.order.tables().len() {
+            if end == 0 || self.is_done() {
+                break;
+            }
+            let start = end.saturating_sub(size);
+            let fewer = best.order.without(self.alloc, start..end)?;
+            let fewer = self.ranked(fewer, state)?;
+            if fewer.merit.is_nearly(best.merit) {
+                best = Ranked {
+                    order: fewer.order,
+                    merit: fewer.merit.max(best.merit),
+                };
+            }
+            end = start;
+        }
+        Ok(best)
+    }
+
+    /// Hill climbing: moves tables within the order as long as that is no worse, within this many trials.
+    fn climb(&mut self, best: Ranked, state: usize, trials: u32) -> Result<Order, NoMemory> {
+        let mut best = best;
+        for _ in 0..trials {
+            if self.is_done() {
+                break;
+            }
+            let from = self.chance.below(best.order.tables().len());
+            let to = self.chance.below(best.order.tables().len());
+            if from != to {
+                let moved = best.order.moved(self.alloc, from, to)?;
+                let moved = self.ranked(moved, state)?;
+                if moved.merit >= best.merit {
+                    best = moved;
+                }
+            }
+        }
+        let Ranked { order, .. } = best;
+        Ok(order)
+    }
+
+    /// The order with its quality for the state at this index and for all states.
+    fn ranked(&mut self, order: Order, state: usize) -> Result<Ranked, NoMemory> {
+        let partition = self.divide(&order)?;
+        let mut merit = Merit { first: 0, all: 0 };
+        for (place, rows) in self.states.iter().enumerate() {
+            let value = partition.value(rows).unwrap_or(0);
+            merit.all = merit.all.saturating_add(value);
+            if place == state {
+                merit.first = value;
+            }
+        }
+        Ok(Ranked { order, merit })
+    }
+}
+
+/// The distance; 0 if there is no path.
+fn or_nothing(distance: i64) -> i64 {
+    if distance == NO_WAY { 0 } else { distance }
+}
