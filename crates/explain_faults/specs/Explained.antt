@@ -7,7 +7,7 @@ use Rattle.faults.specs.declared.code.Code.{Code}
 use Rattle.faults.specs.declared.code.Code.TheVariants.{BadForm, UnknownSection, UnknownRequirement}
 use Rattle.explain_hints.specs.declared.place.LineColumn.{LineColumn}
 use Rattle.explain_hints.specs.Files.{text_in}
-use Rattle.explain_hints.specs.Places.{IsPlace}
+use Rattle.explain_hints.specs.Places.{IsPlace, lines_ended}
 use Rattle.explain_hints.specs.declared.texts.File.TheVariants.{Domain, Problem, Plan}
 use Rattle.explain_hints.specs.declared.texts.NamedTexts.{NamedTexts}
 use Rattle.explain_hints.specs.ReportedBytes.{reported_in}
@@ -18,15 +18,24 @@ use Rattle.tokens.specs.declared.word.Word.{Word}
 use Rattle.model.specs.Words.{Reads}
 use Rattle.model.specs.Trees.{domain_file, problem_file}
 
--- the first line of the report: the file, the line and the column, and the number and name of the fault
-abbrev pub heading : (name : List ℕ) → LineColumn → Code → List ℕ
-heading name place code =
-    name ++ (codes ":" ++ (decimal place.line ++ (codes ":" ++ (decimal place.column ++ (codes ": fault " ++ (decimal (number_of code)
-    ++ (codes " " ++ (faults.name_in faults.names (number_of code) ++ codes " (columns count bytes)\n"))))))))
+-- a remark that columns count bytes, or none
+abbrev pub IsRemark : List ℕ → Type 0
+IsRemark remark = (remark ≡ []) ⊎ (remark ≡ codes " (columns count bytes)")
 
--- the text begins with these bytes
-abbrev pub BeginsWith : (text beginning : List ℕ) → Type 0
-BeginsWith text beginning = (rest : List ℕ) × (text ≡ beginning ++ rest)
+-- the first line of a report: the file, the line and the column, a message, the number and name of the fault, and a remark
+abbrev pub first_line : (name : List ℕ) → LineColumn → (message : List ℕ) → Code → (remark : List ℕ) → List ℕ
+first_line name place message code remark =
+    name ++ (codes ":" ++ (decimal place.line ++ (codes ":" ++ (decimal place.column ++ (codes ": error: " ++ (message
+    ++ (codes " [" ++ (decimal (number_of code) ++ (codes " " ++ (faults.name_in faults.names (number_of code) ++ (codes "]" ++ (remark ++ codes "\n"))))))))))))
+
+-- the form of the first line of a report: a message without a line feed, and what is said of its columns
+abbrev pub heading : (name : List ℕ) → LineColumn → Code → (line : List ℕ) → Type 0
+heading name place code line =
+    (message : List ℕ) × (remark : List ℕ) × (line ≡ first_line name place message code remark) × (lines_ended message ≡ 0) × IsRemark remark
+
+-- the text begins with bytes of this form
+abbrev pub BeginsWith : (text : List ℕ) → (form : List ℕ → Type 0) → Type 0
+BeginsWith text form = (beginning : List ℕ) × (rest : List ℕ) × (text ≡ beginning ++ rest) × form beginning
 
 -- the words may occur at the fault of a domain or a problem; none are reported for a plan
 abbrev pub AreWanted : NamedTexts → FileRefusal → List Word → Type 0

@@ -14,14 +14,15 @@ use Rattle.file_answers.specs.declared.explanation.FurtherFault.{FurtherFault}
 use Rattle.file_answers.specs.declared.explanation.Location.{Location}
 
 -- a text that is extended begins as before
-pub begins_before : (new old beginning more : List ℕ) → new ≡ old ++ more → BeginsWith old beginning → BeginsWith new beginning
-begins_before new old beginning more is (rest, was) = (rest ++ more, is ∙ ap (λ t. t ++ more) was ∙ append_assoc beginning rest more)
+pub begins_before : (new old : List ℕ) (form : List ℕ → Type 0) (more : List ℕ) → new ≡ old ++ more → BeginsWith old form → BeginsWith new form
+begins_before new old form more is (beginning, rest, was, has_form) =
+    (beginning, rest ++ more, is ∙ ap (λ t. t ++ more) was ∙ append_assoc beginning rest more, has_form)
 
 -- and so it states what it stated
-pub says_before : (at : Option Location) (beginning : Location → List ℕ) (new old more : List ℕ) → new ≡ old ++ more
-    → IfSome at (λ at. BeginsWith old (beginning at)) → IfSome at (λ at. BeginsWith new (beginning at))
-says_before None beginning new old more is says = tt
-says_before (Some at) beginning new old more is says = begins_before new old (beginning at) more is says
+pub says_before : (at : Option Location) (form : Location → List ℕ → Type 0) (new old more : List ℕ) → new ≡ old ++ more
+    → IfSome at (λ at. BeginsWith old (form at)) → IfSome at (λ at. BeginsWith new (form at))
+says_before None form new old more is says = tt
+says_before (Some at) form new old more is says = begins_before new old (form at) more is says
 
 -- one more fault is reported
 pub one_more_told : (texts : NamedTexts) (told : List FurtherFault) (f : FurtherFault)

@@ -1,0 +1,343 @@
+//! The common mistakes behind faults, in sentences.
+use crate::name::Name;
+use crate::texts::File;
+use std::fmt;
+
+/// A common mistake.
+#[derive(Clone, Copy)]
+pub enum Hint<'a> {
+    /// The file begins with the byte order mark of UTF-8.
+    ByteOrderMark,
+    /// The file is in UTF-16.
+    Utf16,
+    /// The file has no bytes.
+    Empty,
+    /// The file has only blanks and comments.
+    NoWords,
+    /// The text is meant for this file.
+    Swapped(File),
+    /// The text is a certificate.
+    Certificate,
+    /// The text does not begin like a domain or a problem.
+    NoDefine,
+    /// A character beyond ASCII.
+    Character(char),
+    /// A run that is no word.
+    Run(RunMistake<'a>),
+    /// A form that the grammar does not have.
+    Form(FormMistake<'a>),
+    /// A part of PDDL that is not supported.
+    Unsupported(Part<'a>),
+    /// A requirement that the file may not need.
+    Requirement,
+    /// A plan as other planners write it.
+    OtherPlan,
+}
+
+/// What is wrong with a run of bytes that is no word.
+#[derive(Clone, Copy)]
+pub enum RunMistake<'a> {
+    /// It begins a comment of other languages.
+    Comment,
+    /// It compares numbers.
+    Comparison,
+    /// It adds, multiplies or divides.
+    Arithmetic,
+    /// A number with a sign or a point.
+    Fraction,
+    /// A `!` for `not`.
+    Negation,
+    /// It has a comma.
+    Comma,
+    /// It has a quotation mark.
+    Quotes,
+    /// A `?` alone.
+    LoneQuestionMark,
+    /// A `?` that is not at the beginning.
+    LateQuestionMark,
+    /// A hyphen right before this name.
+    Hyphen(&'a [u8]),
+    /// A name that begins with a digit or an underscore.
+    Beginning,
+    /// A name with a character that names do not have.
+    Letters,
+}
+
+/// A form that the grammar does not have.
+#[derive(Clone, Copy)]
+pub enum FormMistake<'a> {
+    /// Several formulas where one is required.
+    Formulas,
+    /// Several effects where one is required.
+    Effects,
+    /// Several lists in a `when` or a `forall`.
+    Lists,
+    /// Several formulas in a `not`.
+    Negated,
+    /// A list in `:init` that is no fact: one with `and`, or a list of facts.
+    InitList,
+    /// A fact at a time.
+    TimedFact,
+    /// A variable of a quantifier outside parentheses.
+    BareVariable {
+        /// `forall` or `exists`.
+        quantifier: &'a [u8],
+        /// The variable.
+        variable: &'a [u8],
+    },
+    /// A name in place of a variable.
+    NoQuestionMark(&'a [u8]),
+    /// A type without a hyphen before it.
+    NoHyphen(&'a [u8]),
+    /// A variable that ends with a hyphen, before a type.
+    HyphenAtEnd(&'a [u8]),
+    /// An `or` in an effect.
+    Or,
+    /// An `exists` in an effect.
+    Exists,
+    /// An `imply` in an effect.
+    Imply,
+    /// A difference of costs.
+    Arithmetic,
+}
+
+/// A part of PDDL that is not supported.
+#[derive(Clone, Copy)]
+pub enum Part<'a> {
+    /// Actions with durations.
+    Durations,
+    /// Derived predicates.
+    Derived,
+    /// Constraints on trajectories.
+    Constraints,
+    /// Preferences.
+    Preferences,
+    /// This numeric effect other than `increase`.
+    NumericEffect(&'a [u8]),
+    /// A metric to be maximized.
+    Maximize,
+    /// A metric of a function other than `total-cost`.
+    OtherMetric,
+    /// An increase of a function other than `total-cost`.
+    OtherIncrease,
+    /// A function that is probably meant to be `total-cost`.
+    NearTotalCost,
+    /// A `when` in a `when`.
+    WhenInWhen,
+    /// A `forall` in a `when`.
+    ForallInWhen,
+}
+
+impl Hint<'_> {
+    /// Whether the sentence takes the place of the fault's own one, since it says better what is wrong. It then has no capital at
+    /// its beginning and no full stop at its end.
+    pub fn is_message(self) -> bool {
+        !matches!(self, Hint::NoDefine | Hint::Requirement | Hint::OtherPlan)
+    }
+
+    /// A second sentence: what to do, if that is known.
+    pub fn advice(self) -> Option<&'static str> {
+        match self {
+            Hint::ByteOrderMark => Some("Save it as ASCII, or as UTF-8 without the mark."),
+            Hint::Utf16 => Some("Save it as ASCII or UTF-8."),
+            Hint::Certificate => Some("`optplan check` reads certificates."),
+            Hint::Character(character) => advice_on(character),
+            Hint::Form(FormMistake::InitList) => Some(
+                "Write the facts one after another, without `and`.",
+            ),
+            Hint::Form(FormMistake::Or) => Some("Write an action for each choice."),
+            Hint::Form(FormMistake::Exists) => Some("Make the variable a parameter of the action."),
+            Hint::Unsupported(part) => part.advice(),
+            _ => None,
+        }
+    }
+}
+
+/// What to write in place of a character beyond ASCII.
+fn advice_on(character: char) -> Option<&'static str> {
+    match character {
+        '\u{2010}'..='\u{2015}' | '\u{2212}' => Some("Write `-`."),
+        '\u{a0}' | '\u{2000}'..='\u{200a}' | '\u{202f}' => Some("Write a plain blank."),
+        _ => None,
+    }
+}
+
+impl Part<'_> {
+    /// A way round, if there is one.
+    fn advice(self) -> Option<&'static str> {
+        match self {
+            Part::Durations => Some(
+                "If steps need not overlap, use `:action` with `(increase (total-cost) 10)` for a duration of 10.",
+            ),
+            Part::Preferences => Some(
+                "For each, add an action that gives it up, with its penalty as the cost.",
+            ),
+            Part::OtherMetric => {
+                Some("Rename the function, or leave out the metric: each step then costs 1.")
+            }
+            Part::OtherIncrease => Some("Other numbers never change: leave the effect out."),
+            Part::WhenInWhen => Some("Join the conditions: `(when (and ..) ..)`."),
+            Part::ForallInWhen => Some("Put the `forall` around the `when`."),
+            Part::Derived | Part::Constraints | Part::NumericEffect(_) => None,
+            Part::Maximize | Part::NearTotalCost => None,
+        }
+    }
+}
+
+impl fmt::Display for Hint<'_> {
+    fn fmt<W: fmt::Write>(&self, f: &mut fmt::Formatter<W>) -> fmt::Result {
+        match self {
+            Hint::ByteOrderMark => write!(f, "the file begins with a byte order mark"),
+            Hint::Utf16 => write!(f, "the file is in UTF-16"),
+            Hint::Empty => write!(f, "the file is empty"),
+            Hint::NoWords => write!(f, "the file has only blanks and comments"),
+            Hint::Swapped(file) => write!(f, "this is a {file}: are the files swapped?"),
+            Hint::Certificate => write!(f, "this is a certificate, not a plan"),
+            Hint::NoDefine => write!(
+                f,
+                "A domain begins with `(define (domain NAME)`, a problem with `(define (problem NAME)`."
+            ),
+            Hint::Character(character) => write!(f, "{}", Character(*character)),
+            Hint::Run(mistake) => write!(f, "{mistake}"),
+            Hint::Form(mistake) => write!(f, "{mistake}"),
+            Hint::Unsupported(part) => write!(f, "{part}"),
+            Hint::Requirement => write!(f, "If the file does not use it, leave it out."),
+            Hint::OtherPlan => write!(f, "`tools/plan-of` rewrites plans of other planners."),
+        }
+    }
+}
+
+/// A character beyond ASCII in a sentence.
+#[derive(Clone, Copy)]
+struct Character(char);
+
+impl fmt::Display for Character {
+    fn fmt<W: fmt::Write>(&self, f: &mut fmt::Formatter<W>) -> fmt::Result {
+        let Character(character) = *self;
+        let number = u32::from(character);
+        if is_printed(character) {
+            write!(
+                f,
+                "`{character}` is not ASCII; only comments may contain it"
+            )
+        } else {
+            write!(
+                f,
+                "the character U+{number:04X} is not ASCII; only comments may contain it"
+            )
+        }
+    }
+}
+
+/// Whether a character can be shown as it is: letters from left to right, and punctuation with a width of its own.
+fn is_printed(character: char) -> bool {
+    matches!(character,
+        '\u{a1}'..='\u{ac}' | '\u{ae}'..='\u{2ff}' | '\u{370}'..='\u{482}' | '\u{48a}'..='\u{58f}'
+        | '\u{1e00}'..='\u{1fff}' | '\u{2010}'..='\u{2027}' | '\u{2030}'..='\u{205e}' | '\u{20a0}'..='\u{20bf}'
+        | '\u{2100}'..='\u{2bff}' | '\u{3041}'..='\u{3096}' | '\u{30a0}'..='\u{9fff}' | '\u{ac00}'..='\u{d7a3}')
+}
+
+impl fmt::Display for RunMistake<'_> {
+    fn fmt<W: fmt::Write>(&self, f: &mut fmt::Formatter<W>) -> fmt::Result {
+        match self {
+            RunMistake::Comment => write!(f, "a comment begins with `;`"),
+            RunMistake::Comparison => write!(f, "numeric conditions are not supported"),
+            RunMistake::Arithmetic => write!(f, "{ARITHMETIC}"),
+            RunMistake::Fraction => write!(f, "a cost is a whole number of 0 or more"),
+            RunMistake::Negation => write!(f, "a negation is written `(not ..)`, without `!`"),
+            RunMistake::Comma => write!(f, "words are separated by blanks, not by commas"),
+            RunMistake::Quotes => write!(f, "names have no quotation marks"),
+            RunMistake::LoneQuestionMark => {
+                write!(f, "no blank may follow the `?` of a variable")
+            }
+            RunMistake::LateQuestionMark => write!(f, "a variable begins with `?`, as in `?x`"),
+            RunMistake::Hyphen(name) => {
+                write!(f, "a blank is missing after the `-` before {}", Name(name))
+            }
+            RunMistake::Beginning => write!(f, "a name begins with a letter"),
+            RunMistake::Letters => write!(f, "a name has only letters, digits, `-` and `_`"),
+        }
+    }
+}
+
+/// The sentence about `(+ ..)` and `(- ..)`.
+const ARITHMETIC: &str =
+    "a cost is a number or a function of objects; sums and products are not supported";
+
+impl fmt::Display for FormMistake<'_> {
+    fn fmt<W: fmt::Write>(&self, f: &mut fmt::Formatter<W>) -> fmt::Result {
+        match self {
+            FormMistake::Formulas => write!(f, "put the formulas into one `(and ..)`"),
+            FormMistake::Effects => write!(f, "put the effects into one `(and ..)`"),
+            FormMistake::Lists => write!(f, "put what belongs together into one `(and ..)`"),
+            FormMistake::Negated => write!(f, "`not` takes one formula"),
+            FormMistake::InitList => write!(f, "`:init` is a list of facts"),
+            FormMistake::TimedFact => write!(
+                f,
+                "facts that become true at a time (PDDL 2.2) are not supported"
+            ),
+            FormMistake::BareVariable {
+                quantifier,
+                variable,
+            } => write!(
+                f,
+                "variables are in parentheses: `({} ({} ..) ..)`",
+                quantifier.escape_ascii(),
+                variable.escape_ascii()
+            ),
+            FormMistake::NoQuestionMark(name) => {
+                write!(
+                    f,
+                    "a variable begins with `?`; did you mean `?{}`?",
+                    name.escape_ascii()
+                )
+            }
+            FormMistake::NoHyphen(name) => {
+                write!(f, "a `-` is missing before the type {}", Name(name))
+            }
+            FormMistake::HyphenAtEnd(variable) => {
+                write!(
+                    f,
+                    "a blank is missing before the `-` at the end of {}",
+                    Name(variable)
+                )
+            }
+            FormMistake::Or => write!(f, "an effect cannot be a choice"),
+            FormMistake::Exists => write!(f, "an effect cannot choose an object"),
+            FormMistake::Imply => {
+                write!(
+                    f,
+                    "an effect with a condition is written `(when CONDITION EFFECT)`"
+                )
+            }
+            FormMistake::Arithmetic => write!(f, "{ARITHMETIC}"),
+        }
+    }
+}
+
+impl fmt::Display for Part<'_> {
+    fn fmt<W: fmt::Write>(&self, f: &mut fmt::Formatter<W>) -> fmt::Result {
+        match self {
+            Part::Durations => write!(f, "durations (PDDL 2.1) are not supported"),
+            Part::Derived => write!(f, "derived predicates (PDDL 2.2) are not supported"),
+            Part::Constraints => {
+                write!(f, "constraints on trajectories (PDDL 3) are not supported")
+            }
+            Part::Preferences => write!(f, "preferences (PDDL 3) are not supported"),
+            Part::NumericEffect(name) => write!(
+                f,
+                "{} is not supported: only the total cost changes, by `increase`",
+                Name(name)
+            ),
+            Part::Maximize => write!(
+                f,
+                "nothing can be maximized; the one metric is `minimize (total-cost)`"
+            ),
+            Part::OtherMetric => write!(f, "only `(total-cost)` can be minimized"),
+            Part::OtherIncrease => write!(f, "only `(total-cost)` can be increased"),
+            Part::NearTotalCost => write!(f, "did you mean `total-cost`?"),
+            Part::WhenInWhen => write!(f, "a `when` cannot contain another one"),
+            Part::ForallInWhen => write!(f, "a `when` cannot contain a `forall`"),
+        }
+    }
+}
