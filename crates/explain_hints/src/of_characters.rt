@@ -9,7 +9,10 @@ pub(crate) fn of_character<'a>(text: &[u8], at: usize) -> Option<Hint<'a>> {
     } else if at == 0 && text.starts_with(b"\xef\xbb\xbf") {
         Some(Hint::ByteOrderMark)
     } else {
-        character_at(text, at).map(Hint::Character)
+        match character_at(text, at) {
+            Some(character) => Some(Hint::Character(character)),
+            None => None,
+        }
     }
 }
 
