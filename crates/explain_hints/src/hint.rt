@@ -186,26 +186,28 @@ impl Part<'_> {
 
 impl fmt::Display for Hint<'_> {
     fn fmt<W: fmt::Write>(&self, f: &mut fmt::Formatter<W>) -> fmt::Result {
-        match self {
-            Hint::ByteOrderMark => write!(f, "the file begins with a byte order mark"),
-            Hint::Utf16 => write!(f, "the file is in UTF-16"),
-            Hint::Empty => write!(f, "the file is empty"),
-            Hint::NoWords => write!(f, "the file has only blanks and comments"),
-            Hint::Swapped(file) => write!(f, "this is a {file}: are the files swapped?"),
-            Hint::Certificate => write!(f, "this is a certificate, not a plan"),
-            Hint::NoDefine => write!(
-                f,
-                "A domain begins with `(define (domain NAME)`, a problem with `(define (problem NAME)`."
-            ),
-            Hint::Character(character) => write!(f, "{}", Character(*character)),
-            Hint::Run(mistake) => write!(f, "{mistake}"),
-            Hint::Form(mistake) => write!(f, "{mistake}"),
-            Hint::Unsupported(part) => write!(f, "{part}"),
-            Hint::Requirement => write!(f, "If the file does not use it, leave it out."),
-            Hint::OtherPlan => write!(f, "`tools/plan-of` rewrites plans of other planners."),
-        }
+        let text = match self {
+            Hint::ByteOrderMark => "the file begins with a byte order mark",
+            Hint::Utf16 => "the file is in UTF-16",
+            Hint::Empty => "the file is empty",
+            Hint::NoWords => "the file has only blanks and comments",
+            Hint::Certificate => "this is a certificate, not a plan",
+            Hint::NoDefine => BEGINNINGS,
+            Hint::Requirement => "If the file does not use it, leave it out.",
+            Hint::OtherPlan => "`tools/plan-of` rewrites plans of other planners.",
+            Hint::Swapped(file) => return write!(f, "this is a {file}: are the files swapped?"),
+            Hint::Character(character) => return write!(f, "{}", Character(*character)),
+            Hint::Run(mistake) => return write!(f, "{mistake}"),
+            Hint::Form(mistake) => return write!(f, "{mistake}"),
+            Hint::Unsupported(part) => return write!(f, "{part}"),
+        };
+        write!(f, "{text}")
     }
 }
+
+/// The sentence about a text that does not begin like a domain or a problem.
+const BEGINNINGS: &str =
+    "A domain begins with `(define (domain NAME)`, a problem with `(define (problem NAME)`.";
 
 /// A character beyond ASCII in a sentence.
 #[derive(Clone, Copy)]
@@ -239,24 +241,23 @@ fn is_printed(character: char) -> bool {
 
 impl fmt::Display for RunMistake<'_> {
     fn fmt<W: fmt::Write>(&self, f: &mut fmt::Formatter<W>) -> fmt::Result {
-        match self {
-            RunMistake::Comment => write!(f, "a comment begins with `;`"),
-            RunMistake::Comparison => write!(f, "numeric conditions are not supported"),
-            RunMistake::Arithmetic => write!(f, "{ARITHMETIC}"),
-            RunMistake::Fraction => write!(f, "a cost is a whole number of 0 or more"),
-            RunMistake::Negation => write!(f, "a negation is written `(not ..)`, without `!`"),
-            RunMistake::Comma => write!(f, "words are separated by blanks, not by commas"),
-            RunMistake::Quotes => write!(f, "names have no quotation marks"),
-            RunMistake::LoneQuestionMark => {
-                write!(f, "no blank may follow the `?` of a variable")
-            }
-            RunMistake::LateQuestionMark => write!(f, "a variable begins with `?`, as in `?x`"),
+        let text = match self {
+            RunMistake::Comment => "a comment begins with `;`",
+            RunMistake::Comparison => "numeric conditions are not supported",
+            RunMistake::Arithmetic => ARITHMETIC,
+            RunMistake::Fraction => "a cost is a whole number of 0 or more",
+            RunMistake::Negation => "a negation is written `(not ..)`, without `!`",
+            RunMistake::Comma => "words are separated by blanks, not by commas",
+            RunMistake::Quotes => "names have no quotation marks",
+            RunMistake::LoneQuestionMark => "no blank may follow the `?` of a variable",
+            RunMistake::LateQuestionMark => "a variable begins with `?`, as in `?x`",
+            RunMistake::Beginning => "a name begins with a letter",
+            RunMistake::Letters => "a name has only letters, digits, `-` and `_`",
             RunMistake::Hyphen(name) => {
-                write!(f, "a blank is missing after the `-` before {}", Name(name))
+                return write!(f, "a blank is missing after the `-` before {}", Name(name));
             }
-            RunMistake::Beginning => write!(f, "a name begins with a letter"),
-            RunMistake::Letters => write!(f, "a name has only letters, digits, `-` and `_`"),
-        }
+        };
+        write!(f, "{text}")
     }
 }
 
@@ -266,78 +267,79 @@ const ARITHMETIC: &str =
 
 impl fmt::Display for FormMistake<'_> {
     fn fmt<W: fmt::Write>(&self, f: &mut fmt::Formatter<W>) -> fmt::Result {
-        match self {
-            FormMistake::Formulas => write!(f, "put the formulas into one `(and ..)`"),
-            FormMistake::Effects => write!(f, "put the effects into one `(and ..)`"),
-            FormMistake::Lists => write!(f, "put what belongs together into one `(and ..)`"),
-            FormMistake::Negated => write!(f, "`not` takes one formula"),
-            FormMistake::InitList => write!(f, "`:init` is a list of facts"),
-            FormMistake::TimedFact => write!(
-                f,
+        let text = match self {
+            FormMistake::Formulas => "put the formulas into one `(and ..)`",
+            FormMistake::Effects => "put the effects into one `(and ..)`",
+            FormMistake::Lists => "put what belongs together into one `(and ..)`",
+            FormMistake::Negated => "`not` takes one formula",
+            FormMistake::InitList => "`:init` is a list of facts",
+            FormMistake::TimedFact => {
                 "facts that become true at a time (PDDL 2.2) are not supported"
-            ),
+            }
+            FormMistake::Or => "an effect cannot be a choice",
+            FormMistake::Exists => "an effect cannot choose an object",
+            FormMistake::Imply => "an effect with a condition is written `(when CONDITION EFFECT)`",
+            FormMistake::Arithmetic => ARITHMETIC,
             FormMistake::BareVariable {
                 quantifier,
                 variable,
-            } => write!(
-                f,
-                "variables are in parentheses: `({} ({} ..) ..)`",
-                quantifier.escape_ascii(),
-                variable.escape_ascii()
-            ),
+            } => return write_quantified(quantifier, variable, f),
             FormMistake::NoQuestionMark(name) => {
-                write!(
-                    f,
-                    "a variable begins with `?`; did you mean `?{}`?",
-                    name.escape_ascii()
-                )
+                let name = name.escape_ascii();
+                return write!(f, "a variable begins with `?`; did you mean `?{name}`?");
             }
             FormMistake::NoHyphen(name) => {
-                write!(f, "a `-` is missing before the type {}", Name(name))
+                return write!(f, "a `-` is missing before the type {}", Name(name));
             }
             FormMistake::HyphenAtEnd(variable) => {
-                write!(
+                let variable = Name(variable);
+                return write!(
                     f,
-                    "a blank is missing before the `-` at the end of {}",
-                    Name(variable)
-                )
+                    "a blank is missing before the `-` at the end of {variable}"
+                );
             }
-            FormMistake::Or => write!(f, "an effect cannot be a choice"),
-            FormMistake::Exists => write!(f, "an effect cannot choose an object"),
-            FormMistake::Imply => {
-                write!(
-                    f,
-                    "an effect with a condition is written `(when CONDITION EFFECT)`"
-                )
-            }
-            FormMistake::Arithmetic => write!(f, "{ARITHMETIC}"),
-        }
+        };
+        write!(f, "{text}")
     }
+}
+
+/// Writes the sentence about a quantifier whose variables are not in parentheses.
+fn write_quantified<W: fmt::Write>(
+    quantifier: &[u8],
+    variable: &[u8],
+    f: &mut fmt::Formatter<W>,
+) -> fmt::Result {
+    let quantifier = quantifier.escape_ascii();
+    let variable = variable.escape_ascii();
+    write!(
+        f,
+        "variables are in parentheses: `({quantifier} ({variable} ..) ..)`"
+    )
 }
 
 impl fmt::Display for Part<'_> {
     fn fmt<W: fmt::Write>(&self, f: &mut fmt::Formatter<W>) -> fmt::Result {
-        match self {
-            Part::Durations => write!(f, "durations (PDDL 2.1) are not supported"),
-            Part::Derived => write!(f, "derived predicates (PDDL 2.2) are not supported"),
-            Part::Constraints => {
-                write!(f, "constraints on trajectories (PDDL 3) are not supported")
+        let text = match self {
+            Part::Durations => "durations (PDDL 2.1) are not supported",
+            Part::Derived => "derived predicates (PDDL 2.2) are not supported",
+            Part::Constraints => "constraints on trajectories (PDDL 3) are not supported",
+            Part::Preferences => "preferences (PDDL 3) are not supported",
+            Part::Maximize => {
+                "nothing can be maximized; the only metric is `minimize (total-cost)`"
             }
-            Part::Preferences => write!(f, "preferences (PDDL 3) are not supported"),
-            Part::NumericEffect(name) => write!(
-                f,
-                "{} is not supported: only the total cost changes, by `increase`",
-                Name(name)
-            ),
-            Part::Maximize => write!(
-                f,
-                "nothing can be maximized; the one metric is `minimize (total-cost)`"
-            ),
-            Part::OtherMetric => write!(f, "only `(total-cost)` can be minimized"),
-            Part::OtherIncrease => write!(f, "only `(total-cost)` can be increased"),
-            Part::NearTotalCost => write!(f, "did you mean `total-cost`?"),
-            Part::WhenInWhen => write!(f, "a `when` cannot contain another one"),
-            Part::ForallInWhen => write!(f, "a `when` cannot contain a `forall`"),
-        }
+            Part::OtherMetric => "only `(total-cost)` can be minimized",
+            Part::OtherIncrease => "only `(total-cost)` can be increased",
+            Part::NearTotalCost => "did you mean `total-cost`?",
+            Part::WhenInWhen => "a `when` cannot contain another one",
+            Part::ForallInWhen => "a `when` cannot contain a `forall`",
+            Part::NumericEffect(name) => {
+                let name = Name(name);
+                return write!(
+                    f,
+                    "{name} is not supported: only the total cost changes, by `increase`"
+                );
+            }
+        };
+        write!(f, "{text}")
     }
 }

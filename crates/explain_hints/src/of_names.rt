@@ -1,6 +1,8 @@
 //! Help for unknown names and for names declared twice (codes 14 to 17, 20, 32).
 use crate::context::{Context, names_of};
-use crate::declarations::{declared_after_head, declared_as, declared_in, in_scope, section};
+use crate::declarations::{
+    TypedName, declared_after_head, declared_as, declared_in, in_scope, section,
+};
 use crate::help::{FileOffset, Help, Named};
 use crate::lists::{children, head_of, heads, list_from, opening_of};
 use crate::near::meant_by;
@@ -62,14 +64,18 @@ fn variable_named<'a>(alloc: Global, context: &Context<'a>) -> Result<Option<&'a
         return Ok(None);
     };
     let variables = in_scope(alloc, context.here(), at)?;
-    let found = variables.iter().find(|one| {
-        let name = one.name.text.get(1..).unwrap_or(b"");
-        name.eq_ignore_ascii_case(context.word)
-    });
-    match found {
-        Some(one) => Ok(Some(one.name.text)),
-        None => Ok(None),
+    Ok(variable_among(variables.as_slice(), context.word))
+}
+
+/// The first of these variables that has this name after its `?`.
+fn variable_among<'a>(variables: &[TypedName<'_, 'a>], name: &[u8]) -> Option<&'a [u8]> {
+    for one in variables {
+        match one.name.text {
+            [b'?', rest @ ..] if rest.eq_ignore_ascii_case(name) => return Some(one.name.text),
+            _ => {}
+        }
     }
+    None
 }
 
 /// The variable of that name; or where the problem declares an object that the domain names; otherwise the objects that may be
