@@ -1,9 +1,9 @@
 //! The report of a fault: its first line, its line with marks, and sentences.
-ghost use Rattle.std.specs.Prelude.{◌≡◌, IfOk};
+ghost use Rattle.std.specs.Prelude.{◌≡◌, ◌++◌, IfOk};
 ghost use Rattle.std.specs.String.{string_bytes};
-ghost use Rattle.explain_hints.specs.Files.{name_in};
+ghost use Rattle.explain_hints.specs.Files.{name_in, text_in};
 ghost use Rattle.explain_hints.specs.Places.{lines_ended};
-ghost use Rattle.explain_faults.specs.Explained.{BeginsWith, IsRemark, first_line, heading};
+ghost use Rattle.explain_faults.specs.Explained.{BeginsWith, IsHeading, IsRemarkAt, line_beginning, line_end};
 
 use crate::explanation::FaultExplanation;
 use explain_hints::{LineColumn, NamedTexts, line_at, marked, place_of};
@@ -23,21 +23,28 @@ impl FaultExplanation<'_> {
     /// # Errors
     /// An allocation failed.
     pub fn text(&self, alloc: Global, texts: &NamedTexts<'_>) -> Result<String, NoMemory>
-        ensures { IfOk result (λ text. BeginsWith (string_bytes text) (heading (name_in texts.now self.now.fault.file) self.now.place self.now.fault.code)) }
+        ensures { IfOk result (λ text. BeginsWith (string_bytes text) (IsHeading (name_in texts.now self.now.fault.file) (text_in texts.now self.now.fault.file) self.now.fault.span.start self.now.place self.now.fault.code)) }
+    {
+        let mut out = self.first_line(alloc, texts)?;
+        let after = self.lines_after(alloc, texts)?;
+        out.push_str(after.as_str())?;
+        Ok(out)
+    }
+
+    /// The first line: what is wrong, and where.
+    fn first_line(&self, alloc: Global, texts: &NamedTexts<'_>) -> Result<String, NoMemory>
+        ensures { IfOk result (λ line. IsHeading (name_in texts.now self.now.fault.file) (text_in texts.now self.now.fault.file) self.now.fault.span.start self.now.place self.now.fault.code (string_bytes line)) }
     {
         let mut sentence = String::new(alloc);
         self.add_message(alloc, texts, &mut sentence)?;
-        let first = FirstLine {
+        let line = FirstLine {
             name: texts.name(self.fault.file),
             place: self.place,
             message: message_in(sentence.as_str()),
             code: self.fault.code,
+            remark: remark_on(texts.text(self.fault.file), self.fault.span.start),
         };
-        let after = self.lines_after(alloc, texts)?;
-        let remark = remark_on(texts.text(self.fault.file), self.fault.span.start);
-        let mut out = first.text(alloc, remark)?;
-        out.push_str(after.as_str())?;
-        Ok(out)
+        Ok(line.text(alloc)?)
     }
 
     /// The lines after the first one.
@@ -64,30 +71,46 @@ struct FirstLine<'a> {
     place: LineColumn,
     message: &'a str,
     code: Code,
+    remark: &'static str,
 }
 
 impl FirstLine<'_> {
-    /// The line, with a remark at its end.
-    fn text(self, alloc: Global, remark: &str) -> Result<String, AllocError>
-        ensures { IfOk result (λ line. string_bytes line ≡ first_line self.entry.name.now self.entry.place self.entry.message.now self.entry.code remark.now) }
+    /// The line, with its LF.
+    fn text(self, alloc: Global) -> Result<String, AllocError>
+        ensures { IfOk result (λ line. string_bytes line ≡ line_beginning self.entry.name.now self.entry.place self.entry.message.now ++ line_end self.entry.code self.entry.remark.now) }
+    {
+        let mut line = self.beginning(alloc)?;
+        let end = self.end(alloc)?;
+        line.push_str(end.as_str())?;
+        Ok(line)
+    }
+
+    /// The place and the message.
+    fn beginning(self, alloc: Global) -> Result<String, AllocError>
+        ensures { IfOk result (λ text. string_bytes text ≡ line_beginning self.entry.name.now self.entry.place self.entry.message.now) }
     {
         let (name, message) = (self.name, self.message);
         let (line, column) = (self.place.line, self.place.column);
+        format!(in alloc; "{name}:{line}:{column}: error: {message}")
+    }
+
+    /// The number and name of the fault, and the remark.
+    fn end(self, alloc: Global) -> Result<String, AllocError>
+        ensures { IfOk result (λ text. string_bytes text ≡ line_end self.entry.code self.entry.remark.now) }
+    {
+        let remark = self.remark;
         let number = self.code.number();
         let code = self.code.name();
-        format!(in alloc; "{name}:{line}:{column}: error: {message} [{number} {code}]{remark}\n")
+        format!(in alloc; " [{number} {code}]{remark}\n")
     }
 }
 
-/// What a report says about the columns of this line: that they count bytes, if some character has several.
+/// What a report says about the columns of the line at this offset: that they count bytes, if some byte is not ASCII.
 fn remark_on(text: &[u8], offset: usize) -> &'static str
-    ensures { IsRemark result.now }
+    ensures { IsRemarkAt text.now offset result.now }
 {
     let line = line_at(text, offset);
-    let is_ascii = text
-        .get(line.start..line.end)
-        .is_none_or(|bytes| bytes.iter().all(|byte| byte.is_ascii()));
-    if is_ascii {
+    if text[line.start..line.end].is_ascii() {
         ""
     } else {
         " (columns count bytes)"

@@ -72,7 +72,7 @@ impl FaultExplanation<'_> {
         if !self.is_rewritable(word) {
             None
         } else if word.eq_ignore_ascii_case(b":derived") {
-            Some("`tools/ipc-files` can rewrite it, unless it is recursive.")
+            Some("`tools/ipc-files` can rewrite this, unless it is recursive.")
         } else {
             Some("`tools/ipc-files` can rewrite this.")
         }
@@ -363,7 +363,7 @@ fn add_early_end(
     let section = FilePlace::of(texts, early.section);
     write!(
         out,
-        "the `)` at {end} closes `(define`; is one `)` too many in {name}, from {section}?"
+        "the `)` at {end} closes `(define`: is there one `)` too many in {name}, which begins at {section}?"
     )
 }
 
