@@ -14,7 +14,7 @@ use Rattle.explain_hints.specs.declared.texts.NamedTexts.{NamedTexts}
 use Rattle.validator.specs.Verdict.{verdict_of}
 use Rattle.validator.specs.declared.verdict.Verdict.{Verdict}
 use Rattle.validator.specs.declared.verdict.Verdict.TheVariants.{NotApplicable}
-use Rattle.file_answers.specs.ExplanationLines.{Files, Named, IsLocated, IsSaidOf, IsStepLocated, IsSubjectLocated, SaySubject, IsPlanSaid, IsStepAt, IsToldIn, SayFurther, file_in, files_of, named_of}
+use Rattle.file_answers.specs.ExplanationLines.{Files, Named, BeginAt, IsLocated, IsSaidOf, IsStepLocated, IsSubjectLocated, SaySubject, IsPlanSaid, IsStepAt, IsToldIn, SayFurther, file_in, files_of, named_of}
 use Rattle.file_answers.specs.Explanations.{IsFaultExplained, IsLocatedIf, IsOfFault, IsPlanTold, IsStepFound, IsStepOf, IsTaskExplained, IsTrueOf, IsVerdictExplained, files_in, in_texts, text_in}
 use Rattle.file_answers.specs.Files.{reported_in}
 use Rattle.file_answers.specs.FurtherFaults.{IsToldOf}
@@ -73,10 +73,15 @@ module _ (texts : NamedTexts) (files : Files) (among : AreAmong files texts) whe
     located None same = tt
     located (Some named) same = subst (λ (named : Named). IsSomeAnd e.location (IsLocated named span)) (sym same) is.located
 
+    begun : (named : Option Named) → IfSome named (λ named. named ≡ in_texts texts file)
+        → IfSome named (λ named. IfSome e.location (λ at. BeginAt named code span at (string_bytes e.text)))
+    begun None same = tt
+    begun (Some named) same = subst (λ (named : Named). IfSome e.location (λ at. BeginAt named code span at (string_bytes e.text))) (sym same) is.says
+
     fault_said : IsSaidOf files e
     fault_said = record {
       located = subst (λ (s : Subject). IsSubjectLocated files s e.location) (sym is.subject) (located (file_in files file) (among file));
-      lines = subst (λ (s : Subject). SaySubject files s e.location (map string_bytes e.notes.items) (string_bytes e.text)) (sym is.subject) is.says;
+      lines = subst (λ (s : Subject). SaySubject files s e.location (map string_bytes e.notes.items) (string_bytes e.text)) (sym is.subject) (begun (file_in files file) (among file));
       further = λ k f below. told_in (get_or e.further.items k f) (is.further k f below);
       further_lines = subst (λ (s : Subject). SayFurther s e.further.items (string_bytes e.text)) (sym is.subject) is.says_further;
     }
