@@ -1,5 +1,5 @@
 //! A search by potentials that pauses to look for tables.
-ghost use Rattle.std.specs.Prelude.{◌≡◌, [], IfOk, length};
+ghost use Rattle.std.specs.Prelude.{◌≡◌, [], IfOk, IsTrue, is_some, length};
 ghost use Rattle.grounding.specs.Ground.{task_in, atoms_in, IsGroundOf};
 ghost use Rattle.ground_listings.specs.GroundListing.{listed_width};
 ghost use Rattle.potentials.specs.Potentials.{potentials_of};
@@ -184,18 +184,48 @@ fn search_to_pause<'l, 't, G: Guide, E: Sink + Clock>(
         Stretch::Paused(search) => {
             match solve_at_pause(session.setting, &search, drafting, err)? {
                 Attempt::Done(answer) => {
-                    // A search by tables that ran out of time may not have come as far as this one.
-                    if is_outdone(&answer, search.bound()) && session.setting.limits.are_over(err) {
-                        let ending = stop_by(session, search)?;
-                        return Ok(Part::Ended(Parts::ByGuide(ending)));
-                    }
-                    Ok(Part::Ended(Parts::ByTables(answer)))
+                    let parts = end_by_tables(session, search, answer, err)?;
+                    Ok(Part::Ended(parts))
                 }
                 Attempt::Promising => Ok(Part::Promising(search)),
                 Attempt::InVain => Ok(Part::InVain(search)),
             }
         }
     }
+}
+
+/// The end by this answer, which tables gave. If they ran out of time before they came as far as this search, it is the search's own.
+fn end_by_tables<'l, 't, G: Guide, C: Clock>(
+    session: &Session<'_, 'l, 't, G>,
+    search: Search<GroundListing<'l, 't>, G::Scratch>,
+    answer: Answer,
+    clock: &C,
+) -> Result<Parts<'l, 't>, NoMemory>
+    requires space { IsSearchSpace session.now.setting.space }
+    requires system { G.system_of session.now.guide.now ≡ system_of session.now.setting.space }
+    requires under_way { IsUnderWay session.now.setting.space (G.estimate_of session.now.guide.now) (G.is_dead session.now.guide.now) (G.fits session.now.guide.now) session.now.setting.limits.states search }
+    requires answer { IsTrueAnswer (task_in (ground_in session.now.setting.space)) session.now.setting.limits.seconds session.now.setting.limits.states session.now.setting.limits.instances answer }
+    ensures { IfOk result (IsTrueEnd session.now.setting.space (G.estimate_of session.now.guide.now) (G.is_dead session.now.guide.now) session.now.setting.limits) }
+{
+    if is_outdone(&answer, search.bound()) && session.setting.limits.are_over(clock) {
+        return end_in_time(session, search);
+    }
+    Ok(Parts::ByTables(answer))
+}
+
+/// The end of the search, whose time is over.
+fn end_in_time<'l, 't, G: Guide>(
+    session: &Session<'_, 'l, 't, G>,
+    search: Search<GroundListing<'l, 't>, G::Scratch>,
+) -> Result<Parts<'l, 't>, NoMemory>
+    requires space { IsSearchSpace session.now.setting.space }
+    requires system { G.system_of session.now.guide.now ≡ system_of session.now.setting.space }
+    requires under_way { IsUnderWay session.now.setting.space (G.estimate_of session.now.guide.now) (G.is_dead session.now.guide.now) (G.fits session.now.guide.now) session.now.setting.limits.states search }
+    requires limited { IsTrue (is_some session.now.setting.limits.seconds) }
+    ensures { IfOk result (IsTrueEnd session.now.setting.space (G.estimate_of session.now.guide.now) (G.is_dead session.now.guide.now) session.now.setting.limits) }
+{
+    let ending = stop_by(session, search)?;
+    Ok(Parts::ByGuide(ending))
 }
 
 /// Whether the answer tells no more than that the time is over, and a lower bound than this one.
