@@ -2,7 +2,7 @@
 use devices_clock::Clock;
 use std::cell::Cell;
 
-/// A clock that shows 0 seconds to so many questions, and then more than any limit.
+/// A clock that answers its first questions with 0 seconds, and each later one with more than any limit.
 #[derive(Drop)]
 pub struct CaseClock {
     asked: Cell<u32>,
@@ -11,7 +11,7 @@ pub struct CaseClock {
 }
 
 impl CaseClock {
-    /// A clock that answers so many questions by 0.
+    /// A clock that answers this number of questions with 0 seconds.
     pub fn new(early: u32) -> CaseClock {
         CaseClock {
             asked: Cell::new(0),
