@@ -23,9 +23,9 @@ use Rattle.certificate_definitions.specs.Certificates.{Certificate, StateLine, i
 use Rattle.certificate_definitions.specs.CertificateRefusals.{Reason, not_fluent, repeated, no_initial, unfair, unfair_goal, goal_open, successor_missing, successor_dearer, cut_weak, cut_not_allowed, plan_invalid, plan_dearer, limit, dead_unfair, dead_unfair_goal, not_dead, not_symmetry, value_unfair, value_not_dead, IsPlanWithin, IsWrongAt}
 use Rattle.model.proofs.ListLemmas.{Contains-place, map-Contains}
 use Rattle.cert_checker.proofs.CertCheckerLemmas.{cut_line, entry, open_line}
-use Rattle.cert_checker.proofs.LimitsLemmas.{AreLimits, limits_of}
-use Rattle.cert_checker.proofs.VersionLemmas.{one_weight_each, weights_of_each}
+use Rattle.certificate.proofs.LimitsLemmas.{AreLimits, limits_of}
 use Rattle.certificate_definitions.proofs.CertificateRefusalsLemmas.{right, right_line}
+use Rattle.certificate.proofs.WithinLimits.{one_weight_each, weights_of_each}
 
 pub on_ok : {T E : Type 0} {P : Type 0} (r : Result T E) → P → OnOk r P
 on_ok (Ok v) p = p

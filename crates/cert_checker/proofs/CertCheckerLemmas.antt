@@ -18,7 +18,7 @@ use Rattle.certificate_definitions.specs.Evidence.{Basis, of_all, landmark, Line
 use Rattle.certificate_definitions.specs.Certificates.{Version, Certificate, StateLine, has_basis, is_basis, is_mark, is_number, is_state_line, keeps_limits, lines_of, AreAlikeFor, rise, state_of_line}
 use Rattle.certificate_definitions.specs.CertificateRefusals.{IsListed}
 use Rattle.model.proofs.ListLemmas.{Contains-cases, Contains-got, Contains-none}
-use Rattle.cert_checker.proofs.LimitsLemmas.{limits_of}
+use Rattle.certificate.proofs.LimitsLemmas.{limits_of}
 use Rattle.model.proofs.InstancesLemmas.{Contains-successors}
 
 -- ---- elements at their places

@@ -24,7 +24,7 @@ use Rattle.certificate_definitions.specs.Certificates.{Certificate, StateLine, A
 use Rattle.cert_checker.specs.LandmarkFaults.{IsFirstWhere, rests_on_another}
 use Rattle.cert_checker.proofs.CertCheckerLemmas.{got_mapped, slice_get-map}
 use Rattle.cert_checker.proofs.EvidenceLemmas.{function_of}
-use Rattle.cert_checker.proofs.LimitsLemmas.{limits_of}
+use Rattle.certificate.proofs.LimitsLemmas.{limits_of}
 
 -- ---- the landmark value of a line
 

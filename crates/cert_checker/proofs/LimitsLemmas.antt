@@ -10,11 +10,11 @@ use Rattle.std.proofs.lemmas.List.FromFn.{length-range_with_len}
 use Rattle.model.specs.Task.{Atom, Task}
 use Rattle.lower_bounds.specs.PotentialFunctions.{PotentialFunction}
 use Rattle.lower_bounds.specs.TableFunctions.{Row, Table, is_among}
-use Rattle.certificate_definitions.specs.Certificates.{Version, one, two, three, four, Certificate, StateLine, are_exchanges, are_landmarks, has_basis, has_landmarks, are_potentials, are_tables, are_weights, has_tables, is_claim, is_dead_end_weight, is_row, is_state_line, is_value_count, is_weight, keeps_limits, rows_of}
+use Rattle.certificate_definitions.specs.Certificates.{Version, one, two, three, four, Certificate, StateLine, are_exchanges, are_landmarks, has_basis, has_landmarks, are_potentials, are_tables, are_weights, has_tables, is_claim, is_dead_end_weight, is_row, is_state_line, is_value_count, is_weight, keeps_limits}
 use Rattle.certificate_definitions.specs.CertificateText.{NamedAtom, WeightedAtom, TableLine, scope, row, NamedCertificate, Format, TextLine, swapped, atom, tabled, landmark_line, part, listed, last, format_of, is_line, is_weight_count, keeps_text_limits, line_text, longest_line, most_atoms, most_states, most_swaps, text_lines}
 use Rattle.landmark_functions.specs.LandmarkFunctions.{Zone}
-use Rattle.landmark_functions.specs.LandmarkLines.{LandmarkLine, zone, value, Share, is_value, is_zone, lines_of, most_zones}
-use Rattle.certificate_definitions.specs.Parts.{no_parts, counts_after, are_in_order, is_table_line, most_rows, most_tables}
+use Rattle.landmark_functions.specs.LandmarkLines.{LandmarkLine, zone, value, Share, is_value, is_zone, lines_of}
+use Rattle.certificate_definitions.specs.Parts.{no_parts, counts_after, are_in_order, is_table_line}
 use Rattle.certificate_definitions.specs.CertificateNames.{AllName, IsTextOf, dead_ends_said, exchange_said, parts_of, table_lines, value_count, value_said, values_said, weight_said}
 use Rattle.certificate_reader.specs.Words.{are_lower}
 use Rattle.certificate_reader.proofs.LandmarksRead.{value_within}
@@ -23,71 +23,6 @@ use Rattle.cert_checker.specs.Given.{shares_in, table_line_in, zone_in}
 use Rattle.cert_checker.proofs.TableParts.{AreFew, as_landmarks, as_parts, counts_of_parts, counts_with, few_of_ordered, tables_of_parts, values_of_ordered, values_of_parts, zones_of_parts}
 use Rattle.cert_checker.proofs.NamedExchanges.{exchanges_kept}
 use Rattle.cert_checker.proofs.NamesLemmas.{one_named}
-
--- ---- the limits of a certificate, one by one
-
-pub record AreLimits (c : Certificate) : Type 0 where
-  pub claim : is_claim c.claim ≡ true
-  pub few_atoms : nat_le (length c.atoms) most_atoms ≡ true
-  pub few_states : nat_le (length c.lines) most_states ≡ true
-  pub states : list_all (is_state_line c.version (length c.atoms)) c.lines ≡ true
-  pub value_count : is_value_count c.version (length c.values) ≡ true
-  pub values : list_all (are_potentials is_weight (length c.atoms)) c.values ≡ true
-  pub dead_ends : are_potentials (is_dead_end_weight c.version) (length c.atoms) c.dead_ends ≡ true
-  pub tables : are_tables c.version (length c.atoms) (length c.values + 1) c.tables ≡ true
-  pub few_tables : nat_le (length c.tables) most_tables ≡ true
-  pub few_rows : nat_le (length (rows_of c.tables)) most_rows ≡ true
-  pub exchanges : are_exchanges c.version c.exchanges ≡ true
-  pub few_exchanges : nat_le (length c.exchanges) most_swaps ≡ true
-  pub landmarks : are_landmarks c.version (length c.atoms) c.landmarks ≡ true
-  pub bases : list_all (λ (l : StateLine). has_basis (length c.landmarks.values) l.mark) c.lines ≡ true
-
-pub limits_of : (c : Certificate) → IsTrue (keeps_limits c) → AreLimits c
-limits_of c keeps =
-    let claims = is_claim c.claim in
-    let atoms = nat_le (length c.atoms) most_atoms in
-    let lines = nat_le (length c.lines) most_states in
-    let states = list_all (is_state_line c.version (length c.atoms)) c.lines in
-    let count = is_value_count c.version (length c.values) in
-    let values = list_all (are_potentials is_weight (length c.atoms)) c.values in
-    let dead_ends = are_potentials (is_dead_end_weight c.version) (length c.atoms) c.dead_ends in
-    let tables = are_tables c.version (length c.atoms) (length c.values + 1) c.tables in
-    let scopes = nat_le (length c.tables) most_tables in
-    let rows = nat_le (length (rows_of c.tables)) most_rows in
-    let exchanges = are_exchanges c.version c.exchanges in
-    let swaps = nat_le (length c.exchanges) most_swaps in
-    let landmarks = are_landmarks c.version (length c.atoms) c.landmarks in
-    let (first, bases_are) =
-    and_parts (claims && atoms && lines && states && count && values && dead_ends && tables && scopes && rows && exchanges && swaps && landmarks)
-    (list_all (λ (l : StateLine). has_basis (length c.landmarks.values) l.mark) c.lines) keeps in
-    let (first, landmarks_are) = and_parts (claims && atoms && lines && states && count && values && dead_ends && tables && scopes && rows && exchanges && swaps) landmarks first in
-    let (first, few_exchanges) = and_parts (claims && atoms && lines && states && count && values && dead_ends && tables && scopes && rows && exchanges) swaps first in
-    let (first, exchanges_are) = and_parts (claims && atoms && lines && states && count && values && dead_ends && tables && scopes && rows) exchanges first in
-    let (first, few_rows) = and_parts (claims && atoms && lines && states && count && values && dead_ends && tables && scopes) rows first in
-    let (first, few_tables) = and_parts (claims && atoms && lines && states && count && values && dead_ends && tables) scopes first in
-    let (first, tables_are) = and_parts (claims && atoms && lines && states && count && values && dead_ends) tables first in
-    let (first, dead_ends_are) = and_parts (claims && atoms && lines && states && count && values) dead_ends first in
-    let (first, values_are) = and_parts (claims && atoms && lines && states && count) values first in
-    let (first, count_is) = and_parts (claims && atoms && lines && states) count first in
-    let (first, states_are) = and_parts (claims && atoms && lines) states first in
-    let (first, few_states) = and_parts (claims && atoms) lines first in
-    let (claim, few_atoms) = and_parts claims atoms first in
-    record {
-      claim = claim;
-      few_atoms = few_atoms;
-      few_states = few_states;
-      states = states_are;
-      value_count = count_is;
-      values = values_are;
-      dead_ends = dead_ends_are;
-      tables = tables_are;
-      few_tables = few_tables;
-      few_rows = few_rows;
-      exchanges = exchanges_are;
-      few_exchanges = few_exchanges;
-      landmarks = landmarks_are;
-      bases = bases_are;
-    }
 
 -- ---- the limits of a text, one by one
 

@@ -1,58 +1,28 @@
 -- What a certificate's values and tables in memory are made of.
-use Rattle.std.proofs.Common.{◌≡◌, ℕ, ◌≤◌, true, ◌&&◌, List, [], ◌∷◌, ◌++◌, length, map, get_or, arith}
-use Rattle.std.specs.Prelude.{All, IsTrue, ◌==◌, nat_le}
-use Rattle.std.specs.List.{list_all}
+use Rattle.std.proofs.Common.{◌≡◌, ℕ, ◌≤◌, true, List, [], ◌∷◌, ◌++◌, length, map, get_or, arith}
+use Rattle.std.specs.Prelude.{All, IsTrue, nat_le}
 use Rattle.std.proofs.lemmas.Bool.{and_parts, eqb-true, leb-true}
 use Rattle.std.proofs.lemmas.List.Elements.{All-cons}
 use Rattle.certificate.specs.declared.evidence.Potential.{Potential}
 use Rattle.certificate.specs.Evidence.{potential_of}
-use Rattle.certificate_definitions.specs.Certificates.{Version, one, two, three, four, is_value_count, are_potentials, are_tables, are_weights, has_tables, is_row, is_table, is_weight, rise}
-use Rattle.lower_bounds.specs.PotentialFunctions.{PotentialFunction, AreInRange, IsInRange}
+use Rattle.certificate_definitions.specs.Certificates.{Version, one, two, three, four, is_value_count, are_potentials, is_weight}
+use Rattle.lower_bounds.specs.PotentialFunctions.{PotentialFunction, AreInRange}
 use Rattle.potentials.specs.declared.potentials.Potentials.{Potentials}
 use Rattle.potentials.specs.Potentials.{potentials_of}
 use Rattle.cert_checker.specs.Weights.{AreWidened, HasItsWeights, HaveTheirWeights}
 use Rattle.cert_checker.proofs.TablesLemmas.{as_many_widened, widened_at}
-use Rattle.lower_bounds.specs.TableFunctions.{Row, SeveralValues, is_among}
-use Rattle.table_rows.specs.declared.table.Table.{Table}
-use Rattle.table_rows.specs.Tables.{table_of}
-use Rattle.cert_checker.proofs.VersionLemmas.{one_weight_each}
-use Rattle.cert_checker.proofs.WeightsLemmas.{said_in_range, weights_in_range}
+use Rattle.lower_bounds.specs.TableFunctions.{SeveralValues}
+use Rattle.certificate.proofs.WithinLimits.{one_weight_each, potentials_in_range}
 
 -- ---- potentials
 
--- each that is within the limits of a certificate's text is in range, and has a weight for each of so many atoms
+-- each that is within the limits of a certificate's text is in range, and has a weight for each atom
 pub each_in_range : (count : ℕ) (said : List Potential) → All (λ (p : Potential). IsTrue (are_potentials is_weight count (potential_of p))) said → All (λ (p : Potential). AreInRange (potential_of p)) said
-each_in_range count said each = λ k d below. said_in_range count (potential_of (get_or said k d)) (each k d below)
+each_in_range count said each = λ k d below. potentials_in_range count (potential_of (get_or said k d)) (each k d below)
 
 pub each_weighed : (count width : ℕ) (said : List Potential) → count ≤ width → All (λ (p : Potential). IsTrue (are_potentials is_weight count (potential_of p))) said
     → All (λ (p : Potential). length (potential_of p).weights ≤ width) said
 each_weighed count width said few each = λ k d below. let weighed = one_weight_each is_weight count (potential_of (get_or said k d)) (each k d below) in omega (arith, weighed, few)
-
--- ---- tables
-
-row_in_range : (atom_count weight_count : ℕ) (scope : List ℕ) (r : Row) → is_row atom_count weight_count scope r ≡ true → All IsInRange r.weights
-row_in_range atom_count weight_count scope r is =
-    let first = (and_parts (are_weights weight_count r.weights && rise atom_count 0 r.atoms) (list_all (is_among scope) r.atoms) is).0 in
-    let weights = (and_parts (are_weights weight_count r.weights) (rise atom_count 0 r.atoms) first).0 in
-    weights_in_range r.weights (and_parts (length r.weights == weight_count) (list_all is_weight r.weights) weights).1
-
-rows_in_range : (atom_count weight_count : ℕ) (scope : List ℕ) (rows : List Row) → list_all (is_row atom_count weight_count scope) rows ≡ true → All (λ (r : Row). All IsInRange r.weights) rows
-rows_in_range atom_count weight_count scope [] all = λ k d below. absurd (omega arith)
-rows_in_range atom_count weight_count scope (r ∷ rows) all =
-    let (here, more) = and_parts (is_row atom_count weight_count scope r) (list_all (is_row atom_count weight_count scope) rows) all in
-    All-cons (λ (r : Row). All IsInRange r.weights) r rows (row_in_range atom_count weight_count scope r here) (rows_in_range atom_count weight_count scope rows more)
-
--- the weights of each row of tables within the limits are in range
-pub tables_in_range : (v : Version) (atom_count weight_count : ℕ) (tables : List Table) → are_tables v atom_count weight_count (map table_of tables) ≡ true
-    → All (λ (t : Table). All (λ (r : Row). All IsInRange r.weights) (table_of t).rows) tables
-tables_in_range v atom_count weight_count [] are = λ k d below. absurd (omega arith)
-tables_in_range v atom_count weight_count (t ∷ tables) are =
-    let table = table_of t in
-    let (here, more) = and_parts (has_tables v && is_table atom_count weight_count table) (are_tables v atom_count weight_count (map table_of tables)) are in
-    let within = (and_parts (has_tables v) (is_table atom_count weight_count table) here).1 in
-    let rows = (and_parts (rise atom_count 0 table.scope && nat_le 1 (length table.scope)) (list_all (is_row atom_count weight_count table.scope) table.rows) within).1 in
-    All-cons (λ (t : Table). All (λ (r : Row). All IsInRange r.weights) (table_of t).rows) t tables (rows_in_range atom_count weight_count table.scope table.rows rows)
-    (tables_in_range v atom_count weight_count tables more)
 
 -- ---- one value after another
 

@@ -13,7 +13,6 @@ use Rattle.model.specs.Grounding.{exceeded_limit}
 use Rattle.model.specs.Claims.{none, Allows, opened, cut, Line, IsListedWithin}
 use Rattle.model.specs.Fluents.{is_fluent}
 use Rattle.landmark_functions.specs.LandmarkFunctions.{LandmarkFunction}
-use Rattle.landmark_functions.specs.LandmarkLines.{functions_of as landmark_functions}
 use Rattle.landmark_functions.specs.FairLandmarks.{IsFair, IsDeadFair}
 use Rattle.model.specs.NumberedAtoms.{numbered_atoms}
 use Rattle.model.proofs.ListLemmas.{Contains-filter_map, Contains-got}
@@ -25,10 +24,11 @@ use Rattle.cert_checker.specs.FluentAtoms.{AreFluent}
 use Rattle.cert_checker.specs.CheckedLines.{AreSymmetries, CutsAreAllowed, IsClosedAs, IsLineClosed, IsRightUpTo}
 use Rattle.cert_checker.proofs.CertCheckerLemmas.{entry, got_mapped, open_line, slice_get-map}
 use Rattle.certificate_definitions.proofs.CertificateRefusalsLemmas.{apart, dead_goals_fair, goals_fair, none_dead_unfair, none_unfair, right_line}
+use Rattle.landmark_functions.specs.LandmarkLines.{functions_of as landmark_functions}
 
 -- ---- what is known of a beginning of the certificate
 
--- of the first so many atoms each is well-typed and fluent, and no two are one
+-- each of the first `count` atoms is well-typed and fluent, and no two are one
 pub record AtomsAreRight (task : Task) (c : Certificate) (count : ℕ) : Type 0 where
   pub fluent : (place : ℕ) (a : Atom) → place < count → slice_get c.atoms place ≡ Some a → (is_atom task a && is_fluent task a.predicate) ≡ true
   pub distinct : (i j : ℕ) (a : Atom) → i < j → j < count → slice_get c.atoms i ≡ Some a → slice_get c.atoms j ≡ Some a → ⊥

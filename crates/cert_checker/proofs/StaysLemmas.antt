@@ -15,7 +15,7 @@ use Rattle.model.specs.NumberedAtoms.{numbered_atoms}
 use Rattle.model.specs.Claims as claims
 use Rattle.model.specs.Claims.{Line, AreTrue, ClaimHolds, IsLowerBound, AreDeadEnds}
 use Rattle.certificate_definitions.specs.Evidence.{Basis, of_all, landmark, LineMark, opened, cut, dead, bare}
-use Rattle.certificate_definitions.specs.Certificates.{Version, one, two, three, four, StateLine, dead_by, has_landmarks, is_dead_by_landmark, landmark_function, Certificate, potentials_of, several_of, rise, has_tables, is_row, is_table, are_tables, is_dead_end_in, is_dead_end_of, state_of_line, lines_of, AreAlikeFor, value_in, value_of, value_by, is_dead_end_by, AreFairIn, IsSupported, IsClosedFor}
+use Rattle.certificate_definitions.specs.Certificates.{Version, one, two, three, four, StateLine, dead_by, has_landmarks, is_dead_by_landmark, landmark_function, Certificate, potentials_of, several_of, is_dead_end_in, is_dead_end_of, state_of_line, lines_of, AreAlikeFor, value_in, value_of, value_by, is_dead_end_by, AreFairIn, IsSupported, IsClosedFor}
 use Rattle.symmetries_definitions.specs.Symmetries.{is_symmetry}
 use Rattle.symmetries_definitions.specs.Orbits.{AreOfOneOrbit}
 use Rattle.symmetries_definitions.proofs.OrbitLemmas.{orbits_are_classes}
@@ -47,27 +47,9 @@ use Rattle.lower_bounds.proofs.TableLowerBound.{fair_values_are_sound}
 use Rattle.lower_bounds.proofs.WithoutTables.{ground_atoms_are_all_numbered}
 use Rattle.cert_checker.proofs.VersionLemmas.{some_value}
 use Rattle.cert_checker.proofs.WeightsLemmas.{alike_itself, value-numbered}
+use Rattle.certificate.proofs.WithinLimits.{scopes_within}
 use Rattle.cert_checker.specs.OnListing.{StaysListed}
 use Rattle.cert_checker.proofs.OnListingLemmas.{stays_listed, equality_keeps_steps}
-
--- ---- scopes
-
--- numbers that rise below a count are below each greater one
-rise_within : (atom_count count least : ℕ) (scope : List ℕ) → atom_count ≤ count → rise atom_count least scope ≡ true → list_all (λ number. nat_lt number count) scope ≡ true
-rise_within atom_count count least [] few rises = refl
-rise_within atom_count count least (n ∷ scope) few rises =
-    let (here, more) = and_parts (nat_le least n && nat_lt n atom_count) (rise atom_count (n + 1) scope) rises in
-    let below = ltb-true n atom_count (and_parts (nat_le least n) (nat_lt n atom_count) here).1 in
-    λ i. lt-ltb n count (omega (arith, below, few)) i && rise_within atom_count count (n + 1) scope few more i
-
-pub scopes_within : (v : Version) (atom_count weight_count count : ℕ) → atom_count ≤ count → (those : List Table) → IsTrue (are_tables v atom_count weight_count those) → IsTrue (are_over count those)
-scopes_within v atom_count weight_count count few [] are = refl
-scopes_within v atom_count weight_count count few (t ∷ those) are =
-    let (here, more) = and_parts (has_tables v && is_table atom_count weight_count t) (are_tables v atom_count weight_count those) are in
-    let table = (and_parts (has_tables v) (is_table atom_count weight_count t) here).1 in
-    let scope = (and_parts (rise atom_count 0 t.scope && nat_le 1 (length t.scope)) (list_all (is_row atom_count weight_count t.scope) t.rows) table).0 in
-    let rises = (and_parts (rise atom_count 0 t.scope) (nat_le 1 (length t.scope)) scope).0 in
-    λ i. rise_within atom_count count 0 t.scope few rises i && scopes_within v atom_count weight_count count few those more i
 
 -- ---- what values show
 

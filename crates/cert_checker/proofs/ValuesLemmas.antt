@@ -16,7 +16,7 @@ use Rattle.lower_bounds.proofs.TableLowerBound.{numbered-has}
 use Rattle.certificate_definitions.specs.Certificates.{Certificate, has_tables, is_dead_end_in, is_dead_end_of, keeps_limits, potentials_of, several_of, value_in, value_of}
 use Rattle.cert_checker.specs.PackedLines.{IsPackedListing}
 use Rattle.cert_checker.specs.Weights.{AreWidened, HasItsWeights, HaveTheirWeights}
-use Rattle.cert_checker.proofs.LimitsLemmas.{limits_of}
+use Rattle.certificate.proofs.LimitsLemmas.{limits_of}
 use Rattle.cert_checker.proofs.PackedListingLemmas.{packs, value_there}
 use Rattle.cert_checker.proofs.TablesLemmas.{are_widened, dead_ends_alike, functions_alike, greatest_alike, value_alike}
 use Rattle.cert_checker.proofs.VersionLemmas.{dead_end_as, no_tables, of_three, one_for_each, one_value, value_as}

@@ -1,7 +1,6 @@
 -- What the definitions say of a certificate of a version without tables: it has one potential function and one for dead ends.
-use Rattle.std.proofs.Common.{◌≡◌, ◌∙◌, ℕ, ◌<◌, true, false, true≢false, List, [], ◌∷◌, length, map, refl, sym, arith, Bool, ℤ}
-use Rattle.std.specs.Prelude.{All, AllPairs, ◌≢◌, ◌&&◌, ◌==◌, nat_le}
-use Rattle.std.specs.List.{list_all}
+use Rattle.std.proofs.Common.{◌≡◌, ◌∙◌, ℕ, ◌<◌, true, false, true≢false, List, [], ◌∷◌, length, map, refl, sym, arith}
+use Rattle.std.specs.Prelude.{All, AllPairs, ◌≢◌, ◌&&◌, nat_le}
 use Rattle.std.proofs.lemmas.Bool.{and_parts, eqb-true, false≢true, leb-true}
 use Rattle.std.proofs.lemmas.List.Elements.{All-cons, All-contains}
 use Rattle.model.specs.Task.{Task, Instance}
@@ -15,10 +14,11 @@ use Rattle.table_rows.specs.declared.table.Table as in_memory
 use Rattle.table_rows.specs.Tables.{table_of}
 use Rattle.table_rows.proofs.TableLemmas.{rows-distinct}
 use Rattle.potentials.specs.Fairness.{AreInstancesFair, AreInstancesFairAt, AreInstancesDeadFair}
-use Rattle.certificate_definitions.specs.Certificates.{Version, one, two, three, four, Certificate, potentials_of, are_potentials, are_tables, has_tables, is_dead_end_weight, is_table, is_value_count, is_weight, keeps_limits, value_in, is_dead_end_in, ArePotentialsFair, AreFairIn}
+use Rattle.certificate_definitions.specs.Certificates.{Version, one, two, three, four, Certificate, potentials_of, are_tables, has_tables, is_dead_end_weight, is_table, is_value_count, keeps_limits, value_in, is_dead_end_in, ArePotentialsFair, AreFairIn}
 use Rattle.certificate_definitions.specs.CertificateRefusals.{MayLose, IsUnfairIn, IsUnfairAtGoalsIn, IsDeadUnfairIn, IsDeadUnfairAtGoalsIn}
 use Rattle.cert_checker.specs.CertChecker.{IsFirstToLoseAt, IsFirstToLoseIn, IsFirstDeadToLoseIn}
-use Rattle.cert_checker.proofs.LimitsLemmas.{limits_of}
+use Rattle.certificate.proofs.LimitsLemmas.{limits_of}
+use Rattle.certificate.proofs.WithinLimits.{one_weight_each, weights_of_each}
 
 -- what is so of versions 3 and 4 is so of a version with tables, and the other way round
 pub of_three : (P : Version → Type 0) (v : Version) → has_tables v ≡ true → (P three → P four) → P three → P v
@@ -117,19 +117,6 @@ module _ (task : Task) (c : Certificate) where
   first_dead_to_lose_in four without i first = absurd (true≢false without)
 
 -- ---- weights
-
--- a constant, and a weight for each of so many atoms
-pub one_weight_each : (is_in_range : ℤ → Bool) (count : ℕ) (p : PotentialFunction) → are_potentials is_in_range count p ≡ true → length p.weights ≡ count
-one_weight_each is_in_range count p are =
-    let first = (and_parts (is_in_range p.constant && (length p.weights == count)) (list_all is_in_range p.weights) are).0 in
-    eqb-true (length p.weights) count (and_parts (is_in_range p.constant) (length p.weights == count) first).1
-
--- each value has a weight for each of so many atoms
-pub weights_of_each : (count : ℕ) (values : List PotentialFunction) → list_all (are_potentials is_weight count) values ≡ true → All (λ (p : PotentialFunction). length p.weights ≡ count) values
-weights_of_each count [] all = λ k d below. absurd (omega arith)
-weights_of_each count (p ∷ values) all =
-    let (here, more) = and_parts (are_potentials is_weight count p) (list_all (are_potentials is_weight count) values) all in
-    All-cons (λ (p : PotentialFunction). length p.weights ≡ count) p values (one_weight_each is_weight count p here) (weights_of_each count values more)
 
 -- each version has a value
 pub some_value : (v : Version) (count : ℕ) → is_value_count v count ≡ true → 0 < count

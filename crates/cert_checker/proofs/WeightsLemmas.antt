@@ -1,12 +1,10 @@
 -- Potential functions that give each atom the same weight: they are fair alike, and where further atoms have the weight 0,
 -- a state has the same value.
-use Rattle.std.proofs.Common.{◌≡◌, ◌∙◌, ℕ, zero, suc, ◌+◌, ◌-◌, ◌<◌, ◌≤◌, Bool, true, false, ◌&&◌, List, [], ◌∷◌, ◌++◌, length, map, take, replicate, get_or, Some, refl, sym, ap, subst, arith, ℤ, pos, negsuc, ◌+ℤ◌, ◌≤ℤ◌}
-use Rattle.std.specs.Prelude.{All, IsTrue, if◌then◌else◌, ◌==◌, slice_get}
+use Rattle.std.proofs.Common.{◌≡◌, ◌∙◌, ℕ, zero, suc, ◌+◌, ◌-◌, ◌<◌, ◌≤◌, Bool, true, false, List, [], ◌∷◌, ◌++◌, length, map, take, replicate, get_or, Some, refl, sym, ap, subst, arith, ℤ, pos, ◌+ℤ◌, ◌≤ℤ◌}
+use Rattle.std.specs.Prelude.{All, IsTrue, if◌then◌else◌, slice_get}
 use Rattle.std.specs.Int.{int_max}
-use Rattle.std.specs.List.{list_all}
 use Rattle.std.specs.FinSet.{contains}
 use Rattle.std.proofs.lemmas.Int.{ints}
-use Rattle.std.proofs.lemmas.Bool.{and_parts, leb-true, ltb-true}
 use Rattle.std.proofs.lemmas.List.{length-append, length-map, length-replicate, map-append, get_or_append_left, get_or_default, get_or_past, take_all}
 use Rattle.std.proofs.lemmas.Option.{same_Some}
 use Rattle.model.specs.Task.{Atom, Task, Instance}
@@ -163,29 +161,8 @@ widened said width p v enough same constant are =
           omega (arith, long, length-append v (replicate (width - length v) (pos 0)), length-replicate (width - length v) (pos 0), ap length same, enough);
     }
 
-in_range : (z : ℤ) → is_weight z ≡ true → IsInRange z
-in_range (pos n) is = let most = leb-true n 2147483647 is in record { least = omega (arith, ints); most = omega (arith, ints) }
-in_range (negsuc n) is = let least = ltb-true n 2147483647 is in record { least = omega (arith, ints); most = omega (arith, ints) }
-
 all_in_range : (v : List ℤ) → ((n : ℕ) → IsInRange (weight v n)) → All IsInRange v
 all_in_range v each place d below = subst IsInRange (get_or_default v place (pos 0) d below) (each place)
-
-weight_in_range : (v : List ℤ) (n : ℕ) → list_all is_weight v ≡ true → IsInRange (weight v n)
-weight_in_range [] n all = zero-range
-weight_in_range (w ∷ v) zero all = in_range w (and_parts (is_weight w) (list_all is_weight v) all).0
-weight_in_range (w ∷ v) (suc n) all = weight_in_range v n (and_parts (is_weight w) (list_all is_weight v) all).1
-
-pub weights_in_range : (v : List ℤ) → list_all is_weight v ≡ true → All IsInRange v
-weights_in_range v all = all_in_range v (λ n. weight_in_range v n all)
-
--- those within the limits of a certificate's text are in range
-pub said_in_range : (count : ℕ) (said : PotentialFunction) → are_potentials is_weight count said ≡ true → AreInRange said
-said_in_range count said are =
-    let (first, weights) = and_parts (is_weight said.constant && (length said.weights == count)) (list_all is_weight said.weights) are in
-    record {
-      constant = in_range said.constant (and_parts (is_weight said.constant) (length said.weights == count) first).0;
-      weights = weights_in_range said.weights weights;
-    }
 
 -- and so they are with further weights
 range_at : (v : List ℤ) (n : ℕ) → All IsInRange v → IsInRange (weight v n)

@@ -31,9 +31,10 @@ use Rattle.certificate_definitions.specs.CertificateText.{WeightedAtom, TableLin
 use Rattle.certificate_definitions.specs.CertificateNames.{AllName, AreNumbersOf, IsNumberOf, IsTextOf, Names, are_atoms_of, are_exchanges_of, named_exchange, certificate_text, constants_of, dead_ends_said, has_atom_names, named, named_atom, predicate_name, predicate_names, parts_of, table_lines, value_count, value_said, values_said, weight_said, weighted_atoms, weights_in, weights_of_atom}
 use Rattle.certificate_definitions.specs.CertificateChecking.{IsAccepted}
 use Rattle.certificate_reader.proofs.LinesRead.{few_constants}
-use Rattle.certificate.proofs.NumbersLemmas.{potential_parts}
+use Rattle.certificate.proofs.WithinLimits.{potential_parts}
 use Rattle.cert_checker.proofs.TableParts.{AreFew, as_landmarks, as_parts, counts_of_parts, more_zones, parts_in_order}
-use Rattle.cert_checker.proofs.LimitsLemmas.{AreLimits, limits_of, said_kept}
+use Rattle.certificate.proofs.LimitsLemmas.{AreLimits, limits_of}
+use Rattle.cert_checker.proofs.LimitsLemmas.{said_kept}
 use Rattle.cert_checker.proofs.NamesLemmas.{few_objects}
 use Rattle.cert_checker.proofs.WrittenExchanges.{exchange_lines, exchanges_back}
 use Rattle.landmark_functions.specs.LandmarkFunctions.{Zone}

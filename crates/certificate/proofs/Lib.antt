@@ -7,3 +7,4 @@ pub mod RowsLemmas
 pub mod WideningLemmas
 pub mod NumbersLemmas
 pub mod ListedLemmas
+pub mod WithinLimits

@@ -7,52 +7,73 @@ use Rattle.std.proofs.lemmas.List.Elements.{All-cons, All-nil}
 use Rattle.landmark_functions.specs.LandmarkLines.{is_value, is_zone, keep_limits, literal_count, most_entries, most_values, most_zones, share_count}
 use Rattle.certificate.specs.CertificateParts.{keeps_exchange_limits, keeps_item_limits}
 use Rattle.certificate.specs.Evidence.{is_evidence}
+use Rattle.certificate_definitions.specs.CertificateText.{most_atoms, most_states, most_swaps}
+use Rattle.certificate_definitions.specs.Parts.{most_rows, most_tables}
 use Rattle.certificate_definitions.specs.Certificates.{Certificate, Version, StateLine, are_exchanges, are_landmarks, has_basis, has_landmarks, several_of, are_potentials, are_tables, is_value_count, rows_of, is_claim, is_dead_end_weight, is_mark, is_number, is_state_line, is_weight, keeps_limits, rise}
 
--- the limits: those of the numbers of items, of the lines, and of the evidence
-pub record Limits (c : Certificate) : Type 0 where
-  pub few_atoms : nat_le (length c.atoms) 1048576 ≡ true
-  pub few_lines : nat_le (length c.lines) 16777216 ≡ true
-  pub lines : list_all (is_state_line c.version (length c.atoms)) c.lines ≡ true
+-- the limits of a certificate, one by one
+pub record AreLimits (c : Certificate) : Type 0 where
+  pub claim : is_claim c.claim ≡ true
+  pub few_atoms : nat_le (length c.atoms) most_atoms ≡ true
+  pub few_states : nat_le (length c.lines) most_states ≡ true
+  pub states : list_all (is_state_line c.version (length c.atoms)) c.lines ≡ true
   pub value_count : is_value_count c.version (length c.values) ≡ true
   pub values : list_all (are_potentials is_weight (length c.atoms)) c.values ≡ true
   pub dead_ends : are_potentials (is_dead_end_weight c.version) (length c.atoms) c.dead_ends ≡ true
   pub tables : are_tables c.version (length c.atoms) (length c.values + 1) c.tables ≡ true
-  pub few_tables : nat_le (length c.tables) 4194304 ≡ true
-  pub few_rows : nat_le (length (rows_of c.tables)) 4194304 ≡ true
-  pub few_exchanges : nat_le (length c.exchanges) 1048576 ≡ true
+  pub few_tables : nat_le (length c.tables) most_tables ≡ true
+  pub few_rows : nat_le (length (rows_of c.tables)) most_rows ≡ true
+  pub exchanges : are_exchanges c.version c.exchanges ≡ true
+  pub few_exchanges : nat_le (length c.exchanges) most_swaps ≡ true
   pub landmarks : are_landmarks c.version (length c.atoms) c.landmarks ≡ true
   pub bases : list_all (λ (l : StateLine). has_basis (length c.landmarks.values) l.mark) c.lines ≡ true
 
-pub limits_of : (c : Certificate) → keeps_limits c ≡ true → Limits c
+pub limits_of : (c : Certificate) → keeps_limits c ≡ true → AreLimits c
 limits_of c keeps =
-    let few_atoms = nat_le (length c.atoms) 1048576 in
-    let most = is_claim c.claim && few_atoms in
-    let few_lines = nat_le (length c.lines) 16777216 in
-    let each = list_all (is_state_line c.version (length c.atoms)) c.lines in
+    let claims = is_claim c.claim in
+    let atoms = nat_le (length c.atoms) most_atoms in
+    let lines = nat_le (length c.lines) most_states in
+    let states = list_all (is_state_line c.version (length c.atoms)) c.lines in
     let count = is_value_count c.version (length c.values) in
     let values = list_all (are_potentials is_weight (length c.atoms)) c.values in
     let dead_ends = are_potentials (is_dead_end_weight c.version) (length c.atoms) c.dead_ends in
     let tables = are_tables c.version (length c.atoms) (length c.values + 1) c.tables in
-    let few_tables = nat_le (length c.tables) 4194304 in
-    let few_rows = nat_le (length (rows_of c.tables)) 4194304 in
+    let scopes = nat_le (length c.tables) most_tables in
+    let rows = nat_le (length (rows_of c.tables)) most_rows in
     let exchanges = are_exchanges c.version c.exchanges in
-    let few_exchanges = nat_le (length c.exchanges) 1048576 in
+    let swaps = nat_le (length c.exchanges) most_swaps in
     let landmarks = are_landmarks c.version (length c.atoms) c.landmarks in
-    let bases = list_all (λ (l : StateLine). has_basis (length c.landmarks.values) l.mark) c.lines in
-    let (first, bases) = and_parts (most && few_lines && each && count && values && dead_ends && tables && few_tables && few_rows && exchanges && few_exchanges && landmarks) bases keeps in
-    let (first, landmarks) = and_parts (most && few_lines && each && count && values && dead_ends && tables && few_tables && few_rows && exchanges && few_exchanges) landmarks first in
-    let (first, few_exchanges) = and_parts (most && few_lines && each && count && values && dead_ends && tables && few_tables && few_rows && exchanges) few_exchanges first in
-    let first = (and_parts (most && few_lines && each && count && values && dead_ends && tables && few_tables && few_rows) exchanges first).0 in
-    let (first, few_rows) = and_parts (most && few_lines && each && count && values && dead_ends && tables && few_tables) few_rows first in
-    let (first, few_tables) = and_parts (most && few_lines && each && count && values && dead_ends && tables) few_tables first in
-    let (first, tables) = and_parts (most && few_lines && each && count && values && dead_ends) tables first in
-    let (first, dead_ends) = and_parts (most && few_lines && each && count && values) dead_ends first in
-    let (first, values) = and_parts (most && few_lines && each && count) values first in
-    let (first, value_count) = and_parts (most && few_lines && each) count first in
-    let (first, lines) = and_parts (most && few_lines) each first in
-    let (first, few_lines) = and_parts most few_lines first in
-    record { few_atoms = (and_parts (is_claim c.claim) few_atoms first).1; few_lines = few_lines; lines = lines; value_count = value_count; values = values; dead_ends = dead_ends; tables = tables; few_tables = few_tables; few_rows = few_rows; few_exchanges = few_exchanges; landmarks = landmarks; bases = bases }
+    let (first, bases_are) =
+    and_parts (claims && atoms && lines && states && count && values && dead_ends && tables && scopes && rows && exchanges && swaps && landmarks)
+    (list_all (λ (l : StateLine). has_basis (length c.landmarks.values) l.mark) c.lines) keeps in
+    let (first, landmarks_are) = and_parts (claims && atoms && lines && states && count && values && dead_ends && tables && scopes && rows && exchanges && swaps) landmarks first in
+    let (first, few_exchanges) = and_parts (claims && atoms && lines && states && count && values && dead_ends && tables && scopes && rows && exchanges) swaps first in
+    let (first, exchanges_are) = and_parts (claims && atoms && lines && states && count && values && dead_ends && tables && scopes && rows) exchanges first in
+    let (first, few_rows) = and_parts (claims && atoms && lines && states && count && values && dead_ends && tables && scopes) rows first in
+    let (first, few_tables) = and_parts (claims && atoms && lines && states && count && values && dead_ends && tables) scopes first in
+    let (first, tables_are) = and_parts (claims && atoms && lines && states && count && values && dead_ends) tables first in
+    let (first, dead_ends_are) = and_parts (claims && atoms && lines && states && count && values) dead_ends first in
+    let (first, values_are) = and_parts (claims && atoms && lines && states && count) values first in
+    let (first, count_is) = and_parts (claims && atoms && lines && states) count first in
+    let (first, states_are) = and_parts (claims && atoms && lines) states first in
+    let (first, few_states) = and_parts (claims && atoms) lines first in
+    let (claim, few_atoms) = and_parts claims atoms first in
+    record {
+      claim = claim;
+      few_atoms = few_atoms;
+      few_states = few_states;
+      states = states_are;
+      value_count = count_is;
+      values = values_are;
+      dead_ends = dead_ends_are;
+      tables = tables_are;
+      few_tables = few_tables;
+      few_rows = few_rows;
+      exchanges = exchanges_are;
+      few_exchanges = few_exchanges;
+      landmarks = landmarks_are;
+      bases = bases_are;
+    }
 
 -- the numbers in each line ascend
 pub rising_lines : (version : Version) (count : ℕ) (lines : List StateLine) → list_all (is_state_line version count) lines ≡ true → All (λ (l : StateLine). IsTrue (rise count 0 l.atoms)) lines
@@ -63,7 +84,7 @@ rising_lines version count (line ∷ lines) keep =
     (rising_lines version count lines more)
 
 -- the numbers of zones and of landmark values
-module _ (c : Certificate) (limits : Limits c) where
+module _ (c : Certificate) (limits : AreLimits c) where
   keep : keep_limits (length c.atoms) c.landmarks ≡ true
   keep = (and_parts (has_landmarks c.version || (nat_le (length c.landmarks.zones) 0 && nat_le (length c.landmarks.values) 0)) (keep_limits (length c.atoms) c.landmarks) limits.landmarks).1
 

@@ -28,7 +28,7 @@ use Rattle.certificate.specs.declared.states.States.{States}
 use Rattle.certificate.specs.CertificateParts.{certificate_with}
 use Rattle.certificate.specs.Evidence.{line_count, potential_of}
 use Rattle.certificate.specs.Certificate.{certificate_of, store_in}
-use Rattle.certificate.proofs.LimitsLemmas.{Limits, few_values, few_zones, limits_of}
+use Rattle.certificate.proofs.LimitsLemmas.{AreLimits, few_values, few_zones, limits_of}
 use Rattle.certificate.proofs.SetsLemmas.{numbers_back, rise_below}
 use Rattle.certificate.proofs.WideningLemmas.{IsBelow, has-at_width, length-at_width}
 
@@ -161,17 +161,6 @@ set_lengths : (store : PooledStore) → All (λ (set : List Bool). length set �
 unfolding sets_in
 set_lengths store = All-map (λ (set : List Bool). length set ≡ store.width) (bits_in store.width) (pooled.rows_of store.pool) (λ k d within. length-bits store.width (get_or (pooled.rows_of store.pool) k d))
 
--- the meaning of a potential function's limits
-pub potential_parts : (is_in_range : ℤ → Bool) (count : ℕ) (p : PotentialFunction) → are_potentials is_in_range count p ≡ true
-    → (is_in_range p.constant ≡ true) × (length p.weights ≡ count) × (list_all is_in_range p.weights ≡ true)
-potential_parts is_in_range count p are =
-    let (first, weights) = and_parts (is_in_range p.constant && (length p.weights == count)) (list_all is_in_range p.weights) are in
-    let (constant_is, many) = and_parts (is_in_range p.constant) (length p.weights == count) first in
-    (constant_is, eqb-true (length p.weights) count many, weights)
-
-pub weight_count : (count : ℕ) (p : PotentialFunction) → are_potentials is_weight count p ≡ true → length p.weights ≡ count
-weight_count count p are = let (_, many, _) = potential_parts is_weight count p are in many
-
 -- a weight for dead ends is a weight, also in version 1, where it is 0
 dead_end_weight : (version : Version) (w : ℤ) → is_dead_end_weight version w ≡ true → is_weight w ≡ true
 dead_end_weight one (pos zero) is = refl
@@ -216,11 +205,11 @@ module _ (cert : Cert) where
   as_many : length marks ≡ length sets
   as_many = length-map cert.states.marks.items listed_of ∙ cert.marked
 
-  pub limits : Limits (certificate_of cert)
+  pub limits : AreLimits (certificate_of cert)
   limits = limits_of (certificate_of cert) cert.within_limits
 
   rises : All (Rises count) sets
-  rises = all_rise version count marks sets as_many limits.lines
+  rises = all_rise version count marks sets as_many limits.states
 
   pub value_count_kept : is_value_count version (length cert.header.evidence.values.items) ≡ true
   value_count_kept = ap (is_value_count version) (sym (length-map cert.header.evidence.values.items potential_of)) ∙ limits.value_count
@@ -258,7 +247,7 @@ module _ (cert : Cert) where
       omega (arith, tables, rows, zones, values)
 
   pub few_lines : length (certificate_of cert).lines ≤ 16777216
-  few_lines = leb-true (length (certificate_of cert).lines) 16777216 limits.few_lines
+  few_lines = leb-true (length (certificate_of cert).lines) 16777216 limits.few_states
 
   -- a line, by its mark and its set
   pub line_read : (i : ℕ) (read : List Listed) (mark : Listed) (set : List Bool) → map listed_of read ≡ map marked (certificate_of cert).lines → slice_get read i ≡ Some mark

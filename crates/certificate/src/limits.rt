@@ -13,8 +13,8 @@ ghost use Rattle.certificate.specs.Evidence.{potential_of};
 use crate::evidence::Potential;
 use crate::header::Header;
 use certificate_reader::{
-    Basis, Claim, MAX_ATOMS, MAX_CONSTANTS, MAX_ROWS, MAX_STATE_LINES, MAX_SWAPS, MAX_WEIGHT, Mark,
-    NUMBER_LIMIT, StateLine, Version,
+    Basis, Claim, MAX_ATOMS, MAX_CONSTANTS, MAX_ROWS, MAX_STATE_LINES, MAX_SWAPS, Mark, NUMBER_LIMIT,
+    StateLine, Version, is_weight,
 };
 use landmark_zones::{Landmarks, MAX_VALUES};
 use table_rows::Table;
@@ -145,13 +145,6 @@ fn are_dead_end_weights(version: Version, weights: &[i64]) -> bool
     weights
         .iter()
         .all(|weight| is_dead_end_weight(version, *weight))
-}
-
-/// Whether the number may be a weight.
-fn is_weight(number: i64) -> bool
-    ensures { result ≡ is_weight number }
-{
-    -MAX_WEIGHT <= number && number <= MAX_WEIGHT
 }
 
 /// Whether the number may be a weight that detects dead ends, of which version 1 has none.

@@ -27,5 +27,6 @@ pub use line::{
     Basis, CertLine, Claim, LONGEST_LINE, MAX_ATOMS, MAX_CONSTANTS, MAX_STATE_LINES, MAX_SWAPS,
     MAX_WEIGHT, Mark, NUMBER_LIMIT, NamedAtom, StateLine, Version,
 };
+pub use number::is_weight;
 pub use part_line::{MAX_ROWS, MAX_TABLES, PartLine};
 pub use reader::{CertFault, CertReader};

@@ -58,8 +58,8 @@ pub(crate) fn weight(word: &[u8]) -> Option<i64>
     }
 }
 
-/// Whether the number may be a constant or a weight.
-fn is_weight(number: i64) -> bool
+/// Whether the number may be a constant or a weight: it is from -2147483647 to 2147483647.
+pub fn is_weight(number: i64) -> bool
     ensures { result ≡ is_weight number }
 {
     -MAX_WEIGHT <= number && number <= MAX_WEIGHT

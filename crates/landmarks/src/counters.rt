@@ -20,7 +20,7 @@ pub(crate) struct Counter {
 /// A counter for each instance. Time passes with each zone: what was counted before a value began counts for nothing, so that no
 /// counter is cleared, and a value costs what its zones touch.
 #[derive(Drop)]
-pub struct Counters {
+pub(crate) struct Counters {
     pub(crate) counters: Vec<Counter>,
     /// When the value began.
     pub(crate) start: u32,

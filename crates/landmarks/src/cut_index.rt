@@ -73,7 +73,7 @@ impl<'a, 't> CutIndex<'a, 't> {
     ///
     /// # Errors
     /// An allocation failed.
-    pub fn counters(&self, alloc: Global) -> Result<Counters, NoMemory>
+    pub(crate) fn counters(&self, alloc: Global) -> Result<Counters, NoMemory>
         ensures { IfOk result (AreCounters (count_in self.now)) }
     {
         Counters::new(alloc, self.ground.instances().len())

@@ -12,7 +12,6 @@ mod values;
 
 pub use breaking::may_break;
 pub use charging::charges;
-pub use counters::Counters;
 pub use cut_index::CutIndex;
 pub use laws::kept_landmarks_are_sorted;
 pub use testing::Fairness;

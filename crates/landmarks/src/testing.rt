@@ -79,7 +79,7 @@ impl CutIndex<'_, '_> {
 
     /// Whether the value with these shares is fair for the ground task. It costs what the zones touch: the instances that make one
     /// of their literals true.
-    pub fn fairness_for(
+    fn fairness_for(
         &self,
         counters: &mut Counters,
         landmarks: &Landmarks,

@@ -14,9 +14,9 @@ use Rattle.lower_bounds.specs.TableLaws.{AreOver}
 use Rattle.table_guides.proofs.GuideLemmas.{all_numbered, fair_ones_guide}
 use Rattle.search.specs.Estimates.{IsConsistent}
 use Rattle.solver.specs.Guidance.{Guidance, by_potentials, by_tables, estimate_by, values_by, CanBeWritten, AreFairBy}
-use Rattle.solver.proofs.GuidanceLemmas.{limits_of, one_weight_each, weights_of_each}
+use Rattle.certificate.proofs.WithinLimits.{one_weight_each, scopes_within, weights_of_each}
+use Rattle.solver.proofs.GuidanceLemmas.{limits_of}
 use Rattle.solver.proofs.PotentialLemmas.{value_by-value}
-use Rattle.solver.proofs.TablesLemmas.{scopes_within}
 
 module _ (g : Ground) (numbered : atoms_in g ≡ numbered_atoms (task_in g) []) where
   pub consistent_by : (guidance : Guidance) → CanBeWritten (length (atoms_in g)) guidance → AreFairBy (task_in g) (atoms_in g) guidance
@@ -34,6 +34,6 @@ module _ (g : Ground) (numbered : atoms_in g ≡ numbered_atoms (task_in g) []) 
       let over : AreOver count s = record {
         values = λ k d below. let same = weights k d below in omega (arith, same);
         dead_ends = omega (arith, one_weight_each (is_dead_end_weight three) count s.dead_ends limits.dead_ends);
-        scopes = scopes_within count (length s.values + 1) s.tables limits.tables;
+        scopes = scopes_within three count (length s.values + 1) count (omega arith) s.tables limits.tables;
       } in
       (fair_ones_guide (task_in g) (atoms_in g) s (all_numbered g [] numbered) over fair).estimate

@@ -1,11 +1,11 @@
 -- What a certificate says of the states that were found by a guidance: the estimates by which they were found, which are small,
 -- and which of them are dead ends; and what it keeps of its limits.
-use Rattle.std.proofs.Common.{◌≡◌, ◌∙◌, ℕ, zero, suc, ◌+◌, ◌*◌, ◌≤◌, Bool, true, false, ◌&&◌, List, [], ◌∷◌, length, get_or, None, Some, refl, sym, ap, subst, arith, ℤ, pos, negsuc, ◌+ℤ◌, ◌≤ℤ◌}
+use Rattle.std.proofs.Common.{◌≡◌, ◌∙◌, ℕ, zero, suc, ◌+◌, ◌*◌, ◌≤◌, Bool, true, false, ◌&&◌, List, [], ◌∷◌, length, get_or, None, Some, refl, sym, ap, subst, arith, ℤ, pos, ◌+ℤ◌, ◌≤ℤ◌}
 use Rattle.std.specs.Prelude.{◌==◌, nat_le, ◌≢◌, All, AllPairs, IsTrue, if◌then◌else◌}
 use Rattle.std.specs.List.{list_all}
-use Rattle.std.proofs.lemmas.Bool.{and_parts, eqb-true, leb-true, ltb-true, lt-ltb}
+use Rattle.std.proofs.lemmas.Bool.{and_parts, leb-true, lt-ltb}
 use Rattle.std.proofs.lemmas.Int.{ints}
-use Rattle.std.proofs.lemmas.List.Elements.{All-cons, All-nil}
+use Rattle.std.proofs.lemmas.List.Elements.{All-nil}
 use Rattle.model.specs.Task.{Task, Atom}
 use Rattle.model.specs.Claims.{Claim, opened, cut, dead}
 use Rattle.model.specs.Meaning.{initial_state}
@@ -18,7 +18,8 @@ use Rattle.search.specs.declared.nodes.Node.{Node}
 use Rattle.symmetries_definitions.specs.Exchanges.{Exchange}
 use Rattle.certificate_definitions.specs.Certificates.{Version, two, three, no_landmarks, are_landmarks, is_value_count, is_weight, is_mark, are_potentials, is_dead_end_weight, are_tables, are_weights, has_tables, is_row, is_table, rows_of, rise, value_of, is_dead_end_of, AreFairFor}
 use Rattle.certificate.specs.Evidence.{is_evidence}
-use Rattle.lower_bounds.specs.PotentialFunctions.{PotentialFunction, score, given, IsInRange, AreInRange}
+use Rattle.certificate.proofs.WithinLimits.{potentials_in_range, weight_in_range}
+use Rattle.lower_bounds.specs.PotentialFunctions.{PotentialFunction, score, given, AreInRange}
 use Rattle.lower_bounds.specs.FairPotentials as potentials
 use Rattle.lower_bounds.proofs.PotentialFalls.{or_zero-most}
 use Rattle.lower_bounds.proofs.Sums.{sum-range}
@@ -59,34 +60,7 @@ limits_of version count s are =
     let (value_count, values) = and_parts value_count values first in
     record { value_count = value_count; values = values; dead_ends = dead_ends; tables = tables; few_tables = few_tables; few_rows = few_rows; landmarks = landmarks }
 
--- a weight for each of so many atoms
-pub one_weight_each : (is_in_range : ℤ → Bool) (count : ℕ) (p : PotentialFunction) → are_potentials is_in_range count p ≡ true → length p.weights ≡ count
-one_weight_each is_in_range count p are =
-    let first = (and_parts (is_in_range p.constant && (length p.weights == count)) (list_all is_in_range p.weights) are).0 in
-    eqb-true (length p.weights) count (and_parts (is_in_range p.constant) (length p.weights == count) first).1
-
-pub weights_of_each : (count : ℕ) (values : List PotentialFunction) → list_all (are_potentials is_weight count) values ≡ true → All (λ (p : PotentialFunction). length p.weights ≡ count) values
-weights_of_each count [] all = All-nil (λ (p : PotentialFunction). length p.weights ≡ count)
-weights_of_each count (p ∷ values) all =
-    let (here, more) = and_parts (are_potentials is_weight count p) (list_all (are_potentials is_weight count) values) all in
-    All-cons (λ (p : PotentialFunction). length p.weights ≡ count) p values (one_weight_each is_weight count p here) (weights_of_each count values more)
-
 -- ---- what is in range
-
-weight-in-range : (w : ℤ) → is_weight w ≡ true → IsInRange w
-weight-in-range (pos n) is = let most = leb-true n 2147483647 is in record { least = omega (arith, ints); most = omega (arith, ints) }
-weight-in-range (negsuc n) is = let most = ltb-true n 2147483647 is in record { least = omega (arith, ints); most = omega (arith, ints) }
-
-pub weights-in-range : (weights : List ℤ) → list_all is_weight weights ≡ true → All IsInRange weights
-weights-in-range [] all = All-nil IsInRange
-weights-in-range (w ∷ weights) all =
-    let (here, more) = and_parts (is_weight w) (list_all is_weight weights) all in
-    All-cons IsInRange w weights (weight-in-range w here) (weights-in-range weights more)
-
-potentials-in-range : (count : ℕ) (p : PotentialFunction) → are_potentials is_weight count p ≡ true → AreInRange p
-potentials-in-range count p are =
-    let (first, weights) = and_parts (is_weight p.constant && (length p.weights == count)) (list_all is_weight p.weights) are in
-    record { constant = weight-in-range p.constant (and_parts (is_weight p.constant) (length p.weights == count) first).0; weights = weights-in-range p.weights weights }
 
 -- so a certificate can have potentials in range, with a weight for each atom
 pub potentials-written : (count : ℕ) (p dead_ends : PotentialFunction) → AreInRange p → AreInRange dead_ends → length p.weights ≡ count → length dead_ends.weights ≡ count → CanBeWritten count (by_potentials p dead_ends)
@@ -115,7 +89,7 @@ score-most p bits range few =
 
 weight-at-most : (weights : List ℤ) (place : ℕ) → list_all is_weight weights ≡ true → get_or weights place (pos 0) ≤ℤ pos 2147483647
 weight-at-most [] place all = omega (arith, ints)
-weight-at-most (w ∷ weights) zero all = (weight-in-range w (and_parts (is_weight w) (list_all is_weight weights) all).0).most
+weight-at-most (w ∷ weights) zero all = (weight_in_range w (and_parts (is_weight w) (list_all is_weight weights) all).0).most
 weight-at-most (w ∷ weights) (suc place) all = weight-at-most weights place (and_parts (is_weight w) (list_all is_weight weights) all).1
 
 module _ (count weight_count : ℕ) (bits : List Bool) (place : ℕ) where
@@ -157,7 +131,7 @@ module _ (count weight_count : ℕ) (tables : List Table) (are : are_tables thre
   greatest-most place [] all = omega arith
   greatest-most place (p ∷ values) all =
       let (here, more) = and_parts (are_potentials is_weight count p) (list_all (are_potentials is_weight count) values) all in
-      let first = one-most p place (potentials-in-range count p here) in
+      let first = one-most p place (potentials_in_range count p here) in
       let rest = greatest-most (suc place) values more in
       omega arith
 
@@ -165,7 +139,7 @@ pub estimate-most : (count : ℕ) (guidance : Guidance) → is_evidence (version
 estimate-most count (by_potentials p dead_ends) are bits short =
     let limits = limits_of two count (values_by (by_potentials p dead_ends)) are in
     let here = (and_parts (are_potentials is_weight count p) true limits.values).0 in
-    let low = score-most p bits (potentials-in-range count p here) short in
+    let low = score-most p bits (potentials_in_range count p here) short in
     or_zero-most (score p bits) most_value (omega (arith, ints))
 estimate-most count (by_tables s) are bits short =
     let limits = limits_of three count s are in

@@ -21,7 +21,8 @@ use Rattle.solver.specs.Listing.{numbers_in, by_all, state_line, found_certifica
 use Rattle.solver.proofs.TypedLemmas.{numbered_typed}
 use Rattle.ground_listings.proofs.GroundLemmas.{distinct_states}
 use Rattle.solver.specs.Guidance.{Guidance, by_potentials, by_tables, CanBeWritten, AreFairBy, estimate_by, reports_dead, version_by, values_by, first_value}
-use Rattle.solver.proofs.GuidanceLemmas.{AreLimits, limits_of, one_weight_each, weights_of_each, most_value, estimate-most, mark-passes, value-found, value-at-start, dead-found, fair-found}
+use Rattle.certificate.proofs.WithinLimits.{one_weight_each, weights_of_each}
+use Rattle.solver.proofs.GuidanceLemmas.{AreLimits, limits_of, most_value, estimate-most, mark-passes, value-found, value-at-start, dead-found, fair-found}
 use Rattle.solver.proofs.FoundLines.{bare-by_all, expanded_of_open, dead_of_reported, found_line, have_bases, length-lines, node_at, none-dead_by}
 use Rattle.landmark_functions.specs.FairLandmarks.{IsFair, IsDeadFair}
 use Rattle.model.specs.Task.{Task, Atom}
@@ -331,7 +332,7 @@ module _ (task : Task) (claim : Claim) (most : ℕ) (exchanges : List Exchange) 
 
 -- ---- for a certificate of these parts
 
--- what is shown with so many states is shown with more
+-- what a number of states shows is shown where more are allowed
 pub more_allowed : {task : Task} {claim : Claim} {count most : ℕ} {certificate : Certificate} → IsShownBy task claim count certificate → count ≤ most → IsShownBy task claim most certificate
 more_allowed given le = record {
   claims = given.claims;

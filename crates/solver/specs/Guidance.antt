@@ -46,7 +46,7 @@ values_by (by_tables s) = s
 abbrev pub first_value : Guidance → PotentialFunction
 first_value guidance = get_or (values_by guidance).values 0 (record { constant = pos 0; weights = [] })
 
--- A certificate of so many atoms can have them, beside no landmark values.
+-- A certificate with this number of atoms can have them, beside no landmark values.
 pub record CanBeWritten (atom_count : ℕ) (guidance : Guidance) : Type 0 where
   pub within_limits : IsTrue (is_evidence (version_by guidance) atom_count (values_by guidance) no_landmarks)
   pub rows_are_distinct : All (λ (t : Table). AllPairs (λ (q r : Row). q.atoms ≢ r.atoms) t.rows) (values_by guidance).tables

@@ -44,9 +44,9 @@ is_open line = is_opened line.mark
 abbrev pub report_of : Certificate → Report
 report_of certificate = End (length certificate.lines) (count_by is_open (map marked certificate.lines))
 
--- The report is true of the task: so many of its instances are kept, and so many of its atoms have numbers; or every list of instances that
--- solves it costs at least the bound, so many different states are reachable, and no more of them were expanded; or a closed certificate
--- of it lists so many states, so many of them as open. Of a limit nothing is claimed.
+-- The report is true of the task. Its counts are those of the kept instances and of the numbered atoms; or every list of instances that
+-- solves it costs at least the bound, as many different states are reachable as are listed, and no more of them were expanded; or a closed
+-- certificate of it has as many states, and as many open ones. Of a limit nothing is claimed.
 abbrev pub IsTrueReport : Task → Report → Type 0
 IsTrueReport task (Ground instances atoms) = (instances ≡ length (kept_instances task)) × (atoms ≡ length (numbered_atoms task []))
 IsTrueReport task (Search bound listed expanded) = CostsAtLeast (system_of task) bound × AreReachable (system_of task) listed × (expanded ≤ listed)

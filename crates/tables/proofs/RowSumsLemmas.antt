@@ -196,7 +196,7 @@ set-twice (r ∷ rows) (suc k) one other = ap (λ l. r ∷ l) (set-twice rows k 
 
 -- ---- sums at each place
 
--- so many numbers have their weights added
+-- the first `count` numbers have their weights added
 pub record AreAddedBelow (old weights : List ℤ) (count : ℕ) (new : List ℤ) : Type 0 where
   pub long : length new ≡ length old
   pub done : (place : ℕ) → place < count → get_or new place (pos 0) ≡ (get_or old place (pos 0) +ℤ get_or weights place (pos 0))
@@ -228,7 +228,7 @@ added-all old weights new count as_long all before = record {
   ];
 }
 
--- so many have them taken off
+-- the first `count` numbers have their weights subtracted
 pub record AreTakenBelow (old weights : List ℤ) (count : ℕ) (new : List ℤ) : Type 0 where
   pub long : length old ≡ length new
   pub done : (place : ℕ) → place < count → get_or old place (pos 0) ≡ (get_or new place (pos 0) +ℤ get_or weights place (pos 0))

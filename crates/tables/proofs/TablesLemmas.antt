@@ -152,7 +152,7 @@ loses-more place literals changes tables k t total lost new at closed so_far lea
 pub by-all : (all : IndexedTables) → IsByAtom (tables_of all) (length (tables_of all)) all.by_atom
 by-all all = subst (λ n. IsByAtom (tables_of all) n all.by_atom) (sym (length-map all.tables.items indexed_of)) all.named
 
--- the scope is of so many atoms
+-- each atom of a table's scope is below the width
 pub scope-below : (width : ℕ) (tables : List Table) (k : ℕ) (t : Table) → IsTrue (are_over width tables) → slice_get tables k ≡ Some t → All (λ n. n < width) t.scope
 scope-below width tables k t all at =
     let here = all-at (λ (u : Table). list_all (λ number. nat_lt number width) u.scope) tables t all (Contains-got tables k t at) in

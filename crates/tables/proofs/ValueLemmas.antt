@@ -60,7 +60,7 @@ none-dead h bits none = sym (ap (λ b. nat_le 1 (or_zero (if b then total h bits
 
 -- ---- scores, one after another
 
--- so many values have these scores
+-- the first `count` values have these scores
 pub record AreScoresBelow (values : List Potentials) (bits : List Bool) (count : ℕ) (scores : List ℤ) : Type 0 where
   pub long : length scores ≡ count
   pub each : (k : ℕ) (p : Potentials) → k < count → slice_get values k ≡ Some p → get_or scores k (pos 0) ≡ score (potentials_of p) bits
@@ -91,7 +91,7 @@ scores-all values dead_ends bits count old new z all is more before = record {
       ap (λ l. get_or l (length values) (pos 0)) more ∙ ap (λ n. get_or (old ++ z ∷ []) n (pos 0)) end ∙ get_or-append_seam old z [] (pos 0) ∙ is;
 }
 
--- so many have become those of another state
+-- the first `count` scores have become those of another state
 pub record AreMovedBelow (values : List Potentials) (bits : List Bool) (count : ℕ) (old new : List ℤ) : Type 0 where
   pub long : length new ≡ length old
   pub done : (k : ℕ) (p : Potentials) → k < count → slice_get values k ≡ Some p → get_or new k (pos 0) ≡ score (potentials_of p) bits

@@ -5,12 +5,13 @@ use Rattle.task.specs.Task.{task_of}
 use Rattle.task.specs.TaskParts.{atom_of}
 use Rattle.certificate_definitions.specs.CertificateText.{WeightedAtom}
 use Rattle.certificate_definitions.specs.CertificateNames.{named_atom}
+use Rattle.certificate_definitions.specs.Certificates.{is_weight}
 use Rattle.certificate_reader.specs.Lines.{version_of}
 use Rattle.certificate.specs.Evidence.{evidence_of, potential_of, weights_at}
 use Rattle.certificate.specs.Gathering.{atom_line, atoms_weighed}
 use Rattle.certificate.specs.Certificate.{certificate_of}
 use Rattle.certificate.proofs.GatheringLemmas.{added_begun, added_passed, all_passed, atoms_past, next_begun, next_passed, so_far_begun, weighed_at}
-use Rattle.certificate.proofs.NumbersLemmas.{weight_count}
+use Rattle.certificate.proofs.WithinLimits.{one_weight_each}
 use Rattle.certificate.proofs.writer.write_atoms.Goals as goal
 use Rattle.certificate.proofs.writer.write_atoms.Goals.{In_ok-add_atom}
 use Rattle.certificate.proofs.writer.write_atoms.Given.{Over}
@@ -21,8 +22,8 @@ add_atom-requires g c =
     let within : c.loop-place.place < length cert.atoms =
     omega (arith, c.loop-place-test.true, ap length c.atoms-atoms.ensures.atoms, length-map c.atoms-atoms.result.now atom_of) in
     record {
-      values = λ k d there. omega (arith, within, weight_count (length cert.atoms) (potential_of (get_or c.evidence-evidence.result.now.values.items k d)) (c.evidence-evidence.ensures.values k d there));
-      dead_ends = omega (arith, within, weight_count (length cert.atoms) (potential_of c.evidence-evidence.result.now.dead_ends) c.evidence-evidence.ensures.dead_ends);
+      values = λ k d there. omega (arith, within, one_weight_each is_weight (length cert.atoms) (potential_of (get_or c.evidence-evidence.result.now.values.items k d)) (c.evidence-evidence.ensures.values k d there));
+      dead_ends = omega (arith, within, one_weight_each is_weight (length cert.atoms) (potential_of c.evidence-evidence.result.now.dead_ends) c.evidence-evidence.ensures.dead_ends);
     }
 
 -- what is written so far is a prefix

@@ -12,7 +12,8 @@ use Rattle.table_rows.specs.Tables.{table_of}
 use Rattle.tables.specs.AllTables.{tables_of}
 use Rattle.solver.specs.SeveralOver.{several_over}
 use Rattle.solver.proofs.GuidanceLemmas.{AreLimits, limits_of}
-use Rattle.solver.proofs.TablesLemmas.{all_counted, dead_ends_weighed, few_values, scopes_within, tables_in_range, values_weighed}
+use Rattle.certificate.proofs.WithinLimits.{scopes_within, tables_in_range}
+use Rattle.solver.proofs.TablesLemmas.{all_counted, dead_ends_weighed, few_values, values_weighed}
 use Rattle.solver.proofs.by_tables.functions_over.Goals as goal
 use Rattle.solver.proofs.by_tables.functions_over.Goals.{After-len}
 
@@ -42,11 +43,11 @@ index-requires-clause-counts c = all_counted (c.len.result + 1) c.args.tables.no
 
 pub index-requires-clause-range : goal.index-requires-clause-range
 index-requires-clause-range c =
-    tables_in_range (length (atoms_in c.args.ground.now)) (length (map potentials_of c.args.values.items) + 1) c.args.tables.now (limits (goal.at.index-requires-clause-range c).After-len).tables
+    tables_in_range three (length (atoms_in c.args.ground.now)) (length (map potentials_of c.args.values.items) + 1) c.args.tables.now (limits (goal.at.index-requires-clause-range c).After-len).tables
 
 -- the scopes are of numbered atoms
 scopes : (c : After-len) → IsTrue (are_over (length (atoms_in c.args.ground.now)) (map table_of c.args.tables.now))
-scopes c = scopes_within (length (atoms_in c.args.ground.now)) (length (values_in c).values + 1) (map table_of c.args.tables.now) (limits c).tables
+scopes c = scopes_within three (length (atoms_in c.args.ground.now)) (length (values_in c).values + 1) (length (atoms_in c.args.ground.now)) (omega arith) (map table_of c.args.tables.now) (limits c).tables
 
 pub index-requires-clause-scopes : goal.index-requires-clause-scopes
 index-requires-clause-scopes c = subst (λ n. IsTrue (are_over n (map table_of c.args.tables.now))) (sym c.width.ensures) (scopes (goal.at.index-requires-clause-scopes c).After-len)

@@ -2,7 +2,7 @@ use Rattle.std.proofs.Common.{length, arith}
 use Rattle.std.proofs.lemmas.Bool.{leb-true}
 use Rattle.certificate.specs.Certificate.{certificate_of}
 use Rattle.certificate_definitions.specs.CertificateText.{most_states}
-use Rattle.cert_checker.proofs.LimitsLemmas.{limits_of}
+use Rattle.certificate.proofs.LimitsLemmas.{limits_of}
 use Rattle.cert_checker.proofs.checker.steps.state_line.Goals as goal
 
 pub overflow_add-result : goal.overflow_add-result

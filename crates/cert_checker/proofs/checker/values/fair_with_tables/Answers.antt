@@ -15,10 +15,9 @@ use Rattle.cert_checker.specs.Weights.{AreWidened, HasItsWeights, HaveTheirWeigh
 use Rattle.cert_checker.proofs.MadeLemmas.{each_as_wide, each_in_range, each_weighed, have_weights}
 use Rattle.cert_checker.proofs.PackedListingLemmas.{numbered_after}
 use Rattle.cert_checker.proofs.TablesLemmas.{as_many_widened}
-use Rattle.cert_checker.proofs.VersionLemmas.{one_weight_each}
-use Rattle.cert_checker.proofs.WeightsLemmas.{said_in_range}
 use Rattle.cert_checker.proofs.checker.values.fair_with_tables.Goals as goal
 use Rattle.cert_checker.proofs.checker.values.fair_with_tables.Goals.{After-deref, In_ok-values, In_ok-functions}
+use Rattle.certificate.proofs.WithinLimits.{one_weight_each, potentials_in_range}
 
 pub all_at_width-requires-clause-range : goal.all_at_width-requires-clause-range
 all_at_width-requires-clause-range c =
@@ -33,7 +32,7 @@ all_at_width-requires-clause-enough c =
     (each_weighed (length cert.atoms) c.width-width.result c.evidence-evidence.result.now.values.items (omega (arith, after, c.width-width.ensures)) c.evidence-evidence.ensures.values)
 
 pub at_width-requires-clause-range : goal.at_width-requires-clause-range
-at_width-requires-clause-range c = said_in_range (length (certificate_of c.args.cert.now).atoms) (potential_of c.evidence-evidence.result.now.dead_ends) c.evidence-evidence.ensures.dead_ends
+at_width-requires-clause-range c = potentials_in_range (length (certificate_of c.args.cert.now).atoms) (potential_of c.evidence-evidence.result.now.dead_ends) c.evidence-evidence.ensures.dead_ends
 
 pub at_width-requires-clause-enough : goal.at_width-requires-clause-enough
 at_width-requires-clause-enough c =

@@ -4,7 +4,7 @@ use Rattle.certificate.specs.Certificate.{certificate_of}
 use Rattle.certificate_definitions.specs.Certificates as certificates
 use Rattle.potentials.specs.Potentials.{potentials_of}
 use Rattle.cert_checker.specs.Weights.{HaveTheirWeights}
-use Rattle.cert_checker.proofs.LimitsLemmas.{limits_of}
+use Rattle.certificate.proofs.LimitsLemmas.{limits_of}
 use Rattle.cert_checker.proofs.MadeLemmas.{have_weights, one_widened}
 use Rattle.cert_checker.proofs.PackedListingLemmas.{numbered_after}
 use Rattle.cert_checker.proofs.VersionLemmas.{one_value}

@@ -11,11 +11,11 @@ use Rattle.lower_bounds.specs.TableFunctions.{Row}
 use Rattle.table_rows.specs.declared.table.Table.{Table}
 use Rattle.table_rows.specs.Tables.{table_of, weight_count_of}
 use Rattle.tables.specs.AllTables.{tables_of}
-use Rattle.cert_checker.proofs.LimitsLemmas.{limits_of}
-use Rattle.cert_checker.proofs.MadeLemmas.{few_values, tables_in_range}
-use Rattle.cert_checker.proofs.StaysLemmas.{scopes_within}
+use Rattle.certificate.proofs.LimitsLemmas.{limits_of}
+use Rattle.cert_checker.proofs.MadeLemmas.{few_values}
 use Rattle.cert_checker.proofs.checker.values.over_tables.Goals as goal
 use Rattle.cert_checker.proofs.checker.values.over_tables.Goals.{After-deref, After-len}
+use Rattle.certificate.proofs.WithinLimits.{scopes_within, tables_in_range}
 
 -- there are few values
 few : (c : After-len) → c.len.result ≤ 32

@@ -14,13 +14,14 @@ use Rattle.certificate_definitions.specs.CertificateRefusals.{dead_unfair, dead_
 use Rattle.cert_checker.specs.Weights.{HasItsWeights}
 use Rattle.cert_checker.proofs.OrderLemmas.{AreFairUpTo, atoms_right, dead_instances_asked, values_asked, states_right_all, first_asked}
 use Rattle.cert_checker.proofs.PackedListingLemmas.{numbered_after}
-use Rattle.cert_checker.proofs.VersionLemmas.{dead_unfair_in, dead_unfair_at_goals_in, first_dead_to_lose_in, goals_fair_in, none_dead_unfair_in, none_unfair_in, one_weight_each}
-use Rattle.cert_checker.proofs.WeightsLemmas.{fair_reported, first_reported, goals_reported, instances_reported, said_in_range, unfair_reported}
+use Rattle.cert_checker.proofs.VersionLemmas.{dead_unfair_in, dead_unfair_at_goals_in, first_dead_to_lose_in, goals_fair_in, none_dead_unfair_in, none_unfair_in}
+use Rattle.cert_checker.proofs.WeightsLemmas.{fair_reported, first_reported, goals_reported, instances_reported, unfair_reported}
 use Rattle.cert_checker.proofs.checker.weights.dead_fair_potentials.Goals as goal
 use Rattle.cert_checker.proofs.checker.weights.dead_fair_potentials.Goals.{In_ok-potentials}
+use Rattle.certificate.proofs.WithinLimits.{one_weight_each, potentials_in_range}
 
 pub at_width-requires-clause-range : goal.at_width-requires-clause-range
-at_width-requires-clause-range c = said_in_range (length (certificate_of c.args.cert.now).atoms) (potential_of c.evidence.result.now.dead_ends) c.evidence.ensures.dead_ends
+at_width-requires-clause-range c = potentials_in_range (length (certificate_of c.args.cert.now).atoms) (potential_of c.evidence.result.now.dead_ends) c.evidence.ensures.dead_ends
 
 pub at_width-requires-clause-enough : goal.at_width-requires-clause-enough
 at_width-requires-clause-enough c =

@@ -16,16 +16,17 @@ use Rattle.lower_bounds.specs.FairPotentials.{IsFairAtGoals}
 use Rattle.cert_checker.specs.Weights.{HasItsWeights}
 use Rattle.cert_checker.proofs.OrderLemmas.{atoms_right, instances_asked, none_asked, states_right_all, first_asked}
 use Rattle.cert_checker.proofs.PackedListingLemmas.{numbered_after}
-use Rattle.cert_checker.proofs.VersionLemmas.{first_to_lose_in, none_unfair_in, one_weight_each, unfair_in, unfair_at_goals_in}
-use Rattle.cert_checker.proofs.WeightsLemmas.{fair_reported, first_reported, first_value, first_within, goals_reported, instances_reported, said_in_range, unfair_reported}
+use Rattle.cert_checker.proofs.VersionLemmas.{first_to_lose_in, none_unfair_in, unfair_in, unfair_at_goals_in}
+use Rattle.cert_checker.proofs.WeightsLemmas.{fair_reported, first_reported, first_value, first_within, goals_reported, instances_reported, unfair_reported}
 use Rattle.cert_checker.proofs.checker.weights.fair_potentials.Goals as goal
 use Rattle.cert_checker.proofs.checker.weights.fair_potentials.Goals.{In_ok-potentials}
+use Rattle.certificate.proofs.WithinLimits.{one_weight_each, potentials_in_range}
 
 pub at_width-requires-clause-range : goal.at_width-requires-clause-range
 at_width-requires-clause-range c =
     let cert = certificate_of c.args.cert.now in
     let first = c.index.result.now in
-    said_in_range (length cert.atoms) (potential_of first)
+    potentials_in_range (length cert.atoms) (potential_of first)
     (first_within cert.version (length cert.atoms) c.evidence.result.now.values.items first c.evidence.ensures.value_count c.evidence.ensures.values c.index.ensures)
 
 pub at_width-requires-clause-enough : goal.at_width-requires-clause-enough

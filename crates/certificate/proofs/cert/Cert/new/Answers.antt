@@ -24,12 +24,12 @@ states_of-requires-clause-rising c =
     let certificate = certificate_with_lines c.args.header (map line_of c.args.lines.now) in
     let limits = limits_of certificate (sym c.keeps_limits.ensures ∙ c.if-not-keeps_limits.false) in
     subst (λ count. All (λ (line : StateLine). IsTrue (rise count 0 line.atoms)) certificate.lines) (length-map c.args.header.atoms.keys atom_of ∙ sym c.len.ensures.len)
-    (rising_lines certificate.version (length certificate.atoms) certificate.lines limits.lines)
+    (rising_lines certificate.version (length certificate.atoms) certificate.lines limits.states)
 
 pub states_of-requires-clause-few : goal.states_of-requires-clause-few
 states_of-requires-clause-few c =
     let certificate = certificate_with_lines c.args.header (map line_of c.args.lines.now) in
-    let few = leb-true (length certificate.lines) 16777216 (limits_of certificate (sym c.keeps_limits.ensures ∙ c.if-not-keeps_limits.false)).few_lines in
+    let few = leb-true (length certificate.lines) 16777216 (limits_of certificate (sym c.keeps_limits.ensures ∙ c.if-not-keeps_limits.false)).few_states in
     omega (arith, few, length-map c.args.lines.now line_of)
 
 pub from_parts-requires-clause-limits : goal.from_parts-requires-clause-limits

@@ -9,7 +9,7 @@ use Rattle.packed_state.specs.PooledView.{pooled_states, pooled_width}
 use Rattle.symmetries.specs.Representatives.{task_of, atoms_of, exchanges_of}
 use Rattle.certificate.specs.Certificate.{certificate_of, store_in}
 use Rattle.certificate.proofs.NumbersLemmas.{sets_are}
-use Rattle.cert_checker.proofs.LimitsLemmas.{limits_of}
+use Rattle.certificate.proofs.LimitsLemmas.{limits_of}
 use Rattle.cert_checker.specs.CheapestPlaces.{AreCheapest, costs_of}
 use Rattle.cert_checker.specs.Classified.{key_by, keys_in}
 use Rattle.cert_checker.specs.PackedLines.{packed_line}

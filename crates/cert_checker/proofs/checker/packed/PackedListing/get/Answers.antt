@@ -4,7 +4,7 @@ use Rattle.std.proofs.lemmas.Bool.{leb-true}
 use Rattle.packed_state.specs.Packed.{bits_of}
 use Rattle.packed_state.specs.PooledView.{pooled_states}
 use Rattle.certificate.specs.Certificate.{store_in}
-use Rattle.cert_checker.proofs.LimitsLemmas.{limits_of}
+use Rattle.certificate.proofs.LimitsLemmas.{limits_of}
 use Rattle.cert_checker.specs.PackedListing.{task_at, atoms_at, certificate_at}
 use Rattle.cert_checker.proofs.PackedListingLemmas.{found_there}
 use Rattle.cert_checker.proofs.checker.packed.PackedListing.get.Goals as goal
