@@ -11,7 +11,8 @@ use Rattle.explain_plans.specs.FormulaText.{Scope, formula_text, parts_text, sco
 use Rattle.explain_plans.specs.Histories.{History}
 use Rattle.explain_plans.specs.VariableNames.{formulas}
 use Rattle.explain_plans.proofs.FormulaLists.{conjunction, disjunction, next_left}
-use Rattle.explain_plans.specs.PlanLines.{reason_line, reason_lines}
+use Rattle.model.proofs.ListLemmas.{drop-here}
+use Rattle.explain_plans.specs.PlanLines.{cost_line, cost_lines, reason_line, reason_lines}
 use Rattle.model.specs.Task.{Task, Instance}
 
 -- ---- pieces added one after another
@@ -87,3 +88,19 @@ module _ (t : Task) (steps : List Instance) where
   lines_end zero ps (y ∷ hs) none = absurd (cc)
   lines_end (suc i) [] (y ∷ hs) none = refl
   lines_end (suc i) (x ∷ ps) (y ∷ hs) none = ap (λ l. reason_line t steps x y ++ l) (lines_end i ps hs none)
+
+-- ---- the lines of what steps cost
+
+module _ (t : Task) (steps : List Instance) (costs : List ℕ) where
+  -- one line more
+  pub cost_more : (i paid : ℕ) (step : Instance) (cost : ℕ) → slice_get steps i ≡ Some step → slice_get costs i ≡ Some cost
+      → cost_lines t i paid (drop i steps) (drop i costs) ≡ cost_line t (i + 1) step cost (paid + cost) ++ cost_lines t (i + 1) (paid + cost) (drop (i + 1) steps) (drop (i + 1) costs)
+  cost_more i paid step cost here there = λ k. cost_lines t i paid (drop-here steps i step here k) (drop-here costs i cost there k)
+
+  without_costs : (i paid : ℕ) (left : List Instance) → cost_lines t i paid left [] ≡ []
+  without_costs i paid [] = refl
+  without_costs i paid (step ∷ left) = refl
+
+  -- none is left where no cost is, or no step
+  pub cost_end : (i paid : ℕ) → length costs ≤ i → cost_lines t i paid (drop i steps) (drop i costs) ≡ []
+  cost_end i paid past = at_drop_all (cost_lines t i paid (drop i steps)) costs i past ∙ without_costs i paid (drop i steps)

@@ -1,5 +1,5 @@
 -- Explanations of a plan, byte by byte: the line of its verdict, and why it fails.
-use Rattle.std.specs.Prelude.{ℕ, ◌-◌, ◌==◌, Bool, List, [], ◌∷◌, ◌++◌, codes, if◌then◌else◌, map, slice_get}
+use Rattle.std.specs.Prelude.{ℕ, ◌+◌, ◌-◌, ◌==◌, Bool, List, [], ◌∷◌, ◌++◌, codes, if◌then◌else◌, map, slice_get}
 use Rattle.std.specs.Fmt.{decimal}
 use Rattle.std.specs.Option.{option_map_or}
 use Rattle.std.specs.Str.Lossy.{utf8_lossy}
@@ -30,6 +30,20 @@ verdict_line task steps (runs.valid cost) = codes "valid, cost " ++ (decimal cos
 verdict_line task steps (runs.not_applicable step) =
     codes "step " ++ (decimal step ++ (codes ", " ++ (step_name task steps step ++ codes ", is not applicable\n")))
 verdict_line task steps runs.goal_missed = codes "every step is applicable, but the goal is not reached\n"
+
+-- ---- a plan that solves
+
+-- the line of the step with this number, counted from 1: its text, its cost, and what the steps up to it cost together
+abbrev pub cost_line : Task → (number : ℕ) → Instance → (cost total : ℕ) → List ℕ
+cost_line task number step cost total =
+    decimal number ++ (codes "  " ++ (shown_step task step ++ (codes "  cost " ++ (decimal cost ++ (codes ", " ++ (decimal total ++ codes " so far\n"))))))
+
+-- the lines of steps with these costs, after a number of earlier ones that have cost this much
+abbrev pub cost_lines : Task → (earlier paid : ℕ) → List Instance → (costs : List ℕ) → List ℕ
+cost_lines task earlier paid [] costs = []
+cost_lines task earlier paid (step ∷ steps) [] = []
+cost_lines task earlier paid (step ∷ steps) (cost ∷ costs) =
+    cost_line task (earlier + 1) step cost (paid + cost) ++ cost_lines task (earlier + 1) (paid + cost) steps costs
 
 -- ---- reasons
 

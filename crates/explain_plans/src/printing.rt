@@ -12,7 +12,7 @@ ghost use Rattle.explain_plans.specs.Explanations.{verdict_of};
 ghost use Rattle.explain_plans.specs.FormulaText.{formula_text, scope_at};
 ghost use Rattle.explain_plans.specs.NamesView.{names_in};
 ghost use Rattle.explain_plans.specs.Parts.{history_of, part_of};
-ghost use Rattle.explain_plans.specs.PlanLines.{added_text, cause_text, deleted_text, increase_text, instance_increase_text, lacking_text, made_text, negation_text, reason_line, reason_lines, reasons_text, step_name, verdict_line, why_text};
+ghost use Rattle.explain_plans.specs.PlanLines.{added_text, cause_text, cost_lines, deleted_text, increase_text, instance_increase_text, lacking_text, made_text, negation_text, reason_line, reason_lines, reasons_text, step_name, verdict_line, why_text};
 ghost use Rattle.explain_plans.specs.Said.{AddsDetails, HasDetails};
 ghost use Rattle.explain_plans.specs.ScopeView.{scope_of};
 ghost use Rattle.model.specs.Runs.{not_applicable};
@@ -113,6 +113,13 @@ struct PlanPrinter<'p> {
     plan: &'p Plan,
 }
 
+/// What a step costs, and what the steps up to it cost together.
+#[derive(Clone, Copy)]
+struct Paid {
+    cost: u32,
+    total: u64,
+}
+
 /// How a formula became false, with the objects of the variables in its scope.
 #[derive(Clone, Copy)]
 struct BecameFalse<'p> {
@@ -154,14 +161,22 @@ impl PlanPrinter<'_> {
         }
     }
 
-    /// Adds a line for each step: its number, its text, its cost and the accumulated cost.
-    fn add_steps(&self, costs: &[u32], text: &mut Vec<u8>) -> Result<(), NoMemory> {
-        let mut total = 0u64;
-        for (index, (step, cost)) in self.plan.steps().iter().zip(costs).enumerate() {
-            total = total.saturating_add(u64::from(*cost));
-            let step = step_text(self.alloc, self.task, step)?;
-            let number = index.saturating_add(1);
-            let line = format!(in self.alloc; "{number}  {step}  cost {cost}, {total} so far\n")?;
+    /// Adds a line for each step that has a cost at its index: its number, its text, its cost and the accumulated cost.
+    fn add_steps(&self, costs: &[u32], text: &mut Vec<u8>) -> Result<(), NoMemory>
+        ensures { OnOk result (text.new.items ≡ text.old.items ++ cost_lines (task_of self.now.task.now) 0 0 (plan_of self.now.plan.now) costs.now) }
+    {
+        let mut total = 0;
+        for (index, cost) in costs.iter().enumerate() {
+            let Some(step) = self.plan.steps().get(index) else {
+                return Ok(());
+            };
+            total += u64::from(*cost);
+            let words = step_text(self.alloc, self.task, step)?;
+            let paid = Paid {
+                cost: *cost,
+                total,
+            };
+            let line = cost_line_of(self.alloc, index + 1, words.as_str(), paid)?;
             text.extend_from_slice(line.as_bytes())?;
         }
         Ok(())
@@ -385,6 +400,19 @@ fn history_at(histories: &[History], place: usize) -> Option<History>
         Some(history) => Some(*history),
         None => None,
     }
+}
+
+/// The line of the step with this number, in these words.
+fn cost_line_of(
+    alloc: Global,
+    number: usize,
+    words: &str,
+    paid: Paid,
+) -> Result<String, NoMemory>
+    ensures { IfOk result (λ line. string_bytes line ≡ decimal number ++ (codes "  " ++ (words.now ++ (codes "  cost " ++ (decimal paid.cost ++ (codes ", " ++ (decimal paid.total ++ codes " so far\n"))))))) }
+{
+    let Paid { cost, total } = paid;
+    Ok(format!(in alloc; "{number}  {words}  cost {cost}, {total} so far\n")?)
 }
 
 /// The same for a step given in these words.

@@ -13,7 +13,7 @@ use Rattle.explain_hints.specs.declared.texts.File.TheVariants as file
 use Rattle.explain_faults.specs.Explained.{BeginsWith, heading}
 use Rattle.explain_plans.specs.Explanations.{IsExplained}
 use Rattle.explain_plans.specs.Explanations.{verdict_of as explained_verdict}
-use Rattle.explain_plans.specs.PlanLines.{reasons_text, step_reasons_text, verdict_line}
+use Rattle.explain_plans.specs.PlanLines.{cost_lines, reasons_text, step_reasons_text, verdict_line}
 use Rattle.explain_tasks.specs.Summary.{summary_text}
 use Rattle.explain_plans.specs.StepPlaces.{IsStepPlace, span_of}
 use Rattle.explain_plans.specs.declared.explanations.PlanExplanation.{PlanExplanation}
@@ -94,11 +94,11 @@ IsSubjectLocated files (Task holds grounded) at = Unit {0}
 abbrev pub place_text : Location → List ℕ
 place_text at = string_bytes at.file ++ (codes ":" ++ (decimal at.line ++ (codes ":" ++ (decimal at.column ++ codes ": "))))
 
--- The lines for these steps of the task, with this explanation. For a plan that solves the task they end with the line of its
--- cost. For an inapplicable step they are its place, its line, the line of the file with marks, and the reasons; for a missed
+-- The lines for these steps of the task, with this explanation. For a plan that solves the task they are a line for each step, with what
+-- it costs, and the line of the whole cost. For an inapplicable step they are its place, its line, the line of the file with marks, and the reasons; for a missed
 -- goal they are its line and the reasons.
 abbrev pub SayPlan : Option Location → model.Task → List model.Instance → PlanExplanation → (lines : List ℕ) → Type 0
-SayPlan at task steps (Solves costs total) lines = (before : List ℕ) × (lines ≡ before ++ verdict_line task steps (valid total))
+SayPlan at task steps (Solves costs total) lines = lines ≡ utf8_lossy (cost_lines task 0 0 steps costs.items) ++ verdict_line task steps (valid total)
 SayPlan at task steps (NotApplicable step lacks_cost reasons) lines =
     IfSome at (λ at. (marks : List ℕ) × (lines ≡ place_text at ++ (verdict_line task steps (not_applicable step)
     ++ (marks ++ utf8_lossy (step_reasons_text task steps step lacks_cost reasons)))))
