@@ -13,8 +13,8 @@ ghost use Rattle.certificate.specs.Evidence.{potential_of};
 use crate::evidence::Potential;
 use crate::header::Header;
 use certificate_reader::{
-    Basis, Claim, MAX_ATOMS, MAX_CONSTANTS, MAX_ROWS, MAX_STATE_LINES, MAX_SWAPS, Mark, NUMBER_LIMIT,
-    StateLine, Version, is_weight,
+    Basis, Claim, MAX_ATOMS, MAX_CONSTANTS, MAX_ROWS, MAX_STATE_LINES, MAX_SWAPS, Mark,
+    NUMBER_LIMIT, StateLine, Version, is_weight,
 };
 use landmark_zones::{Landmarks, MAX_VALUES};
 use table_rows::Table;

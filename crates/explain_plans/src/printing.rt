@@ -172,10 +172,7 @@ impl PlanPrinter<'_> {
             };
             total += u64::from(*cost);
             let words = step_text(self.alloc, self.task, step)?;
-            let paid = Paid {
-                cost: *cost,
-                total,
-            };
+            let paid = Paid { cost: *cost, total };
             let line = cost_line_of(self.alloc, index + 1, words.as_str(), paid)?;
             text.extend_from_slice(line.as_bytes())?;
         }
@@ -403,12 +400,7 @@ fn history_at(histories: &[History], place: usize) -> Option<History>
 }
 
 /// The line of the step with this number, in these words.
-fn cost_line_of(
-    alloc: Global,
-    number: usize,
-    words: &str,
-    paid: Paid,
-) -> Result<String, NoMemory>
+fn cost_line_of(alloc: Global, number: usize, words: &str, paid: Paid) -> Result<String, NoMemory>
     ensures { IfOk result (λ line. string_bytes line ≡ decimal number ++ (codes "  " ++ (words.now ++ (codes "  cost " ++ (decimal paid.cost ++ (codes ", " ++ (decimal paid.total ++ codes " so far\n"))))))) }
 {
     let Paid { cost, total } = paid;

@@ -31,13 +31,12 @@ loop-index-preserved c =
     ∙ (λ k. decimal (index + 1) ++ (codes "  " ++ (words k ++ (codes "  cost " ++ (decimal cost ++ (codes ", " ++ (decimal (total + is_cost k) ++ codes " so far\n")))))))
     in
     let added : c.extend_from_slice.new.self.items ≡ c.loop-index.text.items ++ line = c.in_ok-extend_from_slice.ensures.items ∙ ap (λ l. c.loop-index.text.items ++ l) is_line in
-    let fits = c.type_inv.costs index in
-    (
+    let fits = c.type_inv.costs index in (
       omega (arith, c.loop-index.invariant.0, is_cost, fits),
       (λ k. added k ++ cost_lines task (index + 1) (total + is_cost k) (drop (index + 1) plan) (drop (index + 1) costs))
-      ∙ append_assoc c.loop-index.text.items line (cost_lines task (index + 1) (total + cost) (drop (index + 1) plan) (drop (index + 1) costs))
-      ∙ ap (λ l. c.loop-index.text.items ++ l) (sym (cost_more task plan costs index total step cost here there))
-      ∙ c.loop-index.invariant.1,
+          ∙ append_assoc c.loop-index.text.items line (cost_lines task (index + 1) (total + cost) (drop (index + 1) plan) (drop (index + 1) costs))
+          ∙ ap (λ l. c.loop-index.text.items ++ l) (sym (cost_more task plan costs index total step cost here there))
+          ∙ c.loop-index.invariant.1,
     )
 
 pub returns : goal.returns

@@ -9,4 +9,4 @@ abbrev pub invariant-loop-index : goal.invariant-loop-index
 invariant-loop-index l =
     (l.total ≤ l.index * 4294967295)
     × (l.text.items ++ cost_lines (task_of l.self.task.now) l.index l.total (drop l.index (plan_of l.self.plan.now)) (drop l.index l.costs)
-      ≡ l.initial.text.items ++ cost_lines (task_of l.self.task.now) 0 0 (plan_of l.self.plan.now) l.costs)
+    ≡ l.initial.text.items ++ cost_lines (task_of l.self.task.now) 0 0 (plan_of l.self.plan.now) l.costs)
