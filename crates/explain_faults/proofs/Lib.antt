@@ -1,3 +1,4 @@
 pub mod Candidates
+pub mod FirstLines
 pub mod WantedWords
 pub mod WrongLemmas

@@ -28,7 +28,7 @@ pub struct FaultExplanation<'a> {
     /// Where the text goes wrong before the fault, if its parentheses are unbalanced.
     pub wrong: Option<WrongPlace>,
     /// The common mistake behind it, if there is one.
-    pub hint: Option<Hint>,
+    pub hint: Option<Hint<'a>>,
 }
 
 /// Explains a fault of these texts. The caller is responsible for it being the first fault; for a fault that these texts do not

@@ -2,14 +2,15 @@
 #![tactic(auto)]
 
 mod explanation;
+mod report;
 mod sentences;
 mod shown;
 mod wanted;
 mod wrong;
 
 pub use explain_hints::{
-    CostFault, Counts, File, FileOffset, FileRefusal, Help, Hint, Limit, LineColumn, Named,
-    NamedText, NamedTexts, Others, Types,
+    CostFault, Counts, EarlyEnd, File, FileOffset, FileRefusal, FormMistake, Help, Hint, Limit,
+    LineColumn, Named, NamedText, NamedTexts, Others, Part, RunMistake, Types,
 };
 pub use explanation::{FaultExplanation, explain_fault};
 pub use wrong::{Nesting, WrongPlace};

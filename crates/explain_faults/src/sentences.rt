@@ -1,63 +1,29 @@
-//! The report of a fault: its heading, its line with marks, and a sentence.
-ghost use Rattle.std.specs.Prelude.{◌≡◌, IfOk};
-ghost use Rattle.std.specs.String.{string_bytes};
-ghost use Rattle.explain_hints.specs.Files.{name_in};
-ghost use Rattle.explain_faults.specs.Explained.{BeginsWith, heading};
-
+//! The sentences of a fault: what is wrong, and what helps.
 use crate::explanation::FaultExplanation;
-use crate::shown::{Chain, FilePlace, Name, NameList, add_words};
+use crate::shown::{Chain, FilePlace, NameList, add_words};
 use crate::wrong::{Nesting, WrongPlace};
 use explain_hints::{
-    CostFault, Counts, FileOffset, FileRefusal, Help, Limit, LineColumn, Named, NamedTexts, Others,
-    Types, is_comment_elsewhere, is_near, marked, reported_bytes,
+    CostFault, Counts, EarlyEnd, FileOffset, FileRefusal, Help, Hint, Limit, Name, Named,
+    NamedTexts, Others, Types, is_comment_elsewhere, is_near, marked, reported_bytes,
 };
 use faults::{Code, NoMemory};
 use std::alloc::{AllocError, Global};
 use tokens::{LONGEST_TEXT, Word};
 
 impl FaultExplanation<'_> {
-    /// The report of the fault: a line with its place, number and name; the line of the text with the faulty bytes marked below;
-    /// and a sentence. Each line ends with LF.
-    ///
-    /// ```text
-    /// domain.pddl:12:27: fault 19 WrongType (columns count bytes)
-    ///   12 |       :precondition (and (fast ?t))
-    ///      |                                ^^
-    /// `?t` has type `thing`, but `fast` requires `car`.
-    /// ```
-    ///
-    /// # Errors
-    /// An allocation failed.
-    pub fn text(&self, alloc: Global, texts: &NamedTexts<'_>) -> Result<String, NoMemory>
-        ensures { IfOk result (λ text. BeginsWith (string_bytes text) (heading (name_in texts.now self.now.fault.file) self.now.place self.now.fault.code)) }
-    {
-        let name = texts.name(self.fault.file);
-        let mut out = heading(alloc, name, self.place, self.fault.code)?;
-        let marks = marked(alloc, texts.text(self.fault.file), self.fault.span)?;
-        let mut sentence = String::new(alloc);
-        self.add_sentence(alloc, texts, &mut sentence)?;
-        for aside in self.asides(texts) {
-            add_aside(aside, &mut sentence)?;
-        }
-        out.push_str(marks.as_str())?;
-        out.push_str(sentence.as_str())?;
-        out.push_str("\n")?;
-        let wrong = self.wrong_lines(alloc, texts)?;
-        out.push_str(wrong.as_str())?;
-        Ok(out)
-    }
-
-    /// Further hints, each without LF: the common mistake behind the fault, the tool that rewrites the file, and the place where
-    /// the text goes wrong before the fault.
+    /// Further hints, each without LF: the common mistake behind the fault and what to do about it, the tool that rewrites the
+    /// file, and the place where the text goes wrong before the fault.
     ///
     /// # Errors
     /// An allocation failed.
     pub fn hints(&self, alloc: Global, texts: &NamedTexts<'_>) -> Result<Vec<String>, NoMemory> {
         let mut hints = Vec::new(alloc);
-        for aside in self.asides(texts) {
-            if let Some(text) = aside {
-                hints.push(String::from_str(alloc, text)?)?;
-            }
+        if let Some(hint) = self.message_hint(texts) {
+            hints.push(format!(in alloc; "{hint}")?)?;
+        }
+        let asides = self.asides(alloc, texts)?;
+        for aside in asides.as_slice() {
+            hints.push(String::from_str(alloc, aside.as_str())?)?;
         }
         if let Some(wrong) = self.wrong {
             hints.push(self.wrong_hint(alloc, texts, wrong)?)?;
@@ -65,19 +31,51 @@ impl FaultExplanation<'_> {
         Ok(hints)
     }
 
-    /// The sentences after the one of the fault, if there are any.
-    fn asides(&self, texts: &NamedTexts<'_>) -> [Option<&'static str>; 2] {
+    /// The common mistake that the report names: none if it suggests a similar keyword.
+    fn shown_hint(&self, texts: &NamedTexts<'_>) -> Option<Hint<'_>> {
         let word = reported_bytes(texts, self.fault);
-        let mistake = match self.hint {
-            Some(hint) if !self.asks_for_another(word) => Some(hint.text()),
+        match self.hint {
+            Some(hint) if !self.asks_for_another(word) => Some(hint),
             _ => None,
-        };
-        let rewriter = if self.is_rewritable(word) {
-            Some("`tools/ipc-files` can rewrite this.")
-        } else {
+        }
+    }
+
+    /// The common mistake that takes the place of the fault's own sentence.
+    fn message_hint(&self, texts: &NamedTexts<'_>) -> Option<Hint<'_>> {
+        self.shown_hint(texts).filter(|hint| hint.is_message())
+    }
+
+    /// The sentences after the one of the fault.
+    pub(crate) fn asides(
+        &self,
+        alloc: Global,
+        texts: &NamedTexts<'_>,
+    ) -> Result<Vec<String>, NoMemory> {
+        let word = reported_bytes(texts, self.fault);
+        let mut asides = Vec::new(alloc);
+        if let Some(hint) = self.shown_hint(texts) {
+            if !hint.is_message() {
+                asides.push(format!(in alloc; "{hint}")?)?;
+            }
+            if let Some(advice) = hint.advice() {
+                asides.push(String::from_str(alloc, advice)?)?;
+            }
+        }
+        if let Some(rewriter) = self.rewriter(word) {
+            asides.push(String::from_str(alloc, rewriter)?)?;
+        }
+        Ok(asides)
+    }
+
+    /// The sentence about the tool that can rewrite this, if there is one.
+    fn rewriter(&self, word: &[u8]) -> Option<&'static str> {
+        if !self.is_rewritable(word) {
             None
-        };
-        [mistake, rewriter]
+        } else if word.eq_ignore_ascii_case(b":derived") {
+            Some("`tools/ipc-files` can rewrite this, unless it is recursive.")
+        } else {
+            Some("`tools/ipc-files` can rewrite this.")
+        }
     }
 
     /// The place where the text goes wrong, with a sentence.
@@ -112,7 +110,11 @@ impl FaultExplanation<'_> {
 
     /// The lines for the place where the text goes wrong before the fault, if there is one: the place, its line with marks, and a
     /// sentence.
-    fn wrong_lines(&self, alloc: Global, texts: &NamedTexts<'_>) -> Result<String, NoMemory> {
+    pub(crate) fn wrong_lines(
+        &self,
+        alloc: Global,
+        texts: &NamedTexts<'_>,
+    ) -> Result<String, NoMemory> {
         let Some(wrong) = self.wrong else {
             return Ok(String::new(alloc));
         };
@@ -150,7 +152,21 @@ impl FaultExplanation<'_> {
         }
     }
 
-    /// Appends the sentence, with the full stop or question mark at its end.
+    /// Appends what is wrong: the common mistake if that says it better, or the sentence of the fault. It may have a full stop or a
+    /// question mark at its end.
+    pub(crate) fn add_message(
+        &self,
+        alloc: Global,
+        texts: &NamedTexts<'_>,
+        out: &mut String,
+    ) -> Result<(), AllocError> {
+        match self.message_hint(texts) {
+            Some(hint) => write!(out, "{hint}"),
+            None => self.add_sentence(alloc, texts, out),
+        }
+    }
+
+    /// Appends the sentence of the fault, with the full stop or question mark at its end.
     fn add_sentence(
         &self,
         alloc: Global,
@@ -170,6 +186,23 @@ impl FaultExplanation<'_> {
                 FilePlace::of(texts, *at)
             ),
             Help::Earlier(at) => add_earlier(self.fault.code, word, FilePlace::of(texts, *at), out),
+            Help::EarlyEnd(early) => add_early_end(texts, *early, out),
+            Help::MeantVariable(name) => {
+                write!(
+                    out,
+                    "no object is called {}; did you mean the variable {}?",
+                    Name(word),
+                    Name(name)
+                )
+            }
+            Help::MeantObject(name) => {
+                write!(
+                    out,
+                    "no variable in scope is called {}; did you mean {}, without `?`?",
+                    Name(word),
+                    Name(name)
+                )
+            }
             Help::Valued(at) => add_valued(word, FilePlace::of(texts, *at), out),
             Help::BuiltIn => out.push_str("the type `object` is built in."),
             Help::Missing(names) => add_missing(names.as_slice(), out),
@@ -189,24 +222,6 @@ impl FaultExplanation<'_> {
             Help::Limit(limit) => out.push_str(limit_text(*limit)),
             Help::Cost(fault) => out.push_str(cost_text(*fault)),
         }
-    }
-}
-
-/// The first line: the file, the place, the fault's number and name.
-fn heading(alloc: Global, name: &str, place: LineColumn, code: Code) -> Result<String, AllocError>
-    ensures { IfOk result (λ line. string_bytes line ≡ heading name.now place code) }
-{
-    let (line, column) = (place.line, place.column);
-    let number = code.number();
-    let code = code.name();
-    format!(in alloc; "{name}:{line}:{column}: fault {number} {code} (columns count bytes)\n")
-}
-
-/// Appends a sentence, if there is one, after the sentences already there.
-fn add_aside(aside: Option<&str>, out: &mut String) -> Result<(), AllocError> {
-    match aside {
-        Some(text) => write!(out, " {text}"),
-        None => Ok(()),
     }
 }
 
@@ -337,6 +352,19 @@ fn add_earlier(
         Code::Duplicate => write!(out, "{} is already declared at {place}.", Name(word)),
         _ => write!(out, "{} already appears at {place}.", Name(word)),
     }
+}
+
+fn add_early_end(
+    texts: &NamedTexts<'_>,
+    early: EarlyEnd<'_>,
+    out: &mut String,
+) -> Result<(), AllocError> {
+    let (name, end) = (Name(early.name), FilePlace::of(texts, early.end));
+    let section = FilePlace::of(texts, early.section);
+    write!(
+        out,
+        "the `)` at {end} closes `(define`: is there one `)` too many in {name}, which begins at {section}?"
+    )
 }
 
 fn add_valued(word: &[u8], place: FilePlace<'_>, out: &mut String) -> Result<(), AllocError> {

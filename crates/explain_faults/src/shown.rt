@@ -1,26 +1,11 @@
 //! Names, places and words in reports.
-use explain_hints::{FileOffset, LineColumn, NamedTexts, place_of};
+use explain_hints::{FileOffset, LineColumn, Name, NamedTexts, place_of};
 use std::alloc::{AllocError, Global};
 use std::fmt;
 use tokens::{Kind, Word};
 
-/// The maximum number of bytes shown of a name or run.
-const LONGEST: usize = 80;
-
 /// The maximum number of names shown of a chain.
 const MOST_LINKS: usize = 12;
-
-/// A name in backquotes. Bytes that are not printable ASCII are shown as `\xNN`, and a long name is cut at the end.
-#[derive(Clone, Copy)]
-pub(crate) struct Name<'a>(pub(crate) &'a [u8]);
-
-impl fmt::Display for Name<'_> {
-    fn fmt<W: fmt::Write>(&self, f: &mut fmt::Formatter<W>) -> fmt::Result {
-        let shown = &self.0[..self.0.len().min(LONGEST)];
-        let ending = if self.0.len() <= LONGEST { "" } else { "..." };
-        write!(f, "`{}{ending}`", shown.escape_ascii())
-    }
-}
 
 /// Names separated by commas, with a word before the last.
 #[derive(Clone, Copy)]

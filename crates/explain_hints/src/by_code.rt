@@ -41,7 +41,7 @@ fn length_of<'a>(fault: FileRefusal) -> Help<'a> {
 fn help_in<'a>(alloc: Global, context: &Context<'a>) -> Result<Help<'a>, NoMemory> {
     match context.fault.code {
         Code::Unbalanced | Code::PlanForm => Ok(of_words::unbalanced(context)),
-        Code::Trailing => Ok(of_words::trailing(context)),
+        Code::Trailing => of_words::trailing(alloc, context),
         Code::RepeatedSection => Ok(of_words::repeated(context)),
         Code::MissingSection => of_words::missing(alloc, context),
         Code::UnknownType => of_names::unknown_type(alloc, context),

@@ -74,6 +74,17 @@ pub struct Types<'a> {
     pub wanted: Vec<&'a [u8]>,
 }
 
+/// A first list that ends before a section of the file.
+#[derive(Clone, Copy)]
+pub struct EarlyEnd<'a> {
+    /// Where the list ends.
+    pub end: FileOffset,
+    /// Where its last section begins.
+    pub section: FileOffset,
+    /// The keyword of that section, or the name of that action.
+    pub name: &'a [u8],
+}
+
 /// Help for a fault.
 #[derive(Drop)]
 pub enum Help<'a> {
@@ -85,6 +96,8 @@ pub enum Help<'a> {
     Open(FileOffset),
     /// Where something that may occur only once occurred before, or where the list ends that nothing may follow.
     Earlier(FileOffset),
+    /// A section after the end of the first list, in whose last section a `)` may be surplus.
+    EarlyEnd(EarlyEnd<'a>),
     /// Where `:init` gave a value to the same function of the same objects before.
     Valued(FileOffset),
     /// The name is built into the language.
@@ -93,6 +106,10 @@ pub enum Help<'a> {
     Missing(Vec<&'static [u8]>),
     /// An unknown name, and candidates for what was meant.
     Unknown(Named, Others<'a>),
+    /// An unknown name, and the variable in scope with that name.
+    MeantVariable(&'a [u8]),
+    /// An unknown variable, and the object or constant with that name.
+    MeantObject(&'a [u8]),
     /// Where the problem declares this object, which the domain cannot name.
     OfProblem(FileOffset),
     /// A cycle of types: a type, its parent, and so on up to the type itself.

@@ -38,13 +38,17 @@ pub fn marked(alloc: Global, text: &[u8], span: Span) -> Result<String, NoMemory
     out.push_str(before)?;
     add_shown(&text[part.start..part.end], &mut out)?;
     out.push_str(after)?;
-    out.push_str("\n")?;
-    add_times(" ", width, &mut out)?;
-    out.push_str(" | ")?;
-    add_times(" ", before.len(), &mut out)?;
+    add_below(width, before.len(), &mut out)?;
     add_marks(text, part, span, &mut out)?;
-    out.push_str("\n")?;
     Ok(out)
+}
+
+/// Ends a line, and begins the next one with blanks: below the number of the line, and below what comes before the shown part.
+fn add_below(number: usize, before: usize, out: &mut String) -> Result<(), AllocError> {
+    out.push_str("\n")?;
+    add_times(" ", number, out)?;
+    out.push_str(" | ")?;
+    add_times(" ", before, out)
 }
 
 /// A line without the carriage return at its end.
@@ -100,7 +104,7 @@ fn add_shown(bytes: &[u8], out: &mut String) -> Result<(), AllocError> {
     Ok(())
 }
 
-/// Appends what goes below a part of a line: blanks up to the span, and marks below it.
+/// Appends what goes below a part of a line: blanks up to the span, marks below it, and LF.
 fn add_marks(text: &[u8], part: Span, span: Span, out: &mut String) -> Result<(), AllocError>
     requires order { part.start ≤ part.end }
     requires within { part.end ≤ length text.now }
@@ -117,7 +121,8 @@ fn add_marks(text: &[u8], part: Span, span: Span, out: &mut String) -> Result<()
     for byte in &text[start..end] {
         add_times("^", width_of(*byte), out)?;
     }
-    add_times("^", if start == end { 1 } else { 0 }, out)
+    add_times("^", if start == end { 1 } else { 0 }, out)?;
+    out.push_str("\n")
 }
 
 /// The number of columns that a byte takes; a tab counts as one.

@@ -1,6 +1,8 @@
 //! Help for unknown names and for names declared twice (codes 14 to 17, 20, 32).
 use crate::context::{Context, names_of};
-use crate::declarations::{declared_after_head, declared_as, declared_in, in_scope, section};
+use crate::declarations::{
+    TypedName, declared_after_head, declared_as, declared_in, in_scope, section,
+};
 use crate::help::{FileOffset, Help, Named};
 use crate::lists::{children, head_of, heads, list_from, opening_of};
 use crate::near::meant_by;
@@ -36,7 +38,7 @@ pub(crate) fn unknown_name<'a>(alloc: Global, context: &Context<'a>) -> Result<H
         return Ok(Help::Plain);
     };
     if context.is_variable() {
-        unknown_term(alloc, context, Named::Variable)
+        unknown_variable(alloc, context)
     } else if open.saturating_add(1) < at {
         unknown_object(alloc, context)
     } else if context.is_function(open) {
@@ -46,8 +48,42 @@ pub(crate) fn unknown_name<'a>(alloc: Global, context: &Context<'a>) -> Result<H
     }
 }
 
-/// Where the problem declares an object that the domain names; otherwise the objects that may be meant.
+/// The object with the name of an unknown variable, if there is one; otherwise the variables that may be meant.
+fn unknown_variable<'a>(alloc: Global, context: &Context<'a>) -> Result<Help<'a>, NoMemory> {
+    let name = context.word.get(1..).unwrap_or(b"");
+    let objects = context.objects(alloc, context.fault.file)?;
+    match declared_as(objects.as_slice(), name) {
+        Some(one) => Ok(Help::MeantObject(one.name.text)),
+        None => unknown_term(alloc, context, Named::Variable),
+    }
+}
+
+/// The variable in scope with the name of the reported word.
+fn variable_named<'a>(alloc: Global, context: &Context<'a>) -> Result<Option<&'a [u8]>, NoMemory> {
+    let Some(at) = context.at() else {
+        return Ok(None);
+    };
+    let variables = in_scope(alloc, context.here(), at)?;
+    Ok(variable_among(variables.as_slice(), context.word))
+}
+
+/// The first of these variables that has this name after its `?`.
+fn variable_among<'a>(variables: &[TypedName<'_, 'a>], name: &[u8]) -> Option<&'a [u8]> {
+    for one in variables {
+        match one.name.text {
+            [b'?', rest @ ..] if rest.eq_ignore_ascii_case(name) => return Some(one.name.text),
+            _ => {}
+        }
+    }
+    None
+}
+
+/// The variable of that name; or where the problem declares an object that the domain names; otherwise the objects that may be
+/// meant.
 fn unknown_object<'a>(alloc: Global, context: &Context<'a>) -> Result<Help<'a>, NoMemory> {
+    if let Some(variable) = variable_named(alloc, context)? {
+        return Ok(Help::MeantVariable(variable));
+    }
     if context.fault.file == File::Domain {
         let objects = context.objects(alloc, File::Problem)?;
         if let Some(one) = declared_as(objects.as_slice(), context.word) {

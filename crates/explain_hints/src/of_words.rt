@@ -1,7 +1,8 @@
 //! Help for texts that do not read as words (codes 1 to 6), and for unexpected words (codes 7 to 13).
 use crate::context::Context;
-use crate::help::Help;
-use crate::lists::{head_of, heads, list_from, opening_of};
+use crate::help::{EarlyEnd, Help};
+use crate::lists::{children, head_of, heads, list_from, opening_of};
+use crate::of_names::action_name;
 use crate::piece::{Piece, Shape};
 use crate::texts::File;
 use faults::NoMemory;
@@ -28,11 +29,57 @@ pub(crate) fn unbalanced<'a>(context: &Context<'a>) -> Help<'a> {
     }
 }
 
-/// Where the first list ends.
-pub(crate) fn trailing<'a>(context: &Context<'a>) -> Help<'a> {
+/// Where the first list ends, with its last section if another section follows.
+pub(crate) fn trailing<'a>(alloc: Global, context: &Context<'a>) -> Result<Help<'a>, NoMemory> {
     let here = context.here();
     let first = here.iter().position(|piece| piece.shape == Shape::Open);
-    context.earlier(list_from(here, first.unwrap_or(0)).last())
+    let list = list_from(here, first.unwrap_or(0));
+    if is_section_next(context) {
+        if let Some(early) = early_end(alloc, context, list)? {
+            return Ok(Help::EarlyEnd(early));
+        }
+    }
+    Ok(context.earlier(list.last()))
+}
+
+/// Whether the reported word is the keyword of a section or the parenthesis before one.
+fn is_section_next(context: &Context<'_>) -> bool {
+    let next = context
+        .at()
+        .and_then(|at| context.here().get(at.saturating_add(1)));
+    let is_keyword = context.word.starts_with(b":");
+    is_keyword || next.is_some_and(|piece| piece.text.starts_with(b":"))
+}
+
+/// The end of a list and its last section.
+fn early_end<'a>(
+    alloc: Global,
+    context: &Context<'a>,
+    list: &[Piece<'a>],
+) -> Result<Option<EarlyEnd<'a>>, NoMemory> {
+    if !head_of(list).eq_ignore_ascii_case(b"define") {
+        return Ok(None);
+    }
+    let sections = children(alloc, list)?;
+    let (Some(section), Some(end)) = (sections.last(), list.last()) else {
+        return Ok(None);
+    };
+    let Some(open) = section.first() else {
+        return Ok(None);
+    };
+    let head = head_of(section);
+    if !head.starts_with(b":") {
+        return Ok(None);
+    }
+    let name = match action_name(section) {
+        Some(action) => action.text,
+        None => head,
+    };
+    Ok(Some(EarlyEnd {
+        end: context.offset_of(end),
+        section: context.offset_of(open),
+        name,
+    }))
 }
 
 /// Where the section or part occurred before.

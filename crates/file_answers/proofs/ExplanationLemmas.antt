@@ -73,10 +73,15 @@ module _ (texts : NamedTexts) (files : Files) (among : AreAmong files texts) whe
     located None same = tt
     located (Some named) same = subst (λ (named : Named). IsSomeAnd e.location (IsLocated named span)) (sym same) is.located
 
+    text_of : (named : Option Named) → IfSome named (λ named. named ≡ in_texts texts file) → IfSome named (λ named. bytes_in texts file ≡ named.text)
+    text_of None same = tt
+    text_of (Some named) same = ap (λ (named : Named). named.text) (sym same)
+
     fault_said : IsSaidOf files e
     fault_said = record {
       located = subst (λ (s : Subject). IsSubjectLocated files s e.location) (sym is.subject) (located (file_in files file) (among file));
-      lines = subst (λ (s : Subject). SaySubject files s e.location (map string_bytes e.notes.items) (string_bytes e.text)) (sym is.subject) is.says;
+      lines = subst (λ (s : Subject). SaySubject files s e.location (map string_bytes e.notes.items) (string_bytes e.text)) (sym is.subject)
+          (bytes_in texts file, text_of (file_in files file) (among file), is.says);
       further = λ k f below. told_in (get_or e.further.items k f) (is.further k f below);
       further_lines = subst (λ (s : Subject). SayFurther s e.further.items (string_bytes e.text)) (sym is.subject) is.says_further;
     }

@@ -4,13 +4,14 @@ use Rattle.std.specs.Fmt.{decimal}
 use Rattle.std.specs.Option.{option_map}
 use Rattle.std.specs.Str.Lossy.{utf8_lossy}
 use Rattle.std.specs.String.{string_bytes}
+use Rattle.faults.specs.declared.code.Code.{Code}
 use Rattle.faults.specs.declared.refused.Span.{Span}
 use Rattle.explain_hints.specs.Places.{IsPlace}
 use Rattle.explain_hints.specs.declared.place.LineColumn.{LineColumn}
 use Rattle.explain_hints.specs.declared.texts.NamedText.{NamedText}
 use Rattle.explain_hints.specs.declared.texts.File.{File}
 use Rattle.explain_hints.specs.declared.texts.File.TheVariants as file
-use Rattle.explain_faults.specs.Explained.{BeginsWith, heading}
+use Rattle.explain_faults.specs.Explained.{BeginsWith, IsHeading}
 use Rattle.explain_plans.specs.Explanations.{IsExplained}
 use Rattle.explain_plans.specs.Explanations.{verdict_of as explained_verdict}
 use Rattle.explain_plans.specs.PlanLines.{cost_lines, reasons_text, step_reasons_text, verdict_line}
@@ -95,8 +96,8 @@ abbrev pub place_text : Location → List ℕ
 place_text at = string_bytes at.file ++ (codes ":" ++ (decimal at.line ++ (codes ":" ++ (decimal at.column ++ codes ": "))))
 
 -- The lines for these steps of the task, with this explanation. For a plan that solves the task they are a line for each step, with what
--- it costs, and the line of the whole cost. For an inapplicable step they are its place, its line, the line of the file with marks, and the reasons; for a missed
--- goal they are its line and the reasons.
+-- it costs, and the line of the whole cost. For an inapplicable step they are its place, its line, the line of the file with marks, and
+-- the reasons; for a missed goal they are its line and the reasons.
 abbrev pub SayPlan : Option Location → model.Task → List model.Instance → PlanExplanation → (lines : List ℕ) → Type 0
 SayPlan at task steps (Solves costs total) lines = lines ≡ utf8_lossy (cost_lines task 0 0 steps costs.items) ++ verdict_line task steps (valid total)
 SayPlan at task steps (NotApplicable step lacks_cost reasons) lines =
@@ -126,11 +127,15 @@ grounded_line (Beyond limit.Atoms) = codes "unknown atoms\n"
 abbrev pub on_lines : List (List ℕ) → List ℕ
 on_lines = flat_map (λ (text : List ℕ). text ++ codes "\n")
 
+-- the lines begin with the first line of the report of a fault at this span of a text, for this location
+abbrev pub BeginAt : (text : List ℕ) → Code → Span → Location → (lines : List ℕ) → Type 0
+BeginAt text code span at lines = BeginsWith lines (IsHeading (string_bytes at.file) text span.start (place_in at) code)
+
 -- The lines state the explanation: for a fault they begin with its file, its line and column, its number and its name; for a plan
 -- they have the verdict and the reasons; and for a task they are its summary, the outcome of grounding, and its notes.
 abbrev pub SaySubject : Files → Subject → Option Location → (notes : List (List ℕ)) → (lines : List ℕ) → Type 0
 SaySubject files (Fault file code span) at notes lines =
-    IfSome at (λ at. BeginsWith lines (heading (string_bytes at.file) (place_in at) code))
+    (text : List ℕ) × IfSome (file_in files file) (λ named. text ≡ named.text) × IfSome at (λ at. BeginAt text code span at lines)
 SaySubject files (Plan verdict) at notes lines = IfSome files.plan (λ named. IsPlanSaid files named.text (verdict_of verdict) at lines)
 SaySubject files (Task holds grounded) at notes lines = lines ≡ summary_text holds ++ (grounded_line grounded ++ on_lines notes)
 

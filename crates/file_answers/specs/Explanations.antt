@@ -9,7 +9,6 @@ use Rattle.explain_hints.specs.Files.{text_in as bytes_in}
 use Rattle.explain_hints.specs.declared.texts.File.{File}
 use Rattle.explain_hints.specs.declared.texts.NamedText.{NamedText}
 use Rattle.explain_hints.specs.declared.texts.NamedTexts.{NamedTexts}
-use Rattle.explain_faults.specs.Explained.{BeginsWith, heading}
 use Rattle.explain_plans.specs.Explanations as plans
 use Rattle.explain_plans.specs.Explanations.{IsExplained}
 use Rattle.explain_plans.specs.VariableNames.{VariableNames}
@@ -19,7 +18,7 @@ use Rattle.explain_tasks.specs.declared.summary.Summary.{Summary}
 use Rattle.grounding_instances.specs.Numbering.{limit_of}
 use Rattle.validator.specs.Verdict.{verdict_of}
 use Rattle.validator.specs.declared.verdict.Verdict.{Verdict}
-use Rattle.file_answers.specs.ExplanationLines.{Files, Named, IsLocated, IsStepAt, IsStepLocated, SayPlan, files_of, grounded_line, on_lines, place_in}
+use Rattle.file_answers.specs.ExplanationLines.{Files, Named, BeginAt, IsLocated, IsStepAt, IsStepLocated, SayPlan, files_of, grounded_line, on_lines}
 use Rattle.file_answers.specs.Files.{fault_at}
 use Rattle.file_answers.specs.FurtherFaults.{AreFurther, EndsWith, further_text}
 use Rattle.file_answers.specs.Inputs.{IsInputFault}
@@ -81,13 +80,13 @@ files_in texts = files_of texts.domain texts.problem (Some texts.plan)
 pub record IsExplainedAlone (texts : NamedTexts) (file : File) (code : Code) (span : Span) (e : Explanation) : Type 0 where
   pub subject : e.subject ≡ Fault file code span
   pub located : IsSomeAnd e.location (IsLocated (in_texts texts file) span)
-  pub says : IfSome e.location (λ at. BeginsWith (string_bytes e.text) (heading (string_bytes at.file) (place_in at) code))
+  pub says : IfSome e.location (λ at. BeginAt (bytes_in texts file) code span at (string_bytes e.text))
 
 -- the same, followed by the further faults
 pub record IsFaultExplained (texts : NamedTexts) (file : File) (code : Code) (span : Span) (e : Explanation) : Type 0 where
   pub subject : e.subject ≡ Fault file code span
   pub located : IsSomeAnd e.location (IsLocated (in_texts texts file) span)
-  pub says : IfSome e.location (λ at. BeginsWith (string_bytes e.text) (heading (string_bytes at.file) (place_in at) code))
+  pub says : IfSome e.location (λ at. BeginAt (bytes_in texts file) code span at (string_bytes e.text))
   pub further : AreFurther texts e.further.items
   pub says_further : EndsWith (string_bytes e.text) (further_text e.further.items)
 

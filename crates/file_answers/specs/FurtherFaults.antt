@@ -1,7 +1,7 @@
 -- The faults of two files after the first, and their lines.
 use Rattle.std.specs.Prelude.{◌≡◌, ℕ, nat_le, List, [], ◌++◌, All, codes, length, flat_map, if◌then◌else◌}
 use Rattle.std.specs.String.{string_bytes}
-use Rattle.explain_faults.specs.Explained.{BeginsWith, heading}
+use Rattle.explain_faults.specs.Explained.{BeginsWith, IsHeading}
 use Rattle.explain_hints.specs.declared.refusal.FileRefusal.{FileRefusal}
 use Rattle.explain_hints.specs.Files.{name_in, text_in}
 use Rattle.typing.specs.Listed.{IsFaultOf}
@@ -28,7 +28,8 @@ IsReportedAt typed fault = IsReportedTyping typed (fault_at fault.file fault.cod
 
 -- the lines of a fault of a file with this name and text: they begin with its file, its line and column, its number and its name
 abbrev pub SayFault : (name text : List ℕ) → FileRefusal → (lines : List ℕ) → Type 0
-SayFault name text fault lines = (place : LineColumn) × IsPlace text fault.span.start place × BeginsWith lines (heading name place fault.code)
+SayFault name text fault lines =
+    (place : LineColumn) × IsPlace text fault.span.start place × BeginsWith lines (IsHeading name text fault.span.start place fault.code)
 
 -- the reported fault is one of these texts, and its lines state it
 pub record IsToldOf (domain problem name text : List ℕ) (f : FurtherFault) : Type 0 where

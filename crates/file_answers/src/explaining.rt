@@ -39,10 +39,9 @@ pub struct ExplainedFiles<'a> {
 ///
 /// # Examples
 /// ```text
-/// domain.pddl:12:27: fault 19 WrongType (columns count bytes)
+/// domain.pddl:12:27: error: `?t` has type `thing`, but `fast` requires `car` [19 WrongType]
 ///   12 |       :precondition (and (fast ?t))
 ///      |                                ^^
-/// `?t` has type `thing`, but `fast` requires `car`.
 /// ```
 pub fn explain_files(
     alloc: Global,

@@ -2,7 +2,7 @@ use Rattle.std.proofs.Common.{subst}
 use Rattle.std.proofs.lemmas.Result.{IfOk-weaker}
 use Rattle.std.specs.String.{string_bytes}
 use Rattle.explain_hints.specs.Files.{name_in, text_in}
-use Rattle.explain_faults.specs.Explained.{BeginsWith, heading}
+use Rattle.explain_faults.specs.Explained.{BeginsWith, IsHeading}
 use Rattle.explain_hints.specs.declared.refusal.FileRefusal.{FileRefusal}
 use Rattle.file_answers.specs.FurtherFaults.{SayFault}
 use Rattle.file_answers.proofs.explaining.further.text_of.Goals as goal
@@ -14,6 +14,6 @@ returns c =
     (λ text begins. (
       explained.place,
       c.in_ok-explained.ensures.is_place,
-      subst (λ (f : FileRefusal). BeginsWith (string_bytes text) (heading (name_in texts f.file) explained.place f.code)) c.in_ok-explained.ensures.is_fault begins,
+      subst (λ (f : FileRefusal). BeginsWith (string_bytes text) (IsHeading (name_in texts f.file) (text_in texts f.file) f.span.start explained.place f.code)) c.in_ok-explained.ensures.is_fault begins,
     ))
     c.text.ensures

@@ -1,6 +1,7 @@
 use Rattle.std.proofs.Common.{◌≡◌, ◌∙◌, ◌++◌, ap}
 use Rattle.std.specs.String.{string_bytes}
-use Rattle.explain_faults.specs.Explained.{heading}
+use Rattle.explain_hints.specs.Files.{text_in}
+use Rattle.explain_faults.specs.Explained.{IsHeading}
 use Rattle.file_answers.specs.ExplanationLines.{place_in}
 use Rattle.file_answers.specs.FurtherFaults.{further_text}
 use Rattle.file_answers.specs.declared.explanation.Location.{Location}
@@ -14,7 +15,7 @@ returns c =
     record {
       subject = c.requires.subject;
       located = c.requires.located;
-      says = says_before c.args.alone.location (λ (at : Location). heading (string_bytes at.file) (place_in at) c.args.first.code) new old more is c.requires.says;
+      says = says_before c.args.alone.location (λ (at : Location). IsHeading (string_bytes at.file) (text_in c.args.texts.now c.args.first.file) c.args.first.span.start (place_in at) c.args.first.code) new old more is c.requires.says;
       further = c.in_ok-further.ensures;
       says_further = (old, is);
     }
