@@ -6,7 +6,7 @@ use Rattle.std.proofs.lemmas.Bool.{and_parts, or_cases, false≢true, leb-true}
 use Rattle.model.specs.Task.{Task}
 use Rattle.certificate_definitions.specs.Certificates.{Certificate, has_landmarks, keeps_limits, two, three}
 use Rattle.cert_checker.specs.Exchanged.{are_short, is_short, is_short_value}
-use Rattle.cert_checker.proofs.LimitsLemmas.{limits_of}
+use Rattle.certificate.proofs.LimitsLemmas.{limits_of}
 
 -- it has no landmark value
 no_value : (c : Certificate) → IsTrue (keeps_limits c) → (c.version ≡ two) ⊎ (c.version ≡ three) → length c.landmarks.values ≤ 0
