@@ -27,5 +27,5 @@ pub use objects::{Objects, objects_of};
 pub use plan::{MAX_STEPS, Plan};
 pub use state::State;
 pub use task::Atom;
-pub use truth::{holds, meets_goal};
+pub use truth::{holds, meets_goal, named_by};
 pub use valuation::Valuation;
