@@ -3,12 +3,12 @@ ghost use Rattle.std.specs.Prelude.{◌≡◌, ◌<◌, ◌++◌, [], All, codes
 ghost use Rattle.std.specs.List.{flat_map};
 ghost use Rattle.std.specs.Fmt.{decimal};
 ghost use Rattle.task.specs.Task.{task_of};
-ghost use Rattle.task.specs.TaskParts.{atom_of, object_of};
-ghost use Rattle.model.specs.PlanWriting.{object_name, object_text};
+ghost use Rattle.task.specs.TaskParts.{atom_of};
+ghost use Rattle.model.specs.PlanWriting.{object_text};
 ghost use Rattle.certificate_reader.specs.Lines.{claim_of, line_of, mark_of, version_of};
 ghost use Rattle.certificate_definitions.specs.CertificateText as line;
 ghost use Rattle.certificate_definitions.specs.CertificateText.{claims, last, line_text, mark_text, weights_text, whole_line};
-ghost use Rattle.certificate_definitions.specs.CertificateNames.{named_atom, predicate_name, weights_in};
+ghost use Rattle.certificate_definitions.specs.CertificateNames.{named_atom, weights_in};
 ghost use Rattle.certificate.specs.declared.evidence.Potential as code;
 ghost use Rattle.certificate.specs.Evidence.{evidence_of, constants_in, weights_at};
 ghost use Rattle.symmetries_definitions.specs.Exchanges.{objects_in};
@@ -20,7 +20,7 @@ use certificate_reader::{Basis, Claim, Mark, StateLine, Version};
 use itoa::Buffer;
 use landmark_zones::{add_cut_by, add_dead_by};
 use std::alloc::AllocError;
-use task::{Atom, ObjectId, PredicateId, Task};
+use task::{Atom, ObjectId, Task};
 
 /// Adds the lines of the version, the claim and the constants.
 pub(crate) fn add_head(
@@ -96,8 +96,8 @@ fn add_pairs(
     ensures { OnOk result (text.new.items ≡ text.old.items ++ flat_map (object_text (task_of task.now)) (objects_in (pairs_in pairs.now))) }
 {
     for pair in pairs {
-        add_name(task, pair.0, text)?;
-        add_name(task, pair.1, text)?;
+        task.add_name(pair.0, text)?;
+        task.add_name(pair.1, text)?;
     }
     Ok(())
 }
@@ -118,8 +118,8 @@ pub(crate) fn add_atom(
     text.extend_from_slice(b"atom")?;
     add_weights_at(place, version, evidence, text)?;
     text.extend_from_slice(b" (")?;
-    text.extend_from_slice(predicate_name(task, atom.predicate))?;
-    add_names(task, atom.objects.as_slice(), text)?;
+    text.extend_from_slice(task.name_of_predicate(atom.predicate))?;
+    task.add_names(atom.objects.as_slice(), text)?;
     text.extend_from_slice(b")\n")
 }
 
@@ -149,24 +149,6 @@ fn add_dead_end_weight(version: Version, weight: i64, text: &mut Vec<u8>) -> Res
         Version::One => Ok(()),
         Version::Two | Version::Three | Version::Four => add_weight(weight, text),
     }
-}
-
-/// Adds the objects' names, with a blank before each.
-fn add_names(task: &Task, objects: &[ObjectId], text: &mut Vec<u8>) -> Result<(), AllocError>
-    ensures { OnOk result (text.new.items ≡ text.old.items ++ flat_map (object_text (task_of task.now)) (map object_of objects.now)) }
-{
-    for object in objects {
-        add_name(task, *object, text)?;
-    }
-    Ok(())
-}
-
-/// Adds the object's name, with a blank before it.
-fn add_name(task: &Task, object: ObjectId, text: &mut Vec<u8>) -> Result<(), AllocError>
-    ensures { OnOk result (text.new.items ≡ text.old.items ++ object_text (task_of task.now) (object_of object)) }
-{
-    text.extend_from_slice(b" ")?;
-    text.extend_from_slice(object_name(task, object))
 }
 
 /// Adds the line of a table's scope.
@@ -264,24 +246,4 @@ fn add_weight(weight: i64, text: &mut Vec<u8>) -> Result<(), AllocError>
 {
     text.extend_from_slice(b" ")?;
     text.extend_from_slice(Buffer::new().format(weight).as_bytes())
-}
-
-/// The predicate's name; empty if there is no such predicate.
-fn predicate_name(task: &Task, predicate: PredicateId) -> &[u8]
-    ensures { result.now ≡ predicate_name (task_of task.now) predicate.0 }
-{
-    match task.predicate_name(predicate) {
-        Some(name) => name,
-        None => b"",
-    }
-}
-
-/// The object's name; empty if there is no such object.
-fn object_name(task: &Task, object: ObjectId) -> &[u8]
-    ensures { result.now ≡ object_name (task_of task.now) object.0 }
-{
-    match task.object_name(object) {
-        Some(name) => name,
-        None => b"",
-    }
 }

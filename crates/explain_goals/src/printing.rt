@@ -1,5 +1,6 @@
 //! Notes on a goal as lines of text, each without LF.
 use crate::goal_notes::{GoalNotes, MOST_TOLD, Unreachable};
+use explain_tasks::add_bytes;
 use faults::NoMemory;
 use formulas::{Atom, State};
 use std::alloc::Global;
@@ -192,22 +193,14 @@ fn add_pattern(task: &Task, pattern: &Pattern, line: &mut String) -> Result<(), 
         line.push_str("some ")?;
     }
     line.push_str("(")?;
-    add_bytes(task.predicate_name(pattern.predicate).unwrap_or(b""), line)?;
+    add_bytes(task.name_of_predicate(pattern.predicate), line)?;
     for object in &pattern.objects {
         line.push_str(" ")?;
         match object {
-            Some(object) => add_bytes(task.object_name(*object).unwrap_or(b""), line)?,
+            Some(object) => add_bytes(task.name_of_object(*object), line)?,
             None => line.push_str("..")?,
         }
     }
     line.push_str(")")?;
-    Ok(())
-}
-
-/// Adds bytes, which are all ASCII, as names are.
-fn add_bytes(bytes: &[u8], line: &mut String) -> Result<(), NoMemory> {
-    for byte in bytes {
-        line.push(char::from(*byte))?;
-    }
     Ok(())
 }

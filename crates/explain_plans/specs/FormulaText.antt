@@ -4,20 +4,10 @@ use Rattle.std.specs.Prelude.{ℕ, ◌+◌, ◌-◌, List, [], ◌∷◌, ◌++�
 use Rattle.std.specs.Fmt.{decimal}
 use Rattle.std.specs.List.{flat_map}
 use Rattle.std.specs.Option.{option_map_or}
-use Rattle.model.specs.Task.{Task, Name, ObjectType, Predicate, Union, Term, Formula, Formulas, variable, object, atom, equal, and, or, not, imply, exists, forall, no_formula, more_formulas}
+use Rattle.model.specs.Task.{Task, Name, Union, Term, Formula, Formulas, variable, object, atom, equal, and, or, not, imply, exists, forall, no_formula, more_formulas}
 use Rattle.explain_plans.specs.VariableNames.{behind}
+use Rattle.task.specs.NumberedNames.{predicate_name, type_name}
 use Rattle.model.specs.PlanWriting.{object_text}
-
--- ---- names by number, empty if there is none
-
-abbrev pub type_name : Task → ℕ → Name
-type_name task number = option_map_or (λ (t : ObjectType). t.name) (slice_get task.types number) []
-
-abbrev pub predicate_name : Task → ℕ → Name
-predicate_name task number = option_map_or (λ (p : Predicate). p.name) (slice_get task.predicates number) []
-
-abbrev pub function_name : Task → ℕ → Name
-function_name task number = option_map_or (λ (f : Predicate). f.name) (slice_get task.functions number) []
 
 -- ---- variables
 

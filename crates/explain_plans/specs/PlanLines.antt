@@ -5,7 +5,8 @@ use Rattle.std.specs.Option.{option_map_or}
 use Rattle.std.specs.Str.Lossy.{utf8_lossy}
 use Rattle.explain_plans.specs.declared.explanations.Reasons.{Reasons}
 use Rattle.explain_plans.specs.FalseParts.{Part}
-use Rattle.explain_plans.specs.FormulaText.{atom_text, formula_text, function_name, scope_at}
+use Rattle.task.specs.NumberedNames.{function_name}
+use Rattle.explain_plans.specs.FormulaText.{atom_text, formula_text, scope_at}
 use Rattle.explain_plans.specs.Histories.{History, always, by_step}
 use Rattle.explain_plans.specs.Parts.{part_of, history_of}
 use Rattle.model.specs.Task.{Task, Instance, Schema, Increase, Formula, atom, not, by_number, by_function}

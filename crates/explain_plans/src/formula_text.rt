@@ -7,15 +7,15 @@ ghost use Rattle.std.specs.Option.{option_map_or};
 ghost use Rattle.std.specs.String.{string_bytes};
 ghost use Rattle.task.specs.Task.{task_of};
 ghost use Rattle.task.specs.TaskParts.{formula_of, lifted_atom_of, object_of, term_of, type_of, union_of};
-ghost use Rattle.explain_plans.specs.FormulaText.{atom_text, formula_text, function_name, next_name, parts_text, predicate_name, scope_at, scope_behind, term_text, type_name, union_text, variable_declared, variable_text, with_next};
+ghost use Rattle.task.specs.NumberedNames.{type_name};
+ghost use Rattle.explain_plans.specs.FormulaText.{atom_text, formula_text, next_name, parts_text, scope_at, scope_behind, term_text, union_text, variable_declared, variable_text, with_next};
 ghost use Rattle.explain_plans.specs.NamesView.{names_in};
 ghost use Rattle.explain_plans.specs.ScopeView.{scope_of};
 ghost use Rattle.explain_plans.specs.VariableNames.{formulas};
-ghost use Rattle.model.specs.PlanWriting.{object_name};
 
 use crate::variable_names::{names_behind, without_first};
 use std::alloc::{AllocError, Global};
-use task::{Formula, LiftedAtom, ObjectId, PredicateId, Task, Term, TypeId, TypeUnion};
+use task::{Formula, LiftedAtom, ObjectId, Task, Term, TypeId, TypeUnion};
 
 /// Scope for printing: bound variables print as objects, others by name. The names still to be given to quantified variables come
 /// in textual order.
@@ -70,7 +70,7 @@ impl<'a> Scope<'a> {
         ensures { codes " " ++ result.now ≡ variable_text (task_of task.now) (scope_of self.entry) number }
     {
         match self.objects.get(number) {
-            Some(object) => object_name(task, *object),
+            Some(object) => task.name_of_object(*object),
             None => inner_name(self.names, number.saturating_sub(self.objects.len())),
         }
     }
@@ -96,7 +96,7 @@ impl<'a> FormulaPrinter<'a> {
     {
         match formula {
             Formula::Atom(atom) => {
-                let name = predicate_name(self.task, atom.predicate);
+                let name = self.task.name_of_predicate(atom.predicate);
                 self.add_atom(name, atom, text)
             }
             Formula::Equal(left, right) => self.add_equality(left, right, text),
@@ -220,7 +220,7 @@ impl<'a> FormulaPrinter<'a> {
         ensures { codes " " ++ result.now ≡ term_text (task_of self.entry.task.now) (scope_of self.entry.scope) (term_of term.now) }
     {
         match term {
-            Term::Object(object) => object_name(self.task, *object),
+            Term::Object(object) => self.task.name_of_object(*object),
             Term::Variable(variable) => self.scope.variable_name(self.task, variable.0),
         }
     }
@@ -267,7 +267,7 @@ fn add_types(task: &Task, types: &TypeUnion, text: &mut Vec<u8>) -> Result<(), A
     ensures { OnOk result (text.new.items ≡ text.old.items ++ union_text (task_of task.now) (union_of types.now)) }
 {
     match types.0.as_slice() {
-        [only] => text.extend_from_slice(type_name(task, *only)),
+        [only] => text.extend_from_slice(task.name_of_type(*only)),
         several => add_either(task, several, text),
     }
 }
@@ -280,7 +280,7 @@ fn add_either(task: &Task, types: &[TypeId], text: &mut Vec<u8>) -> Result<(), A
     text.extend_from_slice(b"(either")?;
     for one in types {
         text.extend_from_slice(b" ")?;
-        text.extend_from_slice(type_name(task, *one))?;
+        text.extend_from_slice(task.name_of_type(*one))?;
     }
     text.extend_from_slice(b")")
 }
@@ -290,46 +290,6 @@ fn inner_name<'a>(names: &[&'a [u8]], place: usize) -> &'a [u8]
     ensures { result.now ≡ option_map_or (λ (name : Bor (List ℕ)). name.now) (slice_get names.now place) [] }
 {
     match names.get(place) {
-        Some(name) => name,
-        None => b"",
-    }
-}
-
-/// The object's name; empty if there is no such object.
-fn object_name(task: &Task, object: ObjectId) -> &[u8]
-    ensures { result.now ≡ object_name (task_of task.now) object.0 }
-{
-    match task.object_name(object) {
-        Some(name) => name,
-        None => b"",
-    }
-}
-
-/// The type's name; empty if there is no such type.
-fn type_name(task: &Task, id: TypeId) -> &[u8]
-    ensures { result.now ≡ type_name (task_of task.now) id.0 }
-{
-    match task.type_name(id) {
-        Some(name) => name,
-        None => b"",
-    }
-}
-
-/// The predicate's name; empty if there is no such predicate.
-fn predicate_name(task: &Task, predicate: PredicateId) -> &[u8]
-    ensures { result.now ≡ predicate_name (task_of task.now) predicate.0 }
-{
-    match task.predicate_name(predicate) {
-        Some(name) => name,
-        None => b"",
-    }
-}
-
-/// The function's name; empty if there is no such function.
-pub(crate) fn function_name(task: &Task, function: PredicateId) -> &[u8]
-    ensures { result.now ≡ function_name (task_of task.now) function.0 }
-{
-    match task.function_name(function) {
         Some(name) => name,
         None => b"",
     }

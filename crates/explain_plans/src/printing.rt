@@ -19,7 +19,7 @@ ghost use Rattle.model.specs.Runs.{not_applicable};
 
 use crate::explanations::{PlanExplanation, Reasons};
 use crate::false_parts::Part;
-use crate::formula_text::{FormulaPrinter, Scope, function_name};
+use crate::formula_text::{FormulaPrinter, Scope};
 use crate::histories::History;
 use faults::NoMemory;
 use formulas::{Instance, Plan};
@@ -362,7 +362,7 @@ impl PlanPrinter<'_> {
     {
         match increase {
             Increase::Function(function) => {
-                let name = function_name(self.task, function.predicate);
+                let name = self.task.name_of_function(function.predicate);
                 self.formula_printer(objects, &[])
                     .add_atom(name, function, text)?;
                 text.extend_from_slice(b" has no value.\n")?;

@@ -1,4 +1,3 @@
-pub mod MentionLemmas
 pub mod TableLemmas
 pub mod CostLemmas
 pub mod FoldLemmas

@@ -1,5 +1,4 @@
 pub mod Mentions
-pub mod Views
 pub mod Unused
 pub mod Costs
 pub mod Goals

@@ -3,7 +3,8 @@ use Rattle.std.specs.Prelude.{ℕ, Bool, not, ◌==◌, List, length, filter}
 use Rattle.std.specs.List.{list_any, range_with_len}
 use Rattle.model.specs.Task.{Task, Instance}
 use Rattle.model.specs.StaticallyFalse.{kept_instances}
-use Rattle.explain_tasks.specs.Mentions.{is_asking, is_naming, task_mentions}
+use Rattle.formulas.specs.Mentions.{is_asking, is_naming}
+use Rattle.explain_tasks.specs.Mentions.{task_mentions}
 
 -- some precondition, some condition of an effect or the goal has an atom with the predicate
 abbrev pub is_asked_for : Task → ℕ → Bool

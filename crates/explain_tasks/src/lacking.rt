@@ -12,10 +12,10 @@ ghost use Rattle.model.proofs.EnumerationLemmas.{begun};
 ghost use Rattle.explain_tasks.specs.Costs as defined;
 
 use faults::NoMemory;
-use formulas::{Binding, Instance, amount, copied, is_instance, objects_of, with_object};
+use formulas::{Binding, Instance, amount, copied, is_instance, named_by, objects_of, with_object};
 use grounding_instances::Numbering;
 use std::alloc::Global;
-use task::{Increase, MAX_VARIABLES, ObjectId, Schema, SchemaId, Task, Term, TypeUnion};
+use task::{Increase, MAX_VARIABLES, Schema, SchemaId, Task, Term, TypeUnion};
 
 /// A search for instances, of the task with this numbering, that lack a value.
 #[derive(Drop)]
@@ -183,16 +183,6 @@ fn is_same_term(term: &Term, one: &Binding, other: &Binding) -> bool
     ensures { result ≡ defined.is_same_term (map object_of one.now.items) (map object_of other.now.items) (term_of term.now) }
 {
     named_by(term, one).0 == named_by(term, other).0
-}
-
-/// The object that the term denotes under this binding: the first object for an unbound variable.
-pub(crate) fn named_by(term: &Term, binding: &Binding) -> ObjectId
-    ensures { result.0 ≡ meaning.object_of (map object_of binding.now.items) (term_of term.now) }
-{
-    match term {
-        Term::Variable(variable) => binding.get(variable.0).copied().unwrap_or_default(),
-        Term::Object(object) => *object,
-    }
 }
 
 /// The action with this number, if it increases the total cost by a function.

@@ -15,4 +15,5 @@ mod tables;
 pub use forms::Forms;
 pub use ground_notes::{GroundNotes, MOST_FOUND, MOST_TOLD};
 pub use notes::TaskNotes;
+pub use printing::add_bytes;
 pub use summary::Summary;

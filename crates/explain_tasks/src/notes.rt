@@ -4,12 +4,13 @@ ghost use Rattle.task.specs.Task.{task_of};
 ghost use Rattle.explain_tasks.specs.Mentions.{task_mentions};
 ghost use Rattle.explain_tasks.specs.Notes.{AreNotesOf};
 ghost use Rattle.explain_tasks.specs.Unused as unused;
-ghost use Rattle.explain_tasks.specs.Views.{mention_of};
+ghost use Rattle.formulas.specs.MentionViews.{mention_of};
 
 use crate::costs::{ignores_costs, lacks_costs};
-use crate::mentions::{Mention, mentions_of};
-use crate::tables::{asked_table, named_table, unmarked};
+use crate::mentions::mentions_of;
+use crate::tables::{asked_table, unmarked};
 use faults::NoMemory;
+use formulas::{Mention, named_table};
 use std::alloc::Global;
 use task::Task;
 

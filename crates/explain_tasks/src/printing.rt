@@ -1,9 +1,8 @@
 //! Notes as lines of text, each without LF.
 use crate::ground_notes::{GroundNotes, MOST_TOLD};
-use crate::lacking::named_by;
 use crate::notes::TaskNotes;
 use faults::NoMemory;
-use formulas::{Atom, Binding, Instance};
+use formulas::{Atom, Binding, Instance, named_by};
 use std::alloc::Global;
 use task::{Increase, LiftedAtom, ObjectId, PredicateId, SchemaId, Task};
 
@@ -130,7 +129,7 @@ fn add_lacking_line(
         let mut line = String::new(alloc);
         add_function(task, function, &instance.objects, &mut line)?;
         line.push_str(" has no value, so ")?;
-        let name = task.schema_name(instance.schema).unwrap_or(b"");
+        let name = task.name_of_schema(instance.schema);
         add_form(task, name, instance.objects.as_slice(), &mut line)?;
         line.push_str(" can never be applied.")?;
         lines.push(line)?;
@@ -147,7 +146,7 @@ fn add_missing_goals(
 ) -> Result<(), NoMemory> {
     for atom in atoms.iter().take(MOST_TOLD) {
         let mut line = String::from_str(alloc, "The goal asks for ")?;
-        let name = task.predicate_name(atom.predicate).unwrap_or(b"");
+        let name = task.name_of_predicate(atom.predicate);
         add_form(task, name, atom.objects.as_slice(), &mut line)?;
         line.push_str(", which is false at the start, and which no action can make true.")?;
         lines.push(line)?;
@@ -201,14 +200,14 @@ impl NameList<'_> {
 /// Adds the name for this number.
 fn add_name(task: &Task, kind: Kind, number: usize, line: &mut String) -> Result<(), NoMemory> {
     let name = match kind {
-        Kind::Predicate => task.predicate_name(PredicateId(number)),
+        Kind::Predicate => task.name_of_predicate(PredicateId(number)),
         Kind::Object => match u32::try_from(number) {
-            Ok(number) => task.object_name(ObjectId(number)),
-            Err(_) => None,
+            Ok(number) => task.name_of_object(ObjectId(number)),
+            Err(_) => b"",
         },
-        Kind::Action => task.schema_name(SchemaId(number)),
+        Kind::Action => task.name_of_schema(SchemaId(number)),
     };
-    add_bytes(name.unwrap_or(b""), line)
+    add_bytes(name, line)
 }
 
 /// Adds the function of the objects that its terms denote.
@@ -219,7 +218,7 @@ fn add_function(
     line: &mut String,
 ) -> Result<(), NoMemory> {
     line.push_str("(")?;
-    add_bytes(task.function_name(function.predicate).unwrap_or(b""), line)?;
+    add_bytes(task.name_of_function(function.predicate), line)?;
     for term in &function.terms {
         add_object(task, named_by(term, binding), line)?;
     }
@@ -246,11 +245,14 @@ fn add_form(
 /// Adds a blank and the object's name.
 fn add_object(task: &Task, object: ObjectId, line: &mut String) -> Result<(), NoMemory> {
     line.push_str(" ")?;
-    add_bytes(task.object_name(object).unwrap_or(b""), line)
+    add_bytes(task.name_of_object(object), line)
 }
 
 /// Adds bytes, which are all ASCII, as names are.
-fn add_bytes(bytes: &[u8], line: &mut String) -> Result<(), NoMemory> {
+///
+/// # Errors
+/// An allocation failed.
+pub fn add_bytes(bytes: &[u8], line: &mut String) -> Result<(), NoMemory> {
     for byte in bytes {
         line.push(char::from(*byte))?;
     }

@@ -1,15 +1,13 @@
 //! Sets of numbers, as tables of booleans.
-ghost use Rattle.std.specs.Prelude.{◌≡◌, ◌==◌, ◌∷◌, ◌++◌, [], filter, map, not, IfOk, OnOk};
-ghost use Rattle.formulas.specs.FluentTable.{Marks, is_marked};
+ghost use Rattle.std.specs.Prelude.{◌≡◌, ◌∷◌, ◌++◌, [], filter, map, not, IfOk, OnOk};
+ghost use Rattle.formulas.specs.Marks.{IsTableOf, Marks, is_marked};
+ghost use Rattle.formulas.specs.Mentions.{is_asking};
+ghost use Rattle.formulas.specs.MentionViews.{mention_of};
 ghost use Rattle.formulas.specs.State.{instance_of};
-ghost use Rattle.task.specs.Task.{task_of};
-ghost use Rattle.explain_tasks.specs.Mentions.{is_asking, is_naming};
 ghost use Rattle.explain_tasks.specs.Unused as defined;
-ghost use Rattle.explain_tasks.specs.Views.{IsTableOf, mention_of};
 
-use crate::mentions::Mention;
 use faults::NoMemory;
-use formulas::Instance;
+use formulas::{Instance, Mention, is_marked, mark};
 use std::alloc::Global;
 
 /// The predicates that are used.
@@ -33,27 +31,6 @@ fn mark_asked(mention: &Mention, table: &mut Vec<bool>) -> Result<(), NoMemory>
     }
 }
 
-/// The objects that are named.
-pub(crate) fn named_table(alloc: Global, mentions: &[Mention]) -> Result<Vec<bool>, NoMemory>
-    ensures { IfOk result (λ table. IsTableOf is_naming (map mention_of mentions.now) table.items) }
-{
-    let mut table = Vec::new(alloc);
-    for mention in mentions {
-        mark_named(mention, &mut table)?;
-    }
-    Ok(table)
-}
-
-/// Marks the object that is named.
-fn mark_named(mention: &Mention, table: &mut Vec<bool>) -> Result<(), NoMemory>
-    ensures { OnOk result (Marks (λ n. is_naming n (mention_of mention.now)) table.old.items table.new.items) }
-{
-    match mention {
-        Mention::Named(object) => mark(object.0 as usize, table),
-        Mention::Asked(_) => Ok(()),
-    }
-}
-
 /// The actions that the instances are of.
 pub(crate) fn schema_table(alloc: Global, instances: &[Instance]) -> Result<Vec<bool>, NoMemory>
     ensures { IfOk result (λ table. IsTableOf defined.is_of_schema (map instance_of instances.now) table.items) }
@@ -63,17 +40,6 @@ pub(crate) fn schema_table(alloc: Global, instances: &[Instance]) -> Result<Vec<
         mark(instance.schema.0, &mut table)?;
     }
     Ok(table)
-}
-
-/// Marks the number.
-fn mark(number: usize, table: &mut Vec<bool>) -> Result<(), NoMemory>
-    ensures { OnOk result (Marks (λ n. number == n) table.old.items table.new.items) }
-{
-    while table.len() <= number {
-        table.push(false)?;
-    }
-    table[number] = true;
-    Ok(())
 }
 
 /// The numbers below `count` that are not marked, in order.
@@ -96,14 +62,4 @@ fn add_if_unmarked(table: &[bool], number: usize, found: &mut Vec<usize>) -> Res
     }
     found.push(number)?;
     Ok(())
-}
-
-/// Whether the number is marked.
-fn is_marked(table: &[bool], number: usize) -> bool
-    ensures { result ≡ is_marked table.now number }
-{
-    match table.get(number) {
-        Some(marked) => *marked,
-        None => false,
-    }
 }

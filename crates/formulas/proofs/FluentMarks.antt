@@ -1,5 +1,5 @@
--- Tables of fluent predicates, mark by mark.
-use Rattle.std.proofs.Common.{◌≡◌, ℕ, zero, suc, ◌+◌, ◌<◌, ◌≤◌, Bool, true, false, ◌||◌, List, [], ◌∷◌, ◌++◌, length, take, drop, get_or, Some, refl, sym, ap, ◌∙◌}
+-- Tables of numbers, mark by mark, and those of the fluent predicates.
+use Rattle.std.proofs.Common.{◌≡◌, ℕ, zero, suc, ◌+◌, ◌<◌, ◌≤◌, Bool, true, false, ◌||◌, List, [], ◌∷◌, ◌++◌, length, map, take, drop, get_or, Some, refl, sym, ap, ◌∙◌}
 use Rattle.std.specs.Prelude.{slice_get}
 use Rattle.std.specs.List.{list_any}
 use Rattle.std.proofs.lemmas.List.{take_all, drop_all}
@@ -8,14 +8,15 @@ use Rattle.model.specs.Task.{Schema, Task}
 use Rattle.model.specs.Fluents.{touches, is_fluent}
 use Rattle.model.proofs.ListLemmas.{drop-here}
 use Rattle.model.proofs.StaticLemmas.{or_false}
-use Rattle.formulas.specs.FluentTable.{is_marked, Marks}
+use Rattle.formulas.specs.Marks.{IsTableOf, Marks, is_marked}
 use Rattle.formulas.proofs.FluentTests.{schema_touches}
+use Rattle.formulas.proofs.Trees.{list_any_map}
 
 or_assoc : (a b c : Bool) → ((a || b) || c) ≡ (a || (b || c))
 or_assoc true b c = refl
 or_assoc false b c = refl
 
--- the table with one more predicate, unmarked
+-- the table with one more number, unmarked
 pub longer : (table : List Bool) (predicate : ℕ) → is_marked (table ++ false ∷ []) predicate ≡ is_marked table predicate
 longer [] zero = refl
 longer [] (suc predicate) = refl
@@ -39,6 +40,18 @@ module _ {X : Type 0} (touched : ℕ → X → Bool) (xs : List X) (i : ℕ) (ol
 
 pub marks_by : (comes other : ℕ → Bool) (old new : List Bool) → ((n : ℕ) → comes n ≡ other n) → Marks comes old new → Marks other old new
 marks_by comes other old new same marks n = marks n ∙ ap (λ b. is_marked old n || b) (same n)
+
+-- the marks of one more element
+pub marks_next : {X : Type 0} (test : ℕ → X → Bool) (xs : List X) (i : ℕ) (one : X) (old now new : List Bool) → i < length xs
+    → Marks (λ n. list_any (test n) (take i xs)) old now → Marks (λ n. test n (get_or xs i one)) now new → Marks (λ n. list_any (test n) (take (i + 1) xs)) old new
+marks_next test xs i one old now new within before here n =
+    here n ∙ ap (λ b. b || test n (get_or xs i one)) (before n) ∙ or_assoc (is_marked old n) (list_any (test n) (take i xs)) (test n (get_or xs i one))
+    ∙ ap (λ b. is_marked old n || b) (sym (list_any_more (test n) xs i one within))
+
+-- the marks of all elements are the table
+pub table_of : {X Y : Type 0} (test : ℕ → Y → Bool) (view : X → Y) (xs : List X) (table : List Bool)
+    → Marks (λ n. list_any (λ x. test n (view x)) xs) [] table → IsTableOf test (map view xs) table
+table_of test view xs table marks n = marks n ∙ sym (list_any_map (test n) view xs)
 
 -- ---- the schemas, one after another
 

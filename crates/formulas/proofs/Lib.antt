@@ -10,4 +10,5 @@ pub mod ChangesFit
 pub mod Instances
 pub mod FluentTests
 pub mod FluentMarks
+pub mod MentionLemmas
 pub mod Pointwise

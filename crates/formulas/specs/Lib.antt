@@ -5,3 +5,6 @@ pub mod Changes
 pub mod Effects
 pub mod Objects
 pub mod FluentTable
+pub mod Marks
+pub mod Mentions
+pub mod MentionViews

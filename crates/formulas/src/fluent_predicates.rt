@@ -1,12 +1,14 @@
 //! The fluent predicates of a task, as a table.
-ghost use Rattle.std.specs.Prelude.{◌≡◌, ◌==◌, map, IfOk, OnOk};
+ghost use Rattle.std.specs.Prelude.{◌≡◌, map, IfOk, OnOk};
 ghost use Rattle.std.specs.List.{list_any};
 ghost use Rattle.task.specs.Task.{task_of};
 ghost use Rattle.task.specs.TaskParts.{atom_of, effect_of, effect_literal_of};
 ghost use Rattle.model.specs.Fluents as defined;
-ghost use Rattle.formulas.specs.FluentTable.{AreFluentsOf, Marks, is_marked};
+ghost use Rattle.formulas.specs.FluentTable.{AreFluentsOf};
+ghost use Rattle.formulas.specs.Marks.{Marks, is_marked};
 
 use crate::fluents::is_atom;
+use crate::marks::{is_marked, mark};
 use faults::NoMemory;
 use std::alloc::Global;
 use task::{Atom, Effect, EffectLiteral, PredicateId, SchemaId, Task};
@@ -41,10 +43,7 @@ impl FluentPredicates {
     pub fn contains(&self, predicate: PredicateId) -> bool
         ensures { result ≡ is_marked self.now.table.items predicate.0 }
     {
-        match self.table.get(predicate.0) {
-            Some(fluent) => *fluent,
-            None => false,
-        }
+        is_marked(&self.table, predicate.0)
     }
 
     /// Whether the atom is well-typed and its predicate is fluent in the task, whose table this is.
@@ -88,18 +87,7 @@ fn mark_literal(literal: &EffectLiteral, table: &mut Vec<bool>) -> Result<(), No
     ensures { OnOk result (Marks (λ n. defined.is_literal_of n (effect_literal_of literal.now)) table.old.items table.new.items) }
 {
     match literal {
-        EffectLiteral::Add(atom) => mark(atom.predicate, table),
-        EffectLiteral::Delete(atom) => mark(atom.predicate, table),
+        EffectLiteral::Add(atom) => mark(atom.predicate.0, table),
+        EffectLiteral::Delete(atom) => mark(atom.predicate.0, table),
     }
-}
-
-/// Marks the predicate.
-fn mark(predicate: PredicateId, table: &mut Vec<bool>) -> Result<(), NoMemory>
-    ensures { OnOk result (Marks (λ n. predicate.0 == n) table.old.items table.new.items) }
-{
-    while table.len() <= predicate.0 {
-        table.push(false)?;
-    }
-    table[predicate.0] = true;
-    Ok(())
 }

@@ -137,7 +137,7 @@ pub(crate) fn ground_atom(atom: &LiftedAtom, binding: &Binding) -> Atom
 }
 
 /// The object that the term denotes under this binding: the first object for an unbound variable.
-pub(crate) fn named_by(term: &Term, binding: &Binding) -> ObjectId
+pub fn named_by(term: &Term, binding: &Binding) -> ObjectId
     ensures { result.0 ≡ meaning.object_of (map object_of binding.now.items) (term_of term.now) }
 {
     match term {

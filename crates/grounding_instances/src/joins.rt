@@ -20,7 +20,7 @@ ghost use Rattle.grounding_instances.specs.Joins.{IsJoint, AreIndexes, AddsIndex
 use crate::parameters::is_bound;
 use crate::statics::Statics;
 use faults::NoMemory;
-use formulas::Binding;
+use formulas::{Binding, named_by};
 use std::alloc::Global;
 use std::collections::BTreeSet;
 use task::{Atom, Formula, LiftedAtom, ObjectId, Task, Term, TypeUnion};
@@ -139,19 +139,9 @@ impl Joint<'_> {
         ensures { IfSome result (λ key. key.0 ≡ key_number self.now (map object_of binding.now.items)) }
     {
         match self.key {
-            Some(place) => named_by(self.atom.terms.get(place)?, binding),
+            Some(place) => Some(named_by(self.atom.terms.get(place)?, binding)),
             None => Some(ObjectId(0)),
         }
-    }
-}
-
-/// The object that the term denotes under this binding.
-fn named_by(term: &Term, binding: &Binding) -> Option<ObjectId>
-    ensures { IfSome result (λ object. object.0 ≡ meaning.object_of (map object_of binding.now.items) (term_of term.now)) }
-{
-    match term {
-        Term::Variable(variable) => binding.get(variable.0).copied(),
-        Term::Object(object) => Some(*object),
     }
 }
 

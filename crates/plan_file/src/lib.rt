@@ -8,6 +8,4 @@ mod word;
 mod writer;
 
 pub use reader::{examples_are_as_reported, one_fault, one_plan, read_plan};
-pub use writer::{
-    examples_are_written, object_name, step_text, write_plan, written_text_reads_back,
-};
+pub use writer::{examples_are_written, step_text, write_plan, written_text_reads_back};

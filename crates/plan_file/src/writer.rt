@@ -11,7 +11,7 @@ ghost use Rattle.model.specs.Task as model;
 ghost use Rattle.model.specs.Files.{IsTaskOf};
 ghost use Rattle.model.specs.Meaning.{is_instance};
 ghost use Rattle.model.specs.PlanText.{IsPlanText};
-ghost use Rattle.model.specs.PlanWriting.{plan_text, step_text, step_line, cost_line, object_text, schema_name, object_name, has_names};
+ghost use Rattle.model.specs.PlanWriting.{plan_text, step_text, step_line, cost_line, has_names};
 ghost use Rattle.model.specs.PlanWritingExamples.{AreWritten};
 ghost use Rattle.model.specs.Words.{longest_text};
 
@@ -19,7 +19,7 @@ use devices::{IoFault, Sink, write_all};
 use faults::NoMemory;
 use formulas::{Instance, Plan};
 use std::alloc::{AllocError, Global};
-use task::{ObjectId, SchemaId, Task};
+use task::Task;
 
 /// Writes the text of a plan with this cost.
 ///
@@ -123,39 +123,7 @@ fn add_step(task: &Task, step: &Instance, text: &mut Vec<u8>) -> Result<(), Allo
     ensures { OnOk result (text.new.items ≡ text.old.items ++ step_text (task_of task.now) (instance_of step.now)) }
 {
     text.extend_from_slice(b"(")?;
-    text.extend_from_slice(schema_name(task, step.schema))?;
-    for object in step.objects.as_slice() {
-        add_object(task, *object, text)?;
-    }
-    text.extend_from_slice(b")")?;
-    Ok(())
-}
-
-/// Adds a blank and the object's name.
-fn add_object(task: &Task, object: ObjectId, text: &mut Vec<u8>) -> Result<(), AllocError>
-    ensures { OnOk result (text.new.items ≡ text.old.items ++ object_text (task_of task.now) object.0) }
-{
-    text.extend_from_slice(b" ")?;
-    text.extend_from_slice(object_name(task, object))?;
-    Ok(())
-}
-
-/// The schema's name; empty if there is no such schema.
-fn schema_name(task: &Task, schema: SchemaId) -> &[u8]
-    ensures { result.now ≡ schema_name (task_of task.now) schema.0 }
-{
-    match task.schema_name(schema) {
-        Some(name) => name,
-        None => b"",
-    }
-}
-
-/// The object's name, in lower case; empty if there is no such object.
-pub fn object_name(task: &Task, object: ObjectId) -> &[u8]
-    ensures { result.now ≡ object_name (task_of task.now) object.0 }
-{
-    match task.object_name(object) {
-        Some(name) => name,
-        None => b"",
-    }
+    text.extend_from_slice(task.name_of_schema(step.schema))?;
+    task.add_names(step.objects.as_slice(), text)?;
+    text.extend_from_slice(b")")
 }

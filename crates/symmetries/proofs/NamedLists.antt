@@ -1,119 +1,93 @@
--- Named objects, one after another.
-use Rattle.std.proofs.Common.{◌≡◌, ◌∙◌, ℕ, ◌+◌, ◌<◌, ◌≤◌, Bool, true, false, ◌||◌, List, [], ◌∷◌, ◌++◌, length, map, take, drop, get_or, Some, refl, sym, ap, append_assoc, append-nil}
-use Rattle.std.specs.Prelude.{slice_get}
-use Rattle.std.specs.Global.{Vec}
+-- The objects that formulas and actions name are those of their mentions.
+use Rattle.std.proofs.Common.{◌≡◌, ◌∙◌, ℕ, ◌+◌, ◌<◌, List, [], ◌∷◌, ◌++◌, ◌||◌, get_or, length, map, take, refl, sym, ap, append_assoc}
+use Rattle.std.specs.Prelude.{◌==◌}
 use Rattle.std.specs.List.{flat_map, list_any}
 use Rattle.std.proofs.lemmas.Grind.{flat_map-append}
-use Rattle.std.proofs.lemmas.List.{take_all, take_more, drop_all, map_push}
-use Rattle.std.proofs.lemmas.List.Folds.{list_any_more}
-use Rattle.formulas.specs.FluentTable.{Marks, is_marked}
+use Rattle.std.proofs.lemmas.List.{get_or_default}
 use Rattle.task.specs.declared.atoms.ObjectId.{ObjectId}
-use Rattle.task.specs.declared.schemas.Formula.{Formula}
-use Rattle.task.specs.declared.schemas.Formula as formula
-use Rattle.task.specs.declared.schemas.Effect.{Effect}
-use Rattle.task.specs.declared.schemas.Effect as effect
-use Rattle.task.specs.TaskParts.{effect_of, formula_of, object_of}
-use Rattle.formulas.proofs.Trees.{effects_in, effect_of-And, formulas_in, formula_of-And, formula_of-Or}
-use Rattle.model.specs.Task.{Schema, Task}
-use Rattle.model.proofs.ListLemmas.{drop-here}
-use Rattle.symmetries_definitions.specs.NamedObjects.{named_in_formula, named_in_formulas, named_in_effect, named_in_effects, named_in_schema, named_in_actions}
-use Rattle.symmetries.specs.Named.{AreAdded}
+use Rattle.task.specs.TaskParts.{object_of}
+use Rattle.formulas.specs.declared.mentions.Mention as code
+use Rattle.formulas.specs.MentionViews.{mention_of}
+use Rattle.formulas.proofs.MentionLemmas.{come_next}
+use Rattle.formulas.specs.Mentions.{Mention, asked, named, term_mentions, terms_mentions, mentions, all_mentions, literal_mentions, effect_mentions, effects_mentions, increase_mentions, schema_mentions, is_naming}
+use Rattle.model.specs.Task.{Term, variable, object, Formula, Formulas, atom, equal, and, or, not, imply, exists, forall, no_formula, more_formulas, EffectLiteral, add, delete, Effect, Effects, literal, both, each, when, no_effect, more_effects, Increase, by_number, by_function, Schema}
+use Rattle.symmetries_definitions.specs.NamedObjects.{named_in_term, named_in_formula, named_in_formulas, named_in_literal, named_in_effect, named_in_effects, named_in_increase, named_in_schema}
+use Rattle.symmetries.specs.Named.{AreAdded, is_among, named_by}
 
--- ---- one after another
+-- one list of mentions after another
+two : (ms ns : List Mention) (xs ys : List ℕ) → flat_map named_by ms ≡ xs → flat_map named_by ns ≡ ys → flat_map named_by (ms ++ ns) ≡ xs ++ ys
+two ms ns xs ys first second = flat_map-append named_by ms ns ∙ (λ i. first i ++ second i)
 
-pub adds_none : (found : List ObjectId) → AreAdded [] found found
-adds_none found = sym (append-nil (map object_of found))
+several : {X : Type 0} (f : X → List Mention) (g : X → List ℕ) → ((x : X) → flat_map named_by (f x) ≡ g x) → (xs : List X) → flat_map named_by (flat_map f xs) ≡ flat_map g xs
+several f g same [] = refl
+several f g same (x ∷ xs) = two (f x) (flat_map f xs) (g x) (flat_map g xs) (same x) (several f g same xs)
 
--- first these, then those
-pub adds_both : (xs ys : List ℕ) (old now new : List ObjectId) → AreAdded xs old now → AreAdded ys now new → AreAdded (xs ++ ys) old new
-adds_both xs ys old now new first second = second ∙ ap (λ l. l ++ ys) first ∙ append_assoc (map object_of old) xs ys
+of_term : (t : Term) → flat_map named_by (term_mentions t) ≡ named_in_term t
+of_term (variable number) = refl
+of_term (object number) = refl
 
-pub adds_one : (object : ObjectId) (old new : List ObjectId) → new ≡ old ++ object ∷ [] → AreAdded (object_of object ∷ []) old new
-adds_one object old new is = ap (map object_of) is ∙ map_push object_of old object
+of_terms : (terms : List Term) → flat_map named_by (terms_mentions terms) ≡ flat_map named_in_term terms
+of_terms terms = several term_mentions named_in_term of_term terms
 
-adds_same : (xs ys : List ℕ) (old new : List ObjectId) → xs ≡ ys → AreAdded xs old new → AreAdded ys old new
-adds_same xs ys old new same adds = adds ∙ ap (λ l. map object_of old ++ l) same
+mutual
+  pub of_formula : (f : Formula) → flat_map named_by (mentions f) ≡ named_in_formula f
+  of_formula (atom a) = of_terms a.terms
+  of_formula (equal t u) = two (term_mentions t) (term_mentions u) (named_in_term t) (named_in_term u) (of_term t) (of_term u)
+  of_formula (and parts) = of_formulas parts
+  of_formula (or parts) = of_formulas parts
+  of_formula (not part) = of_formula part
+  of_formula (imply premise conclusion) =
+      two (mentions premise) (mentions conclusion) (named_in_formula premise) (named_in_formula conclusion) (of_formula premise) (of_formula conclusion)
+  of_formula (exists types part) = of_formula part
+  of_formula (forall types part) = of_formula part
 
--- ---- several things, one after another
+  of_formulas : (parts : Formulas) → flat_map named_by (all_mentions parts) ≡ named_in_formulas parts
+  of_formulas no_formula = refl
+  of_formulas (more_formulas first rest) = two (mentions first) (all_mentions rest) (named_in_formula first) (named_in_formulas rest) (of_formula first) (of_formulas rest)
 
-module _ {X : Type 0} (f : X → List ℕ) (xs : List X) (i : ℕ) (old : List ObjectId) where
-  -- the next one at its index, by a name or by a default
-  pub adds_next : (x : X) (now new : List ObjectId) → i < length xs → x ≡ get_or xs i x → AreAdded (flat_map f (take i xs)) old now → AreAdded (f x) now new
-      → AreAdded (flat_map f (take (i + 1) xs)) old new
-  adds_next x now new within at before here =
-      adds_same (flat_map f (take i xs) ++ f x) (flat_map f (take (i + 1) xs)) old new
-      (ap (λ l. flat_map f (take i xs) ++ l) (sym (append-nil (f x))) ∙ sym (flat_map-append f (take i xs) (x ∷ []))
-      ∙ ap (flat_map f) (ap (λ y. take i xs ++ y ∷ []) at ∙ sym (take_more xs i x within)))
-      (adds_both (flat_map f (take i xs)) (f x) old now new before here)
+of_literal : (l : EffectLiteral) → flat_map named_by (literal_mentions l) ≡ named_in_literal l
+of_literal (add a) = of_terms a.terms
+of_literal (delete a) = of_terms a.terms
 
-  pub adds_next_at : (d : X) (now new : List ObjectId) → i < length xs → AreAdded (flat_map f (take i xs)) old now → AreAdded (f (get_or xs i d)) now new
-      → AreAdded (flat_map f (take (i + 1) xs)) old new
-  adds_next_at d now new within before here =
-      adds_same (flat_map f (take i xs) ++ f (get_or xs i d)) (flat_map f (take (i + 1) xs)) old new
-      (ap (λ l. flat_map f (take i xs) ++ l) (sym (append-nil (f (get_or xs i d)))) ∙ sym (flat_map-append f (take i xs) (get_or xs i d ∷ []))
-      ∙ ap (flat_map f) (sym (take_more xs i d within)))
-      (adds_both (flat_map f (take i xs)) (f (get_or xs i d)) old now new before here)
+mutual
+  of_effect : (e : Effect) → flat_map named_by (effect_mentions e) ≡ named_in_effect e
+  of_effect (literal l) = of_literal l
+  of_effect (both parts) = of_effects parts
+  of_effect (each types part) = of_effect part
+  of_effect (when condition literals) =
+      two (mentions condition) (flat_map literal_mentions literals) (named_in_formula condition) (flat_map named_in_literal literals) (of_formula condition)
+      (several literal_mentions named_in_literal of_literal literals)
 
-  pub adds_whole : (new : List ObjectId) (all : List ℕ) → length xs ≤ i → flat_map f xs ≡ all → AreAdded (flat_map f (take i xs)) old new → AreAdded all old new
-  adds_whole new all past is adds = adds_same (flat_map f (take i xs)) all old new (ap (flat_map f) (take_all i xs past) ∙ is) adds
+  of_effects : (parts : Effects) → flat_map named_by (effects_mentions parts) ≡ named_in_effects parts
+  of_effects no_effect = refl
+  of_effects (more_effects first rest) = two (effect_mentions first) (effects_mentions rest) (named_in_effect first) (named_in_effects rest) (of_effect first) (of_effects rest)
 
--- ---- the parts of a formula or an effect
+of_increase : (i : Increase) → flat_map named_by (increase_mentions i) ≡ named_in_increase i
+of_increase (by_number amount) = refl
+of_increase (by_function f) = of_terms f.terms
 
-formulas_named : (parts : List Formula) → named_in_formulas (formulas_in parts) ≡ flat_map (λ part. named_in_formula (formula_of part)) parts
-formulas_named [] = refl
-formulas_named (part ∷ rest) = ap (λ l. named_in_formula (formula_of part) ++ l) (formulas_named rest)
+of_schema : (s : Schema) → flat_map named_by (schema_mentions s) ≡ named_in_schema s
+of_schema s =
+    let condition = named_in_formula s.precondition in
+    let changes = named_in_effect s.effect in
+    let costs = named_in_increase s.increase in
+    two (mentions s.precondition) (effect_mentions s.effect ++ increase_mentions s.increase) condition (changes ++ costs) (of_formula s.precondition)
+    (two (effect_mentions s.effect) (increase_mentions s.increase) changes costs (of_effect s.effect) (of_increase s.increase))
+    ∙ sym (append_assoc condition changes costs)
 
-effects_named : (parts : List Effect) → named_in_effects (effects_in parts) ≡ flat_map (λ part. named_in_effect (effect_of part)) parts
-effects_named [] = refl
-effects_named (part ∷ rest) = ap (λ l. named_in_effect (effect_of part) ++ l) (effects_named rest)
+pub of_schemas : (schemas : List Schema) → flat_map named_by (flat_map schema_mentions schemas) ≡ flat_map named_in_schema schemas
+of_schemas schemas = several schema_mentions named_in_schema of_schema schemas
 
-pub named_by_and : (f : Formula) (parts : Vec Formula) (items : List Formula) → f ≡ formula.And parts → items ≡ parts.items
-    → flat_map (λ part. named_in_formula (formula_of part)) items ≡ named_in_formula (formula_of f)
-named_by_and f parts items is same =
-    ap (flat_map (λ part. named_in_formula (formula_of part))) same ∙ sym (formulas_named parts.items)
-    ∙ sym (ap (λ g. named_in_formula (formula_of g)) is ∙ ap named_in_formula (formula_of-And parts))
+-- some mention names the object if it is among the objects that they name
+pub naming_among : (o : ℕ) (ms : List Mention) → list_any (is_naming o) ms ≡ is_among (flat_map named_by ms) o
+naming_among o [] = refl
+naming_among o (asked predicate ∷ ms) = naming_among o ms
+naming_among o (named number ∷ ms) = ap (λ b. (number == o) || b) (naming_among o ms)
 
-pub named_by_or : (f : Formula) (parts : Vec Formula) (items : List Formula) → f ≡ formula.Or parts → items ≡ parts.items
-    → flat_map (λ part. named_in_formula (formula_of part)) items ≡ named_in_formula (formula_of f)
-named_by_or f parts items is same =
-    ap (flat_map (λ part. named_in_formula (formula_of part))) same ∙ sym (formulas_named parts.items)
-    ∙ sym (ap (λ g. named_in_formula (formula_of g)) is ∙ ap named_in_formula (formula_of-Or parts))
-
-pub named_by_both : (e : Effect) (parts : Vec Effect) (items : List Effect) → e ≡ effect.And parts → items ≡ parts.items
-    → flat_map (λ part. named_in_effect (effect_of part)) items ≡ named_in_effect (effect_of e)
-named_by_both e parts items is same =
-    ap (flat_map (λ part. named_in_effect (effect_of part))) same ∙ sym (effects_named parts.items)
-    ∙ sym (ap (λ g. named_in_effect (effect_of g)) is ∙ ap named_in_effect (effect_of-And parts))
-
-pub flat_map_over : {X Y Z : Type 0} (f : Y → List Z) (g : X → Y) (xs : List X) → flat_map (λ x. f (g x)) xs ≡ flat_map f (map g xs)
-flat_map_over f g [] = refl
-flat_map_over f g (x ∷ xs) = ap (λ l. f (g x) ++ l) (flat_map_over f g xs)
-
--- ---- the actions, one after another
-
--- the objects found are followed by those that the actions from this number on name
-abbrev pub Lacks : Task → ℕ → List ObjectId → Type 0
-Lacks t number found = named_in_actions t ≡ map object_of found ++ flat_map named_in_schema (drop number t.schemas)
-
-pub lacks_fewer : (t : Task) (number : ℕ) (s : Schema) (old new : List ObjectId) (shape : List ℕ) → slice_get t.schemas number ≡ Some s → Lacks t number old → shape ≡ named_in_schema s
-    → AreAdded shape old new → Lacks t (number + 1) new
-lacks_fewer t number s old new shape at so is here =
-    so ∙ ap (λ l. map object_of old ++ flat_map named_in_schema l) (drop-here t.schemas number s at)
-    ∙ sym (append_assoc (map object_of old) (named_in_schema s) (flat_map named_in_schema (drop (number + 1) t.schemas)))
-    ∙ ap (λ l. l ++ flat_map named_in_schema (drop (number + 1) t.schemas)) (sym (here ∙ ap (λ l. map object_of old ++ l) is))
-
-pub lacks_none : (t : Task) (number : ℕ) (found : List ObjectId) → length t.schemas ≤ number → Lacks t number found → map object_of found ≡ named_in_actions t
-lacks_none t number found past so =
-    sym (so ∙ ap (λ l. map object_of found ++ flat_map named_in_schema l) (drop_all number t.schemas past) ∙ append-nil (map object_of found))
-
--- ---- the table of the objects
-
-or_assoc : (a b c : Bool) → ((a || b) || c) ≡ (a || (b || c))
-or_assoc true b c = refl
-or_assoc false b c = refl
-
-pub marks_next_at : {X : Type 0} (touched : ℕ → X → Bool) (xs : List X) (i : ℕ) (d : X) (old now new : List Bool) → i < length xs → Marks (λ n. list_any (touched n) (take i xs)) old now
-    → Marks (λ n. touched n (get_or xs i d)) now new → Marks (λ n. list_any (touched n) (take (i + 1) xs)) old new
-marks_next_at touched xs i d old now new within before here n =
-    here n ∙ ap (λ b. b || touched n (get_or xs i d)) (before n) ∙ or_assoc (is_marked old n) (list_any (touched n) (take i xs)) (touched n (get_or xs i d))
-    ∙ ap (λ b. is_marked old n || b) (sym (list_any_more (touched n) xs i d within))
+-- the objects that one more mention names
+pub named_next : (xs : List code.Mention) (i : ℕ) (one : code.Mention) (now new : List ObjectId) → i < length xs
+    → map object_of now ≡ flat_map (λ x. named_by (mention_of x)) (take i xs) → AreAdded (named_by (mention_of (get_or xs i one))) now new
+    → map object_of new ≡ flat_map (λ x. named_by (mention_of x)) (take (i + 1) xs)
+named_next xs i one now new within before here =
+    let x = get_or xs i one in
+    come_next (λ y. named_by (mention_of y)) xs i [] x (map object_of now) (map object_of new) within (get_or_default xs i one x within) here before

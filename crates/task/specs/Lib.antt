@@ -1,3 +1,4 @@
 pub mod Names
 pub mod TaskParts
 pub mod Task
+pub mod NumberedNames

@@ -2,6 +2,7 @@
 #![tactic(auto)]
 
 mod atoms;
+mod names;
 mod parts;
 mod schemas;
 mod task;

@@ -20,7 +20,7 @@ returns c =
     where_added c.extend_from_slice-4.result _ _ (codes ")\n") _ c.extend_from_slice-4.ensures.items
     (ap (λ xs. xs ++ codes ")\n")
     (c.in_ok-add_names.ensures ∙ ap (λ xs. c.extend_from_slice-3.new.self.items ++ xs) objects
-    ∙ ap (λ xs. xs ++ names) (c.in_ok-extend_from_slice-3.ensures.items ∙ ap (λ xs. c.extend_from_slice-2.new.self.items ++ xs) c.predicate_name.ensures
+    ∙ ap (λ xs. xs ++ names) (c.in_ok-extend_from_slice-3.ensures.items ∙ ap (λ xs. c.extend_from_slice-2.new.self.items ++ xs) c.name_of_predicate.ensures
     ∙ ap (λ xs. xs ++ name) (c.in_ok-extend_from_slice-2.ensures.items ∙ ap (λ xs. xs ++ codes " (") (c.in_ok-add_weights_at.ensures
     ∙ ap (λ xs. xs ++ weights_text weights) c.in_ok-extend_from_slice.ensures.items))))
     ∙ atom_text task (atom_of c.args.atom.now) weights c.args.text.now.items)

@@ -3,7 +3,7 @@ use Rattle.std.specs.Prelude.{codes}
 use Rattle.std.specs.List.{flat_map}
 use Rattle.task.specs.Task.{task_of}
 use Rattle.task.specs.TaskParts.{type_of}
-use Rattle.explain_plans.specs.FormulaText.{type_name}
+use Rattle.task.specs.NumberedNames.{type_name}
 use Rattle.explain_plans.proofs.formula_text.add_either.Given as goal
 
 -- the names of the types so far are added

@@ -1,8 +1,9 @@
 use Rattle.std.proofs.Common.{◌∙◌, ◌++◌, ap, map}
 use Rattle.task.specs.TaskParts.{atom_of, object_of}
-use Rattle.explain_tasks.specs.Mentions.{fact_mentions, named}
-use Rattle.explain_tasks.specs.Views.{mention_of}
-use Rattle.explain_tasks.proofs.MentionLemmas.{come_next}
+use Rattle.formulas.specs.Mentions.{named}
+use Rattle.explain_tasks.specs.Mentions.{fact_mentions}
+use Rattle.formulas.specs.MentionViews.{mention_of}
+use Rattle.formulas.proofs.MentionLemmas.{come_next}
 use Rattle.explain_tasks.proofs.mentions.add_facts.Goals as goal
 
 pub loop-fact-preserved : goal.loop-fact-preserved

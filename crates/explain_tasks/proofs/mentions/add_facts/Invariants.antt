@@ -2,7 +2,7 @@ use Rattle.std.proofs.Common.{take}
 use Rattle.std.specs.List.{flat_map}
 use Rattle.task.specs.TaskParts.{atom_of}
 use Rattle.explain_tasks.specs.Mentions.{fact_mentions}
-use Rattle.explain_tasks.specs.Views.{Come}
+use Rattle.formulas.specs.MentionViews.{Come}
 use Rattle.explain_tasks.proofs.mentions.add_facts.Given as goal
 
 -- what the facts so far give is added

@@ -1,9 +1,9 @@
 use Rattle.std.proofs.Common.{◌∙◌, ◌++◌, ap, map, sym}
 use Rattle.std.proofs.lemmas.List.{take_all}
 use Rattle.task.specs.TaskParts.{object_of}
-use Rattle.explain_tasks.specs.Mentions.{named}
-use Rattle.explain_tasks.specs.Views.{mention_of}
-use Rattle.explain_tasks.proofs.MentionLemmas.{map_map}
+use Rattle.formulas.specs.Mentions.{named}
+use Rattle.formulas.specs.MentionViews.{mention_of}
+use Rattle.formulas.proofs.MentionLemmas.{map_map}
 use Rattle.explain_tasks.proofs.mentions.add_objects.Goals as goal
 
 pub returns : goal.returns

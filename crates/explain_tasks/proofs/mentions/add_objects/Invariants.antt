@@ -1,6 +1,6 @@
 use Rattle.std.proofs.Common.{map, take}
-use Rattle.explain_tasks.specs.Mentions.{named}
-use Rattle.explain_tasks.specs.Views.{Come}
+use Rattle.formulas.specs.Mentions.{named}
+use Rattle.formulas.specs.MentionViews.{Come}
 use Rattle.explain_tasks.proofs.mentions.add_objects.Given as goal
 
 -- the objects so far are added

@@ -1,9 +1,8 @@
 use Rattle.std.proofs.Common.{[], ap}
-use Rattle.formulas.specs.FluentTable.{is_marked}
-use Rattle.formulas.proofs.FluentMarks.{marks_all}
-use Rattle.explain_tasks.specs.Mentions.{is_asking}
-use Rattle.explain_tasks.specs.Views.{mention_of}
-use Rattle.explain_tasks.proofs.TableLemmas.{marks_next, table_of}
+use Rattle.formulas.specs.Marks.{is_marked}
+use Rattle.formulas.specs.Mentions.{is_asking}
+use Rattle.formulas.specs.MentionViews.{mention_of}
+use Rattle.formulas.proofs.FluentMarks.{marks_all, marks_next, table_of}
 use Rattle.explain_tasks.proofs.tables.asked_table.Goals as goal
 
 pub loop-mention-init : goal.loop-mention-init

@@ -1,8 +1,8 @@
 use Rattle.std.proofs.Common.{take, []}
 use Rattle.std.specs.List.{list_any}
-use Rattle.formulas.specs.FluentTable.{Marks}
-use Rattle.explain_tasks.specs.Mentions.{is_asking}
-use Rattle.explain_tasks.specs.Views.{mention_of}
+use Rattle.formulas.specs.Marks.{Marks}
+use Rattle.formulas.specs.Mentions.{is_asking}
+use Rattle.formulas.specs.MentionViews.{mention_of}
 use Rattle.explain_tasks.proofs.tables.asked_table.Given as goal
 
 -- the predicates so far are marked

@@ -1,9 +1,8 @@
 use Rattle.std.proofs.Common.{[], ap}
-use Rattle.formulas.specs.FluentTable.{is_marked}
-use Rattle.formulas.proofs.FluentMarks.{marks_more, marks_all}
+use Rattle.formulas.specs.Marks.{is_marked}
+use Rattle.formulas.proofs.FluentMarks.{marks_all, marks_more, table_of}
 use Rattle.formulas.specs.State.{instance_of}
 use Rattle.explain_tasks.specs.Unused.{is_of_schema}
-use Rattle.explain_tasks.proofs.TableLemmas.{table_of}
 use Rattle.explain_tasks.proofs.tables.schema_table.Goals as goal
 
 pub loop-instance-init : goal.loop-instance-init

@@ -1,6 +1,6 @@
 use Rattle.std.proofs.Common.{take, []}
 use Rattle.std.specs.List.{list_any}
-use Rattle.formulas.specs.FluentTable.{Marks}
+use Rattle.formulas.specs.Marks.{Marks}
 use Rattle.formulas.specs.State.{instance_of}
 use Rattle.explain_tasks.specs.Unused.{is_of_schema}
 use Rattle.explain_tasks.proofs.tables.schema_table.Given as goal

@@ -1,4 +1,4 @@
-use Rattle.formulas.specs.FluentTable.{is_marked}
+use Rattle.formulas.specs.Marks.{is_marked}
 use Rattle.explain_tasks.proofs.TableLemmas.{without_more}
 use Rattle.explain_tasks.proofs.tables.unmarked.Goals as goal
 

@@ -1,5 +1,5 @@
 use Rattle.std.proofs.Common.{◌≡◌}
-use Rattle.formulas.specs.FluentTable.{is_marked}
+use Rattle.formulas.specs.Marks.{is_marked}
 use Rattle.explain_tasks.specs.Unused.{without}
 use Rattle.explain_tasks.proofs.tables.unmarked.Given as goal
 

@@ -2,7 +2,7 @@ use Rattle.std.proofs.Common.{take}
 use Rattle.std.specs.List.{list_any}
 use Rattle.task.specs.TaskParts.{effect_of}
 use Rattle.model.specs.Fluents.{touches}
-use Rattle.formulas.specs.FluentTable.{Marks}
+use Rattle.formulas.specs.Marks.{Marks}
 use Rattle.formulas.proofs.fluent_predicates.+mark_touched.Given as goal
 
 abbrev pub decreases-mark_touched : goal.decreases-mark_touched

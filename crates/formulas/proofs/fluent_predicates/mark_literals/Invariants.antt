@@ -2,7 +2,7 @@ use Rattle.std.proofs.Common.{take}
 use Rattle.std.specs.List.{list_any}
 use Rattle.task.specs.TaskParts.{effect_literal_of}
 use Rattle.model.specs.Fluents.{is_literal_of}
-use Rattle.formulas.specs.FluentTable.{Marks}
+use Rattle.formulas.specs.Marks.{Marks}
 use Rattle.formulas.proofs.fluent_predicates.mark_literals.Given as goal
 
 -- the predicates of the literals so far are marked

@@ -4,7 +4,7 @@ use Rattle.task.specs.TaskParts.{atom_of}
 use Rattle.formulas.specs.Literals.{literal_of}
 use Rattle.explain_tasks.specs.Goals.{atom_asked_for, with_passing}
 use Rattle.explain_tasks.proofs.FoldLemmas.{folded_next, folded_all}
-use Rattle.explain_tasks.proofs.MentionLemmas.{flat_map_map}
+use Rattle.formulas.proofs.MentionLemmas.{flat_map_map}
 use Rattle.explain_goals.specs.Notes.{most_found}
 use Rattle.explain_goals.specs.Views.{is_out}
 use Rattle.explain_goals.proofs.relaxation.Relaxation.missing.Goals as goal

@@ -6,7 +6,7 @@ use Rattle.formulas.specs.State.{state_of}
 use Rattle.grounding_instances.specs.Numbering.{task_in}
 use Rattle.explain_tasks.specs.Goals.{atom_asked_for, is_neither, with_passing}
 use Rattle.explain_tasks.proofs.FoldLemmas.{folded_next, folded_all}
-use Rattle.explain_tasks.proofs.MentionLemmas.{flat_map_map}
+use Rattle.formulas.proofs.MentionLemmas.{flat_map_map}
 use Rattle.explain_tasks.proofs.added.GoalSearch.missing.Goals as goal
 
 pub loop-literal-preserved : goal.loop-literal-preserved
