@@ -33,7 +33,7 @@ pub record AtomsAreRight (task : Task) (c : Certificate) (count : ℕ) : Type 0 
   pub fluent : (place : ℕ) (a : Atom) → place < count → slice_get c.atoms place ≡ Some a → (is_atom task a && is_fluent task a.predicate) ≡ true
   pub distinct : (i j : ℕ) (a : Atom) → i < j → j < count → slice_get c.atoms i ≡ Some a → slice_get c.atoms j ≡ Some a → ⊥
 
--- of the first so many state lines no two list one state, and none is cut where no cut is allowed
+-- of the first `count` state lines no two list one state, and none is cut where no cut is allowed
 pub record StatesAreRight (task : Task) (c : Certificate) (count : ℕ) : Type 0 where
   pub distinct : (i j : ℕ) (k l : Line State) → i < j → j < count → slice_get (lines_of task c) i ≡ Some k → slice_get (lines_of task c) j ≡ Some l → k.state ≡ l.state → ⊥
   pub allowed : (place : ℕ) (l : Line State) (rest : ℕ) → place < count → slice_get (lines_of task c) place ≡ Some l → l.mark ≡ cut rest → c.claim ≡ none → ⊥

@@ -219,7 +219,7 @@ made_more exchanges place e made x at same before =
     ∙ sym (take_more exchanges place e (slice_get_within exchanges place e at) ∙ ap (λ y. take place exchanges ++ y ∷ []) (get_or_from_slice_get exchanges place e e at))
 
 module _ (task : Task) (c : Certificate) where
-  -- each of the first so many exchanges is a symmetry
+  -- each of the first `count` exchanges is a symmetry
   abbrev AreSymmetricTo : ℕ → Type 0
   AreSymmetricTo count = (k : ℕ) (e : Exchange) → k < count → slice_get c.exchanges k ≡ Some e → is_symmetry_for task c e ≡ true
 

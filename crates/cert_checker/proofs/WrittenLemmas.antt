@@ -138,7 +138,7 @@ dead_end_in two values dead_end count same within = get_or_push values dead_end 
 dead_end_in three values dead_end count same within = get_or_push values dead_end (pos 0) count same
 dead_end_in four values dead_end count same within = get_or_push values dead_end (pos 0) count same
 
--- of so many constants so many are of values, and each list of as many has as many
+-- how many of the numbers of `weights_in` belong to values; lists of one length are taken to lists of one length
 values_in : (v : Version) (values : List ℤ) (dead_end : ℤ) → value_count v (length (weights_in v values dead_end)) ≡ length values
 values_in one values dead_end = refl
 values_in two values dead_end = let long = length_push values dead_end in omega (arith, long)

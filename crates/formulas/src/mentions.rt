@@ -12,9 +12,7 @@ ghost use Rattle.formulas.specs.MentionViews.{Come, mention_of};
 use crate::marks::mark;
 use faults::NoMemory;
 use std::alloc::Global;
-use task::{
-    Effect, EffectLiteral, Formula, Increase, ObjectId, PredicateId, SchemaId, Task, Term,
-};
+use task::{Effect, EffectLiteral, Formula, Increase, ObjectId, PredicateId, SchemaId, Task, Term};
 
 /// A formula uses an atom of this predicate, or this object is named.
 #[derive(Debug, Drop)]

@@ -3,7 +3,7 @@ use Rattle.std.proofs.Common.{◌≡◌, ◌∙◌, ℕ, zero, suc, ◌+◌, ◌
 use Rattle.std.specs.Prelude.{slice_get}
 use Rattle.grounding.specs.InPlace.{AreInPlace}
 
--- those of the first so many items
+-- an item for each of the first `count` items
 pub record AreSoFar {X Y : Type 0} (belongs : X → Y → Type 0) (xs : List X) (ys : List Y) (count : ℕ) : Type 0 where
   pub as_many : length ys ≡ count
   pub each : (n : ℕ) (x : X) (y : Y) → slice_get xs n ≡ Some x → slice_get ys n ≡ Some y → belongs x y

@@ -8,7 +8,7 @@ use Rattle.std.proofs.lemmas.Option.{get_or_from_slice_get}
 use Rattle.packed_state.specs.Sets.{set_of}
 use Rattle.packed_state.proofs.PackedLemmas.{length-set_of}
 
--- the first so many bits are those of the list, and the others are not set
+-- the first `count` bits are those of the list, and the others are not set
 pub record AreBegun (whole bits : List Bool) (count : ℕ) : Type 0 where
   pub as_long : length bits ≡ length whole
   pub before : (k : ℕ) → k < count → get_or bits k false ≡ get_or whole k false

@@ -11,7 +11,7 @@ use Rattle.grounding_instances.specs.declared.changes.NumberedChange.{NumberedCh
 use Rattle.grounding_instances.specs.KeptChanges.{effect_of}
 use Rattle.grounding.specs.NumberedEffects.{NumberedEffect, effects_of_instance}
 
--- what is first and then the rest, where so many are first
+-- a list in two parts, cut after the first `n` items: the first part, and the rest
 cut-first : {X : Type 0} (n : ℕ) (first rest : List X) → n ≡ length first → take n (first ++ rest) ≡ first
 cut-first n first rest is = ap (λ k. take k (first ++ rest)) is ∙ take-append_seam first rest
 

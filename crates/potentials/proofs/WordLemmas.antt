@@ -13,7 +13,7 @@ use Rattle.packed_state.proofs.WordLemmas.{in_word}
 use Rattle.packed_state.proofs.PackedLemmas.{bit_of}
 use Rattle.packed_state.proofs.NumberLemmas.{without_lowest}
 use Rattle.lower_bounds.specs.PotentialFunctions.{weight, sum_below, given, IsInRange}
-use Rattle.lower_bounds.proofs.Sums.{sum-zero, sum-alike, sum-changed, sum-range}
+use Rattle.lower_bounds.proofs.Sums.{sum-zero, sum-alike, sum-changed, sum-past, sum-range}
 use Rattle.lower_bounds.proofs.Ranges.{zero-range, weight-range, given-range}
 use Rattle.potentials.specs.Words.{gained_at, gained_in_word}
 use Rattle.potentials.proofs.ScoreLemmas.{midway-range}
@@ -35,18 +35,6 @@ sum-both (suc n) f g h each =
     let rest = sum-both n f g h (λ k below. each k (omega arith)) in
     let last = each n (omega arith) in
     omega (arith, ints)
-
--- parts that are 0 from a number on add nothing
-pub sum-past : (n m : ℕ) (f : ℕ → ℤ) → n ≤ m → ((k : ℕ) → n ≤ k → f k ≡ pos 0) → sum_below m f ≡ sum_below n f
-sum-past n zero f within none = ap (λ k. sum_below k f) (let e : zero ≡ n = omega arith in e)
-sum-past n (suc m) f within none =
-    elim (cases_lt n (suc m)) [
-      | inl below ↦
-          let rest = sum-past n m f (omega arith) none in
-          let last = none m (omega arith) in
-          omega (arith, ints)
-      | inr not_below ↦ ap (λ k. sum_below k f) (let e : suc m ≡ n = omega arith in e)
-    ]
 
 -- ---- one word
 

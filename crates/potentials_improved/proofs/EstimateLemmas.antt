@@ -22,10 +22,10 @@ use Rattle.search.specs.DeadEnds.{DetectsDeadEnds}
 use Rattle.lower_bounds.specs.PotentialFunctions.{PotentialFunction, weight, sum_below, given, score, or_zero, value, is_dead_by}
 use Rattle.lower_bounds.specs.FairPotentials.{AreFairAt, AreFair, AreDeadFair, nothing}
 use Rattle.lower_bounds.specs.PotentialLaws.{AreNumberable}
-use Rattle.lower_bounds.proofs.Sums.{sum-alike, sum-least, sum-zero}
+use Rattle.lower_bounds.proofs.Sums.{sum-alike, sum-least, sum-past, sum-zero}
 use Rattle.lower_bounds.proofs.PotentialFalls.{or_zero-most}
 use Rattle.lower_bounds.proofs.PotentialLowerBound.{are_lower_bounds, detect_dead_ends}
-use Rattle.potentials.proofs.WordLemmas.{sum-past, given-past}
+use Rattle.potentials.proofs.WordLemmas.{given-past}
 use Rattle.potentials_improved.specs.Guides.{Guides}
 
 same-value : (z : ℤ) → above_zero z ≡ or_zero z

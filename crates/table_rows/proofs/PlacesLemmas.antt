@@ -106,7 +106,7 @@ marked (n ∷ scope) rising done a (suc k) below at =
     sym (list_any-append (λ m. m == n) done (a ∷ []) ∙ ap (λ b. is_among done n || (b || false)) (swapped n a differ) ∙ or-none (is_among done n)) in
     (λ i. first i ∷ rest i)
 
--- so many atoms are of the scope, and the bits say which of it they are
+-- these atoms are of the scope, and the bits say which of it they are
 pub record AreMarked (scope atoms : List ℕ) (set : List Bool) : Type 0 where
   pub of_scope : list_all (is_among scope) atoms ≡ true
   pub bits : set ≡ map (is_among atoms) scope

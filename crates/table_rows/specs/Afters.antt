@@ -70,7 +70,7 @@ freed row left found w = if is_among found w.place then found else if turns row 
 abbrev pub free_places : List When → List Bool → List Bool → List ℕ
 free_places whens row left = fold (freed row left) [] whens
 
--- all of these places, or so many of them that their ways are more than the rows that a table can have
+-- all of these places, or at least 25 of them: their ways are then more than the rows that a table can have
 abbrev pub AreListed : (all found : List ℕ) → Type 0
 AreListed all found = (found ≡ all) ⊎ ((25 ≤ length found) × (length found ≤ length all))
 

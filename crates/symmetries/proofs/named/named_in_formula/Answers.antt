@@ -14,5 +14,5 @@ pub returns : goal.returns
 returns c =
     let f = formula_of c.args.formula.now in
     let are : map mention_of c.deref.result.now ≡ mentions f =
-        ap (map mention_of) c.deref.ensures.value ∙ c.in_ok-add_formula_mentions.ensures ∙ ap (λ l. map mention_of l ++ mentions f) c.new-mentions.ensures.items in
+    ap (map mention_of) c.deref.ensures.value ∙ c.in_ok-add_formula_mentions.ensures ∙ ap (λ l. map mention_of l ++ mentions f) c.new-mentions.ensures.items in
     subst (λ l. IfOk c.objects_named.result (λ (found : Vec ObjectId). map object_of found.items ≡ l)) (ap (flat_map named_by) are ∙ of_formula f) c.objects_named.ensures

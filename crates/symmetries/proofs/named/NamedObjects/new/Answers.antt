@@ -12,6 +12,6 @@ returns c = λ o.
     let schemas = (task_of c.args.task.now).schemas in
     let found = map mention_of c.deref.result.now in
     let are : found ≡ flat_map schema_mentions schemas =
-        ap (map mention_of) c.deref.ensures.value ∙ c.in_ok-add_action_mentions.ensures
-        ∙ ap (λ l. map mention_of l ++ flat_map schema_mentions schemas) c.new-mentions.ensures.items in
+    ap (map mention_of) c.deref.ensures.value ∙ c.in_ok-add_action_mentions.ensures
+    ∙ ap (λ l. map mention_of l ++ flat_map schema_mentions schemas) c.new-mentions.ensures.items in
     c.in_ok-table.ensures o ∙ naming_among o found ∙ ap (λ l. is_among l o) (ap (flat_map named_by) are ∙ of_schemas schemas)
