@@ -23,7 +23,6 @@ use Rattle.explain_plans.specs.Traces.{atoms_line, change_lines, in_order, space
 
 -- ---- atoms in order
 
-
 firsts : (xs : List Atom) → map (λ (e : Atom × Unit {0}). e.0) (map (λ (a : Atom). (a, tt)) xs) ≡ xs
 firsts [] = refl
 firsts (x ∷ xs) = ap (λ rest. x ∷ rest) (firsts xs)

@@ -90,12 +90,7 @@ impl Tracer<'_> {
     }
 
     /// Adds the lines of what a step adds and deletes, given the states before and after it.
-    fn add_changes(
-        &self,
-        before: &State,
-        after: &State,
-        text: &mut Vec<u8>,
-    ) -> Result<(), NoMemory>
+    fn add_changes(&self, before: &State, after: &State, text: &mut Vec<u8>) -> Result<(), NoMemory>
         ensures { OnOk result (text.new.items ≡ text.old.items ++ change_lines (task_of self.now.task.now) (state_of before.now) (state_of after.now)) }
     {
         let added = atoms_beyond(self.alloc, after, before)?;
@@ -106,12 +101,7 @@ impl Tracer<'_> {
     }
 
     /// Adds the line of these atoms, if there are any.
-    fn add_line(
-        &self,
-        deed: &[u8],
-        atoms: &[&Atom],
-        text: &mut Vec<u8>,
-    ) -> Result<(), AllocError>
+    fn add_line(&self, deed: &[u8], atoms: &[&Atom], text: &mut Vec<u8>) -> Result<(), AllocError>
         ensures { OnOk result (text.new.items ≡ text.old.items ++ atoms_line (task_of self.now.task.now) deed.now (lent_atoms atoms.now)) }
     {
         match atoms.first() {

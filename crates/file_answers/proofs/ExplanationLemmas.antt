@@ -1,8 +1,9 @@
 -- The result for the files is the subject of the explanation, and the lines state it.
-use Rattle.std.proofs.Common.{◌≡◌, ℕ, ◌<◌, ◌≤◌, ◌-◌, Bool, List, [], ◌∷◌, get_or, length, map, Option, Some, None, IfSome, refl, ap, sym, ◌∙◌, subst, arith}
+use Rattle.std.proofs.Common.{◌≡◌, ℕ, ◌<◌, ◌≤◌, ◌-◌, Bool, true, List, [], ◌∷◌, ◌++◌, get_or, length, map, Option, Some, None, IfSome, refl, ap, sym, ◌∙◌, subst, arith}
 use Rattle.std.proofs.lemmas.Option.{slice_get_within}
 use Rattle.std.specs.Prelude.{All, Result, Ok, Err, IfOk, IsSomeAnd}
 use Rattle.std.specs.Option.{option_map}
+use Rattle.std.specs.Str.Lossy.{utf8_lossy}
 use Rattle.std.specs.String.{string_bytes}
 use Rattle.faults.specs.declared.code.Code.{Code}
 use Rattle.faults.specs.declared.refused.NoMemory.{NoMemory}
@@ -14,7 +15,7 @@ use Rattle.explain_hints.specs.declared.texts.NamedTexts.{NamedTexts}
 use Rattle.validator.specs.Verdict.{verdict_of}
 use Rattle.validator.specs.declared.verdict.Verdict.{Verdict}
 use Rattle.validator.specs.declared.verdict.Verdict.TheVariants.{NotApplicable}
-use Rattle.file_answers.specs.ExplanationLines.{Files, Named, IsLocated, IsSaidOf, IsStepLocated, IsSubjectLocated, SaySubject, IsPlanSaid, IsStepAt, IsToldIn, SayFurther, file_in, files_of, named_of}
+use Rattle.file_answers.specs.ExplanationLines.{Files, Named, IsLocated, IsSaidOf, IsStepLocated, IsSubjectLocated, SaySubject, IsPlanSaid, IsStepAt, IsToldIn, SayFurther, SayPlanAs, SayVerdict, file_in, files_of, named_of}
 use Rattle.file_answers.specs.Explanations.{IsFaultExplained, IsLocatedIf, IsOfFault, IsPlanTold, IsStepFound, IsStepOf, IsTaskExplained, IsTrueOf, IsVerdictExplained, files_in, in_texts, text_in}
 use Rattle.file_answers.specs.Files.{reported_in}
 use Rattle.file_answers.specs.FurtherFaults.{IsToldOf}
@@ -37,6 +38,7 @@ use Rattle.model.specs.Words.{AreParts, Part}
 use Rattle.explain_plans.specs.Explanations as plans
 use Rattle.explain_plans.specs.Explanations.{IsExplained}
 use Rattle.explain_plans.specs.StepPlaces.{IsStepPlace, span_of}
+use Rattle.explain_plans.specs.Traces.{trace_text}
 use Rattle.explain_plans.specs.VariableNames.{VariableNames}
 use Rattle.file_answers.specs.QuantifiedNames.{IsNamedTask}
 use Rattle.explain_plans.specs.declared.explanations.PlanExplanation.{PlanExplanation}
@@ -148,6 +150,13 @@ module _ (texts : NamedTexts) (domain problem : NamedText) (same_domain : texts.
       ap (λ (n : NamedText). Some n.text.now) same_plan ∙ sym (ap text_in is)
 
 -- ---- the verdict on a plan
+
+-- with a trace before the verdict
+pub traced_said : (at : Option Location) (task : model.Task) (steps : List model.Instance) (explained : PlanExplanation) (trace verdict shown text : List ℕ)
+    → trace ≡ utf8_lossy (trace_text task steps) → SayVerdict at task steps explained verdict → shown ≡ verdict → text ≡ trace ++ shown
+    → SayPlanAs true at task steps explained text
+traced_said at task steps explained trace verdict shown text is_trace says same is =
+    (verdict, is ∙ (λ i. is_trace i ++ same i), says)
 
 -- each step of a text names one instance: the two lists have the same length
 all_mean_length : (task : model.Task) (steps : List Step) (plan : List model.Instance) → AllMean task steps plan → length steps ≡ length plan

@@ -18,7 +18,6 @@ use of_fault::explain_refused;
 use of_plan::explain_plan_file;
 use of_task::explain_task;
 use std::alloc::Global;
-
 pub use step_lines::StepLines;
 
 /// The files that are explained.
