@@ -7,13 +7,17 @@ use Rattle.std.specs.Option.{option_map_or}
 use Rattle.explain_plans.specs.PlanLines.{cost_line}
 use Rattle.task.specs.NumberedNames.{predicate_name}
 use Rattle.model.specs.Task.{Task, Atom, Instance}
-use Rattle.model.specs.Meaning.{State, initial_state, cost_of, step}
+use Rattle.model.specs.Meaning.{State, atom_cmp, initial_state, cost_of, step}
 use Rattle.model.specs.PlanWriting.{object_text}
+
+-- an atom as an entry of a map
+abbrev pub as_entry : Atom → Atom × Unit {0}
+as_entry a = (a, tt)
 
 -- The atoms of a set in ascending order, each once, as the keys of a map: by predicate and then lexicographically by objects, both in
 -- the order of their declaration.
 abbrev pub in_order : State → List Atom
-in_order atoms = keys (from_entries (map (λ (a : Atom). (a, tt)) (items atoms)))
+in_order atoms = keys (from_entries {R = atom_cmp} (map as_entry (items atoms)))
 
 -- the atoms that a step adds: false before it and true after it
 abbrev pub added : (before after : State) → List Atom

@@ -81,7 +81,7 @@ impl Tracer<'_> {
         paid: Paid,
         text: &mut Vec<u8>,
     ) -> Result<(), NoMemory>
-        ensures { OnOk result (text.new.items ≡ text.old.items ++ cost_line (task_of self.now.task.now) number (instance_of step.now) paid.entry.cost paid.entry.total) }
+        ensures { OnOk result (text.new.items ≡ text.old.items ++ cost_line (task_of self.now.task.now) number (instance_of step.now) paid.cost paid.total) }
     {
         let words = step_text(self.alloc, self.task, step)?;
         let line = cost_line_of(self.alloc, number, words.as_str(), paid)?;

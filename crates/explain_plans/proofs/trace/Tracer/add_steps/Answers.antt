@@ -38,7 +38,7 @@ loop-index-preserved c =
     let after = state_of c.in-Some.next in
     let i = instance_of c.step-item.result in
     let here = occurs c.steps-step-items.result.now plan index c.step-item.result c.steps-step-items.ensures.steps c.loop-index-test.true c.step-item.is in
-    let leads : step task before i ≡ Some after = sym c.in_ok-apply.ensures ∙ ap (option_map state_of) c.in-Some.is in
+    let leads : step task before i ≡ Some after = sym c.in_ok-next.ensures ∙ ap (option_map state_of) c.in-Some.is in
     let cost = cost_of task i in
     let is_cost : c.from-total.result ≡ cost = c.from-total.ensures ∙ c.cost-cost.ensures in
     let line = cost_line task (index + 1) i cost (total + cost) in
@@ -57,12 +57,12 @@ loop-index-preserved c =
           ∙ c.loop-index.invariant.same;
     }
 
-pub returns-in-None : goal.returns-in-None
-returns-in-None c =
+pub returns-in_default : goal.returns-in_default
+returns-in_default c =
     let task = task_of c.args.self.now.task.now in
     let plan = plan_of c.args.plan.now in
     let here = occurs c.steps-step-items.result.now plan c.loop-index.index c.step-item.result c.steps-step-items.ensures.steps c.loop-index-test.true c.step-item.is in
-    let blocked : step task (state_of c.loop-index.state) (instance_of c.step-item.result) ≡ None = sym c.in_ok-apply.ensures ∙ ap (option_map state_of) c.in-None.is in
+    let blocked : step task (state_of c.loop-index.state) (instance_of c.step-item.result) ≡ None = sym c.in_ok-next.ensures ∙ ap (option_map state_of) c.in_default.is in
     sym (append-nil c.loop-index.text.items)
     ∙ ap (λ l. c.loop-index.text.items ++ l)
     (sym (trace_stops task plan c.loop-index.index c.loop-index.total (state_of c.loop-index.state) (instance_of c.step-item.result) here blocked))
