@@ -11,7 +11,9 @@ pub mod Noted
 pub mod OpenList
 pub mod OpenListLemmas
 pub mod Paused
+pub mod Raised
 pub mod Reached
+pub mod Single
 pub mod Steps
 pub mod ShortWays
 pub mod Stopped

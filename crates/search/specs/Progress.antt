@@ -11,7 +11,7 @@ use Rattle.search.specs.declared.listing.Place.TheVariants.{New, Listed, Alike}
 use Rattle.search.specs.Listing.{IsAlikeAt}
 use Rattle.search.specs.OpenList.{waiting_in, AreNoted, IsOpenList, JoinsBy}
 use Rattle.search.specs.Outcome.{AreMoreReachable}
-use Rattle.search.specs.Nodes.{Waiting, sum_of, estimate_of, place_of, entry, IsCurrent, IsWaiting, total_of, IsEntryOf, has_been_expanded, status_again, Found, found_of, work_left, AreNodes, IsFoundWithin, AreOpen, AreOpenBut, IsTurn}
+use Rattle.search.specs.Nodes.{Waiting, sum_of, estimate_of, place_of, entry, entries_at, AreSingle, IsCurrent, IsWaiting, total_of, IsEntryOf, has_been_expanded, status_again, Found, found_of, work_left, AreNodes, IsFoundWithin, AreOpen, AreOpenBut, IsTurn}
 
 -- The state of this turn has the least sum of the waiting states, of these the least estimate, and of these the least place. It leaves the
 -- open list, and the others stay in it.
@@ -26,6 +26,7 @@ pub record TakesNext (old new : List Waiting) (all : List Node) (turn : Turn) : 
   pub nearest : (w : Waiting) → Contains old w → IsCurrent all w → sum_of w ≡ sum_of next → estimate_of next ≤ estimate_of w
   pub first : (w : Waiting) → Contains old w → IsCurrent all w → sum_of w ≡ sum_of next → estimate_of w ≡ estimate_of next → place_of next ≤ place_of w
   pub rest : (w : Waiting) → Contains old w → IsCurrent all w → place_of w ≢ turn.id.0 → Contains new w
+  pub single : AreSingle old → AreSingle (next ∷ new)
 
 -- the least of this sum and the sums of the current entries
 pub record IsLeastWith (sum : ℕ) (open_list : List Waiting) (all : List Node) (least : ℕ) : Type 0 where
@@ -47,6 +48,7 @@ module _ {S Store : Type 0} (t : System S ℕ) (class_of : S → S) (value : S �
     pub one_each : length p.nodes.items ≡ length (states_of p.store)
     pub nodes : AreNodes t class_of value is_dead (nodes_in states_of p) (waiting_in p.open_list)
     pub heap : IsOpenList p.open_list
+    pub single : AreSingle (waiting_in p.open_list)
 
   -- a state is about to be expanded: it waits, but is no longer in the open list
   pub record IsAtTurn (turn : Turn) : Type 0 where
@@ -62,6 +64,9 @@ module _ {S Store : Type 0} (t : System S ℕ) (class_of : S → S) (value : S �
     pub least : (k : ℕ) (n : Found S) → slice_get (nodes_in states_of p) k ≡ Some n → IsWaiting is_dead n → total_of value found ≤ total_of value n
     pub rest : (k : ℕ) (n : Found S) → slice_get (nodes_in states_of p) k ≡ Some n → IsWaiting is_dead n → k ≢ turn.id.0 → Contains (waiting_in p.open_list) (entry n.node.cost (value n.state) k)
     pub entries : All (IsEntryOf value is_dead (nodes_in states_of p)) (waiting_in p.open_list)
+    pub single : AreSingle (waiting_in p.open_list)
+    -- and no entry of its cost is left
+    pub gone : entries_at turn.id.0 found.node.cost (waiting_in p.open_list) ≡ 0
 
   -- the search has stopped at the limit: the state of this turn waits again, but is not in the open list
   pub record IsStopped (turn : Turn) (max_states : ℕ) : Type 0 where

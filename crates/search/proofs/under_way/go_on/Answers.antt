@@ -33,13 +33,13 @@ next_waiting-requires-clause-entries g c =
 pub get-requires-clause-there : goal.get-requires-clause-there
 get-requires-clause-there g c =
     let search = c.turns.invariant.search in
-    let next = at_turn _ _ _ _ _ _ _ search.one_each search.nodes _ c.in-Some.turn c.in-Some.ensures.some in
+    let next = at_turn _ _ _ _ _ _ _ search.one_each search.nodes search.single _ c.in-Some.turn c.in-Some.ensures.some in
     rw c.in-Some.ensures.store (slice_get_within _ _ next.found.state next.state)
 
 pub index-requires : goal.index-requires
 index-requires g c =
     let search = c.turns.invariant.search in
-    let next = at_turn _ _ _ _ _ _ _ search.one_each search.nodes _ c.in-Some.turn c.in-Some.ensures.some in
+    let next = at_turn _ _ _ _ _ _ _ search.one_each search.nodes search.single _ c.in-Some.turn c.in-Some.ensures.some in
     omega (arith, slice_get_within c.turns.progress.nodes.items _ next.found.node next.node, ap length c.in-Some.ensures.nodes, c.next_waiting.new.self.nodes.ok.0)
 
 -- the entries that are left in the open list
@@ -52,13 +52,13 @@ left_entries g c =
 pub into_plan-requires-clause-reached : goal.into_plan-requires-clause-reached
 into_plan-requires-clause-reached g c =
     let search = c.turns.invariant.search in
-    let next = at_turn _ _ _ _ _ _ _ search.one_each search.nodes _ c.in-Some.turn c.in-Some.ensures.some in
+    let next = at_turn _ _ _ _ _ _ _ search.one_each search.nodes search.single _ c.in-Some.turn c.in-Some.ensures.some in
     rw c.in-Some.ensures.nodes (reached_in _ _ _ _ _ _ search.one_each _ search.nodes _ next.found next.occurs)
 
 pub into_plan-requires-clause-turn : goal.into_plan-requires-clause-turn
 into_plan-requires-clause-turn g c =
     let search = c.turns.invariant.search in
-    let next = at_turn _ _ _ _ _ _ _ search.one_each search.nodes _ c.in-Some.turn c.in-Some.ensures.some in
+    let next = at_turn _ _ _ _ _ _ _ search.one_each search.nodes search.single _ c.in-Some.turn c.in-Some.ensures.some in
     rw c.in-Some.ensures.nodes (slice_get_within c.turns.progress.nodes.items _ next.found.node next.node)
 
 pub into_plan-requires-clause-entries : goal.into_plan-requires-clause-entries
@@ -69,7 +69,7 @@ into_plan-requires-clause-entries g c =
 pub returns-then-meets_goal : goal.returns-then-meets_goal
 returns-then-meets_goal g c =
     let search = c.turns.invariant.search in
-    let next = at_turn _ _ _ _ _ _ _ search.one_each search.nodes _ c.in-Some.turn c.in-Some.ensures.some in
+    let next = at_turn _ _ _ _ _ _ _ search.one_each search.nodes search.single _ c.in-Some.turn c.in-Some.ensures.some in
     let t = g.T.TransitionSystem.means c.args.system.now in
     let value = g.G.Guide.estimate_of c.args.guide.now in
     let is_dead = g.G.Guide.is_dead c.args.guide.now in
@@ -113,7 +113,7 @@ expand-requires-clause-classes g c = rw (same_classes g (goal.at.expand-requires
 pub expand-requires-clause-turn : goal.expand-requires-clause-turn
 expand-requires-clause-turn g c =
     let search = c.turns.invariant.search in
-    let next = at_turn _ _ _ _ _ _ _ search.one_each search.nodes _ c.in-Some.turn c.in-Some.ensures.some in
+    let next = at_turn _ _ _ _ _ _ _ search.one_each search.nodes search.single _ c.in-Some.turn c.in-Some.ensures.some in
     rw (same_classes g (goal.at.expand-requires-clause-turn g c).In-Some) (record {
       one_each = rw (c.in-Some.ensures.nodes, c.in-Some.ensures.store) search.one_each;
       open_list = waiting_in c.turns.progress.open_list;
@@ -128,6 +128,8 @@ expand-requires-clause-turn g c =
       rest = rw (c.in-Some.ensures.store, c.in-Some.ensures.nodes) next.rest;
       entries = rw (c.in-Some.ensures.store, c.in-Some.ensures.nodes)
           (All-among (IsEntryOf (g.G.Guide.estimate_of c.args.guide.now) (g.G.Guide.is_dead c.args.guide.now) (found_of (g.L.StateListing.states c.turns.progress.store) c.turns.progress.nodes.items)) _ _ c.in-Some.ensures.kept search.nodes.entries);
+      single = next.single;
+      gone = next.gone;
     })
 
 pub expand-requires-clause-no_goal : goal.expand-requires-clause-no_goal

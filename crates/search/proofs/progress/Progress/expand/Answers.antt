@@ -66,7 +66,7 @@ loop-action-init g c =
     let touched = c.in_ok-touch_successors.ensures in
     record {
       expanding = rw same (record {
-        search = record { one_each = begins.one_each; nodes = rw c.mark.ensures.open_list begins.nodes; heap = rw c.mark.ensures.open_list turn.heap };
+        search = record { one_each = begins.one_each; nodes = rw c.mark.ensures.open_list begins.nodes; heap = rw c.mark.ensures.open_list turn.heap; single = rw c.mark.ensures.open_list turn.single };
         turn = begins.turn;
         others_open = begins.others_open;
       });

@@ -7,7 +7,6 @@ use Rattle.std.proofs.lemmas.Option.{get_or_from_slice_get, slice_get_within}
 use Rattle.faults.proofs.Results.{if_ok}
 use Rattle.packed_state.specs.Packed.{bits_of}
 use Rattle.search.specs.declared.nodes.Node.{Node}
-use Rattle.search.specs.Estimates.{IsConsistent}
 use Rattle.search.specs.Listing.{IsPlacedBy}
 use Rattle.search.specs.Outcome.{is_expanded_status, is_dead_status}
 use Rattle.search.specs.Nodes.{found_of}
@@ -47,14 +46,6 @@ leads g c =
     let states = g.L.StateListing.states c.args.self.now.store in
     c.requires.leads turn.found.state (found_of-get states c.args.self.now.nodes.items c.args.to.parent.0 turn.found turn.occurs).0
 
--- and a consistent estimate falls there by no more than what it costs
-falls : (g : Over) (c : After-from g) → (action : ℕ) → action ≡ c.args.to.action → IsConsistent (g.T.TransitionSystem.means c.args.system.now) (g.G.Guide.estimate_of c.args.guide.now)
-    → g.G.Guide.estimate_of c.args.guide.now c.requires.expanding.turn.found.state
-    ≤ (g.T.TransitionSystem.means c.args.system.now).cost action + g.G.Guide.estimate_of c.args.guide.now (bits_of c.args.to.state.now)
-falls g c action is consistent =
-    let t = g.T.TransitionSystem.means c.args.system.now in
-    consistent.falls_by_no_more c.requires.expanding.turn.found.state (bits_of c.args.to.state.now) action (ap (t.step c.requires.expanding.turn.found.state) is ∙ leads g c)
-
 -- the place of the state whose turn it is is below the limit
 parent_within : (g : Over) (c : After-from g) → c.args.to.parent.0 < 16777216
 parent_within g c =
@@ -86,7 +77,6 @@ child g c =
       cost = omega (arith, c.node-node.ensures.cost, same, c.from.ensures, c.cost.ensures, paid);
       affordable = omega (arith, c.cost.ensures, paid);
       step = ap (t.step one.state) c.node-node.ensures.action ∙ leads g here;
-      falls = falls g here node.action c.node-node.ensures.action;
       reported = ap is_dead_status status ∙ marks.1;
     }
 
@@ -163,7 +153,7 @@ returns-then-is_reached_within-clause-listed g c =
     c.args.to.action cost (omega (arith, same, c.from.ensures, c.cost.ensures)) c.in-Some.place placed_at within in
     record {
       expanding = record {
-        search = record { one_each = step.1.0; nodes = step.1.1.sound; heap = e.search.heap };
+        search = record { one_each = step.1.0; nodes = step.1.1.sound; heap = e.search.heap; single = e.search.single };
         turn = step.1.1.turn;
         others_open = step.1.1.others;
       };
@@ -202,7 +192,7 @@ returns-clause-listed g c =
     c.requires.within place placed_at cheaper takes in
     record {
       expanding = record {
-        search = record { one_each = is.each; nodes = is.stepped.sound; heap = is.heap e.search.heap };
+        search = record { one_each = is.each; nodes = is.stepped.sound; heap = is.heap e.search.heap; single = is.single e.search.single };
         turn = is.stepped.turn;
         others_open = is.stepped.others;
       };
