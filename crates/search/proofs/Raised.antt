@@ -3,14 +3,14 @@ use Rattle.std.proofs.Common.{◌≡◌, ℕ, ◌+◌, ◌≤◌, ◌≢◌, inl
 use Rattle.std.specs.Prelude.{slice_get, Contains, All, IsPermutation}
 use Rattle.std.proofs.lemmas.Bool.{cases_eq, false≢true}
 use Rattle.std.proofs.lemmas.Option.{same_Some}
-use Rattle.std.proofs.lemmas.List.Elements.{All-cons}
+use Rattle.std.proofs.lemmas.List.Elements.{All-cons, All-weaker}
 use Rattle.std.proofs.lemmas.List.Sorted.{Contains-permutation, All-permutation}
 use Rattle.model.proofs.ListLemmas.{Contains-here, Contains-there, Contains-got}
 use Rattle.model.specs.Runs.{System, CostsAtLeast}
 use Rattle.search.specs.declared.nodes.NodeStatus.TheVariants.{Dead}
 use Rattle.search.specs.Outcome.{is_expanded, is_marked_dead, ReachingCostsAtLeast}
-use Rattle.search.specs.Nodes.{Waiting, sum_of, estimate_of, place_of, entry, entries_at, IsWaiting, total_of, IsEntryOf, has_been_expanded, parent_of, Found, Leads, AreSettled, IsLater, AreNodes, IsTurn, marked}
-use Rattle.search.proofs.Kept.{AreKept, settled_before, later_before, alive_before}
+use Rattle.search.specs.Nodes.{Waiting, sum_of, estimate_of, place_of, entry, entries_at, IsWaiting, total_of, IsEntryOf, has_been_expanded, parent_of, Found, Leads, AreSettled, IsLater, AreNodes, IsOpen, AreOpen, IsTurn, marked}
+use Rattle.search.proofs.Kept.{AreKept, open_kept, settled_before, later_before, alive_before}
 use Rattle.search.proofs.Lists.{get_there}
 use Rattle.search.proofs.Marked.{each_marked, kept_marked, reached_marked}
 use Rattle.search.proofs.NodesLemmas.{expanded_been}
@@ -81,6 +81,37 @@ module _ {S : Type 0} (value value' : S → ℕ) (is_dead is_dead' : S → Bool)
     expanded = turn.expanded;
     greatest = λ later settled. turn.greatest later (settled_trans later settled);
   }
+
+-- The values of all found states are the same.
+module _ {S : Type 0} (value value' : S → ℕ) (is_dead is_dead' : S → Bool) (nodes : List (Found S))
+    (same : (k : ℕ) (n : Found S) → slice_get nodes k ≡ Some n → value' n.state ≡ value n.state) (same_dead : (k : ℕ) (n : Found S) → slice_get nodes k ≡ Some n → is_dead' n.state ≡ is_dead n.state) where
+  pub later_alike : IsLater value value' is_dead is_dead' nodes
+  later_alike = record {
+    settled = λ k n at _. same k n at;
+    settled_dead = λ k n at _. same_dead k n at;
+    no_less = λ k n at. omega (arith, same k n at);
+    stays_dead = λ k n at dead. same_dead k n at ∙ dead;
+  }
+
+  entry_alike : (w : Waiting) → IsEntryOf value is_dead nodes w → IsEntryOf value' is_dead' nodes w
+  entry_alike w of = record {
+    found = of.found;
+    occurs = of.occurs;
+    no_dearer = of.no_dearer;
+    alive = λ sums. same_dead (place_of w) of.found of.occurs ∙ of.alive sums;
+    estimate = λ sums. of.estimate sums ∙ sym (same (place_of w) of.found of.occurs);
+  }
+
+  pub nodes_alike : (t : System S ℕ) (class_of : S → S) (open_list : List Waiting) → AreNodes t class_of value is_dead nodes open_list → AreNodes t class_of value' is_dead' nodes open_list
+  nodes_alike t class_of open_list old =
+      nodes_later value value' is_dead is_dead' nodes later_alike t class_of open_list open_list old
+      (λ k n at. old.marked k n at ∙ sym (same_dead k n at))
+      (λ k n at waits.
+      subst (λ (v : ℕ). Contains open_list (entry n.node.cost v k)) (sym (same k n at)) (old.queued k n at (waits.0, sym (same_dead k n at) ∙ waits.1)))
+      (All-weaker (IsEntryOf value is_dead nodes) (IsEntryOf value' is_dead' nodes) entry_alike open_list old.entries)
+
+  abbrev pub turn_alike : (t : System S ℕ) (i : ℕ) → IsTurn t value nodes i → IsTurn t value' nodes i
+  turn_alike t i turn = turn_later value value' is_dead is_dead' nodes later_alike t i turn
 
 -- The values of all found states but one are the same, and it has never been expanded.
 pub record DiffersAt {S : Type 0} (value value' : S → ℕ) (is_dead is_dead' : S → Bool) (nodes : List (Found S)) (i : ℕ) : Type 0 where
@@ -198,6 +229,10 @@ module _ {S : Type 0} (t : System S ℕ) (class_of : S → S) (value : S → ℕ
   expanded_still : (P : ℕ → Found S → Type 0) → ((k : ℕ) (n : Found S) → k ≢ i → slice_get nodes k ≡ Some n → is_expanded n.node ≡ true → P k n)
       → (k : ℕ) (n : Found S) → slice_get after k ≡ Some n → is_expanded n.node ≡ true → P k n
   expanded_still P elsewhere = each (λ k n. is_expanded n.node ≡ true → P k n) (λ expanded. absurd (false≢true expanded)) elsewhere
+
+  -- what is open stays open
+  pub open_dead : AreOpen t class_of nodes → AreOpen t class_of after
+  open_dead are_open = expanded_still (λ k n. IsOpen t class_of after n) (λ k n _ at expanded. open_kept nodes after class_of kept_dead t n (are_open k n at expanded))
 
   pub nodes_dead : AreNodes t class_of value is_dead' after rest
   nodes_dead =

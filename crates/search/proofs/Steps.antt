@@ -23,7 +23,7 @@ use Rattle.search.specs.declared.open_list.OpenList.{OpenList}
 use Rattle.search.specs.OpenList.{waiting_in, IsOpenList, JoinsBy}
 use Rattle.search.specs.Progress.{Continues, IsListed, TakesNext}
 use Rattle.search.proofs.Lists.{get-set_here, get-set_other}
-use Rattle.search.proofs.Linked.{length-found_of, found_of-get, found_of-set}
+use Rattle.search.proofs.Linked.{length-found_of, found_of-get, found_of-set, set_was}
 use Rattle.search.proofs.Closed.{no_plan_cheaper}
 use Rattle.search.proofs.Kept.{later_before, alive_before}
 use Rattle.search.proofs.Marked.{kept_marked, nodes_marked, turn_marked, open_but_marked}
@@ -250,6 +250,7 @@ pub record HasBegun {S : Type 0} (t : System S ℕ) (class_of : S → S) (value 
   pub others_open : AreOpenBut t class_of (found_of states all) i
   pub occurs : slice_get (found_of states all) i ≡ Some (marked Expanded one)
   pub less : (most : ℕ) → work_left most (found_of states all) < work_left most before
+  pub was : (k : ℕ) (n : Found S) → slice_get (found_of states all) k ≡ Some n → (x : Found S) × (slice_get before k ≡ Some x) × (x.state ≡ n.state)
 
 -- a turn begins
 module _ {S : Type 0} (t : System S ℕ) (class_of : S → S) (classes : AreClassesOf t class_of) (value : S → ℕ) (is_dead : S → Bool) (admissible : IsAdmissible t value) (reports : ReportsDeadEnds t is_dead) (states : List S) (all : List Node) (open_list open_list' : List Waiting)
@@ -289,4 +290,5 @@ module _ {S : Type 0} (t : System S ℕ) (class_of : S → S) (classes : AreClas
         occurs = here;
         less = λ most. subst (λ (ns : List (Found S)). work_left most ns < work_left most (found_of states all)) (sym is)
             (work_marked (found_of states all) i one (marked Expanded one) most occurs waits.0 refl refl);
+        was = λ k n at. set_was (found_of states all) (marked Expanded one) i one occurs refl k n (ap (λ (ns : List (Found S)). slice_get ns k) (sym is) ∙ at);
       }
