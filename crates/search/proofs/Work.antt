@@ -75,3 +75,10 @@ module _ {S : Type 0} where
   work_same nodes j n m most at waits still same =
       let equal : work_at m ≡ work_at n = omega (arith, work_waits n waits, work_waits m still, same) in
       omega (arith, work_set nodes j n m most at, equal)
+
+-- a turn takes something of what is left: an answer, or an expansion
+pub less_by_ask : (work work' asks asks' : ℕ) → work' ≡ work → asks' < asks → work' * 4294967296 + asks' < work * 4294967296 + asks
+less_by_ask work work' asks asks' same fewer = omega (arith, same, fewer)
+
+pub less_by_work : (work work' asks asks' : ℕ) → work' < work → asks' ≡ asks → work' * 4294967296 + asks' < work * 4294967296 + asks
+less_by_work work work' asks asks' less same = omega (arith, less, same)

@@ -60,7 +60,7 @@ impl<L: StateListing> Progress<L> {
         if self.defer(guide, values, buffers, turn)? {
             return Ok(true);
         }
-        self.expand(system, guide, &*values, buffers, turn, max_states)
+        self.expand(system, guide, values, buffers, turn, max_states)
     }
 
     /// Asks for the value of the state in the buffers, whose turn it is, if it was never expanded. `true`: the value is raised, and the
