@@ -198,7 +198,7 @@ fn search_to_pause<'l, 't, G: Guide, E: Sink + Clock>(
     }
 }
 
-/// Whether the answer tells no more than that the time is over, and a lower bound than this one.
+/// Whether the answer is only that the time is over, with a bound below this one.
 fn is_outdone(answer: &Answer, bound: Option<u64>) -> bool {
     match (answer, bound) {
         (Answer::Unknown(Exceeded::Time { bound, .. }), Some(known)) => *bound < known,

@@ -1,6 +1,6 @@
 //! A search of the ground task, with the certificate's mark of each found state.
 //!
-//! Marks are made where the search ends, from the estimates that it tells. So the guide is not asked again, and its tables can move into
+//! Marks are made where the search ends, from the estimates that it reports. So the guide is not asked again, and its tables can move into
 //! the certificate without a copy.
 ghost use Rattle.std.specs.Prelude.{◌≡◌, ℕ, Bool, List, count_by, length, is_some, IfOk, IsTrue};
 ghost use Rattle.grounding.specs.Ground.{task_in, atoms_in};
