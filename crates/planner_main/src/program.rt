@@ -1,7 +1,9 @@
 //! The program.
 ghost use Rattle.std.specs.Prelude.{◌≡◌, ℕ, ◌⊎◌, IfErr, IfOk, IfSome, IsTrue, List, false};
 ghost use Rattle.command_line.specs.Orders.{IsCommand};
+ghost use Rattle.command_line.specs.Versions as words;
 ghost use Rattle.command_line.specs.View.{number_in, texts, wanted_of};
+ghost use Rattle.solver.specs.Versions as solver;
 ghost use Rattle.planner_main.specs.Failures.{device_line, is_failure, no_memory_line};
 ghost use Rattle.planner_main.specs.Program.{Reports, ReportsFor, ReportsPartly, ReportsPartlyFor, Refuses, HasFailed, HasNotFailed, CountsEither, CountsFailure, NamesInput, NamesText, IsFaultFor, IsFound, IsOneOf, IsUnread, SaysOfWords, fault_in, inputs_of, texts_of};
 ghost use Rattle.devices.specs.Texts.{AreKept};
@@ -20,7 +22,7 @@ mod writing;
 
 use crate::failures::{Failure, report_failure, report_words};
 use acceptance::{CheckAsked, InputNames, report_of_check};
-use command_line::{MaxCount, Order, read_words};
+use command_line::{CertVersion, MaxCount, Order, read_words};
 use devices::{Files, Sink};
 use devices_clock::Clock;
 use explaining::{ExplainAsked, report_of_explain};
@@ -28,7 +30,7 @@ use inputs::PairNames;
 use outputs::outputs_of;
 use printed_answers::Report;
 use solution::{SolveAsked, report_of_solve};
-use solver::Limits;
+use solver::{Limits, MaxVersion};
 use std::alloc::Global;
 use validation::report_of_validate;
 use writing::write_report;
@@ -185,10 +187,11 @@ fn report_of<F: Files, E: Sink + Clock>(
             states,
             instances,
             seconds,
+            cert_version,
             progress,
             ..
         } => {
-            let limits = limits_of(states, instances, seconds);
+            let limits = limits_of(states, instances, seconds, cert_version);
             let names = PairNames { domain, problem };
             let asked = SolveAsked {
                 names,
@@ -239,14 +242,32 @@ fn report_of<F: Files, E: Sink + Clock>(
 }
 
 /// The limits of a search.
-fn limits_of(states: MaxCount, instances: MaxCount, seconds: Option<MaxCount>) -> Limits
+fn limits_of(
+    states: MaxCount,
+    instances: MaxCount,
+    seconds: Option<MaxCount>,
+    cert_version: CertVersion,
+) -> Limits
     ensures states { result.states ≡ states.number }
     ensures instances { result.instances ≡ instances.number }
     ensures seconds { result.seconds ≡ number_in seconds }
+    ensures version { solver.number_of result.version ≡ words.number_of cert_version }
 {
     let limits = Limits::new(states.number(), instances.number()).unwrap();
+    let limits = limits.up_to_version(version_of(cert_version));
     match seconds {
         Some(most) => limits.within_seconds(most.number()),
         None => limits,
+    }
+}
+
+/// The same version, as a limit of the search.
+fn version_of(version: CertVersion) -> MaxVersion
+    ensures { solver.number_of result ≡ words.number_of version }
+{
+    match version {
+        CertVersion::Two => MaxVersion::Two,
+        CertVersion::Three => MaxVersion::Three,
+        CertVersion::Four => MaxVersion::Four,
     }
 }
