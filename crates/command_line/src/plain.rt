@@ -35,7 +35,11 @@ fn is_misleading(line: &str) -> bool {
 /// Adds the line in plain words, with LF.
 fn add_plain(line: &str, text: &mut String) -> Result<(), AllocError> {
     if let Some(before) = line.strip_suffix("invalid digit found in string") {
-        let example = if before.contains("--cert-version") { "2" } else { "1000000" };
+        let example = if before.contains("--cert-version") {
+            "2"
+        } else {
+            "1000000"
+        };
         return write!(text, "{before}expected a whole number, such as {example}\n");
     }
     if let Some(before) = line.strip_suffix("number too large to fit in target type") {
