@@ -92,9 +92,9 @@ def build_words(crate, jobs):
 
 
 def link_words(objects, program):
-    """The command that links a program of the file that it was compiled to."""
+    """The command that links a program of the files that it was compiled to."""
     found = [f"{KIT}/bin/rattle-link", "--target", "x86_64-unknown-linux-gnu", "--toolchain", f"{KIT}/toolchain"]
-    return [*found, "-o", program, objects, f"{KIT}/c/libos_c.a", f"{KIT}/c/liblibc_c.a"]
+    return [*found, "-o", program, *objects, f"{KIT}/c/libos_c.a", f"{KIT}/c/liblibc_c.a"]
 
 
 def start(crate, jobs):
