@@ -95,8 +95,8 @@ pub fn run<F: Files, O: Sink, E: Sink + Clock>(
     ensures status { IsTrue (is_failure result)
         ⊎ Reports (texts words.now) F.is_known (F.contents files.old) (F.contents files.new) (O.taken out.old) (O.taken out.new) result }
     // Without `--progress`, standard error is unchanged when there is an answer. With it, lines come first, each of them true:
-    // lower bounds of plan costs, and the sizes of the task, the search and the certificate. For the answer of a search the last
-    // line is that of the end; if a certificate file is named, the line with the certificate's size in bytes follows it.
+    // lower bounds of plan costs, the sizes of the task, of a listing that shows such a bound and of the certificate, and the option
+    // that raises an exceeded limit. For the answer of a search the last line is that of the end; if a certificate file is named, the line with the certificate's size in bytes follows it.
     ensures quiet { (AsksForProgress (texts words.now) → ⊥) → is_failure result ≡ false → E.taken err.new ≡ E.taken err.old }
     ensures progress { is_failure result ≡ false → AreSaid (IsProgress (F.contents files.old) (texts words.now)) E.wants_memory (stream (E.failures err.old) (E.taken err.old)) (stream (E.failures err.new) (E.taken err.new)) }
     ensures ended { AsksForSearchProgress (texts words.now) → (result ≡ 0) ⊎ (result ≡ 10)

@@ -4,11 +4,15 @@ use Rattle.solver.proofs.answer.solve_ground.Goals as goal
 pub returns-in_err-say_end-clause-said : goal.returns-in_err-say_end-clause-said
 returns-in_err-say_end-clause-said g c = λ origin before.
     let task = task_in c.args.ground.now in
-    c.say_end.ensures.said task c.args.limits.seconds c.args.limits.states c.args.limits.instances c.in_ok-answer.ensures.answer.0 origin
-    (c.solve_in_version.ensures.said origin (c.say.ensures.said task c.ground_report.ensures origin before))
+    let limits = c.args.limits in
+    let counts = c.say.ensures.said task limits.seconds limits.states limits.instances (c.ground_report.ensures limits.seconds limits.states limits.instances) in
+    c.say_end.ensures.said task limits.seconds limits.states limits.instances c.in_ok-answer.ensures.answer.0 origin
+    (c.solve_in_version.ensures.said origin (counts origin before))
 
 pub returns-clause-said : goal.returns-clause-said
 returns-clause-said g c = λ origin before.
     let task = task_in c.args.ground.now in
-    c.say_end.ensures.said task c.args.limits.seconds c.args.limits.states c.args.limits.instances c.in_ok-answer.ensures.answer.0 origin
-    (c.solve_in_version.ensures.said origin (c.say.ensures.said task c.ground_report.ensures origin before))
+    let limits = c.args.limits in
+    let counts = c.say.ensures.said task limits.seconds limits.states limits.instances (c.ground_report.ensures limits.seconds limits.states limits.instances) in
+    c.say_end.ensures.said task limits.seconds limits.states limits.instances c.in_ok-answer.ensures.answer.0 origin
+    (c.solve_in_version.ensures.said origin (counts origin before))
