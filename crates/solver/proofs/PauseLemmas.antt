@@ -1,6 +1,7 @@
 -- What the least sum in the open list of a search that pauses says of plans, and what its states are.
 use Rattle.std.proofs.Common.{◌≡◌, ◌∙◌, ℕ, ◌+◌, ◌≤◌, Bool, true, false, List, [], ◌∷◌, length, map, cond, Some, refl, sym, ap, subst, arith}
 use Rattle.std.specs.Prelude.{slice_get, count_by, Contains, if◌then◌else◌}
+use Rattle.std.specs.List.{fold}
 use Rattle.model.specs.Runs.{System, CostsAtLeast, IsReachable}
 use Rattle.model.specs.Claims.{bound, opened, cut, dead, Line, IsClosed}
 use Rattle.model.proofs.ClaimsLemmas.{claim-of_closed}
@@ -30,15 +31,18 @@ opened_if true reported estimate = refl
 opened_if false true estimate = refl
 opened_if false false estimate = refl
 
+open_from : {S : Type 0} (value : S → ℕ) (is_dead : S → Bool) (count : ℕ) (states : List S) (nodes : List Node) → length nodes ≡ length states
+    → fold (λ (n : ℕ) (line : Line S). n + cond (is_open_line line) 1 0) count (lines_of value is_dead states nodes) ≡ fold (λ (n : ℕ) (node : Node). n + cond (is_expanded node) 1 0) count nodes
+open_from value is_dead count [] [] same = refl
+open_from value is_dead count [] (n ∷ nodes) same = absurd (omega (arith, same))
+open_from value is_dead count (s ∷ states) [] same = absurd (omega (arith, same))
+open_from {S} value is_dead count (s ∷ states) (n ∷ nodes) same =
+    ap (λ (e : Bool). fold (λ (m : ℕ) (line : Line S). m + cond (is_open_line line) 1 0) (count + cond e 1 0) (lines_of value is_dead states nodes)) (opened_if (is_expanded n) (is_dead s) (value s))
+    ∙ open_from value is_dead (count + cond (is_expanded n) 1 0) states nodes (omega (arith, same))
+
 pub count-open : {S : Type 0} (value : S → ℕ) (is_dead : S → Bool) (states : List S) (nodes : List Node) → length nodes ≡ length states
     → count_by is_open_line (lines_of value is_dead states nodes) ≡ count_by is_expanded nodes
-count-open value is_dead [] [] same = refl
-count-open value is_dead [] (n ∷ nodes) same = absurd (omega (arith, same))
-count-open value is_dead (s ∷ states) [] same = absurd (omega (arith, same))
-count-open value is_dead (s ∷ states) (n ∷ nodes) same =
-    let rest = count-open value is_dead states nodes (omega (arith, same)) in
-    let first = opened_if (is_expanded n) (is_dead s) (value s) in
-    λ i. cond (first i) 1 0 + rest i
+count-open value is_dead states nodes same = open_from value is_dead 0 states nodes same
 
 -- their states are those that were found
 states-lines : {S : Type 0} (value : S → ℕ) (is_dead : S → Bool) (states : List S) (nodes : List Node) → length nodes ≡ length states

@@ -21,7 +21,7 @@ pub struct Limits {
 }
 
 impl Limits {
-    ghost use Rattle.std.specs.Prelude.{◌&&◌, is_some, nat_le, IfSome, None, Some};
+    ghost use Rattle.std.specs.Prelude.{◌&&◌, ◌≤◌, is_some, IfSome, None, Some};
     ghost use Rattle.solver.specs.Versions.{number_of};
     ghost use Rattle.solver.specs.declared.max_version.MaxVersion.TheVariants.{Four};
 
@@ -96,7 +96,7 @@ impl Limits {
 
     /// Whether the certificate may have version 3, and with it tables and exchanges of objects.
     pub(crate) fn allow_version_three(&self) -> bool
-        ensures { result ≡ nat_le 3 (number_of self.now.version) }
+        ensures { IsTrue result → 3 ≤ number_of self.now.version }
     {
         self.version.allows_three()
     }
