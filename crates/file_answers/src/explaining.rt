@@ -60,9 +60,9 @@ pub fn explain_files(
     files: ExplainedFiles<'_>,
     options: ExplainOptions,
 ) -> Result<Explanation, NoMemory>
-    ensures subject { IfOk result (λ e. IsTrueOf files.entry.domain.text.now files.entry.problem.text.now (text_in files.entry.plan) options.entry.max_instances e.subject) }
+    ensures subject { IfOk result (λ e. IsTrueOf files.entry.domain.text.now files.entry.problem.text.now (text_in files.entry.plan) options.max_instances e.subject) }
     // The lines give the explanation, and the location is that of the fault or the step.
-    ensures said { IfOk result (IsSaidOf (is_traced options.entry.steps) (files_of files.entry.domain files.entry.problem files.entry.plan)) }
+    ensures said { IfOk result (IsSaidOf (is_traced options.steps) (files_of files.entry.domain files.entry.problem files.entry.plan)) }
 {
     let texts = texts_of(files);
     let named = match named_task_of_files(alloc, files.domain.text, files.problem.text) {

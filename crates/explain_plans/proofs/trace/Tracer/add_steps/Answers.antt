@@ -1,4 +1,4 @@
-use Rattle.std.proofs.Common.{arith, ◌≡◌, ◌≤◌, ◌+◌, ◌++◌, ap, sym, subst, ◌∙◌, append_assoc, append-nil, drop, length, map, None, Some}
+use Rattle.std.proofs.Common.{arith, ◌≡◌, ◌≤◌, ◌+◌, ◌++◌, ap, sym, subst, ◌∙◌, append_assoc, append-nil, drop, length, None, Some}
 use Rattle.std.specs.Option.{option_map}
 use Rattle.std.proofs.lemmas.List.{length-map}
 use Rattle.task.specs.Task.{task_of}
