@@ -15,11 +15,11 @@ returns-in-Costs c =
     subst (λ (lines : StepLines). IfOk c.plain_text.result (λ text. SayPlanAs (is_traced lines) c.args.location.now (task_of c.args.self.task.now) (plan_of c.args.self.plan.now) c.args.self.explained.now (string_bytes text)))
     (sym c.in-Costs.is) c.plain_text.ensures
 
-pub returns-in-Trace : goal.returns-in-Trace
-returns-in-Trace c =
+pub returns-in_ok-verdict-in-Trace : goal.returns-in_ok-verdict-in-Trace
+returns-in_ok-verdict-in-Trace c =
     subst (λ (lines : StepLines). IfOk c.joined.result (λ text. SayPlanAs (is_traced lines) c.args.location.now (task_of c.args.self.task.now) (plan_of c.args.self.plan.now) c.args.self.explained.now (string_bytes text)))
     (sym c.in-Trace.is)
     (IfOk-weaker c.joined.result _ _
-    (λ text is. traced_said c.args.location.now (task_of c.args.self.task.now) (plan_of c.args.self.plan.now) c.args.self.explained.now (string_bytes c.in_ok-trace.trace) (string_bytes c.in_ok-verdict.verdict) c.as_str.result.now (string_bytes text)
-    c.in_ok-trace.ensures c.in_ok-verdict.ensures c.as_str.ensures.value is)
+    (λ text is. traced_said c.args.location.now (task_of c.args.self.task.now) (plan_of c.args.self.plan.now) c.args.self.explained.now (string_bytes c.in_ok-trace-in-Trace.trace) (string_bytes c.in_ok-verdict-in-Trace.verdict) c.as_str.result.now (string_bytes text)
+    c.in_ok-trace-in-Trace.ensures c.in_ok-verdict-in-Trace.ensures c.as_str.ensures.value is)
     c.joined.ensures)
