@@ -2,6 +2,7 @@
 ghost use Rattle.std.specs.Prelude.{◌≡◌, IfOk, IfSome};
 ghost use Rattle.file_answers.specs.ExplanationLines.{IsSaidOf, files_of};
 ghost use Rattle.file_answers.specs.Explanations.{IsTrueOf, text_in};
+ghost use Rattle.file_answers.specs.Notes.{AreNoted};
 
 mod further;
 mod of_fault;
@@ -49,6 +50,8 @@ pub fn explain_files(
     max_instances: u32,
 ) -> Result<Explanation, NoMemory>
     ensures subject { IfOk result (λ e. IsTrueOf files.entry.domain.text.now files.entry.problem.text.now (text_in files.entry.plan) max_instances e.subject) }
+    // The notes on a task are all that are found, in order, up to the numbers that are told.
+    ensures noted { IfOk result (AreNoted files.entry.domain.text.now files.entry.problem.text.now max_instances) }
     // The lines give the explanation, and the location is that of the fault or the step.
     ensures said { IfOk result (IsSaidOf (files_of files.entry.domain files.entry.problem files.entry.plan)) }
 {
