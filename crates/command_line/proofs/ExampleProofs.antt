@@ -24,6 +24,7 @@ are_read = record {
   to_check_with_progress = (refl, refl);
   a_task_to_explain = (refl, refl);
   a_plan_to_explain = (refl, refl);
+  a_trace = (refl, refl);
   an_explanation_in_json = (refl, refl);
   no_word = refl;
   help = refl;
@@ -33,6 +34,7 @@ are_read = record {
   an_unknown_option = refl;
   an_option_of_solve = refl;
   no_problem_to_explain = refl;
+  a_trace_without_a_plan = λ is. let asks = is.1.1 in absurd (cc);
   a_plan_too_many = refl;
   an_option_of_check = refl;
   no_value = refl;

@@ -31,6 +31,9 @@ seconds = record (option (codes "seconds")) { parser = Some (Unsigned 1 most_sec
 abbrev pub flag : Text → Rule
 flag name = record (new_rule name) { long = Some name; action = Some SetTrue }
 
+abbrev pub trace : Rule
+trace = flag (codes "trace")
+
 abbrev pub json : Rule
 json = flag (codes "json")
 
@@ -58,7 +61,7 @@ check = subcommand (codes "check")
 
 abbrev pub explain : Shape
 explain = subcommand (codes "explain")
-    (file (codes "DOMAIN") ∷ file (codes "PROBLEM") ∷ optional_file (codes "PLAN") ∷ limit (codes "instances") ∷ json ∷ [])
+    (file (codes "DOMAIN") ∷ file (codes "PROBLEM") ∷ optional_file (codes "PLAN") ∷ trace ∷ limit (codes "instances") ∷ json ∷ [])
 
 -- the program: one of the four commands is required, and without words the usage is reported
 abbrev pub optplan : App

@@ -5,7 +5,7 @@ use Rattle.clap.specs.Faults.{fault_of}
 use Rattle.clap.specs.Walk.{Text}
 use Rattle.clap.specs.declared.error.kind.ErrorKind.TheVariants.{ArgumentConflict, DisplayHelp, DisplayHelpOnMissingArgumentOrSubcommand, DisplayVersion, InvalidValue, MissingRequiredArgument, TooManyValues, UnknownArgument, ValueValidation}
 use Rattle.command_line.specs.Description.{optplan}
-use Rattle.command_line.specs.Orders.{Asks, Asked, to_solve, to_validate, to_check, to_explain}
+use Rattle.command_line.specs.Orders.{Asks, Asked, IsCommand, to_solve, to_validate, to_check, to_explain}
 
 -- `solve d p`, with these words before, between and after the two names
 abbrev pub solve_words : (first second third : List Text) → List Text
@@ -51,11 +51,13 @@ pub record AreRead : Type 0 where
       (to_check (codes "d") (codes "p") (codes "c") (record { instances = 1000000; plan = None; json = false; progress = true }))
   pub to_check : Asks (codes "check" ∷ codes "d" ∷ codes "p" ∷ codes "c" ∷ codes "--plan" ∷ codes "l" ∷ codes "--instances=7" ∷ [])
       (to_check (codes "d") (codes "p") (codes "c") (record { instances = 7; plan = Some (codes "l"); json = false; progress = false }))
-  pub a_task_to_explain : Asks (codes "explain" ∷ codes "d" ∷ codes "p" ∷ []) (to_explain (codes "d") (codes "p") (record { instances = 1000000; plan = None; json = false }))
+  pub a_task_to_explain : Asks (codes "explain" ∷ codes "d" ∷ codes "p" ∷ []) (to_explain (codes "d") (codes "p") (record { instances = 1000000; plan = None; trace = false; json = false }))
   pub a_plan_to_explain : Asks (codes "explain" ∷ codes "d" ∷ codes "--instances" ∷ codes "7" ∷ codes "p" ∷ codes "l" ∷ [])
-      (to_explain (codes "d") (codes "p") (record { instances = 7; plan = Some (codes "l"); json = false }))
+      (to_explain (codes "d") (codes "p") (record { instances = 7; plan = Some (codes "l"); trace = false; json = false }))
+  pub a_trace : Asks (codes "explain" ∷ codes "d" ∷ codes "p" ∷ codes "--trace" ∷ codes "l" ∷ [])
+      (to_explain (codes "d") (codes "p") (record { instances = 1000000; plan = Some (codes "l"); trace = true; json = false }))
   pub an_explanation_in_json : Asks (codes "explain" ∷ codes "--json" ∷ codes "d" ∷ codes "p" ∷ [])
-      (to_explain (codes "d") (codes "p") (record { instances = 1000000; plan = None; json = true }))
+      (to_explain (codes "d") (codes "p") (record { instances = 1000000; plan = None; trace = false; json = true }))
   -- refusals
   pub no_word : AreRefused [] (DisplayHelpOnMissingArgumentOrSubcommand ∷ [])
   pub help : AreRefused (words (codes "--help" ∷ [])) (DisplayHelp ∷ [])
@@ -65,6 +67,7 @@ pub record AreRead : Type 0 where
   pub an_unknown_option : AreRefused (words (codes "--twice" ∷ [])) (UnknownArgument ∷ [])
   pub an_option_of_solve : AreRefused (codes "validate" ∷ codes "d" ∷ codes "p" ∷ codes "l" ∷ codes "--states" ∷ codes "5" ∷ []) (UnknownArgument ∷ [])
   pub no_problem_to_explain : AreRefused (codes "explain" ∷ codes "d" ∷ []) (MissingRequiredArgument ∷ [])
+  pub a_trace_without_a_plan : IsCommand (codes "explain" ∷ codes "d" ∷ codes "p" ∷ codes "--trace" ∷ []) → ⊥
   pub a_plan_too_many : AreRefused (codes "explain" ∷ codes "d" ∷ codes "p" ∷ codes "l" ∷ codes "l" ∷ []) (UnknownArgument ∷ [])
   pub an_option_of_check : AreRefused (codes "explain" ∷ codes "d" ∷ codes "p" ∷ codes "--plan" ∷ codes "l" ∷ []) (UnknownArgument ∷ [])
   pub no_value : AreRefused (words (codes "--plan" ∷ [])) (InvalidValue ∷ [])

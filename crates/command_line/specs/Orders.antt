@@ -1,5 +1,5 @@
 -- The order given by the words of a command line.
-use Rattle.std.specs.Prelude.{◌≡◌, ℕ, Bool, false, List, [], codes, Option, Some, None, if◌then◌else◌, option_and_then}
+use Rattle.std.specs.Prelude.{◌≡◌, ℕ, Bool, true, false, List, [], codes, Option, Some, None, if◌then◌else◌, option_and_then}
 use Rattle.std.specs.Option.{option_map, option_map_or}
 use Rattle.std.specs.Str.{bytes_eq}
 use Rattle.std.specs.Str.Parse.{without_leading_plus, digits_value}
@@ -29,11 +29,12 @@ pub record AskedOfCheck : Type 0 where
   pub json : Bool
   pub progress : Bool
 
--- the options of `explain`: the limit of instances, the file to read the plan from, if any, and whether the explanation is
--- printed as JSON
+-- the options of `explain`: the limit of instances, the file to read the plan from, if any, whether it is said what its steps add and
+-- delete, and whether the explanation is printed as JSON
 pub record AskedOfExplain : Type 0 where
   pub instances : ℕ
   pub plan : Option Text
+  pub trace : Bool
   pub json : Bool
 
 -- an order, with the names of the input files
@@ -58,6 +59,10 @@ seconds_in rows = option_map_or (λ text. option_map Some (limit_of text)) (firs
 -- the flag is given: `clap` then gives it the value `true`, and otherwise `false`
 abbrev pub is_given : Text → List Row → Bool
 is_given name rows = option_map_or (λ value. bytes_eq value (codes "true")) (first_of name rows) false
+
+-- whether a trace is asked for: this needs a plan
+abbrev pub trace_in : List Row → Option Bool
+trace_in rows = if is_given (codes "trace") rows then option_map (λ plan. true) (first_of (codes "PLAN") rows) else Some false
 
 -- In a `do`, `x ← o` stands for an o whose value is x; if it has none, neither has the whole.
 infixl 10 ◌>>=◌
@@ -107,7 +112,8 @@ explain_in rows = do
   domain ← first_of (codes "DOMAIN") rows
   problem ← first_of (codes "PROBLEM") rows
   instances ← limit_in (codes "instances") rows
-  Some (to_explain domain problem (record { instances = instances; plan = first_of (codes "PLAN") rows; json = is_given (codes "json") rows }))
+  trace ← trace_in rows
+  Some (to_explain domain problem (record { instances = instances; plan = first_of (codes "PLAN") rows; trace = trace; json = is_given (codes "json") rows }))
 
 -- the order of a command with these values
 abbrev pub wanted_in : Text × List Row → Option Wanted

@@ -29,8 +29,8 @@ wanted_of (Solve domain problem plan cert states instances seconds json progress
 wanted_of (Validate domain problem plan json) = to_validate domain.now problem.now plan.now json
 wanted_of (Check domain problem cert plan instances json progress) =
     to_check domain.now problem.now cert.now (record { instances = instances.number; plan = text_in plan; json = json; progress = progress })
-wanted_of (Explain domain problem plan instances json) =
-    to_explain domain.now problem.now (record { instances = instances.number; plan = text_in plan; json = json })
+wanted_of (Explain domain problem plan trace instances json) =
+    to_explain domain.now problem.now (record { instances = instances.number; plan = text_in plan; trace = trace; json = json })
 
 -- the fault is one of the words, not running out of memory
 abbrev pub IsOfWords : WordsFault → Type 0

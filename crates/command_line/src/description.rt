@@ -18,7 +18,7 @@ const USAGE: &str =
     "optplan solve DOMAIN PROBLEM [--plan FILE] [--cert FILE] [--states N] [--instances N] [--seconds N] [--json] [--progress]
        optplan validate DOMAIN PROBLEM PLAN [--json]
        optplan check DOMAIN PROBLEM CERT [--plan FILE] [--instances N] [--json] [--progress]
-       optplan explain DOMAIN PROBLEM [PLAN] [--instances N] [--json]";
+       optplan explain DOMAIN PROBLEM [PLAN] [--trace] [--instances N] [--json]";
 
 const PROGRAM_HELP: &str =
     "N is a number from 1 to 16777216; the default is 1000000. Of --seconds it is at most 1000000; by default the time is not limited.
@@ -185,6 +185,7 @@ fn add_explain<'a>(alloc: Global, commands: &mut Vec<Command<'a>>) -> Result<(),
             "PLAN",
             "The plan file; without it the task is summarized"
         ),
+        trace(alloc),
         limit(alloc, "instances", INSTANCES_HELP),
         json(alloc),
     ]?;
@@ -267,6 +268,17 @@ fn seconds<'a>(alloc: Global) -> Arg<'a>
         "Stop after N seconds, 1 to 1000000, with the bound by then",
     )
     .value_parser(ValueParser::unsigned(1, MAX_SECONDS))
+}
+
+/// The option for the trace of a plan.
+fn trace<'a>(alloc: Global) -> Arg<'a>
+    ensures { HasRule result description.trace }
+{
+    flag(
+        alloc,
+        "trace",
+        "Say what each step of the plan adds and deletes",
+    )
 }
 
 /// The option for answers as JSON.

@@ -61,6 +61,8 @@ pub enum Order<'a> {
         problem: &'a str,
         /// The name of the plan file, if any.
         plan: Option<&'a str>,
+        /// Whether it is said what each step of the plan adds and deletes; only if a plan is given.
+        trace: bool,
         /// The maximum number of instances that may be kept.
         instances: MaxCount,
         /// Whether the explanation is printed as JSON.

@@ -4,7 +4,7 @@ ghost use Rattle.clap.specs.Matches.{found_of};
 ghost use Rattle.clap.specs.Simple.{subcommand_rows_of};
 ghost use Rattle.clap.specs.Walk.{first_of, rows_of};
 ghost use Rattle.command_line.specs.Examples.{AreRead};
-ghost use Rattle.command_line.specs.Orders.{Asks, IsCommand, check_in, explain_in, is_given, limit_in, limit_of, seconds_in, solve_in, validate_in, wanted_in};
+ghost use Rattle.command_line.specs.Orders.{Asks, IsCommand, check_in, explain_in, is_given, limit_in, limit_of, seconds_in, solve_in, trace_in, validate_in, wanted_in};
 ghost use Rattle.command_line.specs.View.{IsOfWords, number_in, text_in, texts, wanted_of};
 
 use crate::description::program;
@@ -21,13 +21,13 @@ use std::alloc::{AllocError, Global};
 /// optplan solve DOMAIN PROBLEM [--plan FILE] [--cert FILE] [--states N] [--instances N] [--seconds N] [--json] [--progress]
 /// optplan validate DOMAIN PROBLEM PLAN [--json]
 /// optplan check DOMAIN PROBLEM CERT [--plan FILE] [--instances N] [--json] [--progress]
-/// optplan explain DOMAIN PROBLEM [PLAN] [--instances N] [--json]
+/// optplan explain DOMAIN PROBLEM [PLAN] [--trace] [--instances N] [--json]
 /// ```
 ///
 /// Options may come in any order, each at most once, before, between and after the files, as `--states 5` or `--states=5`. A word
 /// after `--` is a file name, even if it begins with a hyphen. A number is from 1 to 16,777,216, in decimal digits after an
-/// optional plus; the default is 1,000,000. Seconds are at most 1,000,000, and not limited by default. Words that ask for help or
-/// the version are not an order: the fault's text is what they ask for.
+/// optional plus; the default is 1,000,000. Seconds are at most 1,000,000, and not limited by default. A trace needs a plan. Words
+/// that ask for help or the version are not an order: the fault's text is what they ask for.
 pub fn read_words<'a>(alloc: Global, words: &'a [&str]) -> Result<Order<'a>, WordsFault>
     ensures asks { IfOk result (λ order. Asks (texts words.entry.now) (wanted_of order)) }
     ensures refused { IfErr result (λ fault. IsOfWords fault → IsCommand (texts words.entry.now) → ⊥) }
@@ -44,7 +44,8 @@ pub fn examples_are_read()
     ensures { AreRead }
 {}
 
-/// The fault for a match that is not an order. `clap` makes no match without a command and its files.
+/// The fault for a match that is not an order: a trace is asked for without a plan. `clap` makes no match without a command and its
+/// files.
 fn no_order(alloc: Global) -> WordsFault {
     match missing(alloc) {
         Ok(error) => WordsFault::Words(error),
@@ -52,9 +53,9 @@ fn no_order(alloc: Global) -> WordsFault {
     }
 }
 
-/// The error for a missing command or file.
+/// The error for a missing plan.
 fn missing(alloc: Global) -> Result<Error, AllocError> {
-    let text = "a command or one of its files is missing";
+    let text = "`--trace` needs a plan: optplan explain DOMAIN PROBLEM PLAN --trace";
     program(alloc)?.error(ErrorKind::MissingRequiredArgument, text)
 }
 
@@ -135,13 +136,27 @@ fn explain_in<'a>(matches: &ArgMatches<'a>) -> Option<Order<'a>>
     let domain = value_of(matches, "DOMAIN")?;
     let problem = value_of(matches, "PROBLEM")?;
     let instances = limit_in(matches, "instances")?;
+    let trace = trace_in(matches)?;
     Some(Order::Explain {
         domain,
         problem,
         plan: value_of(matches, "PLAN"),
+        trace,
         instances,
         json: is_given(matches, "json"),
     })
+}
+
+/// Whether a trace is asked for; `None` if it is, and no plan is given.
+fn trace_in(matches: &ArgMatches<'_>) -> Option<bool>
+    ensures { result ≡ trace_in (rows_of (found_of matches.now)) }
+{
+    if is_given(matches, "trace") {
+        value_of(matches, "PLAN")?;
+        Some(true)
+    } else {
+        Some(false)
+    }
 }
 
 /// The value of an argument.

@@ -7,3 +7,4 @@ pub mod Stopping
 pub mod StepPlaceLemmas
 pub mod Counting
 pub mod PlanLinesLemmas
+pub mod TraceLemmas

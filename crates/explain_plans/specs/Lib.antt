@@ -8,4 +8,6 @@ pub mod FormulaText
 pub mod ScopeView
 pub mod StepPlaces
 pub mod PlanLines
+pub mod LentAtoms
+pub mod Traces
 pub mod Said

@@ -115,9 +115,11 @@ struct PlanPrinter<'p> {
 
 /// What a step costs, and what the steps up to it cost together.
 #[derive(Clone, Copy)]
-struct Paid {
-    cost: u32,
-    total: u64,
+pub(crate) struct Paid {
+    /// The cost of the step.
+    pub cost: u32,
+    /// The cost of the steps up to it.
+    pub total: u64,
 }
 
 /// How a formula became false, with the objects of the variables in its scope.
@@ -400,7 +402,12 @@ fn history_at(histories: &[History], place: usize) -> Option<History>
 }
 
 /// The line of the step with this number, in these words.
-fn cost_line_of(alloc: Global, number: usize, words: &str, paid: Paid) -> Result<String, NoMemory>
+pub(crate) fn cost_line_of(
+    alloc: Global,
+    number: usize,
+    words: &str,
+    paid: Paid,
+) -> Result<String, NoMemory>
     ensures { IfOk result (λ line. string_bytes line ≡ decimal number ++ (codes "  " ++ (words.now ++ (codes "  cost " ++ (decimal paid.cost ++ (codes ", " ++ (decimal paid.total ++ codes " so far\n"))))))) }
 {
     let Paid { cost, total } = paid;

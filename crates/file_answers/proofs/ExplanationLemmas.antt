@@ -1,8 +1,9 @@
 -- The result for the files is the subject of the explanation, and the lines state it.
-use Rattle.std.proofs.Common.{◌≡◌, ℕ, ◌<◌, ◌≤◌, ◌-◌, List, [], ◌∷◌, get_or, length, map, Option, Some, None, IfSome, refl, ap, sym, ◌∙◌, subst, arith}
+use Rattle.std.proofs.Common.{◌≡◌, ℕ, ◌<◌, ◌≤◌, ◌-◌, Bool, true, List, [], ◌∷◌, ◌++◌, get_or, length, map, Option, Some, None, IfSome, refl, ap, sym, ◌∙◌, subst, arith}
 use Rattle.std.proofs.lemmas.Option.{slice_get_within}
 use Rattle.std.specs.Prelude.{All, Result, Ok, Err, IfOk, IsSomeAnd}
 use Rattle.std.specs.Option.{option_map}
+use Rattle.std.specs.Str.Lossy.{utf8_lossy}
 use Rattle.std.specs.String.{string_bytes}
 use Rattle.faults.specs.declared.code.Code.{Code}
 use Rattle.faults.specs.declared.refused.NoMemory.{NoMemory}
@@ -14,7 +15,7 @@ use Rattle.explain_hints.specs.declared.texts.NamedTexts.{NamedTexts}
 use Rattle.validator.specs.Verdict.{verdict_of}
 use Rattle.validator.specs.declared.verdict.Verdict.{Verdict}
 use Rattle.validator.specs.declared.verdict.Verdict.TheVariants.{NotApplicable}
-use Rattle.file_answers.specs.ExplanationLines.{Files, Named, IsLocated, IsSaidOf, IsStepLocated, IsSubjectLocated, SaySubject, IsPlanSaid, IsStepAt, IsToldIn, SayFurther, file_in, files_of, named_of}
+use Rattle.file_answers.specs.ExplanationLines.{Files, Named, IsLocated, IsSaidOf, IsStepLocated, IsSubjectLocated, SaySubject, IsPlanSaid, IsStepAt, IsToldIn, SayFurther, SayPlanAs, SayVerdict, file_in, files_of, named_of}
 use Rattle.file_answers.specs.Explanations.{IsFaultExplained, IsLocatedIf, IsOfFault, IsPlanTold, IsStepFound, IsStepOf, IsTaskExplained, IsTrueOf, IsVerdictExplained, files_in, in_texts, text_in}
 use Rattle.file_answers.specs.Files.{reported_in}
 use Rattle.file_answers.specs.FurtherFaults.{IsToldOf}
@@ -37,6 +38,7 @@ use Rattle.model.specs.Words.{AreParts, Part}
 use Rattle.explain_plans.specs.Explanations as plans
 use Rattle.explain_plans.specs.Explanations.{IsExplained}
 use Rattle.explain_plans.specs.StepPlaces.{IsStepPlace, span_of}
+use Rattle.explain_plans.specs.Traces.{trace_text}
 use Rattle.explain_plans.specs.VariableNames.{VariableNames}
 use Rattle.file_answers.specs.QuantifiedNames.{IsNamedTask}
 use Rattle.explain_plans.specs.declared.explanations.PlanExplanation.{PlanExplanation}
@@ -51,7 +53,7 @@ none_told files further none = subst (All (IsToldIn files)) (sym none) (λ k f b
 
 -- ---- a fault
 
-module _ (texts : NamedTexts) (files : Files) (among : AreAmong files texts) where
+module _ (traced : Bool) (texts : NamedTexts) (files : Files) (among : AreAmong files texts) where
   -- a fault reported for the texts is reported for the files
   told_in : (f : FurtherFault) → IsToldOf texts.domain.text.now texts.problem.text.now (name_in texts f.fault.file) (bytes_in texts f.fault.file) f → IsToldIn files f
   told_in f told = by_file (file_in files f.fault.file) (among f.fault.file)
@@ -77,20 +79,20 @@ module _ (texts : NamedTexts) (files : Files) (among : AreAmong files texts) whe
     text_of None same = tt
     text_of (Some named) same = ap (λ (named : Named). named.text) (sym same)
 
-    fault_said : IsSaidOf files e
+    fault_said : IsSaidOf traced files e
     fault_said = record {
       located = subst (λ (s : Subject). IsSubjectLocated files s e.location) (sym is.subject) (located (file_in files file) (among file));
-      lines = subst (λ (s : Subject). SaySubject files s e.location (map string_bytes e.notes.items) (string_bytes e.text)) (sym is.subject)
+      lines = subst (λ (s : Subject). SaySubject traced files s e.location (map string_bytes e.notes.items) (string_bytes e.text)) (sym is.subject)
           (bytes_in texts file, text_of (file_in files file) (among file), is.says);
       further = λ k f below. told_in (get_or e.further.items k f) (is.further k f below);
       further_lines = subst (λ (s : Subject). SayFurther s e.further.items (string_bytes e.text)) (sym is.subject) is.says_further;
     }
 
-  of_fault_said : (fault : FileFault) (e : Explanation) → IsOfFault texts fault e → IsSaidOf files e
+  of_fault_said : (fault : FileFault) (e : Explanation) → IsOfFault texts fault e → IsSaidOf traced files e
   of_fault_said (refused.At file code span) e is = fault_said file code span e is
   of_fault_said refused.NoMemory e is = absurd is
 
-  pub refused_said : (fault : FileFault) (r : Result Explanation NoMemory) → IfOk r (IsOfFault texts fault) → IfOk r (IsSaidOf files)
+  pub refused_said : (fault : FileFault) (r : Result Explanation NoMemory) → IfOk r (IsOfFault texts fault) → IfOk r (IsSaidOf traced files)
   refused_said fault (Ok e) is = of_fault_said fault e is
   refused_said fault (Err failed) is = tt
 
@@ -149,6 +151,13 @@ module _ (texts : NamedTexts) (domain problem : NamedText) (same_domain : texts.
 
 -- ---- the verdict on a plan
 
+-- with a trace before the verdict
+pub traced_said : (at : Option Location) (task : model.Task) (steps : List model.Instance) (explained : PlanExplanation) (trace verdict shown text : List ℕ)
+    → trace ≡ utf8_lossy (trace_text task steps) → SayVerdict at task steps explained verdict → shown ≡ verdict → text ≡ trace ++ shown
+    → SayPlanAs true at task steps explained text
+traced_said at task steps explained trace verdict shown text is_trace says same is =
+    (verdict, is ∙ (λ i. is_trace i ++ same i), says)
+
 -- each step of a text names one instance: the two lists have the same length
 all_mean_length : (task : model.Task) (steps : List Step) (plan : List model.Instance) → AllMean task steps plan → length steps ≡ length plan
 all_mean_length task [] [] mean = refl
@@ -192,15 +201,15 @@ step_located file runs.goal_missed found at is located = tt
 
 module _ (task : model.Task) (names : VariableNames) (steps : List model.Instance) where
   -- what is reported of the subject is true if the subject is
-  pub explained_told : (file : Named) (explained : PlanExplanation) → IsVerdict (system_of task) steps (plans.verdict_of explained)
-      → IsExplained task names steps explained → (r : Result Explanation NoMemory) → IfOk r (IsPlanTold task steps file explained)
-      → IfOk r (IsVerdictExplained task names steps file)
-  explained_told file explained is_true is_explained (Ok e) told = (explained, is_true, is_explained, told)
-  explained_told file explained is_true is_explained (Err failed) told = tt
+  pub explained_told : (traced : Bool) (file : Named) (explained : PlanExplanation) → IsVerdict (system_of task) steps (plans.verdict_of explained)
+      → IsExplained task names steps explained → (r : Result Explanation NoMemory) → IfOk r (IsPlanTold task steps traced file explained)
+      → IfOk r (IsVerdictExplained task names steps traced file)
+  explained_told traced file explained is_true is_explained (Ok e) told = (explained, is_true, is_explained, told)
+  explained_told traced file explained is_true is_explained (Err failed) told = tt
 
-  module _ (texts : NamedTexts) (is : IsNamedTask texts.domain.text.now texts.problem.text.now task names) (is_plan : IsPlanText task texts.plan.text.now steps) where
-    plan_said : (explained : PlanExplanation) (e : Explanation) → IsExplained task names steps explained → (told : IsPlanTold task steps (named_of texts.plan) explained e)
-        → IsPlanSaid (files_in texts) texts.plan.text.now (verdict_of told.code) e.location (string_bytes e.text)
+  module _ (traced : Bool) (texts : NamedTexts) (is : IsNamedTask texts.domain.text.now texts.problem.text.now task names) (is_plan : IsPlanText task texts.plan.text.now steps) where
+    plan_said : (explained : PlanExplanation) (e : Explanation) → IsExplained task names steps explained → (told : IsPlanTold task steps traced (named_of texts.plan) explained e)
+        → IsPlanSaid traced (files_in texts) texts.plan.text.now (verdict_of told.code) e.location (string_bytes e.text)
     plan_said explained e is_explained told = record {
       task = task;
       steps = steps;
@@ -211,23 +220,23 @@ module _ (task : model.Task) (names : VariableNames) (steps : List model.Instanc
       says = told.says;
     }
 
-    verdict_said : (e : Explanation) → IsVerdictExplained task names steps (named_of texts.plan) e → IsSaidOf (files_in texts) e
+    verdict_said : (e : Explanation) → IsVerdictExplained task names steps traced (named_of texts.plan) e → IsSaidOf traced (files_in texts) e
     verdict_said e (explained, is_true, is_explained, told) = record {
       located = subst (λ (s : Subject). IsSubjectLocated (files_in texts) s e.location) (sym told.subject)
           (subst (λ (v : runs.Verdict). IsStepLocated (named_of texts.plan) v e.location) (sym told.same) told.located);
-      lines = subst (λ (s : Subject). SaySubject (files_in texts) s e.location (map string_bytes e.notes.items) (string_bytes e.text)) (sym told.subject)
+      lines = subst (λ (s : Subject). SaySubject traced (files_in texts) s e.location (map string_bytes e.notes.items) (string_bytes e.text)) (sym told.subject)
           (plan_said explained e is_explained told);
       further = none_told (files_in texts) e.further.items told.no_further;
       further_lines = subst (λ (s : Subject). SayFurther s e.further.items (string_bytes e.text)) (sym told.subject) told.no_further;
     }
 
-    pub steps_said : (r : Result Explanation NoMemory) → IfOk r (IsVerdictExplained task names steps (named_of texts.plan)) → IfOk r (IsSaidOf (files_in texts))
+    pub steps_said : (r : Result Explanation NoMemory) → IfOk r (IsVerdictExplained task names steps traced (named_of texts.plan)) → IfOk r (IsSaidOf traced (files_in texts))
     steps_said (Ok e) explained = verdict_said e explained
     steps_said (Err failed) explained = tt
 
   module _ (domain problem : List ℕ) (is_task : IsTaskOf domain problem task) (most : ℕ) (text : List ℕ) (is_plan : IsPlanText task text steps) where
-    verdict_true : (file : Named) (e : Explanation) → IsVerdictExplained task names steps file e → IsTrueOf domain problem (Some text) most e.subject
-    verdict_true file e (explained, is_true, is_explained, told) = subst (IsTrueOf domain problem (Some text) most) (sym told.subject)
+    verdict_true : (traced : Bool) (file : Named) (e : Explanation) → IsVerdictExplained task names steps traced file e → IsTrueOf domain problem (Some text) most e.subject
+    verdict_true traced file e (explained, is_true, is_explained, told) = subst (IsTrueOf domain problem (Some text) most) (sym told.subject)
         (record {
           task = task;
           steps = steps;
@@ -235,25 +244,25 @@ module _ (task : model.Task) (names : VariableNames) (steps : List model.Instanc
           is_true = subst (IsVerdict (system_of task) steps) (sym told.same) is_true;
         })
 
-    pub steps_explained : (file : Named) (r : Result Explanation NoMemory) → IfOk r (IsVerdictExplained task names steps file)
+    pub steps_explained : (traced : Bool) (file : Named) (r : Result Explanation NoMemory) → IfOk r (IsVerdictExplained task names steps traced file)
         → IfOk r (λ e. IsTrueOf domain problem (Some text) most e.subject)
-    steps_explained file (Ok e) is = verdict_true file e is
-    steps_explained file (Err failed) is = tt
+    steps_explained traced file (Ok e) is = verdict_true traced file e is
+    steps_explained traced file (Err failed) is = tt
 
 -- ---- a task
 
 module _ (task : model.Task) (most : ℕ) where
-  summary_said : (files : Files) (e : Explanation) → IsTaskExplained task most e → IsSaidOf files e
-  summary_said files e is = record {
+  summary_said : (traced : Bool) (files : Files) (e : Explanation) → IsTaskExplained task most e → IsSaidOf traced files e
+  summary_said traced files e is = record {
     located = subst (λ (s : Subject). IsSubjectLocated files s e.location) (sym is.subject) tt;
-    lines = subst (λ (s : Subject). SaySubject files s e.location (map string_bytes e.notes.items) (string_bytes e.text)) (sym is.subject) is.says;
+    lines = subst (λ (s : Subject). SaySubject traced files s e.location (map string_bytes e.notes.items) (string_bytes e.text)) (sym is.subject) is.says;
     further = none_told files e.further.items is.no_further;
     further_lines = subst (λ (s : Subject). SayFurther s e.further.items (string_bytes e.text)) (sym is.subject) is.no_further;
   }
 
-  pub task_said : (files : Files) (r : Result Explanation NoMemory) → IfOk r (IsTaskExplained task most) → IfOk r (IsSaidOf files)
-  task_said files (Ok e) is = summary_said files e is
-  task_said files (Err failed) is = tt
+  pub task_said : (traced : Bool) (files : Files) (r : Result Explanation NoMemory) → IfOk r (IsTaskExplained task most) → IfOk r (IsSaidOf traced files)
+  task_said traced files (Ok e) is = summary_said traced files e is
+  task_said traced files (Err failed) is = tt
 
   module _ (domain problem : List ℕ) (is_task : IsTaskOf domain problem task) where
     summary_true : (e : Explanation) → IsTaskExplained task most e → IsTrueOf domain problem None most e.subject

@@ -1,5 +1,5 @@
 -- What the lines of an explanation say about its subject, and what its location is.
-use Rattle.std.specs.Prelude.{◌≡◌, ℕ, ◌-◌, List, [], ◌++◌, codes, flat_map, map, unwrap_or, All, Option, Some, IfSome, IsSomeAnd}
+use Rattle.std.specs.Prelude.{◌≡◌, ℕ, ◌-◌, Bool, true, false, List, [], ◌++◌, codes, flat_map, map, unwrap_or, All, Option, Some, IfSome, IsSomeAnd}
 use Rattle.std.specs.Fmt.{decimal}
 use Rattle.std.specs.Option.{option_map}
 use Rattle.std.specs.Str.Lossy.{utf8_lossy}
@@ -15,6 +15,7 @@ use Rattle.explain_faults.specs.Explained.{BeginsWith, IsHeading}
 use Rattle.explain_plans.specs.Explanations.{IsExplained}
 use Rattle.explain_plans.specs.Explanations.{verdict_of as explained_verdict}
 use Rattle.explain_plans.specs.PlanLines.{cost_lines, reasons_text, step_reasons_text, verdict_line}
+use Rattle.explain_plans.specs.Traces.{trace_text}
 use Rattle.explain_tasks.specs.Summary.{summary_text}
 use Rattle.explain_plans.specs.StepPlaces.{IsStepPlace, span_of}
 use Rattle.explain_plans.specs.declared.explanations.PlanExplanation.{PlanExplanation}
@@ -105,16 +106,29 @@ SayPlan at task steps (NotApplicable step lacks_cost reasons) lines =
     ++ (marks ++ utf8_lossy (step_reasons_text task steps step lacks_cost reasons)))))
 SayPlan at task steps (GoalMissed reasons) lines = lines ≡ verdict_line task steps goal_missed ++ utf8_lossy (reasons_text task steps reasons)
 
+-- the same without the lines of the steps of a plan that solves the task
+abbrev pub SayVerdict : Option Location → model.Task → List model.Instance → PlanExplanation → (lines : List ℕ) → Type 0
+SayVerdict at task steps (Solves costs total) lines = lines ≡ verdict_line task steps (valid total)
+SayVerdict at task steps (NotApplicable step lacks_cost reasons) lines = SayPlan at task steps (NotApplicable step lacks_cost reasons) lines
+SayVerdict at task steps (GoalMissed reasons) lines = SayPlan at task steps (GoalMissed reasons) lines
+
+-- The lines as asked for. With a trace they begin with what each step costs, adds and deletes, up to the first that is not applicable,
+-- whether or not the plan solves the task.
+abbrev pub SayPlanAs : (traced : Bool) → Option Location → model.Task → List model.Instance → PlanExplanation → (lines : List ℕ) → Type 0
+SayPlanAs false at task steps explained lines = SayPlan at task steps explained lines
+SayPlanAs true at task steps explained lines =
+    (rest : List ℕ) × (lines ≡ utf8_lossy (trace_text task steps) ++ rest) × SayVerdict at task steps explained rest
+
 -- The lines are those for the plan in this text: its steps, the verdict, and the reasons. Quantified variables have their names
 -- from the files.
-pub record IsPlanSaid (files : Files) (text : List ℕ) (verdict : Verdict) (at : Option Location) (lines : List ℕ) : Type 0 where
+pub record IsPlanSaid (traced : Bool) (files : Files) (text : List ℕ) (verdict : Verdict) (at : Option Location) (lines : List ℕ) : Type 0 where
   pub task : model.Task
   pub steps : List model.Instance
   pub are_read : AreRead files.domain.text files.problem.text text task steps
   pub explained : PlanExplanation
   pub is_explained : IsExplained task (variable_names are_read.is_task.domain_tree are_read.is_task.problem_tree) steps explained
   pub same : explained_verdict explained ≡ verdict
-  pub says : SayPlan at task steps explained lines
+  pub says : SayPlanAs traced at task steps explained lines
 
 -- the line for the outcome of grounding
 abbrev pub grounded_line : Grounded → List ℕ
@@ -133,11 +147,11 @@ BeginAt text code span at lines = BeginsWith lines (IsHeading (string_bytes at.f
 
 -- The lines state the explanation: for a fault they begin with its file, its line and column, its number and its name; for a plan
 -- they have the verdict and the reasons; and for a task they are its summary, the outcome of grounding, and its notes.
-abbrev pub SaySubject : Files → Subject → Option Location → (notes : List (List ℕ)) → (lines : List ℕ) → Type 0
-SaySubject files (Fault file code span) at notes lines =
+abbrev pub SaySubject : (traced : Bool) → Files → Subject → Option Location → (notes : List (List ℕ)) → (lines : List ℕ) → Type 0
+SaySubject traced files (Fault file code span) at notes lines =
     (text : List ℕ) × IfSome (file_in files file) (λ named. text ≡ named.text) × IfSome at (λ at. BeginAt text code span at lines)
-SaySubject files (Plan verdict) at notes lines = IfSome files.plan (λ named. IsPlanSaid files named.text (verdict_of verdict) at lines)
-SaySubject files (Task holds grounded) at notes lines = lines ≡ summary_text holds ++ (grounded_line grounded ++ on_lines notes)
+SaySubject traced files (Plan verdict) at notes lines = IfSome files.plan (λ named. IsPlanSaid traced files named.text (verdict_of verdict) at lines)
+SaySubject traced files (Task holds grounded) at notes lines = lines ≡ summary_text holds ++ (grounded_line grounded ++ on_lines notes)
 
 -- a further fault is one of the domain and the problem, and its lines state it
 abbrev pub IsToldIn : Files → FurtherFault → Type 0
@@ -150,8 +164,8 @@ SayFurther (Plan verdict) further lines = further ≡ []
 SayFurther (Task holds grounded) further lines = further ≡ []
 
 -- The location is that of the subject, and the lines state it. The further faults are faults of the files.
-pub record IsSaidOf (files : Files) (e : Explanation) : Type 0 where
+pub record IsSaidOf (traced : Bool) (files : Files) (e : Explanation) : Type 0 where
   pub located : IsSubjectLocated files e.subject e.location
-  pub lines : SaySubject files e.subject e.location (map string_bytes e.notes.items) (string_bytes e.text)
+  pub lines : SaySubject traced files e.subject e.location (map string_bytes e.notes.items) (string_bytes e.text)
   pub further : All (IsToldIn files) e.further.items
   pub further_lines : SayFurther e.subject e.further.items (string_bytes e.text)

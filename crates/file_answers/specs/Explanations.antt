@@ -1,5 +1,5 @@
 -- The subject of an explanation of files.
-use Rattle.std.specs.Prelude.{◌≡◌, ℕ, ◌≤◌, List, [], ◌++◌, length, map, Option, None, Some, IfSome, IsSomeAnd}
+use Rattle.std.specs.Prelude.{◌≡◌, ℕ, ◌≤◌, Bool, List, [], ◌++◌, length, map, Option, None, Some, IfSome, IsSomeAnd}
 use Rattle.std.specs.Option.{option_map}
 use Rattle.std.specs.String.{string_bytes}
 use Rattle.faults.specs.declared.code.Code.{Code}
@@ -18,7 +18,7 @@ use Rattle.explain_tasks.specs.declared.summary.Summary.{Summary}
 use Rattle.grounding_instances.specs.Numbering.{limit_of}
 use Rattle.validator.specs.Verdict.{verdict_of}
 use Rattle.validator.specs.declared.verdict.Verdict.{Verdict}
-use Rattle.file_answers.specs.ExplanationLines.{Files, Named, BeginAt, IsLocated, IsStepAt, IsStepLocated, SayPlan, files_of, grounded_line, on_lines}
+use Rattle.file_answers.specs.ExplanationLines.{Files, Named, BeginAt, IsLocated, IsStepAt, IsStepLocated, SayPlanAs, files_of, grounded_line, on_lines}
 use Rattle.file_answers.specs.Files.{fault_at}
 use Rattle.file_answers.specs.FurtherFaults.{AreFurther, EndsWith, further_text}
 use Rattle.file_answers.specs.Inputs.{IsInputFault}
@@ -96,19 +96,19 @@ IsOfFault texts (refused.At file code span) e = IsFaultExplained texts file code
 IsOfFault texts refused.NoMemory e = ⊥
 
 -- for these steps of the task the subject is the verdict, with the place of the inapplicable step, and the lines state it
-pub record IsPlanTold (task : model.Task) (steps : List model.Instance) (file : Named) (explained : PlanExplanation) (e : Explanation) : Type 0 where
+pub record IsPlanTold (task : model.Task) (steps : List model.Instance) (traced : Bool) (file : Named) (explained : PlanExplanation) (e : Explanation) : Type 0 where
   pub code : Verdict
   pub subject : e.subject ≡ Plan code
   pub same : verdict_of code ≡ plans.verdict_of explained
   pub located : IsStepLocated file (plans.verdict_of explained) e.location
-  pub says : SayPlan e.location task steps explained (string_bytes e.text)
+  pub says : SayPlanAs traced e.location task steps explained (string_bytes e.text)
   pub no_further : e.further.items ≡ []
 
 -- and the verdict is true
-abbrev pub IsVerdictExplained : model.Task → VariableNames → List model.Instance → (file : Named) → Explanation → Type 0
-IsVerdictExplained task names steps file e =
+abbrev pub IsVerdictExplained : model.Task → VariableNames → List model.Instance → (traced : Bool) → (file : Named) → Explanation → Type 0
+IsVerdictExplained task names steps traced file e =
     (explained : PlanExplanation) × IsVerdict (system_of task) steps (plans.verdict_of explained) × IsExplained task names steps explained
-    × IsPlanTold task steps file explained e
+    × IsPlanTold task steps traced file explained e
 
 -- the inapplicable step is one of the text
 abbrev pub IsStepOf : (text : List ℕ) → runs.Verdict → Type 0

@@ -6,3 +6,4 @@ pub mod Inputs
 pub mod QuantifiedNames
 pub mod FurtherFaults
 pub mod SaidOf
+pub mod StepLines

@@ -2,11 +2,13 @@
 ghost use Rattle.std.specs.Prelude.{◌≡◌, IfOk, IfSome};
 ghost use Rattle.file_answers.specs.ExplanationLines.{IsSaidOf, files_of};
 ghost use Rattle.file_answers.specs.Explanations.{IsTrueOf, text_in};
+ghost use Rattle.file_answers.specs.StepLines.{is_traced};
 
 mod further;
 mod of_fault;
 mod of_plan;
 mod of_task;
+mod step_lines;
 
 use crate::explanation::Explanation;
 use crate::files::named_task_of_files;
@@ -16,6 +18,7 @@ use of_fault::explain_refused;
 use of_plan::explain_plan_file;
 use of_task::explain_task;
 use std::alloc::Global;
+pub use step_lines::StepLines;
 
 /// The files that are explained.
 #[derive(Clone, Copy)]
@@ -28,11 +31,20 @@ pub struct ExplainedFiles<'a> {
     pub plan: Option<NamedText<'a>>,
 }
 
+/// What is asked of an explanation.
+#[derive(Clone, Copy)]
+pub struct ExplainOptions {
+    /// The maximum number of instances that may be kept.
+    pub max_instances: u32,
+    /// What is said of the steps of the plan, if one is given.
+    pub steps: StepLines,
+}
+
 /// Explains a domain file and a problem file, and a plan file if one is given.
 ///
 /// The domain is scanned and parsed, then the problem; then both are typed together, and the plan is read. The first fault is
-/// explained. Without a fault it is the plan, or without a plan the task, whose grounding may keep at most `max_instances`
-/// instances.
+/// explained. Without a fault it is the plan, or without a plan the task, whose grounding may keep at most
+/// `options.max_instances` instances.
 ///
 /// # Errors
 /// An allocation failed, which says nothing about the files.
@@ -46,11 +58,11 @@ pub struct ExplainedFiles<'a> {
 pub fn explain_files(
     alloc: Global,
     files: ExplainedFiles<'_>,
-    max_instances: u32,
+    options: ExplainOptions,
 ) -> Result<Explanation, NoMemory>
-    ensures subject { IfOk result (λ e. IsTrueOf files.entry.domain.text.now files.entry.problem.text.now (text_in files.entry.plan) max_instances e.subject) }
+    ensures subject { IfOk result (λ e. IsTrueOf files.entry.domain.text.now files.entry.problem.text.now (text_in files.entry.plan) options.max_instances e.subject) }
     // The lines give the explanation, and the location is that of the fault or the step.
-    ensures said { IfOk result (IsSaidOf (files_of files.entry.domain files.entry.problem files.entry.plan)) }
+    ensures said { IfOk result (IsSaidOf (is_traced options.steps) (files_of files.entry.domain files.entry.problem files.entry.plan)) }
 {
     let texts = texts_of(files);
     let named = match named_task_of_files(alloc, files.domain.text, files.problem.text) {
@@ -58,8 +70,8 @@ pub fn explain_files(
         Err(fault) => return explain_refused(alloc, &texts, fault),
     };
     match files.plan {
-        Some(_) => explain_plan_file(alloc, &named, &texts),
-        None => explain_task(alloc, &named.task, max_instances),
+        Some(_) => explain_plan_file(alloc, &named, &texts, options.steps),
+        None => explain_task(alloc, &named.task, options.max_instances),
     }
 }
 

@@ -14,7 +14,7 @@ pub use checking::{CheckInputs, Checked, check_files, check_files_and_say};
 pub use explain_faults::FileRefusal;
 pub use explain_hints::{File, NamedText};
 pub use explain_tasks::Summary;
-pub use explaining::{ExplainedFiles, explain_files};
+pub use explaining::{ExplainOptions, ExplainedFiles, StepLines, explain_files};
 pub use explanation::{Explanation, FurtherFault, Grounded, Location, Subject};
 pub use files::{FileFault, TaskFiles, one_task, plan_of_file, task_of_files};
 pub use laws::{solved_certificates_are_accepted, tasks_of_files_are_well_typed};

@@ -29,11 +29,11 @@ pub wanted_of_check : (order : Order) (domain problem cert : Bor (List ℕ)) (pl
 wanted_of_check order domain problem cert plan instances json progress number is same =
     ap (λ (n : ℕ). to_check domain.now problem.now cert.now (asked_of_check plan json progress n)) same ∙ sym (ap wanted_of is)
 
-abbrev asked_of_explain : (plan : Option (Bor (List ℕ))) (json : Bool) (instances : ℕ) → AskedOfExplain
-asked_of_explain plan json instances = record { instances = instances; plan = text_in plan; json = json }
+abbrev asked_of_explain : (plan : Option (Bor (List ℕ))) (json trace : Bool) (instances : ℕ) → AskedOfExplain
+asked_of_explain plan json trace instances = record { instances = instances; plan = text_in plan; trace = trace; json = json }
 
-pub wanted_of_explain : (order : Order) (domain problem : Bor (List ℕ)) (plan : Option (Bor (List ℕ))) (instances : MaxCount) (json : Bool) (number : ℕ)
-    → order ≡ Explain domain problem plan instances json → number ≡ instances.number
-    → to_explain domain.now problem.now (record { instances = number; plan = text_in plan; json = json }) ≡ wanted_of order
-wanted_of_explain order domain problem plan instances json number is same =
-    ap (λ (n : ℕ). to_explain domain.now problem.now (asked_of_explain plan json n)) same ∙ sym (ap wanted_of is)
+pub wanted_of_explain : (order : Order) (domain problem : Bor (List ℕ)) (plan : Option (Bor (List ℕ))) (trace : Bool) (instances : MaxCount) (json : Bool) (number : ℕ) (traced : Bool)
+    → order ≡ Explain domain problem plan trace instances json → number ≡ instances.number → traced ≡ trace
+    → to_explain domain.now problem.now (record { instances = number; plan = text_in plan; trace = traced; json = json }) ≡ wanted_of order
+wanted_of_explain order domain problem plan trace instances json number traced is same same_trace =
+    (λ i. to_explain domain.now problem.now (asked_of_explain plan json (same_trace i) (same i))) ∙ sym (ap wanted_of is)

@@ -118,17 +118,17 @@ named_inputs domain problem plan d p l =
 
 -- or the explanation of two texts, and of the plan of a third, if one is given: it is correct, and its lines and its location
 -- state it.
-abbrev pub IsExplanationOn : (List ℕ → Option (List ℕ)) → (domain problem : List ℕ) → (plan : Option (List ℕ)) → (most : ℕ) → Report → Type 0
-IsExplanationOn contents domain problem plan most found =
+abbrev pub IsExplanationOn : (List ℕ → Option (List ℕ)) → (domain problem : List ℕ) → (plan : Option (List ℕ)) → (traced : Bool) → (most : ℕ) → Report → Type 0
+IsExplanationOn contents domain problem plan traced most found =
     (e : Explanation) × (found ≡ report.Explain e)
-    × OnInputs contents domain problem plan (λ d p l. IsTrueOf d p l most e.subject × IsSaidOf (named_inputs domain problem plan d p l) e)
+    × OnInputs contents domain problem plan (λ d p l. IsTrueOf d p l most e.subject × IsSaidOf traced (named_inputs domain problem plan d p l) e)
 
 -- the result is the one asked for, and correct
 abbrev pub IsReportOn : (List ℕ → Option (List ℕ)) → Wanted → Report → Type 0
 IsReportOn contents (to_validate domain problem plan json) = IsVerdictOn contents domain problem plan
 IsReportOn contents (to_solve domain problem asked) = IsSolutionOn contents domain problem asked.seconds asked.states asked.instances
 IsReportOn contents (to_check domain problem cert asked) = IsCheckOn contents domain problem cert asked.plan asked.instances
-IsReportOn contents (to_explain domain problem asked) = IsExplanationOn contents domain problem asked.plan asked.instances
+IsReportOn contents (to_explain domain problem asked) = IsExplanationOn contents domain problem asked.plan asked.trace asked.instances
 
 -- This text, with this exit status and the files written before it, states a result that is correct for the texts of the files,
 -- as the order asks; and as the words ask.

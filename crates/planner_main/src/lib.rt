@@ -9,9 +9,10 @@ pub use command_line::{MaxCount, Order, WordsFault, read_words};
 pub use devices::{Files, SystemFiles};
 pub use failures::report_no_memory;
 pub use file_answers::{
-    CheckInputs, Checked, ExplainedFiles, Explanation, File, FileFault, Grounded, Location,
-    NamedText, Solved, Subject, Summary, TaskFiles, check_files, explain_files, one_task,
-    solve_files, solved_certificates_are_accepted, tasks_of_files_are_well_typed, validate_files,
+    CheckInputs, Checked, ExplainOptions, ExplainedFiles, Explanation, File, FileFault, Grounded,
+    Location, NamedText, Solved, StepLines, Subject, Summary, TaskFiles, check_files,
+    explain_files, one_task, solve_files, solved_certificates_are_accepted,
+    tasks_of_files_are_well_typed, validate_files,
 };
 pub use printed_answers::{Report, json_examples_are_written, json_line};
 pub use program::run;

@@ -8,6 +8,7 @@ ghost use Rattle.devices.specs.Texts.{AreKept};
 ghost use Rattle.devices.specs.Devices.{IsWritten};
 ghost use Rattle.planner_main.specs.Progress.{AsksForProgress, AsksForSearchProgress, Ends, HasEndedFor, HasSaidEnd, IsProgress, IsProgressOn, SaysAfter};
 ghost use Rattle.devices.specs.Progress.{AreSaid, stream};
+ghost use Rattle.file_answers.specs.StepLines.{is_traced};
 
 mod acceptance;
 mod counting;
@@ -24,6 +25,7 @@ use command_line::{MaxCount, Order, read_words};
 use devices::{Files, Sink};
 use devices_clock::Clock;
 use explaining::{ExplainAsked, report_of_explain};
+use file_answers::{ExplainOptions, StepLines};
 use inputs::PairNames;
 use outputs::outputs_of;
 use printed_answers::Report;
@@ -224,17 +226,31 @@ fn report_of<F: Files, E: Sink + Clock>(
             domain,
             problem,
             plan,
+            trace,
             instances,
             ..
         } => {
-            let most = instances.number();
-            let asked = ExplainAsked {
-                plan,
-                instances: most,
+            let max_instances = instances.number();
+            let steps = steps_of(trace);
+            let options = ExplainOptions {
+                max_instances,
+                steps,
             };
+            let asked = ExplainAsked { plan, options };
             let names = PairNames { domain, problem };
             report_of_explain(alloc, names, asked, files)
         }
+    }
+}
+
+/// What is said of the steps of a plan.
+fn steps_of(trace: bool) -> StepLines
+    ensures { is_traced result ≡ trace }
+{
+    if trace {
+        StepLines::Trace
+    } else {
+        StepLines::Costs
     }
 }
 

@@ -23,6 +23,7 @@ complete -c optplan -n '__fish_seen_subcommand_from check' -x -l instances -d 'K
 complete -c optplan -n '__fish_seen_subcommand_from check' -l json -d 'Print the answer as a line of JSON'
 complete -c optplan -n '__fish_seen_subcommand_from check' -l progress -d 'Say on the standard error how much of the certificate is read'
 
+complete -c optplan -n '__fish_seen_subcommand_from explain' -l trace -d 'Say what each step of the plan adds and deletes'
 complete -c optplan -n '__fish_seen_subcommand_from explain' -x -l instances -d 'Keep at most this many action instances'
 complete -c optplan -n '__fish_seen_subcommand_from explain' -l json -d 'Print the answer as a line of JSON'
 

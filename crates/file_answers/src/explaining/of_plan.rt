@@ -7,18 +7,22 @@ ghost use Rattle.formulas.specs.State.{plan_of};
 ghost use Rattle.validator.specs.Verdict.{verdict_of};
 ghost use Rattle.explain_plans.specs.Explanations as plans;
 ghost use Rattle.explain_plans.specs.NamesView.{names_of};
+ghost use Rattle.file_answers.specs.StepLines.{is_traced};
 ghost use Rattle.file_answers.specs.QuantifiedNames.{IsNamedTask};
-ghost use Rattle.file_answers.specs.ExplanationLines.{IsSaidOf, SayPlan, named_of, place_text};
+ghost use Rattle.file_answers.specs.ExplanationLines.{IsSaidOf, SayPlan, SayPlanAs, SayVerdict, named_of, place_text};
 ghost use Rattle.file_answers.specs.Explanations.{IsLocatedIf, IsStepFound, IsStepOf, IsTrueOf, IsPlanTold, IsVerdictExplained, files_in};
 ghost use Rattle.model.specs.Files.{IsTaskOf};
 ghost use Rattle.model.specs.Meaning.{is_instance};
 ghost use Rattle.model.specs.PlanText.{IsPlanText};
 
 use crate::explaining::of_fault::explain_refused;
+use crate::explaining::step_lines::StepLines;
 use crate::explanation::{Explanation, Location, Subject};
 use crate::files::{NamedTask, plan_of_file};
 use explain_hints::{NamedText, NamedTexts, marked, place_of};
-use explain_plans::{PlanExplanation, explain_plan, report_details, report_verdict, step_place};
+use explain_plans::{
+    PlanExplanation, explain_plan, report_details, report_trace, report_verdict, step_place,
+};
 use faults::{NoMemory, Span};
 use formulas::Plan;
 use std::alloc::{AllocError, Global};
@@ -30,36 +34,51 @@ pub(super) fn explain_plan_file(
     alloc: Global,
     named: &NamedTask<'_>,
     texts: &NamedTexts<'_>,
+    lines: StepLines,
 ) -> Result<Explanation, NoMemory>
     ensures subject { (domain problem : List ℕ) (most : ℕ) → IsTaskOf domain problem (task_of named.now.task)
         → IfOk result (λ e. IsTrueOf domain problem (Some texts.now.plan.text.now) most e.subject) }
     ensures said { IsNamedTask texts.now.domain.text.now texts.now.problem.text.now (task_of named.now.task) (names_of named.now.names)
-        → IfOk result (IsSaidOf (files_in texts.now)) }
+        → IfOk result (IsSaidOf (is_traced lines) (files_in texts.now)) }
 {
     match plan_of_file(alloc, &named.task, texts.plan.text) {
-        Ok(plan) => explain_steps(alloc, named, texts.plan, &plan),
+        Ok(plan) => {
+            let file = PlanFile {
+                file: texts.plan,
+                lines,
+            };
+            explain_steps(alloc, named, file, &plan)
+        }
         Err(fault) => explain_refused(alloc, texts, fault),
     }
+}
+
+/// A plan file, and what is said of its steps.
+#[derive(Clone, Copy)]
+struct PlanFile<'a> {
+    file: NamedText<'a>,
+    lines: StepLines,
 }
 
 /// Explains the steps of this file.
 fn explain_steps(
     alloc: Global,
     named: &NamedTask<'_>,
-    file: NamedText<'_>,
+    file: PlanFile<'_>,
     plan: &Plan,
 ) -> Result<Explanation, NoMemory>
     requires instances { IsTrue (list_all (is_instance (task_of named.now.task)) (plan_of plan.now)) }
-    requires text { IsPlanText (task_of named.now.task) file.text.now (plan_of plan.now) }
-    ensures { IfOk result (IsVerdictExplained (task_of named.now.task) (names_of named.now.names) (plan_of plan.now) (named_of file.entry)) }
+    requires text { IsPlanText (task_of named.now.task) file.file.text.now (plan_of plan.now) }
+    ensures { IfOk result (IsVerdictExplained (task_of named.now.task) (names_of named.now.names) (plan_of plan.now) (is_traced file.entry.lines) (named_of file.entry.file)) }
 {
     let explained = explain_plan(alloc, &named.task, &named.names, plan)?;
     let explained_plan = ExplainedPlan {
         task: &named.task,
         plan,
         explained: &explained,
+        lines: file.lines,
     };
-    explained_plan.explain_verdict(alloc, file)
+    explained_plan.explain_verdict(alloc, file.file)
 }
 
 /// A plan for a task, with its explanation.
@@ -68,13 +87,16 @@ struct ExplainedPlan<'a> {
     task: &'a Task,
     plan: &'a Plan,
     explained: &'a PlanExplanation<'a>,
+    /// What is said of its steps.
+    lines: StepLines,
 }
 
 impl ExplainedPlan<'_> {
     /// Explains the verdict on the plan in this file.
     fn explain_verdict(self, alloc: Global, file: NamedText<'_>) -> Result<Explanation, NoMemory>
-        requires { IsStepOf file.text.now (plans.verdict_of self.explained.now) }
-        ensures { IfOk result (IsPlanTold (task_of self.entry.task.now) (plan_of self.entry.plan.now) (named_of file.entry) self.entry.explained.now) }
+        requires instances { IsTrue (list_all (is_instance (task_of self.task.now)) (plan_of self.plan.now)) }
+        requires step { IsStepOf file.text.now (plans.verdict_of self.explained.now) }
+        ensures { IfOk result (IsPlanTold (task_of self.entry.task.now) (plan_of self.entry.plan.now) (is_traced self.entry.lines) (named_of file.entry) self.entry.explained.now) }
     {
         let verdict = verdict_in(self.explained);
         let failed = failed_step(file.text, verdict);
@@ -91,8 +113,28 @@ impl ExplainedPlan<'_> {
         })
     }
 
-    /// The lines of the explanation. An inapplicable step is shown with its place in the file, its line and marks.
+    /// The lines of the explanation: with a trace, if one is asked for.
     fn text(
+        self,
+        alloc: Global,
+        location: &Option<Location>,
+        marks: &str,
+    ) -> Result<String, NoMemory>
+        requires { IsTrue (list_all (is_instance (task_of self.task.now)) (plan_of self.plan.now)) }
+        ensures { IfOk result (λ text. SayPlanAs (is_traced self.entry.lines) location.now (task_of self.entry.task.now) (plan_of self.entry.plan.now) self.entry.explained.now (string_bytes text)) }
+    {
+        match self.lines {
+            StepLines::Costs => self.plain_text(alloc, location, marks),
+            StepLines::Trace => {
+                let trace = report_trace(alloc, self.task, self.plan)?;
+                let verdict = self.verdict_text(alloc, location, marks)?;
+                joined(trace, verdict.as_str())
+            }
+        }
+    }
+
+    /// The lines without a trace: those of the verdict, after what each step costs, if the plan solves the task.
+    fn plain_text(
         self,
         alloc: Global,
         location: &Option<Location>,
@@ -100,15 +142,38 @@ impl ExplainedPlan<'_> {
     ) -> Result<String, NoMemory>
         ensures { IfOk result (λ text. SayPlan location.now (task_of self.entry.task.now) (plan_of self.entry.plan.now) self.entry.explained.now (string_bytes text)) }
     {
-        let verdict = report_verdict(alloc, self.task, self.plan, self.explained)?;
-        let details = report_details(alloc, self.task, self.plan, self.explained)?;
+        let verdict = self.verdict_text(alloc, location, marks)?;
         match self.explained {
-            PlanExplanation::Solves { .. } => joined(details, verdict.as_str()),
+            PlanExplanation::Solves { .. } => {
+                let details = report_details(alloc, self.task, self.plan, self.explained)?;
+                joined(details, verdict.as_str())
+            }
+            PlanExplanation::NotApplicable { .. } => Ok(verdict),
+            PlanExplanation::GoalMissed { .. } => Ok(verdict),
+        }
+    }
+
+    /// The line of the verdict, and the reasons. An inapplicable step is shown with its place in the file, its line and marks.
+    fn verdict_text(
+        self,
+        alloc: Global,
+        location: &Option<Location>,
+        marks: &str,
+    ) -> Result<String, NoMemory>
+        ensures { IfOk result (λ text. SayVerdict location.now (task_of self.entry.task.now) (plan_of self.entry.plan.now) self.entry.explained.now (string_bytes text)) }
+    {
+        let verdict = report_verdict(alloc, self.task, self.plan, self.explained)?;
+        match self.explained {
+            PlanExplanation::Solves { .. } => Ok(verdict),
             PlanExplanation::NotApplicable { .. } => {
+                let details = report_details(alloc, self.task, self.plan, self.explained)?;
                 let after = joined(String::from_str(alloc, marks)?, details.as_str())?;
                 step_text(alloc, location, verdict.as_str(), after.as_str())
             }
-            PlanExplanation::GoalMissed { .. } => joined(verdict, details.as_str()),
+            PlanExplanation::GoalMissed { .. } => {
+                let details = report_details(alloc, self.task, self.plan, self.explained)?;
+                joined(verdict, details.as_str())
+            }
         }
     }
 }

@@ -5,22 +5,23 @@ ghost use Rattle.file_answers.specs.Files.{text_in};
 ghost use Rattle.devices.specs.Texts.{AreKept, items_in};
 ghost use Rattle.file_answers.specs.ExplanationLines.{named_as, named_of};
 ghost use Rattle.file_answers.specs.Explanations as explanations;
+ghost use Rattle.file_answers.specs.StepLines.{is_traced};
 ghost use Rattle.std.specs.Option.{option_map};
 
 use crate::failures::Failure;
 use crate::program::inputs::{PairNames, read_named, read_pair};
 use devices::Files;
-use file_answers::{ExplainedFiles, NamedText, explain_files};
+use file_answers::{ExplainOptions, ExplainedFiles, NamedText, explain_files};
 use printed_answers::Report;
 use std::alloc::Global;
 
-/// The plan file and the option of `explain`.
+/// The plan file and the options of `explain`.
 #[derive(Clone, Copy)]
 pub(super) struct ExplainAsked<'a> {
     /// The plan file, if any.
     pub(super) plan: Option<&'a str>,
-    /// The maximum number of instances that may be kept.
-    pub(super) instances: u32,
+    /// What is asked of the explanation.
+    pub(super) options: ExplainOptions,
 }
 
 /// The explanation of the files of a task, and of a plan file if one is named.
@@ -30,7 +31,7 @@ pub(super) fn report_of_explain<F: Files>(
     asked: ExplainAsked<'_>,
     files: &mut F,
 ) -> Result<Report, Failure>
-    ensures report { IfOk result (IsExplanationOn (F.contents files.old) names.entry.domain.now names.entry.problem.now (text_in asked.entry.plan) asked.entry.instances) }
+    ensures report { IfOk result (IsExplanationOn (F.contents files.old) names.entry.domain.now names.entry.problem.now (text_in asked.entry.plan) (is_traced asked.entry.options.steps) asked.entry.options.max_instances) }
     // A fault of a text is explained; it is not a failure.
     ensures no_text { IfErr result (λ failure. fault_in failure ≡ None) }
     ensures kept { AreKept (F.contents files.old) (F.contents files.new) }
@@ -52,7 +53,7 @@ pub(super) fn report_of_explain<F: Files>(
         },
         plan: named(asked.plan, &text),
     };
-    let explanation = explain_files(alloc, files, asked.instances)?;
+    let explanation = explain_files(alloc, files, asked.options)?;
     Ok(Report::Explain(explanation))
 }
 

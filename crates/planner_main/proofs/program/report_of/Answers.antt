@@ -11,6 +11,7 @@ use Rattle.devices.proofs.ProgressLemmas.{said_of_more}
 use Rattle.planner_main.specs.Progress.{HasEndedFor, IsProgressOn}
 use Rattle.planner_main.specs.declared.failures.Failure.{Failure}
 use Rattle.printed_answers.specs.declared.reports.Report.{Report}
+use Rattle.file_answers.specs.StepLines.{is_traced}
 use Rattle.planner_main.proofs.program.report_of.Goals as goal
 
 whatever : (result : Result Report Failure) → IfOk result (λ _. ⊤)
@@ -39,7 +40,8 @@ returns-in-Check-clause-found g c = subst
 pub returns-in-Explain-clause-found : goal.returns-in-Explain-clause-found
 returns-in-Explain-clause-found g c = subst
     (λ (wanted : Wanted). IsFound (g.F.Files.contents c.args.files.now) (g.F.Files.is_missing c.args.files.now) (g.F.Files.is_unreadable c.args.files.now) wanted c.report_of_explain.result)
-    (wanted_of_explain c.args.order c.in-Explain.domain c.in-Explain.problem c.in-Explain.plan c.in-Explain.instances _ c.number-most.result c.in-Explain.is c.number-most.ensures.number)
+    (wanted_of_explain c.args.order c.in-Explain.domain c.in-Explain.problem c.in-Explain.plan c.in-Explain.trace c.in-Explain.instances _ c.number-max_instances.result (is_traced c.steps_of-steps.result) c.in-Explain.is
+    c.number-max_instances.ensures.number c.steps_of-steps.ensures)
     (let said = c.report_of_explain.ensures in record {
       report = said.report;
       refused = IfErr-weaker c.report_of_explain.result _ _ (λ failure is. without_fault failure _ is) said.no_text;

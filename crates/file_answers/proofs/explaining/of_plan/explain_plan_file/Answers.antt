@@ -4,6 +4,7 @@ use Rattle.explain_plans.specs.NamesView.{names_of}
 use Rattle.task.specs.Task.{task_of}
 use Rattle.file_answers.specs.ExplanationLines.{named_of}
 use Rattle.file_answers.specs.Explanations.{files_in}
+use Rattle.file_answers.specs.StepLines.{is_traced}
 use Rattle.file_answers.proofs.ExplanationLemmas.{all_among, refused_explained, refused_said, steps_explained, steps_said}
 use Rattle.file_answers.proofs.explaining.of_plan.explain_plan_file.Goals as goal
 
@@ -13,13 +14,13 @@ returns-in-Err-clause-subject c = λ domain problem most is.
 
 pub returns-in-Err-clause-said : goal.returns-in-Err-clause-said
 returns-in-Err-clause-said c = λ is.
-    refused_said c.args.texts.now (files_in c.args.texts.now) (all_among c.args.texts.now) c.in-Err.fault c.explain_refused.result c.explain_refused.ensures
+    refused_said (is_traced c.args.lines) c.args.texts.now (files_in c.args.texts.now) (all_among c.args.texts.now) c.in-Err.fault c.explain_refused.result c.explain_refused.ensures
 
 pub returns-in-Ok-clause-subject : goal.returns-in-Ok-clause-subject
 returns-in-Ok-clause-subject c = λ domain problem most is.
     steps_explained (task_of c.args.named.now.task) (names_of c.args.named.now.names) (plan_of c.in-Ok.plan) domain problem is most c.args.texts.now.plan.text.now c.in-Ok.ensures.plan
-    (named_of c.args.texts.now.plan) c.explain_steps.result c.explain_steps.ensures
+    (is_traced c.args.lines) (named_of c.args.texts.now.plan) c.explain_steps.result c.explain_steps.ensures
 
 pub returns-in-Ok-clause-said : goal.returns-in-Ok-clause-said
 returns-in-Ok-clause-said c = λ is.
-    steps_said (task_of c.args.named.now.task) (names_of c.args.named.now.names) (plan_of c.in-Ok.plan) c.args.texts.now is c.in-Ok.ensures.plan c.explain_steps.result c.explain_steps.ensures
+    steps_said (task_of c.args.named.now.task) (names_of c.args.named.now.names) (plan_of c.in-Ok.plan) (is_traced c.args.lines) c.args.texts.now is c.in-Ok.ensures.plan c.explain_steps.result c.explain_steps.ensures

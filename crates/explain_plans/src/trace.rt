@@ -1,0 +1,164 @@
+//! The trace of a plan: what each step adds and deletes.
+ghost use Rattle.std.specs.Prelude.{◌≡◌, ◌++◌, map, IfOk, IsTrue, OnOk};
+ghost use Rattle.std.specs.FinSet.{difference};
+ghost use Rattle.std.specs.List.{flat_map, list_all};
+ghost use Rattle.std.specs.Str.Lossy.{utf8_lossy};
+ghost use Rattle.std.specs.String.{string_bytes};
+ghost use Rattle.task.specs.Task.{task_of};
+ghost use Rattle.task.specs.TaskParts.{atom_of, object_of};
+ghost use Rattle.formulas.specs.State.{instance_of, plan_of, state_of};
+ghost use Rattle.explain_plans.specs.LentAtoms.{lent_atoms};
+ghost use Rattle.explain_plans.specs.PlanLines.{cost_line};
+ghost use Rattle.explain_plans.specs.Traces.{atoms_line, change_lines, in_order, spaced_text, trace_text};
+ghost use Rattle.model.specs.Meaning.{is_instance};
+ghost use Rattle.model.specs.PlanWriting.{object_text};
+
+use crate::printing::{Paid, cost_line_of};
+use faults::NoMemory;
+use formulas::{Instance, Plan, State, apply, cost};
+use plan_file::step_text;
+use std::alloc::{AllocError, Global};
+use task::{Atom, ObjectId, Task};
+
+/// The steps of a plan as lines, each with LF: what a step costs, and below it the atoms that it adds and those that it deletes.
+///
+/// A step adds the atoms that are false before it and true after it, and deletes those that are true before it and false after it;
+/// a line without atoms is left out. The atoms are in the order of their predicates and then of their objects, both as declared in
+/// the files. The instances of the plan belong to the task. The lines end before the first step that is not applicable.
+///
+/// # Errors
+/// An allocation failed.
+///
+/// # Examples
+/// ```text
+/// 1  (hop a b)  cost 4, 4 so far
+///    adds (at b)
+///    deletes (at a)
+/// ```
+pub fn report_trace(alloc: Global, task: &Task, plan: &Plan) -> Result<String, NoMemory>
+    requires { IsTrue (list_all (is_instance (task_of task.now)) (plan_of plan.now)) }
+    // Bytes of names that are not valid UTF-8 are replaced; names have none.
+    ensures { IfOk result (λ text. string_bytes text ≡ utf8_lossy (trace_text (task_of task.now) (plan_of plan.now))) }
+{
+    let mut text = Vec::new(alloc);
+    Tracer { alloc, task }.add_steps(plan, &mut text)?;
+    Ok(String::from_utf8_lossy(alloc, text.as_slice())?)
+}
+
+/// Prints what the steps of a plan change.
+#[derive(Clone, Copy)]
+struct Tracer<'t> {
+    alloc: Global,
+    task: &'t Task,
+}
+
+impl Tracer<'_> {
+    /// Adds the lines of the plan's steps, up to the first that is not applicable.
+    fn add_steps(&self, plan: &Plan, text: &mut Vec<u8>) -> Result<(), NoMemory>
+        requires { IsTrue (list_all (is_instance (task_of self.now.task.now)) (plan_of plan.now)) }
+        ensures { OnOk result (text.new.items ≡ text.old.items ++ trace_text (task_of self.now.task.now) (plan_of plan.now)) }
+    {
+        let mut state = State::initial(self.alloc, self.task)?;
+        let mut total = 0;
+        for (index, step) in plan.steps().iter().enumerate() {
+            let Some(next) = apply(self.alloc, self.task, step, &state)? else {
+                return Ok(());
+            };
+            let cost = cost(self.task, step);
+            total += u64::from(cost);
+            self.add_step(index + 1, step, Paid { cost, total }, text)?;
+            self.add_changes(&state, &next, text)?;
+            state = next;
+        }
+        Ok(())
+    }
+
+    /// Adds the line of the step with this number.
+    fn add_step(
+        &self,
+        number: usize,
+        step: &Instance,
+        paid: Paid,
+        text: &mut Vec<u8>,
+    ) -> Result<(), NoMemory>
+        ensures { OnOk result (text.new.items ≡ text.old.items ++ cost_line (task_of self.now.task.now) number (instance_of step.now) paid.cost paid.total) }
+    {
+        let words = step_text(self.alloc, self.task, step)?;
+        let line = cost_line_of(self.alloc, number, words.as_str(), paid)?;
+        text.extend_from_slice(line.as_bytes())?;
+        Ok(())
+    }
+
+    /// Adds the lines of what a step adds and deletes, given the states before and after it.
+    fn add_changes(&self, before: &State, after: &State, text: &mut Vec<u8>) -> Result<(), NoMemory>
+        ensures { OnOk result (text.new.items ≡ text.old.items ++ change_lines (task_of self.now.task.now) (state_of before.now) (state_of after.now)) }
+    {
+        let added = atoms_beyond(self.alloc, after, before)?;
+        let deleted = atoms_beyond(self.alloc, before, after)?;
+        self.add_line(b"   adds", added.as_slice(), text)?;
+        self.add_line(b"   deletes", deleted.as_slice(), text)?;
+        Ok(())
+    }
+
+    /// Adds the line of these atoms, if there are any.
+    fn add_line(&self, deed: &[u8], atoms: &[&Atom], text: &mut Vec<u8>) -> Result<(), AllocError>
+        ensures { OnOk result (text.new.items ≡ text.old.items ++ atoms_line (task_of self.now.task.now) deed.now (lent_atoms atoms.now)) }
+    {
+        match atoms.first() {
+            Some(_) => {
+                text.extend_from_slice(deed)?;
+                self.add_atoms(atoms, text)?;
+                text.extend_from_slice(b"\n")
+            }
+            None => Ok(()),
+        }
+    }
+
+    /// Adds a blank and each atom.
+    fn add_atoms(&self, atoms: &[&Atom], text: &mut Vec<u8>) -> Result<(), AllocError>
+        ensures { OnOk result (text.new.items ≡ text.old.items ++ flat_map (spaced_text (task_of self.now.task.now)) (lent_atoms atoms.now)) }
+    {
+        for atom in atoms {
+            self.add_atom(atom, text)?;
+        }
+        Ok(())
+    }
+
+    /// Adds a blank and the atom.
+    fn add_atom(&self, atom: &Atom, text: &mut Vec<u8>) -> Result<(), AllocError>
+        ensures { OnOk result (text.new.items ≡ text.old.items ++ spaced_text (task_of self.now.task.now) (atom_of atom.now)) }
+    {
+        text.extend_from_slice(b" (")?;
+        text.extend_from_slice(self.task.name_of_predicate(atom.predicate))?;
+        self.add_objects(atom.objects.as_slice(), text)?;
+        text.extend_from_slice(b")")
+    }
+
+    /// Adds a blank and the name of each object.
+    fn add_objects(&self, objects: &[ObjectId], text: &mut Vec<u8>) -> Result<(), AllocError>
+        ensures { OnOk result (text.new.items ≡ text.old.items ++ flat_map (object_text (task_of self.now.task.now)) (map object_of objects.now)) }
+    {
+        for object in objects {
+            text.extend_from_slice(b" ")?;
+            text.extend_from_slice(self.task.name_of_object(*object))?;
+        }
+        Ok(())
+    }
+}
+
+/// The atoms that are true in the state and false in the other one, in order.
+fn atoms_beyond<'s>(
+    alloc: Global,
+    state: &'s State,
+    other: &State,
+) -> Result<Vec<&'s Atom>, NoMemory>
+    ensures { IfOk result (λ atoms. lent_atoms atoms.items ≡ in_order (difference (state_of state.now) (state_of other.now))) }
+{
+    let mut atoms = Vec::new(alloc);
+    for atom in state.atoms() {
+        if !other.contains(atom) {
+            atoms.push(atom)?;
+        }
+    }
+    Ok(atoms)
+}
