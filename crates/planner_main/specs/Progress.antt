@@ -2,7 +2,7 @@
 use Rattle.std.specs.Prelude.{◌≡◌, ℕ, ◌⊎◌, ◌-◌, ◌^◌, min, Bool, if◌then◌else◌, IsTrue, List, ◌++◌, length, codes, Option, None, Some, ⊤}
 use Rattle.std.specs.Fmt.{decimal}
 use Rattle.std.specs.Option.{option_map}
-use Rattle.command_line.specs.Orders.{Asks, Asked, Wanted, to_solve, to_validate, to_check, to_explain}
+use Rattle.command_line.specs.Orders.{Asks, Asked, Wanted, to_solve, to_validate, to_check, to_explain, to_explain_cert}
 use Rattle.devices.specs.Devices.{IsWritten}
 use Rattle.devices.specs.Written.{AreWritten}
 use Rattle.file_answers.specs.SaidOf.{IsCheckLineOf, IsTrueLineOf}
@@ -73,6 +73,7 @@ IsProgressOn contents (to_solve domain problem asked) line =
     IsSearchLine contents domain problem asked.progress line ⊎ IsWritingLineOn contents (to_solve domain problem asked) line
 IsProgressOn contents (to_check domain problem cert asked) line = IsCheckingLine contents domain problem cert asked.progress line
 IsProgressOn contents (to_explain domain problem asked) line = ⊥
+IsProgressOn contents (to_explain_cert domain problem cert asked) line = ⊥
 
 abbrev pub IsProgress : (List ℕ → Option (List ℕ)) → List (List ℕ) → List ℕ → Type 0
 IsProgress contents words line = (wanted : Wanted) × Asks words wanted × IsProgressOn contents wanted line
@@ -84,6 +85,7 @@ WantsProgress (to_validate domain problem plan json) = ⊥
 WantsProgress (to_solve domain problem asked) = IsTrue asked.progress
 WantsProgress (to_check domain problem cert asked) = IsTrue asked.progress
 WantsProgress (to_explain domain problem asked) = ⊥
+WantsProgress (to_explain_cert domain problem cert asked) = ⊥
 
 abbrev pub AsksForProgress : List (List ℕ) → Type 0
 AsksForProgress words = (wanted : Wanted) × Asks words wanted × WantsProgress wanted
@@ -94,6 +96,7 @@ WantsSearchProgress (to_validate domain problem plan json) = ⊥
 WantsSearchProgress (to_solve domain problem asked) = IsTrue asked.progress
 WantsSearchProgress (to_check domain problem cert asked) = ⊥
 WantsSearchProgress (to_explain domain problem asked) = ⊥
+WantsSearchProgress (to_explain_cert domain problem cert asked) = ⊥
 
 abbrev pub AsksForSearchProgress : List (List ℕ) → Type 0
 AsksForSearchProgress words = (wanted : Wanted) × Asks words wanted × WantsSearchProgress wanted
@@ -136,12 +139,14 @@ HasEndedIf progress wants_memory failures taken (report.Solve solved) = IsTrue p
 HasEndedIf progress wants_memory failures taken (report.Validate verdict) = ⊤
 HasEndedIf progress wants_memory failures taken (report.Check checked) = ⊤
 HasEndedIf progress wants_memory failures taken (report.Explain e) = ⊤
+HasEndedIf progress wants_memory failures taken (report.ExplainCheck e) = ⊤
 
 abbrev pub HasEndedFor : Wanted → (wants_memory : Bool) → (failures : ℕ) → (taken : Option (List ℕ)) → Report → Type 0
 HasEndedFor (to_validate domain problem plan json) wants_memory failures taken found = ⊤
 HasEndedFor (to_solve domain problem asked) wants_memory failures taken found = HasEndedIf asked.progress wants_memory failures taken found
 HasEndedFor (to_check domain problem cert asked) wants_memory failures taken found = ⊤
 HasEndedFor (to_explain domain problem asked) wants_memory failures taken found = ⊤
+HasEndedFor (to_explain_cert domain problem cert asked) wants_memory failures taken found = ⊤
 
 -- the report of the end, by exit status: an answer with a plan or without any plan has a certificate
 abbrev pub HasSaidEnd : (contents contents_after : List ℕ → Option (List ℕ)) → (known : Bool) → Wanted → (wants_memory : Bool) → (after : Stream) → (status : ℕ) → Type 0
@@ -150,3 +155,4 @@ HasSaidEnd contents contents_after known (to_solve domain problem asked) wants_m
     IsTrue asked.progress → (status ≡ 0) ⊎ (status ≡ 10) → EndsFor contents contents_after known (to_solve domain problem asked) wants_memory after
 HasSaidEnd contents contents_after known (to_check domain problem cert asked) wants_memory after status = ⊤
 HasSaidEnd contents contents_after known (to_explain domain problem asked) wants_memory after status = ⊤
+HasSaidEnd contents contents_after known (to_explain_cert domain problem cert asked) wants_memory after status = ⊤
