@@ -29,24 +29,12 @@ pub struct FaultExplanation<'a> {
     pub wrong: Option<WrongPlace>,
 }
 
-/// Explains a fault of these texts. The caller is responsible for it being the first fault; for a fault that these texts do not
-/// have, the help is whatever the words around its span allow.
+/// Explains a fault of these texts, given their pieces. The caller is responsible for it being the first fault; for a fault that
+/// these texts do not have, the help is whatever the words around its span allow.
 ///
 /// # Errors
 /// An allocation failed.
 pub fn explain_fault<'a>(
-    alloc: Global,
-    texts: &NamedTexts<'a>,
-    fault: FileRefusal,
-) -> Result<FaultExplanation<'a>, NoMemory>
-    ensures { IfOk result (IsExplained texts.now fault) }
-{
-    let cut = CutTexts::of(alloc, texts, fault.code)?;
-    explain_among(alloc, texts, &cut, fault)
-}
-
-/// The same, given the pieces of the texts.
-fn explain_among<'a>(
     alloc: Global,
     texts: &NamedTexts<'a>,
     pieces: &CutTexts<'a>,

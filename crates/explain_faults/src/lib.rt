@@ -8,6 +8,6 @@ mod wanted;
 mod words;
 mod wrong;
 
-pub use explain_hints::{File, FileRefusal, LineColumn, NamedText, NamedTexts};
+pub use explain_hints::{CutTexts, File, FileRefusal, LineColumn, NamedText, NamedTexts};
 pub use explanation::{FaultExplanation, explain_fault};
 pub use wrong::{Nesting, WrongPlace};
