@@ -17,6 +17,7 @@ pub mod Paused
 pub mod Raised
 pub mod Reached
 pub mod Reaching
+pub mod Results
 pub mod Single
 pub mod Standings
 pub mod Steps

@@ -25,6 +25,9 @@ no_more w w' one one' is le = omega (arith, is, le)
 less_by_one : (w w' one one' : ℕ) → w' + one ≡ w + one' → one' + 1 ≡ one → w' < w
 less_by_one w w' one one' is less = omega (arith, is, less)
 
+same_work : (w w' one one' : ℕ) → w' + one ≡ w + one' → one' ≡ one → w' ≡ w
+same_work w w' one one' is same = omega (arith, is, same)
+
 module _ {S : Type 0} where
   -- a node that waits may be turned to once more than one that is expanded
   work_waits : (n : Found S) → is_expanded n.node ≡ false → work_at n ≡ n.node.cost * 2 + 1
@@ -74,7 +77,7 @@ module _ {S : Type 0} where
       → work_left most (set nodes j m) ≡ work_left most nodes
   work_same nodes j n m most at waits still same =
       let equal : work_at m ≡ work_at n = omega (arith, work_waits n waits, work_waits m still, same) in
-      omega (arith, work_set nodes j n m most at, equal)
+      same_work (work_left most nodes) (work_left most (set nodes j m)) (work_at n) (work_at m) (work_set nodes j n m most at) equal
 
 -- a turn takes something of what is left: an answer, or an expansion
 pub less_by_ask : (work work' asks asks' : ℕ) → work' ≡ work → asks' < asks → work' * 4294967296 + asks' < work * 4294967296 + asks

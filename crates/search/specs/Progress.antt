@@ -219,16 +219,10 @@ abbrev pub turns_left : {S R : Type 0} → (most : ℕ) → List (Found S) → B
 turns_left most nodes buffers = work_left most nodes * 4294967296 + buffers.asks
 
 -- The value of the state whose turn it was is raised, or it is dead.
-pub record Defers {S Store R : Type 0} (t : System S ℕ) (class_of : S → S) (value : S → ℕ) (is_dead : S → Bool) (states_of : Store → List S) (old new : Progress Store) (before after : Buffers R) : Type 0 where
+pub record Defers {S Store : Type 0} (t : System S ℕ) (class_of : S → S) (value : S → ℕ) (is_dead : S → Bool) (states_of : Store → List S) (old new : Progress Store) : Type 0 where
   pub search : IsSearch t class_of value is_dead states_of new
   pub are_open : AreOpen t class_of (nodes_in states_of new)
   pub work : (most : ℕ) → work_left most (nodes_in states_of new) ≡ work_left most (nodes_in states_of old)
-  pub fewer : after.asks < before.asks
-
--- The state whose turn it is keeps its value.
-pub record Stays {Store R : Type 0} (old new : Progress Store) (before after : Buffers R) : Type 0 where
-  pub same : new ≡ old
-  pub asks : after.asks ≡ before.asks
 
 -- The turn of a state is over.
 pub record TurnsOver {S Store R : Type 0} (t : System S ℕ) (class_of : S → S) (value : S → ℕ) (is_dead : S → Bool) (states_of : Store → List S) (old new : Progress Store) (before after : Buffers R) (max_states : ℕ) : Type 0 where

@@ -1,17 +1,18 @@
 //! The turn of a state: its value is asked for, and it is expanded unless it waits again or is dead.
-ghost use Rattle.std.specs.Prelude.{◌≡◌, ◌≤◌, ◌+◌, ◌<◌, ℕ, false, Some, List, Bool, MatchBool, IfOk, length, slice_get};
+ghost use Rattle.std.specs.Prelude.{◌≡◌, ◌≤◌, ◌+◌, ◌-◌, ◌^◌, ◌<◌, false, Some, MatchBool, IfOk, OnOk, length, slice_get, slice_set};
 ghost use Rattle.packed_state.specs.Packed.{bits_of};
 ghost use Rattle.search.specs.Nodes.{AreOpen};
-ghost use Rattle.search.specs.OnDemand.{Extends};
+ghost use Rattle.search.specs.OnDemand.{Extends, IsBased};
+ghost use Rattle.search.specs.OpenList.{JoinsBy};
 ghost use Rattle.search.specs.Outcome.{AreClassesOf};
-ghost use Rattle.search.specs.Progress.{AreWide, Defers, HoldsIn, IsAtTurn, IsStopped, Stays, TurnsOver, nodes_in};
+ghost use Rattle.search.specs.Progress.{AreWide, Defers, HoldsIn, IsAtTurn, IsStopped, TurnsOver, nodes_in};
 
 use crate::best::MAX_STATES;
 use crate::buffers::Buffers;
 use crate::guide::Guide;
 use crate::listing::StateListing;
-use crate::nodes::NodeStatus;
-use crate::on_demand::{Answer, ValuesOnDemand};
+use crate::nodes::{NodeStatus, StateId};
+use crate::on_demand::{Answer, Basis, ValuesOnDemand};
 use crate::progress::Progress;
 use crate::transitions::TransitionSystem;
 use crate::turns::Turn;
@@ -86,10 +87,11 @@ impl<L: StateListing> Progress<L> {
         ensures values_for { V.system_of values.new ≡ V.system_of values.old }
         ensures values_width { V.width_of values.new ≡ V.width_of values.old }
         ensures extends { IfOk result (λ _. Extends (V.shows values.old) (V.shows values.new)) }
+        ensures asks { IfOk result (λ is_deferred. MatchBool is_deferred (buffers.new.asks < buffers.old.asks) (buffers.new.asks ≡ buffers.old.asks)) }
         ensures deferred { IfOk result (λ is_deferred. MatchBool is_deferred
             (HoldsIn (G.system_of guide.now) (G.estimate_of guide.now) (G.is_dead guide.now) (V.shows values.new) L.states self.new
-            (λ value is_dead. Defers (G.system_of guide.now) (L.class_of self.old.store) value is_dead L.states self.old self.new buffers.old buffers.new))
-            (Stays self.old self.new buffers.old buffers.new)) }
+            (λ value is_dead. Defers (G.system_of guide.now) (L.class_of self.old.store) value is_dead L.states self.old self.new))
+            (self.new ≡ self.old)) }
     {
         if buffers.asks == 0 {
             return Ok(false);
@@ -98,20 +100,47 @@ impl<L: StateListing> Progress<L> {
             return Ok(false);
         }
         let basis = self.bases.at(turn.id.0);
-        match values.ask(&buffers.state, turn.id.0, turn.estimate, basis)? {
+        let answer = values.ask(&buffers.state, turn.id.0, turn.estimate, basis)?;
+        match answer {
             Answer::Nothing => Ok(false),
             Answer::Raised(basis, value) => {
                 buffers.asks -= 1;
-                self.bases.set(turn.id, Some(basis))?;
-                self.enqueue(turn.id, turn.sum - turn.estimate, Some(value))?;
+                self.raise(turn, basis, value)?;
                 Ok(true)
             }
             Answer::Dead(basis) => {
                 buffers.asks -= 1;
-                self.bases.set(turn.id, Some(basis))?;
-                self.mark(turn.id, NodeStatus::Dead);
+                self.bury(turn.id, basis)?;
                 Ok(true)
             }
         }
+    }
+
+    /// The state whose turn it is has this value, by this basis, and waits again.
+    fn raise(&mut self, turn: Turn, basis: Basis, value: u64) -> Result<(), NoMemory>
+        requires sum { turn.estimate ≤ turn.sum }
+        requires fits { turn.sum - turn.estimate + value < 2 ^ 64 }
+        requires place { turn.id.0 < MAX_STATES }
+        ensures store { self.new.store ≡ self.old.store }
+        ensures nodes { self.new.nodes.items ≡ self.old.nodes.items }
+        ensures bases { OnOk result (IsBased self.old.bases self.new.bases turn.id.0 (Some basis)) }
+        ensures open_list { OnOk result (JoinsBy self.old.open_list self.new.open_list (turn.sum - turn.estimate) turn.id.0 (Some value)) }
+    {
+        self.enqueue(turn.id, turn.sum - turn.estimate, Some(value))?;
+        self.bases.set(turn.id, Some(basis))?;
+        Ok(())
+    }
+
+    /// The state at this place is dead, by this basis.
+    fn bury(&mut self, id: StateId, basis: Basis) -> Result<(), NoMemory>
+        requires { id.0 < length self.old.nodes.items }
+        ensures store { self.new.store ≡ self.old.store }
+        ensures nodes { (node : _) → slice_get self.old.nodes.items id.0 ≡ Some node
+            → self.new.nodes.items ≡ slice_set self.old.nodes.items id.0 (record node { status = NodeStatus.Dead }) }
+        ensures bases { OnOk result (IsBased self.old.bases self.new.bases id.0 (Some basis)) }
+        ensures open_list { self.new.open_list ≡ self.old.open_list }
+    {
+        self.mark(id, NodeStatus::Dead);
+        self.bases.set(id, Some(basis))
     }
 }

@@ -19,14 +19,14 @@ pub(crate) struct Buffers<R> {
     pub(crate) next: Packed,
     /// The actions that are applicable in the expanded state.
     pub(crate) applicable: Vec<u32>,
+    /// How often the value of a state may still change where it is asked for. So the search ends, whatever the answers are.
+    pub(crate) asks: u32,
     /// The guide's scratch.
     pub(crate) scratch: R,
     /// The keys of the successors.
     pub(crate) keys: Vec<u32>,
     /// What was read of their slots. Nothing depends on it.
     pub(crate) touched: u32,
-    /// How often the value of a state may still change where it is asked for. So the search ends, whatever the answers are.
-    pub(crate) asks: u32,
 }
 
 impl<R: Drop> Buffers<R> {
@@ -39,10 +39,10 @@ impl<R: Drop> Buffers<R> {
             state: Packed::empty(alloc, width)?,
             next: Packed::empty(alloc, width)?,
             applicable: Vec::new(alloc),
+            asks: u32::MAX,
             scratch,
             keys: Vec::new(alloc),
             touched: 0,
-            asks: u32::MAX,
         })
     }
 

@@ -3,7 +3,7 @@ ghost use Rattle.std.specs.Prelude.{◌≡◌, ◌≢◌, ℕ, ◌+◌, ◌<◌,
 ghost use Rattle.packed_state.specs.Packed.{bits_of};
 ghost use Rattle.search.specs.Outcome.{AreClassesOf};
 ghost use Rattle.search.specs.Nodes.{Waiting, IsEntry, IsCurrent, AreOpen, IsPath, IsReachedIn};
-ghost use Rattle.search.specs.OnDemand.{basis_at};
+ghost use Rattle.search.specs.OnDemand.{basis_at, IsBased};
 ghost use Rattle.search.specs.Standing.{IsStandingAt};
 ghost use Rattle.search.specs.OpenList.{waiting_in, IsOpenList, JoinsBy};
 ghost use Rattle.search.specs.Progress.{AreNotedWith, HoldsIn, TakesNext, IsLeastWith, nodes_in, IsSearch, IsAtTurn, IsStopped, IsExpanding, IsPlaceAmong, IsReachedWithin, IsReachedCheaper, IsFreeFor, TakesPlace, IsLeftOut, Reaches, IsFull, Expands, AreWide};
@@ -126,6 +126,37 @@ impl<L: StateListing> Progress<L> {
     {
         self.nodes.push(node)?;
         self.enqueue(id, node.cost, estimate)
+    }
+
+    /// Adds the node of a state that is reached for the first time, and its basis.
+    fn add_reached(&mut self, id: StateId, reached: Reached<'_>) -> Result<(), NoMemory>
+        requires sum { IfSome reached.estimate (λ e. reached.node.cost + e < 2 ^ 64) }
+        requires place { id.0 < MAX_STATES }
+        ensures store { self.new.store ≡ self.old.store }
+        ensures nodes { OnOk result (self.new.nodes.items ≡ self.old.nodes.items ++ reached.entry.node ∷ []) }
+        ensures bases { OnOk result (IsBased self.old.bases self.new.bases id.0 reached.entry.basis) }
+        ensures open_list { OnOk result
+            (JoinsBy self.old.open_list self.new.open_list reached.entry.node.cost id.0 reached.entry.estimate) }
+    {
+        self.bases.set(id, reached.basis)?;
+        self.add(id, reached.node, reached.estimate)?;
+        Ok(())
+    }
+
+    /// Replaces the node of a state by that of another one of its class, which takes its place, and has its own basis.
+    fn replace_node(&mut self, id: StateId, reached: Reached<'_>) -> Result<(), NoMemory>
+        requires found { id.0 < length self.old.nodes.items }
+        requires sum { IfSome reached.estimate (λ e. reached.node.cost + e < 2 ^ 64) }
+        requires place { id.0 < MAX_STATES }
+        ensures store { self.new.store ≡ self.old.store }
+        ensures nodes { OnOk result (self.new.nodes.items ≡ slice_set self.old.nodes.items id.0 reached.entry.node) }
+        ensures bases { OnOk result (IsBased self.old.bases self.new.bases id.0 reached.entry.basis) }
+        ensures open_list { OnOk result
+            (JoinsBy self.old.open_list self.new.open_list reached.entry.node.cost id.0 reached.entry.estimate) }
+    {
+        self.bases.set(id, reached.basis)?;
+        self.improve(id, reached.node, reached.estimate)?;
+        Ok(())
     }
 
     /// Replaces a node by that of a cheaper way. The state waits at this cost if it has an estimate.
@@ -280,10 +311,7 @@ impl<L: StateListing> Progress<L> {
             (IsLeftOut L.states self.old self.new (bits_of reached.entry.state.now) max_states)) }
     {
         match place {
-            Place::New(place) => {
-                self.bases.set(StateId(place), reached.basis)?;
-                self.add(StateId(place), reached.node, reached.estimate)?;
-            }
+            Place::New(place) => self.add_reached(StateId(place), reached)?,
             Place::Listed(place) => {
                 let mut node = reached.node;
                 node.status = self.nodes[place as usize].status.again(reached.estimate);
@@ -292,13 +320,11 @@ impl<L: StateListing> Progress<L> {
             Place::Alike(place) => {
                 if !self.nodes[place as usize].status.has_been_expanded() {
                     self.store.replace(place, reached.state);
-                    self.bases.set(StateId(place), reached.basis)?;
-                    self.improve(StateId(place), reached.node, reached.estimate)?;
+                    self.replace_node(StateId(place), reached)?;
                 } else if self.store.len() < max_states as usize {
                     let last = StateId(self.nodes.len() as u32);
                     self.store.append(reached.state, place)?;
-                    self.bases.set(last, reached.basis)?;
-                    self.add(last, reached.node, reached.estimate)?;
+                    self.add_reached(last, reached)?;
                 } else {
                     return Ok(false);
                 }

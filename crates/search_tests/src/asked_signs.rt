@@ -19,6 +19,7 @@ use std::alloc::Global;
 use std::test::Fail;
 
 /// The signs. Each answer that raises a value adds a basis, by which each room has its sign.
+#[derive(Clone, Copy)]
 struct AskedSigns {
     signs: Signs,
     bases: u32,

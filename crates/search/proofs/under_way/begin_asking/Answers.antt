@@ -1,5 +1,4 @@
 use Rattle.std.proofs.Common.{Bool, List, ℕ, subst}
-use Rattle.faults.proofs.Results.{if_ok}
 use Rattle.model.specs.Runs.{System}
 use Rattle.search.specs.DeadEnds.{ReportsDeadEnds}
 use Rattle.search.specs.Estimates.{IsAdmissible}

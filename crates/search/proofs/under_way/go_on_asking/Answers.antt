@@ -1,4 +1,4 @@
-use Rattle.std.proofs.Common.{refl, List, Bool, ◌≡◌, ℕ, length, ap, sym, ◌∙◌, subst, arith, Some, get_or, true, false}
+use Rattle.std.proofs.Common.{refl, List, ◌≡◌, ℕ, length, ap, sym, ◌∙◌, subst, arith, Some, get_or, true, false}
 use Rattle.std.specs.Prelude.{slice_get, All}
 use Rattle.search.specs.OpenList.{waiting_in}
 use Rattle.std.proofs.lemmas.Option.{same_Some, get_or_from_slice_get, slice_get_within}
@@ -51,6 +51,14 @@ get-requires-clause-there g c =
     let search = c.turns.invariant.by.holds.search in
     let next = at_turn _ _ _ _ _ _ _ search.one_each search.nodes search.single _ c.in-Some.turn c.in-Some.ensures.some in
     rw c.in-Some.ensures.store (slice_get_within _ _ next.found.state next.state)
+
+pub get-requires-clause-width : goal.get-requires-clause-width
+get-requires-clause-width g c =
+    let by = c.turns.invariant.by.holds in
+    rw c.in-Some.ensures.store (by.buffers.state ∙ sym by.store_width)
+
+pub meets_goal-requires : goal.meets_goal-requires
+meets_goal-requires g c = c.get.ensures.width ∙ ap g.L.StateListing.width_of c.in-Some.ensures.store ∙ c.turns.invariant.by.holds.store_width
 
 pub index-requires : goal.index-requires
 index-requires g c =
@@ -131,6 +139,27 @@ same_classes g c = ap g.L.StateListing.class_of c.in-Some.ensures.store ∙ c.tu
 
 pub take_turn-requires-clause-classes : goal.take_turn-requires-clause-classes
 take_turn-requires-clause-classes g c = rw (same_classes g (goal.at.take_turn-requires-clause-classes g c).In-Some) c.requires.classes
+
+pub take_turn-requires-clause-values_for : goal.take_turn-requires-clause-values_for
+take_turn-requires-clause-values_for g c = c.turns.invariant.values_for ∙ c.requires.values_for
+
+pub take_turn-requires-clause-values_width : goal.take_turn-requires-clause-values_width
+take_turn-requires-clause-values_width g c = c.turns.invariant.values_width ∙ c.requires.values_width
+
+pub take_turn-requires-clause-width : goal.take_turn-requires-clause-width
+take_turn-requires-clause-width g c = rw c.in-Some.ensures.store c.turns.invariant.by.holds.store_width
+
+pub take_turn-requires-clause-state : goal.take_turn-requires-clause-state
+take_turn-requires-clause-state g c = c.get.ensures.state
+
+pub take_turn-requires-clause-scratch : goal.take_turn-requires-clause-scratch
+take_turn-requires-clause-scratch g c = c.turns.invariant.by.holds.scratch
+
+pub take_turn-requires-clause-buffers : goal.take_turn-requires-clause-buffers
+take_turn-requires-clause-buffers g c = record {
+  state = c.get.ensures.width ∙ ap g.L.StateListing.width_of c.in-Some.ensures.store ∙ c.turns.invariant.by.holds.store_width;
+  next = c.turns.invariant.by.holds.buffers.next;
+}
 
 pub take_turn-requires-clause-turn : goal.take_turn-requires-clause-turn
 take_turn-requires-clause-turn g c =
@@ -240,6 +269,12 @@ returns-then-not-branch-clause-halt g c =
         estimates_stopped t class_of by.value by.is_dead states_of c.take_turn.new.self c.in-Some.turn c.args.max_states stopped c.in_ok-bound.states.estimates.items c.in_ok-bound.ensures.estimates,
       );
     }
+
+pub returns-then-not-branch-clause-values_for : goal.returns-then-not-branch-clause-values_for
+returns-then-not-branch-clause-values_for g c = c.take_turn.ensures.values_for ∙ c.turns.invariant.values_for
+
+pub returns-then-not-branch-clause-values_width : goal.returns-then-not-branch-clause-values_width
+returns-then-not-branch-clause-values_width g c = c.take_turn.ensures.values_width ∙ c.turns.invariant.values_width
 
 pub returns-then-not-branch-clause-extends : goal.returns-then-not-branch-clause-extends
 returns-then-not-branch-clause-extends g c = extends_trans c.turns.invariant.extends c.in_ok-take_turn.ensures.extends

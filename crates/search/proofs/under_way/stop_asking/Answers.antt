@@ -1,9 +1,12 @@
-use Rattle.std.proofs.Common.{length, ap, arith}
+use Rattle.std.proofs.Common.{ap, arith}
 use Rattle.search.proofs.Closed.{unsolvable}
 use Rattle.search.proofs.Noted.{none_estimated}
 use Rattle.search.proofs.Paused.{turn_there, entries_left, estimates_noted, at_pause}
 use Rattle.search.proofs.Steps.{entries_of, none_waits}
 use Rattle.search.proofs.under_way.stop_asking.Goals as goal
+
+pub next_waiting-requires-clause-heap : goal.next_waiting-requires-clause-heap
+next_waiting-requires-clause-heap g c = c.requires.search.holds.heap
 
 pub next_waiting-requires-clause-entries : goal.next_waiting-requires-clause-entries
 next_waiting-requires-clause-entries g c = entries_of _ _ _ _ _ _ _ c.requires.search.holds.one_each c.requires.search.holds.nodes

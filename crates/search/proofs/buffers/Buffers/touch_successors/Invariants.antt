@@ -7,6 +7,6 @@ abbrev pub invariant-loop-action : goal.invariant-loop-action
 invariant-loop-action g l = record {
   state : l.self.1.0 ≡ l.fn.self.state;
   next : length (bits_of l.self.1.1.0) ≡ g.T.TransitionSystem.width_of l.system;
-  scratch : l.self.1.1.1.1.0 ≡ l.fn.self.scratch;
-  asks : l.self.1.1.1.1.1.1.1.0 ≡ l.fn.self.asks;
+  scratch : l.self.1.1.1.1.1.0 ≡ l.fn.self.scratch;
+  asks : l.self.1.1.1.1.0 ≡ l.fn.self.asks;
 }

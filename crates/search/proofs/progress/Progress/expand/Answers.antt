@@ -3,7 +3,7 @@ use Rattle.std.specs.Prelude.{IsTrue, is_some, slice_get}
 use Rattle.search.specs.declared.nodes.NodeStatus.TheVariants.{Reopened, Expanded}
 use Rattle.search.specs.OpenList.{waiting_in}
 use Rattle.std.proofs.lemmas.List.{drop_more, drop_all, length-set}
-use Rattle.std.proofs.lemmas.Option.{same_Some}
+use Rattle.std.proofs.lemmas.Option.{same_Some, slice_get_within}
 use Rattle.model.proofs.ListLemmas.{Contains-here}
 use Rattle.packed_state.specs.Packed.{bits_of}
 use Rattle.search.specs.declared.bases.Bases.{Bases}
@@ -39,6 +39,30 @@ has_begun g c =
     turn.open_list _ turn.one_each turn.nodes _ turn.found turn.occurs turn.waits turn.least turn.rest turn.entries
     (subst (λ x. t.meets_goal x ≡ false) (is_state g c) c.requires.no_goal) c.requires.open _ _ (ap g.L.StateListing.states c.mark.ensures.store)
     (c.mark.ensures.nodes turn.found.node (found_of-get states all _ turn.found turn.occurs).1)
+
+pub mark-requires : goal.mark-requires
+mark-requires g c =
+    let turn = c.requires.turn.holds in
+    let all = c.args.self.now.nodes.items in
+    slice_get_within all c.args.turn.id.0 turn.found.node (found_of-get (g.L.StateListing.states c.args.self.now.store) all c.args.turn.id.0 turn.found turn.occurs).1
+
+pub mark-requires-then-not-branch : goal.mark-requires-then-not-branch
+mark-requires-then-not-branch g c =
+    let stopped : c.in_ok-reach.field-0 ≡ false = c.if-not-branch.true in
+    let by = rw (c.loop-action.invariant.class, stopped) at c.in_ok-reach.ensures.listed in
+    let turn = by.holds.0.turn in
+    let all = c.loop-action.self.nodes.items in
+    let there = slice_get_within all c.args.turn.id.0 turn.found.node (found_of-get (g.L.StateListing.states c.loop-action.self.store) all c.args.turn.id.0 turn.found turn.occurs).1 in
+    omega (arith, there, ap length by.holds.1.nodes)
+
+pub reach-requires-clause-values_width : goal.reach-requires-clause-values_width
+reach-requires-clause-values_width g c = c.requires.values_width ∙ sym c.loop-action.invariant.width
+
+pub returns-then-not-branch-clause-asks : goal.returns-then-not-branch-clause-asks
+returns-then-not-branch-clause-asks g c = c.loop-action.invariant.asks
+
+pub returns-clause-asks : goal.returns-clause-asks
+returns-clause-asks g c = c.loop-action.invariant.asks
 
 pub touch_successors-requires-clause-buffers : goal.touch_successors-requires-clause-buffers
 touch_successors-requires-clause-buffers g c = record { state = c.requires.buffers.state; next = c.requires.buffers.next }

@@ -20,7 +20,7 @@ use Rattle.search.proofs.Limit.{more_reachable}
 use Rattle.search.proofs.Linked.{found_of-get, length-found_of}
 use Rattle.search.proofs.Reached.{place_among, placed_within, placed_nowhere, free_for, match_each, reached_before}
 use Rattle.search.proofs.Reaching.{IsStepTo, reached_placed, named_at}
-use Rattle.search.proofs.Steps.{turn_limits, value_fits}
+use Rattle.search.proofs.Steps.{turn_limits}
 use Rattle.search.proofs.Standings.{estimate_fits}
 use Rattle.search.proofs.Valued.{AreShown}
 use Rattle.search.proofs.progress.Progress.reach.Given.{Over}
@@ -110,18 +110,18 @@ overflow_add-cost g c =
 
 pub is_reached_within-requires : goal.is_reached_within-requires
 is_reached_within-requires g c =
-    place_among _ _ _ _ _ _ (length c.args.self.now.nodes.items) c.requires.expanding.search.one_each c.requires.within c.requires.limit c.in-Some.place (placed g (goal.at.is_reached_within-requires g c).In-Some)
+    place_among _ _ _ _ _ _ (length c.args.self.now.nodes.items) c.requires.expanding.holds.search.one_each c.requires.within c.requires.limit c.in-Some.place (placed g (goal.at.is_reached_within-requires g c).In-Some)
 
 pub node-node-requires : goal.node-node-requires
 node-node-requires g c = parent_within g (goal.at.node-node-requires g c).After-from
 
 pub take_place-requires-clause-place : goal.take_place-requires-clause-place
 take_place-requires-clause-place g c =
-    place_among _ _ _ _ _ _ (length c.args.self.now.nodes.items) c.requires.expanding.search.one_each c.requires.within c.requires.limit c.in-Some.place (placed g (goal.at.take_place-requires-clause-place g c).In-Some)
+    place_among _ _ _ _ _ _ (length c.args.self.now.nodes.items) c.requires.expanding.holds.search.one_each c.requires.within c.requires.limit c.in-Some.place (placed g (goal.at.take_place-requires-clause-place g c).In-Some)
 
 pub take_place-requires-clause-free : goal.take_place-requires-clause-free
 take_place-requires-clause-free g c =
-    free_for _ _ _ _ _ _ (g.L.StateListing.class_of c.place.new.self) c.place.ensures.class (length c.args.self.now.nodes.items) c.requires.expanding.search.one_each c.in-Some.place
+    free_for _ _ _ _ _ _ (g.L.StateListing.class_of c.place.new.self) c.place.ensures.class (length c.args.self.now.nodes.items) c.requires.expanding.holds.search.one_each c.in-Some.place
     (placed g (goal.at.take_place-requires-clause-free g c).In-Some)
 
 pub take_place-requires-clause-within : goal.take_place-requires-clause-within
@@ -137,6 +137,9 @@ take_place-requires-clause-sum g c =
 pub standing_at-standing-requires : goal.standing_at-standing-requires
 standing_at-standing-requires g c =
     place_among _ _ _ _ _ _ (length c.args.self.now.nodes.items) c.requires.expanding.holds.search.one_each c.requires.within c.requires.limit c.in-Some.place (placed g (goal.at.standing_at-standing-requires g c).In-Some)
+
+pub estimate_by-estimate-requires-clause-values_width : goal.estimate_by-estimate-requires-clause-values_width
+estimate_by-estimate-requires-clause-values_width g c = c.requires.values_width ∙ sym c.requires.guide_width
 
 pub estimate_by-estimate-requires-clause-named : goal.estimate_by-estimate-requires-clause-named
 estimate_by-estimate-requires-clause-named g c =
