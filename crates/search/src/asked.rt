@@ -13,6 +13,7 @@ use crate::guide::Guide;
 use crate::listing::StateListing;
 use crate::nodes::{NodeStatus, StateId};
 use crate::on_demand::{Answer, Basis, ValuesOnDemand};
+use crate::problem::Problem;
 use crate::progress::Progress;
 use crate::transitions::TransitionSystem;
 use crate::turns::Turn;
@@ -23,45 +24,43 @@ impl<L: StateListing> Progress<L> {
     /// limit does not allow it, and the state waits again, but is not in the open list.
     pub(crate) fn take_turn<T: TransitionSystem, G: Guide, V: ValuesOnDemand>(
         &mut self,
-        system: &T,
-        guide: &G,
+        problem: &Problem<'_, T, G>,
         values: &mut V,
         buffers: &mut Buffers<G::Scratch>,
         turn: Turn,
-        max_states: u32,
     ) -> Result<bool, NoMemory>
-        requires made_for { G.system_of guide.now ≡ T.means system.now }
-        requires values_for { V.system_of values.old ≡ T.means system.now }
-        requires guide_width { G.width_of guide.now ≡ T.width_of system.now }
-        requires values_width { V.width_of values.old ≡ T.width_of system.now }
-        requires turn { HoldsIn (T.means system.now) (G.estimate_of guide.now) (G.is_dead guide.now) (V.shows values.old) L.states self.old
-            (λ value is_dead. IsAtTurn (T.means system.now) (L.class_of self.old.store) value is_dead L.states self.old turn) }
-        requires classes { AreClassesOf (T.means system.now) (L.class_of self.old.store) }
-        requires scratch { G.fits guide.now buffers.old.scratch }
-        requires open { AreOpen (T.means system.now) (L.class_of self.old.store) (nodes_in L.states self.old) }
+        requires made_for { G.system_of problem.now.guide.now ≡ T.means problem.now.system.now }
+        requires values_for { V.system_of values.old ≡ T.means problem.now.system.now }
+        requires guide_width { G.width_of problem.now.guide.now ≡ T.width_of problem.now.system.now }
+        requires values_width { V.width_of values.old ≡ T.width_of problem.now.system.now }
+        requires turn { HoldsIn (T.means problem.now.system.now) (G.estimate_of problem.now.guide.now) (G.is_dead problem.now.guide.now) (V.shows values.old) L.states self.old
+            (λ value is_dead. IsAtTurn (T.means problem.now.system.now) (L.class_of self.old.store) value is_dead L.states self.old turn) }
+        requires classes { AreClassesOf (T.means problem.now.system.now) (L.class_of self.old.store) }
+        requires scratch { G.fits problem.now.guide.now buffers.old.scratch }
+        requires open { AreOpen (T.means problem.now.system.now) (L.class_of self.old.store) (nodes_in L.states self.old) }
         requires state { slice_get (L.states self.old.store) turn.id.0 ≡ Some (bits_of buffers.old.state) }
-        requires no_goal { (T.means system.now).meets_goal (bits_of buffers.old.state) ≡ false }
-        requires width { L.width_of self.old.store ≡ T.width_of system.now }
-        requires buffers { AreWide (T.width_of system.now) buffers.old }
-        requires within { length (L.states self.old.store) ≤ max_states }
-        requires limit { max_states ≤ MAX_STATES }
-        ensures width { IfOk result (λ _. L.width_of self.new.store ≡ T.width_of system.now) }
+        requires no_goal { (T.means problem.now.system.now).meets_goal (bits_of buffers.old.state) ≡ false }
+        requires width { L.width_of self.old.store ≡ T.width_of problem.now.system.now }
+        requires buffers { AreWide (T.width_of problem.now.system.now) buffers.old }
+        requires within { length (L.states self.old.store) ≤ problem.now.max_states }
+        requires limit { problem.now.max_states ≤ MAX_STATES }
+        ensures width { IfOk result (λ _. L.width_of self.new.store ≡ T.width_of problem.now.system.now) }
         ensures class { IfOk result (λ _. L.class_of self.new.store ≡ L.class_of self.old.store) }
-        ensures buffers { IfOk result (λ _. AreWide (T.width_of system.now) buffers.new) }
-        ensures scratch { IfOk result (λ _. G.fits guide.now buffers.new.scratch) }
+        ensures buffers { IfOk result (λ _. AreWide (T.width_of problem.now.system.now) buffers.new) }
+        ensures scratch { IfOk result (λ _. G.fits problem.now.guide.now buffers.new.scratch) }
         ensures values_for { V.system_of values.new ≡ V.system_of values.old }
         ensures values_width { V.width_of values.new ≡ V.width_of values.old }
         ensures extends { IfOk result (λ _. Extends (V.shows values.old) (V.shows values.new)) }
         ensures over { IfOk result (λ is_over. MatchBool is_over
-            (HoldsIn (T.means system.now) (G.estimate_of guide.now) (G.is_dead guide.now) (V.shows values.new) L.states self.new
-            (λ value is_dead. TurnsOver (T.means system.now) (L.class_of self.old.store) value is_dead L.states self.old self.new buffers.old buffers.new max_states))
-            (HoldsIn (T.means system.now) (G.estimate_of guide.now) (G.is_dead guide.now) (V.shows values.new) L.states self.new
-            (λ value is_dead. IsStopped (T.means system.now) (L.class_of self.old.store) value is_dead L.states self.new turn max_states))) }
+            (HoldsIn (T.means problem.now.system.now) (G.estimate_of problem.now.guide.now) (G.is_dead problem.now.guide.now) (V.shows values.new) L.states self.new
+            (λ value is_dead. TurnsOver (T.means problem.now.system.now) (L.class_of self.old.store) value is_dead L.states self.old self.new buffers.old buffers.new problem.now.max_states))
+            (HoldsIn (T.means problem.now.system.now) (G.estimate_of problem.now.guide.now) (G.is_dead problem.now.guide.now) (V.shows values.new) L.states self.new
+            (λ value is_dead. IsStopped (T.means problem.now.system.now) (L.class_of self.old.store) value is_dead L.states self.new turn problem.now.max_states))) }
     {
-        if self.defer(guide, values, buffers, turn)? {
+        if self.defer(problem.guide, values, buffers, turn)? {
             return Ok(true);
         }
-        self.expand(system, guide, values, buffers, turn, max_states)
+        self.expand(problem, values, buffers, turn)
     }
 
     /// Asks for the value of the state in the buffers, whose turn it is, if it was never expanded. `true`: the value is raised, and the

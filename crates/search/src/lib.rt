@@ -12,6 +12,7 @@ mod listing;
 mod nodes;
 mod on_demand;
 mod open_list;
+mod problem;
 mod progress;
 mod transitions;
 mod turns;
@@ -25,6 +26,7 @@ pub use guide::{EstimateWithDeadEnds, Guide};
 pub use listing::{OwnClasses, Place, StateListing};
 pub use nodes::{FoundStates, Node, NodeStatus, StateId};
 pub use on_demand::{Answer, Basis, GuideAlone, ValuesOnDemand};
+pub use problem::Problem;
 pub use transitions::TransitionSystem;
 pub use under_way::{
     Halt, Search, Stop, begin, begin_asking, finish, go_on, go_on_asking, stop_asking,

@@ -16,8 +16,9 @@ use crate::listing::{Place, StateListing};
 use crate::nodes::{FoundStates, Node, NodeStatus, ShortId, StateId, steps_to};
 use crate::on_demand::ValuesOnDemand;
 use crate::open_list::OpenList;
+use crate::problem::Problem;
 use crate::transitions::TransitionSystem;
-use crate::turns::{Reached, Standing, Successor, Turn, estimate_by};
+use crate::turns::{Reached, Standing, Successor, Turn};
 use faults::NoMemory;
 use std::alloc::Global;
 use std::cmp::Reverse;
@@ -213,44 +214,42 @@ impl<L: StateListing> Progress<L> {
     /// `false`: the limit does not allow it.
     fn reach<T: TransitionSystem, G: Guide, V: ValuesOnDemand>(
         &mut self,
-        system: &T,
-        guide: &G,
+        problem: &Problem<'_, T, G>,
         values: &V,
         scratch: &mut G::Scratch,
         to: Successor<'_>,
-        max_states: u32,
     ) -> Result<bool, NoMemory>
-        requires made_for { G.system_of guide.now ≡ T.means system.now }
-        requires values_for { V.system_of values.now ≡ T.means system.now }
-        requires guide_width { G.width_of guide.now ≡ L.width_of self.old.store }
+        requires made_for { G.system_of problem.now.guide.now ≡ T.means problem.now.system.now }
+        requires values_for { V.system_of values.now ≡ T.means problem.now.system.now }
+        requires guide_width { G.width_of problem.now.guide.now ≡ L.width_of self.old.store }
         requires values_width { V.width_of values.now ≡ L.width_of self.old.store }
-        requires expanding { HoldsIn (T.means system.now) (G.estimate_of guide.now) (G.is_dead guide.now) (V.shows values.now) L.states self.old
-            (λ value is_dead. IsExpanding (T.means system.now) (L.class_of self.old.store) value is_dead L.states self.old to.parent.0) }
-        requires scratch { G.fits guide.now scratch.old }
-        requires leads { (s : List Bool) → slice_get (L.states self.old.store) to.parent.0 ≡ Some s → (T.means system.now).step s to.action ≡ Some (bits_of to.state.now) }
+        requires expanding { HoldsIn (T.means problem.now.system.now) (G.estimate_of problem.now.guide.now) (G.is_dead problem.now.guide.now) (V.shows values.now) L.states self.old
+            (λ value is_dead. IsExpanding (T.means problem.now.system.now) (L.class_of self.old.store) value is_dead L.states self.old to.parent.0) }
+        requires scratch { G.fits problem.now.guide.now scratch.old }
+        requires leads { (s : List Bool) → slice_get (L.states self.old.store) to.parent.0 ≡ Some s → (T.means problem.now.system.now).step s to.action ≡ Some (bits_of to.state.now) }
         requires width { length (bits_of to.state.now) ≡ L.width_of self.old.store }
-        requires within { length (L.states self.old.store) ≤ max_states }
-        requires limit { max_states ≤ MAX_STATES }
+        requires within { length (L.states self.old.store) ≤ problem.now.max_states }
+        requires limit { problem.now.max_states ≤ MAX_STATES }
         ensures width { L.width_of self.new.store ≡ L.width_of self.old.store }
         ensures class { L.class_of self.new.store ≡ L.class_of self.old.store }
-        ensures scratch { IfOk result (λ _. G.fits guide.now scratch.new) }
+        ensures scratch { IfOk result (λ _. G.fits problem.now.guide.now scratch.new) }
         ensures listed { IfOk result (λ is_listed. MatchBool is_listed
-            (HoldsIn (T.means system.now) (G.estimate_of guide.now) (G.is_dead guide.now) (V.shows values.now) L.states self.new
-            (λ value is_dead. Reaches (T.means system.now) (L.class_of self.old.store) value is_dead L.states self.old self.new to.entry.parent.0 max_states to.entry.action (bits_of to.entry.state.now)))
-            (HoldsIn (T.means system.now) (G.estimate_of guide.now) (G.is_dead guide.now) (V.shows values.now) L.states self.old
-            (λ value is_dead. IsExpanding (T.means system.now) (L.class_of self.old.store) value is_dead L.states self.old to.entry.parent.0
-            × IsFull (T.means system.now) value is_dead L.states self.old self.new max_states))) }
+            (HoldsIn (T.means problem.now.system.now) (G.estimate_of problem.now.guide.now) (G.is_dead problem.now.guide.now) (V.shows values.now) L.states self.new
+            (λ value is_dead. Reaches (T.means problem.now.system.now) (L.class_of self.old.store) value is_dead L.states self.old self.new to.entry.parent.0 problem.now.max_states to.entry.action (bits_of to.entry.state.now)))
+            (HoldsIn (T.means problem.now.system.now) (G.estimate_of problem.now.guide.now) (G.is_dead problem.now.guide.now) (V.shows values.now) L.states self.old
+            (λ value is_dead. IsExpanding (T.means problem.now.system.now) (L.class_of self.old.store) value is_dead L.states self.old to.entry.parent.0
+            × IsFull (T.means problem.now.system.now) value is_dead L.states self.old self.new problem.now.max_states))) }
     {
         let before = self.nodes[to.parent.0 as usize];
-        let cost = before.cost + u64::from(system.cost(to.action));
-        let Some(place) = self.store.place(to.state, max_states)? else {
+        let cost = before.cost + u64::from(problem.system.cost(to.action));
+        let Some(place) = self.store.place(to.state, problem.max_states)? else {
             return Ok(false);
         };
         if self.is_reached_within(place, cost) {
             return Ok(true);
         }
         let standing = self.standing_at(place, to.parent);
-        let estimate = estimate_by(guide, values, standing, to.state, scratch);
+        let estimate = standing.estimate(problem.guide, values, to.state, scratch);
         let node = to.node(cost, NodeStatus::of_reached(estimate));
         let reached = Reached {
             state: to.state,
@@ -258,7 +257,7 @@ impl<L: StateListing> Progress<L> {
             estimate,
             basis: standing.basis(),
         };
-        self.take_place(place, reached, max_states)
+        self.take_place(place, reached, problem.max_states)
     }
 
     /// Whether the state at this place, itself or the current one of its class, is reached at no more than this cost.
@@ -337,51 +336,49 @@ impl<L: StateListing> Progress<L> {
     /// waits again, but is not in the open list.
     pub(crate) fn expand<T: TransitionSystem, G: Guide, V: ValuesOnDemand>(
         &mut self,
-        system: &T,
-        guide: &G,
+        problem: &Problem<'_, T, G>,
         values: &V,
         buffers: &mut Buffers<G::Scratch>,
         turn: Turn,
-        max_states: u32,
     ) -> Result<bool, NoMemory>
-        requires made_for { G.system_of guide.now ≡ T.means system.now }
-        requires values_for { V.system_of values.now ≡ T.means system.now }
-        requires guide_width { G.width_of guide.now ≡ T.width_of system.now }
-        requires values_width { V.width_of values.now ≡ T.width_of system.now }
-        requires turn { HoldsIn (T.means system.now) (G.estimate_of guide.now) (G.is_dead guide.now) (V.shows values.now) L.states self.old
-            (λ value is_dead. IsAtTurn (T.means system.now) (L.class_of self.old.store) value is_dead L.states self.old turn) }
-        requires classes { AreClassesOf (T.means system.now) (L.class_of self.old.store) }
-        requires scratch { G.fits guide.now buffers.old.scratch }
-        requires open { AreOpen (T.means system.now) (L.class_of self.old.store) (nodes_in L.states self.old) }
+        requires made_for { G.system_of problem.now.guide.now ≡ T.means problem.now.system.now }
+        requires values_for { V.system_of values.now ≡ T.means problem.now.system.now }
+        requires guide_width { G.width_of problem.now.guide.now ≡ T.width_of problem.now.system.now }
+        requires values_width { V.width_of values.now ≡ T.width_of problem.now.system.now }
+        requires turn { HoldsIn (T.means problem.now.system.now) (G.estimate_of problem.now.guide.now) (G.is_dead problem.now.guide.now) (V.shows values.now) L.states self.old
+            (λ value is_dead. IsAtTurn (T.means problem.now.system.now) (L.class_of self.old.store) value is_dead L.states self.old turn) }
+        requires classes { AreClassesOf (T.means problem.now.system.now) (L.class_of self.old.store) }
+        requires scratch { G.fits problem.now.guide.now buffers.old.scratch }
+        requires open { AreOpen (T.means problem.now.system.now) (L.class_of self.old.store) (nodes_in L.states self.old) }
         requires state { slice_get (L.states self.old.store) turn.id.0 ≡ Some (bits_of buffers.old.state) }
-        requires no_goal { (T.means system.now).meets_goal (bits_of buffers.old.state) ≡ false }
-        requires width { L.width_of self.old.store ≡ T.width_of system.now }
-        requires buffers { AreWide (T.width_of system.now) buffers.old }
-        requires within { length (L.states self.old.store) ≤ max_states }
-        requires limit { max_states ≤ MAX_STATES }
-        ensures width { IfOk result (λ _. L.width_of self.new.store ≡ T.width_of system.now) }
+        requires no_goal { (T.means problem.now.system.now).meets_goal (bits_of buffers.old.state) ≡ false }
+        requires width { L.width_of self.old.store ≡ T.width_of problem.now.system.now }
+        requires buffers { AreWide (T.width_of problem.now.system.now) buffers.old }
+        requires within { length (L.states self.old.store) ≤ problem.now.max_states }
+        requires limit { problem.now.max_states ≤ MAX_STATES }
+        ensures width { IfOk result (λ _. L.width_of self.new.store ≡ T.width_of problem.now.system.now) }
         ensures class { IfOk result (λ _. L.class_of self.new.store ≡ L.class_of self.old.store) }
-        ensures buffers { IfOk result (λ _. AreWide (T.width_of system.now) buffers.new) }
-        ensures scratch { IfOk result (λ _. G.fits guide.now buffers.new.scratch) }
+        ensures buffers { IfOk result (λ _. AreWide (T.width_of problem.now.system.now) buffers.new) }
+        ensures scratch { IfOk result (λ _. G.fits problem.now.guide.now buffers.new.scratch) }
         ensures asks { IfOk result (λ _. buffers.new.asks ≡ buffers.old.asks) }
         ensures listed { IfOk result (λ is_listed. MatchBool is_listed
-            (HoldsIn (T.means system.now) (G.estimate_of guide.now) (G.is_dead guide.now) (V.shows values.now) L.states self.new
-            (λ value is_dead. Expands (T.means system.now) (L.class_of self.old.store) value is_dead L.states self.old self.new max_states))
-            (HoldsIn (T.means system.now) (G.estimate_of guide.now) (G.is_dead guide.now) (V.shows values.now) L.states self.new
-            (λ value is_dead. IsStopped (T.means system.now) (L.class_of self.old.store) value is_dead L.states self.new turn max_states))) }
+            (HoldsIn (T.means problem.now.system.now) (G.estimate_of problem.now.guide.now) (G.is_dead problem.now.guide.now) (V.shows values.now) L.states self.new
+            (λ value is_dead. Expands (T.means problem.now.system.now) (L.class_of self.old.store) value is_dead L.states self.old self.new problem.now.max_states))
+            (HoldsIn (T.means problem.now.system.now) (G.estimate_of problem.now.guide.now) (G.is_dead problem.now.guide.now) (V.shows values.now) L.states self.new
+            (λ value is_dead. IsStopped (T.means problem.now.system.now) (L.class_of self.old.store) value is_dead L.states self.new turn problem.now.max_states))) }
     {
-        system.applicable(&buffers.state, &mut buffers.applicable)?;
+        problem.system.applicable(&buffers.state, &mut buffers.applicable)?;
         self.mark(turn.id, NodeStatus::Expanded);
-        guide.move_to(&buffers.state, &mut buffers.scratch);
-        buffers.touch_successors(system, &self.store)?;
+        problem.guide.move_to(&buffers.state, &mut buffers.scratch);
+        buffers.touch_successors(problem.system, &self.store)?;
         for &action in &buffers.applicable {
-            system.successor(action, &buffers.state, &mut buffers.next);
+            problem.system.successor(action, &buffers.state, &mut buffers.next);
             let to = Successor {
                 parent: turn.id,
                 action,
                 state: &buffers.next,
             };
-            if !self.reach(system, guide, values, &mut buffers.scratch, to, max_states)? {
+            if !self.reach(problem, values, &mut buffers.scratch, to)? {
                 self.mark(turn.id, NodeStatus::Reopened);
                 return Ok(false);
             }

@@ -54,32 +54,32 @@ impl Standing {
             Standing::Based(basis) => basis,
         }
     }
-}
 
-/// The estimate of a state by the guide and by what it stands on, or `None` if it is dead.
-pub(crate) fn estimate_by<G: Guide, V: ValuesOnDemand>(
-    guide: &G,
-    values: &V,
-    standing: Standing,
-    state: &Packed,
-    scratch: &mut G::Scratch,
-) -> Option<u64>
-    requires width { length (bits_of state.now) ≡ G.width_of guide.now }
-    requires values_width { V.width_of values.now ≡ G.width_of guide.now }
-    requires scratch { G.fits guide.now scratch.old }
-    requires named { IsNamedAt (V.shows values.now) standing }
-    ensures estimate { IsEstimateBy (G.estimate_of guide.now) (G.is_dead guide.now) (V.shows values.now) (bits_of state.now) standing result }
-    ensures scratch { G.fits guide.now scratch.new }
-{
-    let Standing::Based(basis) = standing else {
-        return None;
-    };
-    let Some(estimate) = guide.value(state, scratch) else {
-        return None;
-    };
-    match basis {
-        Some(basis) => Some(estimate.max(values.value(basis, state))),
-        None => Some(estimate),
+    /// The estimate of a state by the guide and by what it stands on, or `None` if it is dead.
+    pub(crate) fn estimate<G: Guide, V: ValuesOnDemand>(
+        self,
+        guide: &G,
+        values: &V,
+        state: &Packed,
+        scratch: &mut G::Scratch,
+    ) -> Option<u64>
+        requires width { length (bits_of state.now) ≡ G.width_of guide.now }
+        requires values_width { V.width_of values.now ≡ G.width_of guide.now }
+        requires scratch { G.fits guide.now scratch.old }
+        requires named { IsNamedAt (V.shows values.now) self }
+        ensures estimate { IsEstimateBy (G.estimate_of guide.now) (G.is_dead guide.now) (V.shows values.now) (bits_of state.now) self result }
+        ensures scratch { G.fits guide.now scratch.new }
+    {
+        let Standing::Based(basis) = self else {
+            return None;
+        };
+        let Some(estimate) = guide.value(state, scratch) else {
+            return None;
+        };
+        match basis {
+            Some(basis) => Some(estimate.max(values.value(basis, state))),
+            None => Some(estimate),
+        }
     }
 }
 

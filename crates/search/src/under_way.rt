@@ -71,6 +71,7 @@ use crate::guide::Guide;
 use crate::listing::StateListing;
 use crate::nodes::{FoundStates, Node};
 use crate::on_demand::{GuideAlone, ValuesOnDemand};
+use crate::problem::Problem;
 use crate::progress::Progress;
 use crate::transitions::TransitionSystem;
 use faults::NoMemory;
@@ -181,19 +182,18 @@ pub fn begin<T: TransitionSystem, G: Guide, L: StateListing>(
 /// Memory is refused.
 pub fn begin_asking<T: TransitionSystem, G: Guide, V: ValuesOnDemand, L: StateListing>(
     alloc: Global,
-    system: &T,
-    guide: &G,
+    problem: &Problem<'_, T, G>,
     _values: &V,
     store: L,
 ) -> Result<Search<L, G::Scratch>, NoMemory>
-    requires made_for { G.system_of guide.now ≡ T.means system.now }
-    requires guide_width { G.width_of guide.now ≡ T.width_of system.now }
+    requires made_for { G.system_of problem.now.guide.now ≡ T.means problem.now.system.now }
+    requires guide_width { G.width_of problem.now.guide.now ≡ T.width_of problem.now.system.now }
     requires empty { L.states store ≡ [] }
-    requires width { L.width_of store ≡ T.width_of system.now }
+    requires width { L.width_of store ≡ T.width_of problem.now.system.now }
     ensures { IfOk result (λ search. (max_states : ℕ) → 1 ≤ max_states
-        → IsUnderWayBy (T.means system.now) (L.class_of store) (G.estimate_of guide.now) (G.is_dead guide.now) (V.shows _values.now) (G.fits guide.now) L.states L.class_of L.width_of (T.width_of system.now) max_states search) }
+        → IsUnderWayBy (T.means problem.now.system.now) (L.class_of store) (G.estimate_of problem.now.guide.now) (G.is_dead problem.now.guide.now) (V.shows _values.now) (G.fits problem.now.guide.now) L.states L.class_of L.width_of (T.width_of problem.now.system.now) max_states search) }
 {
-    start(alloc, system, guide, store)
+    start(alloc, problem.system, problem.guide, store)
 }
 
 /// A search whose initial state alone is found, and stands on the guide.
@@ -238,7 +238,12 @@ pub fn go_on<T: TransitionSystem, G: Guide, L: StateListing>(
 {
     let search = search.without_bases(alloc);
     let mut values = GuideAlone(guide);
-    go_on_asking(alloc, system, guide, &mut values, search, pause, max_states)
+    let problem = Problem {
+        system,
+        guide,
+        max_states,
+    };
+    go_on_asking(alloc, &problem, &mut values, search, pause)
 }
 
 /// Continues the search as `go_on` does. The values of states are asked for when their turn comes.
@@ -247,24 +252,22 @@ pub fn go_on<T: TransitionSystem, G: Guide, L: StateListing>(
 /// Memory is refused.
 pub fn go_on_asking<T: TransitionSystem, G: Guide, V: ValuesOnDemand, L: StateListing>(
     alloc: Global,
-    system: &T,
-    guide: &G,
+    problem: &Problem<'_, T, G>,
     values: &mut V,
     search: Search<L, G::Scratch>,
     pause: u32,
-    max_states: u32,
 ) -> Result<Halt<L, G::Scratch>, NoMemory>
-    requires made_for { G.system_of guide.now ≡ T.means system.now }
-    requires values_for { V.system_of values.old ≡ T.means system.now }
-    requires guide_width { G.width_of guide.now ≡ T.width_of system.now }
-    requires values_width { V.width_of values.old ≡ T.width_of system.now }
-    requires under_way { IsUnderWayBy (T.means system.now) (L.class_of (store_in search)) (G.estimate_of guide.now) (G.is_dead guide.now) (V.shows values.old) (G.fits guide.now) L.states L.class_of L.width_of (T.width_of system.now) max_states search }
-    requires classes { AreClassesOf (T.means system.now) (L.class_of (store_in search)) }
-    requires limit { max_states ≤ max_states_listed }
+    requires made_for { G.system_of problem.now.guide.now ≡ T.means problem.now.system.now }
+    requires values_for { V.system_of values.old ≡ T.means problem.now.system.now }
+    requires guide_width { G.width_of problem.now.guide.now ≡ T.width_of problem.now.system.now }
+    requires values_width { V.width_of values.old ≡ T.width_of problem.now.system.now }
+    requires under_way { IsUnderWayBy (T.means problem.now.system.now) (L.class_of (store_in search)) (G.estimate_of problem.now.guide.now) (G.is_dead problem.now.guide.now) (V.shows values.old) (G.fits problem.now.guide.now) L.states L.class_of L.width_of (T.width_of problem.now.system.now) problem.now.max_states search }
+    requires classes { AreClassesOf (T.means problem.now.system.now) (L.class_of (store_in search)) }
+    requires limit { problem.now.max_states ≤ max_states_listed }
     ensures values_for { IfOk result (λ _. V.system_of values.new ≡ V.system_of values.old) }
     ensures values_width { IfOk result (λ _. V.width_of values.new ≡ V.width_of values.old) }
     ensures extends { IfOk result (λ _. Extends (V.shows values.old) (V.shows values.new)) }
-    ensures halt { IfOk result (IsTrueHaltBy (T.means system.now) (L.class_of (store_in search)) (G.estimate_of guide.now) (G.is_dead guide.now) (V.shows values.new) (G.fits guide.now) L.states L.class_of L.width_of (T.width_of system.now) pause max_states) }
+    ensures halt { IfOk result (IsTrueHaltBy (T.means problem.now.system.now) (L.class_of (store_in search)) (G.estimate_of problem.now.guide.now) (G.is_dead problem.now.guide.now) (V.shows values.new) (G.fits problem.now.guide.now) L.states L.class_of L.width_of (T.width_of problem.now.system.now) pause problem.now.max_states) }
 {
     let Search {
         mut progress,
@@ -277,7 +280,7 @@ pub fn go_on_asking<T: TransitionSystem, G: Guide, V: ValuesOnDemand, L: StateLi
             return Ok(Halt::Ended(Outcome::Exhausted { states }));
         };
         progress.store.get(turn.id.0, &mut buffers.state);
-        if system.meets_goal(&buffers.state) {
+        if problem.system.meets_goal(&buffers.state) {
             let cost = progress.nodes[turn.id.0 as usize].cost;
             let (steps, states) = progress.into_plan(alloc, turn)?;
             return Ok(Halt::Ended(Outcome::Found {
@@ -286,7 +289,7 @@ pub fn go_on_asking<T: TransitionSystem, G: Guide, V: ValuesOnDemand, L: StateLi
                 states,
             }));
         }
-        if !progress.take_turn(system, guide, values, &mut buffers, turn, max_states)? {
+        if !progress.take_turn(problem, values, &mut buffers, turn)? {
             let (bound, states) = progress.into_bound(alloc, turn)?;
             return Ok(Halt::Ended(Outcome::States { bound, states }));
         }

@@ -12,8 +12,8 @@ use crate::signs::Signs;
 use faults::NoMemory;
 use packed_state::{Packed, PlainStore, PooledStore, StateStore};
 use search::{
-    Answer, Basis, Estimate, EstimateWithDeadEnds, Halt, OwnClasses, ValuesOnDemand, begin_asking,
-    go_on_asking, value_of,
+    Answer, Basis, Estimate, EstimateWithDeadEnds, Halt, OwnClasses, Problem, ValuesOnDemand,
+    begin_asking, go_on_asking, value_of,
 };
 use std::alloc::Global;
 use std::test::Fail;
@@ -97,16 +97,13 @@ fn is_as_wanted<S: StateStore>(alloc: Global, row: &Row, store: S) -> Result<boo
         },
         bases: 0,
     };
-    let search = begin_asking(alloc, &row.rooms, &guide, &values, OwnClasses(store))?;
-    match go_on_asking(
-        alloc,
-        &row.rooms,
-        &guide,
-        &mut values,
-        search,
-        u32::MAX,
-        100,
-    )? {
+    let problem = Problem {
+        system: &row.rooms,
+        guide: &guide,
+        max_states: 100,
+    };
+    let search = begin_asking(alloc, &problem, &values, OwnClasses(store))?;
+    match go_on_asking(alloc, &problem, &mut values, search, u32::MAX)? {
         Halt::Ended(outcome) => is_reported(alloc, &in_store(outcome), row),
         Halt::Paused(_) => Ok(false),
     }

@@ -94,7 +94,7 @@ pub returns-then-meets_goal-clause-halt : goal.returns-then-meets_goal-clause-ha
 returns-then-meets_goal-clause-halt g c =
     let search = c.turns.invariant.by.holds.search in
     let next = at_turn _ _ _ _ _ _ _ search.one_each search.nodes search.single _ c.in-Some.turn c.in-Some.ensures.some in
-    let t = g.T.TransitionSystem.means c.args.system.now in
+    let t = g.T.TransitionSystem.means c.args.problem.now.system.now in
     let value = c.turns.invariant.by.value in
     let is_dead = c.turns.invariant.by.is_dead in
     let states = g.L.StateListing.states c.turns.progress.store in
@@ -110,7 +110,7 @@ returns-then-meets_goal-clause-halt g c =
     let short = rw c.in-Some.ensures.nodes at c.in_ok-steps.ensures.short in
     let admissible = c.turns.invariant.by.valued.admissible in
     let reports = c.turns.invariant.by.valued.dead_ends in
-    let best = optimal _ _ _ _ _ _ search.one_each _ search.nodes c.requires.classes admissible reports id next.found c.in_ok-steps.steps.items c.args.max_states
+    let best = optimal _ _ _ _ _ _ search.one_each _ search.nodes c.requires.classes admissible reports id next.found c.in_ok-steps.steps.items c.args.problem.now.max_states
     c.turns.invariant.by.holds.are_open next.occurs next.least meets path short c.turns.invariant.by.holds.within in
     let noted = rw c.in-Some.ensures.nodes at c.in_ok-steps.ensures.estimates in
     record {
@@ -122,7 +122,7 @@ returns-then-meets_goal-clause-halt g c =
           best.0,
           best.1 ∙ same_cost,
           rw (c.in_ok-steps.ensures.store, c.in-Some.ensures.store, c.in_ok-steps.ensures.nodes, c.in-Some.ensures.nodes)
-              (subst (λ (n : ℕ). AreFound t (g.L.StateListing.class_of c.args.search.progress.store) value is_dead (bound n) c.args.max_states states all) same_cost best.2),
+              (subst (λ (n : ℕ). AreFound t (g.L.StateListing.class_of c.args.search.progress.store) value is_dead (bound n) c.args.problem.now.max_states states all) same_cost best.2),
           best.3,
           rw (c.in_ok-steps.ensures.store, c.in-Some.ensures.store, c.in_ok-steps.ensures.nodes, c.in-Some.ensures.nodes)
               (subst (λ (n : ℕ). AreExpandedWithin value n states all) same_cost best.4),
@@ -209,13 +209,13 @@ pub into_bound-requires-clause-turn : goal.into_bound-requires-clause-turn
 into_bound-requires-clause-turn g c =
     let not_listed : c.in_ok-take_turn.field-0 ≡ false = c.if-not-branch.true in
     let by = rw not_listed at c.in_ok-take_turn.ensures.over in
-    turn_within (g.T.TransitionSystem.means c.args.system.now) _ by.value by.is_dead g.L.StateListing.states c.take_turn.new.self c.in-Some.turn c.args.max_states by.holds
+    turn_within (g.T.TransitionSystem.means c.args.problem.now.system.now) _ by.value by.is_dead g.L.StateListing.states c.take_turn.new.self c.in-Some.turn c.args.problem.now.max_states by.holds
 
 pub into_bound-requires-clause-entries : goal.into_bound-requires-clause-entries
 into_bound-requires-clause-entries g c =
     let not_listed : c.in_ok-take_turn.field-0 ≡ false = c.if-not-branch.true in
     let by = rw not_listed at c.in_ok-take_turn.ensures.over in
-    entries_stopped (g.T.TransitionSystem.means c.args.system.now) _ by.value by.is_dead g.L.StateListing.states c.take_turn.new.self c.in-Some.turn c.args.max_states by.holds
+    entries_stopped (g.T.TransitionSystem.means c.args.problem.now.system.now) _ by.value by.is_dead g.L.StateListing.states c.take_turn.new.self c.in-Some.turn c.args.problem.now.max_states by.holds
 
 pub turns-smaller : goal.turns-smaller
 turns-smaller g c =
@@ -254,7 +254,7 @@ returns-then-not-branch-clause-halt g c =
     let not_listed : c.in_ok-take_turn.field-0 ≡ false = c.if-not-branch.true in
     let by = rw (same_classes g (goal.at.returns-then-not-branch-clause-halt g c).In-Some, not_listed) at c.in_ok-take_turn.ensures.over in
     let stopped = by.holds in
-    let t = g.T.TransitionSystem.means c.args.system.now in
+    let t = g.T.TransitionSystem.means c.args.problem.now.system.now in
     let class_of = g.L.StateListing.class_of c.args.search.progress.store in
     let states_of = g.L.StateListing.states in
     record {
@@ -264,9 +264,9 @@ returns-then-not-branch-clause-halt g c =
       holds = rw (c.in_ok-bound.ensures.store, c.in_ok-bound.ensures.nodes) (
         (
           stopped.more,
-          at_limit t class_of by.value by.is_dead states_of c.take_turn.new.self c.in-Some.turn c.args.max_states stopped c.requires.classes by.valued.admissible by.valued.dead_ends c.in_ok-bound.bound c.in_ok-bound.ensures.least,
+          at_limit t class_of by.value by.is_dead states_of c.take_turn.new.self c.in-Some.turn c.args.problem.now.max_states stopped c.requires.classes by.valued.admissible by.valued.dead_ends c.in_ok-bound.bound c.in_ok-bound.ensures.least,
         ),
-        estimates_stopped t class_of by.value by.is_dead states_of c.take_turn.new.self c.in-Some.turn c.args.max_states stopped c.in_ok-bound.states.estimates.items c.in_ok-bound.ensures.estimates,
+        estimates_stopped t class_of by.value by.is_dead states_of c.take_turn.new.self c.in-Some.turn c.args.problem.now.max_states stopped c.in_ok-bound.states.estimates.items c.in_ok-bound.ensures.estimates,
       );
     }
 
@@ -284,7 +284,7 @@ returns-in_default-clause-halt g c =
     let by = c.turns.invariant.by in
     let search = by.holds.search in
     let none = none_waits _ _ _ _ _ _ _ search.one_each search.nodes c.in_default.ensures.none in
-    let result = unsolvable _ _ _ _ _ _ search.one_each _ search.nodes c.requires.classes by.valued.admissible by.valued.dead_ends c.args.max_states by.holds.are_open none by.holds.within in
+    let result = unsolvable _ _ _ _ _ _ search.one_each _ search.nodes c.requires.classes by.valued.admissible by.valued.dead_ends c.args.problem.now.max_states by.holds.are_open none by.holds.within in
     let states = g.L.StateListing.states c.turns.progress.store in
     let all = c.turns.progress.nodes.items in
     let long = rw c.in_default.ensures.nodes at c.in_ok-states.ensures.estimates in

@@ -27,12 +27,12 @@ is_state g c =
     let turn = c.requires.turn.holds in
     same_Some _ turn.found.state (sym c.requires.state ∙ (found_of-get (g.L.StateListing.states c.args.self.now.store) c.args.self.now.nodes.items c.args.turn.id.0 turn.found turn.occurs).0)
 
-has_begun : (g : Over) (c : After-deref-action-items g) → HasBegun (g.T.TransitionSystem.means c.args.system.now) (g.L.StateListing.class_of c.args.self.now.store) c.requires.turn.value c.requires.turn.is_dead
+has_begun : (g : Over) (c : After-deref-action-items g) → HasBegun (g.T.TransitionSystem.means c.args.problem.now.system.now) (g.L.StateListing.class_of c.args.self.now.store) c.requires.turn.value c.requires.turn.is_dead
     (found_of (g.L.StateListing.states c.args.self.now.store) c.args.self.now.nodes.items) (g.L.StateListing.states c.mark.new.self.store) c.mark.new.self.nodes.items
     (waiting_in c.args.self.now.open_list) c.args.turn.id.0 c.requires.turn.holds.found
 has_begun g c =
     let turn = c.requires.turn.holds in
-    let t = g.T.TransitionSystem.means c.args.system.now in
+    let t = g.T.TransitionSystem.means c.args.problem.now.system.now in
     let states = g.L.StateListing.states c.args.self.now.store in
     let all = c.args.self.now.nodes.items in
     turn_begins t (g.L.StateListing.class_of c.args.self.now.store) c.requires.classes _ _ c.requires.turn.valued.admissible c.requires.turn.valued.dead_ends states all
@@ -78,14 +78,14 @@ loop-action-init g c =
     let begins = has_begun g (goal.at.loop-action-init g c).After-deref-action-items in
     let class_of = g.L.StateListing.class_of c.args.self.now.store in
     let same : g.L.StateListing.class_of begun.store ≡ class_of = ap g.L.StateListing.class_of c.mark.ensures.store in
-    let t = g.T.TransitionSystem.means c.args.system.now in
+    let t = g.T.TransitionSystem.means c.args.problem.now.system.now in
     let touched = c.in_ok-touch_successors.ensures in
     let by = c.requires.turn in
     record {
       by = record {
         value = by.value;
         is_dead = by.is_dead;
-        valued = valued_same t (g.G.Guide.estimate_of c.args.guide.now) (g.G.Guide.is_dead c.args.guide.now) (g.V.ValuesOnDemand.shows c.args.values.now)
+        valued = valued_same t (g.G.Guide.estimate_of c.args.problem.now.guide.now) (g.G.Guide.is_dead c.args.problem.now.guide.now) (g.V.ValuesOnDemand.shows c.args.values.now)
             (found_of (g.L.StateListing.states c.args.self.now.store) c.args.self.now.nodes.items) nodes c.args.self.now.bases begun.bases by.value by.is_dead
             (λ k. ap (λ (b : Bases). basis_at b k) c.mark.ensures.bases) begins.was by.valued;
         holds = rw same (record {
@@ -100,7 +100,7 @@ loop-action-init g c =
       class = refl;
       width = rw c.mark.ensures.store c.requires.width;
       state = ap (λ s. length (bits_of s)) touched.state ∙ c.requires.buffers.state;
-      scratch = subst (g.G.Guide.fits c.args.guide.now) (sym touched.scratch) c.move_to.ensures;
+      scratch = subst (g.G.Guide.fits c.args.problem.now.guide.now) (sym touched.scratch) c.move_to.ensures;
       next = touched.next;
       asks = touched.asks;
       occurs = rw (c.mark.ensures.store, touched.state) c.requires.state;
@@ -113,7 +113,7 @@ pub successor-requires-clause-applicable : goal.successor-requires-clause-applic
 successor-requires-clause-applicable g c =
     let inv = c.loop-action.invariant in
     let e = inv.by.holds in
-    let t = g.T.TransitionSystem.means c.args.system.now in
+    let t = g.T.TransitionSystem.means c.args.problem.now.system.now in
     let states = g.L.StateListing.states c.loop-action.self.store in
     let parts = found_of-get states c.loop-action.self.nodes.items c.args.turn.id.0 e.turn.found e.turn.occurs in
     let numbers = c.deref-action-items.result.now in
@@ -127,7 +127,7 @@ pub loop-action-preserved : goal.loop-action-preserved
 loop-action-preserved g c =
     let inv = c.loop-action.invariant in
     let e = inv.by.holds in
-    let t = g.T.TransitionSystem.means c.args.system.now in
+    let t = g.T.TransitionSystem.means c.args.problem.now.system.now in
     let states = g.L.StateListing.states c.loop-action.self.store in
     let states' = g.L.StateListing.states c.reach.new.self.store in
     let nodes = found_of states c.loop-action.self.nodes.items in
@@ -164,7 +164,7 @@ reach-requires-clause-expanding g c = rw c.loop-action.invariant.class c.loop-ac
 
 pub reach-requires-clause-leads : goal.reach-requires-clause-leads
 reach-requires-clause-leads g c =
-    let t = g.T.TransitionSystem.means c.args.system.now in
+    let t = g.T.TransitionSystem.means c.args.problem.now.system.now in
     let a = get_or c.deref-action-items.result.now c.loop-action.action-index 0 in
     λ s at. subst (λ x. t.step x a ≡ Some (bits_of c.successor.new.into)) (same_Some (bits_of c.loop-action.buffers.1.0) s (sym c.loop-action.invariant.occurs ∙ at)) c.successor.ensures.step
 
@@ -186,8 +186,8 @@ returns-then-not-branch-clause-listed g c =
     let first = c.requires.turn in
     let one : Found (List Bool) = marked Expanded c.requires.turn.holds.found in
     let same : one ≡ e.turn.found = same_Some one e.turn.found (sym (inv.continues.stays one (has_begun g here).occurs) ∙ e.turn.occurs) in
-    let estimate = g.G.Guide.estimate_of c.args.guide.now in
-    let reported = g.G.Guide.is_dead c.args.guide.now in
+    let estimate = g.G.Guide.estimate_of c.args.problem.now.guide.now in
+    let reported = g.G.Guide.is_dead c.args.problem.now.guide.now in
     let shown = g.V.ValuesOnDemand.shows c.args.values.now in
     let alive = e.search.nodes.alive i e.turn.found e.turn.occurs e.turn.expanded in
     let same_state : first.holds.found.state ≡ e.turn.found.state = ap (λ (x : Found (List Bool)). x.state) same in
@@ -198,7 +198,7 @@ returns-then-not-branch-clause-listed g c =
     then_is ∙ ap (λ (b : Option Basis). value_on estimate shown b first.holds.found.state) (sym based) ∙ ap (value_on estimate shown (basis_at c.loop-action.self.bases i)) same_state ∙ sym now_is in
     let same_cost : first.holds.found.node.cost ≡ e.turn.found.node.cost = ap (λ (x : Found (List Bool)). x.node.cost) same in
     let sum : c.args.turn.sum ≡ total_of value e.turn.found = omega (arith, first.holds.sum, same_value, same_cost) in
-    let t = g.T.TransitionSystem.means c.args.system.now in
+    let t = g.T.TransitionSystem.means c.args.problem.now.system.now in
     let nodes = found_of states all in
     let back = c.mark-then-not-branch.new.self in
     let stored : g.L.StateListing.states back.store ≡ states = ap g.L.StateListing.states c.mark-then-not-branch.ensures.store ∙ full.store in
@@ -234,7 +234,7 @@ returns-then-not-branch-clause-listed g c =
 
 pub returns-clause-listed : goal.returns-clause-listed
 returns-clause-listed g c =
-    let t = g.T.TransitionSystem.means c.args.system.now in
+    let t = g.T.TransitionSystem.means c.args.problem.now.system.now in
     let inv = c.loop-action.invariant in
     let e = inv.by.holds in
     let nodes = found_of (g.L.StateListing.states c.loop-action.self.store) c.loop-action.self.nodes.items in
@@ -249,6 +249,6 @@ returns-clause-listed g c =
         search = e.search;
         are_open = open_all t class_of nodes c.args.turn.id.0 e.turn.found e.turn.occurs (left_end t class_of nodes c.args.turn.id.0 e.turn.found e.turn.occurs (drop c.loop-action.action-index numbers) none inv.left) e.others_open;
         within = inv.within;
-        less = less_then _ _ _ (inv.continues.less c.args.max_states (omega (arith, inv.within, length-found_of (g.L.StateListing.states c.loop-action.self.store) c.loop-action.self.nodes.items e.search.one_each))) ((has_begun g (goal.at.returns-clause-listed g c).After-deref-action-items).less c.args.max_states);
+        less = less_then _ _ _ (inv.continues.less c.args.problem.now.max_states (omega (arith, inv.within, length-found_of (g.L.StateListing.states c.loop-action.self.store) c.loop-action.self.nodes.items e.search.one_each))) ((has_begun g (goal.at.returns-clause-listed g c).After-deref-action-items).less c.args.problem.now.max_states);
       });
     }

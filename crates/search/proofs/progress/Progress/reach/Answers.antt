@@ -44,11 +44,11 @@ limits g c =
     let states = g.L.StateListing.states c.args.self.now.store in
     let all = c.args.self.now.nodes.items in
     subst (λ (n : Node). n.cost + 4294967295 ≤ 72057598316118015) (sym (read_parent g c))
-    (turn_limits (g.T.TransitionSystem.means c.args.system.now) (g.L.StateListing.class_of c.args.self.now.store) c.requires.expanding.value c.requires.expanding.is_dead (found_of states all) (waiting_in c.args.self.now.open_list) e.search.nodes
-    c.args.to.parent.0 c.args.max_states e.turn (omega (arith, length-found_of states all e.search.one_each, c.requires.within)) c.requires.limit)
+    (turn_limits (g.T.TransitionSystem.means c.args.problem.now.system.now) (g.L.StateListing.class_of c.args.self.now.store) c.requires.expanding.value c.requires.expanding.is_dead (found_of states all) (waiting_in c.args.self.now.open_list) e.search.nodes
+    c.args.to.parent.0 c.args.problem.now.max_states e.turn (omega (arith, length-found_of states all e.search.one_each, c.requires.within)) c.requires.limit)
 
 -- the action leads from the state whose turn it is to the successor
-leads : (g : Over) (c : After-from g) → (g.T.TransitionSystem.means c.args.system.now).step c.requires.expanding.holds.turn.found.state c.args.to.action ≡ Some (bits_of c.args.to.state.now)
+leads : (g : Over) (c : After-from g) → (g.T.TransitionSystem.means c.args.problem.now.system.now).step c.requires.expanding.holds.turn.found.state c.args.to.action ≡ Some (bits_of c.args.to.state.now)
 leads g c =
     let turn = c.requires.expanding.holds.turn in
     let states = g.L.StateListing.states c.args.self.now.store in
@@ -64,13 +64,13 @@ parent_within g c =
 
 -- the state's place
 placed : (g : Over) (c : In-Some g) → IsPlacedBy (g.L.StateListing.class_of c.args.self.now.store) (g.L.StateListing.is_current c.place.new.self) (g.L.StateListing.states c.args.self.now.store)
-    (g.L.StateListing.states c.place.new.self) (bits_of c.args.to.state.now) c.args.max_states (Some c.in-Some.place)
+    (g.L.StateListing.states c.place.new.self) (bits_of c.args.to.state.now) c.args.problem.now.max_states (Some c.in-Some.place)
 placed g c = rw c.in-Some.is at c.in_ok-place.ensures.placed
 
 -- the node is that of the successor
-step : (g : Over) (c : After-node-node g) → IsStepTo (g.T.TransitionSystem.means c.args.system.now) c.requires.expanding.holds.turn.found c.args.to.parent.0 (bits_of c.args.to.state.now) c.node-node.result c.estimate_by-estimate.result
+step : (g : Over) (c : After-node-node g) → IsStepTo (g.T.TransitionSystem.means c.args.problem.now.system.now) c.requires.expanding.holds.turn.found c.args.to.parent.0 (bits_of c.args.to.state.now) c.node-node.result c.estimate-estimate.result
 step g c =
-    let t = g.T.TransitionSystem.means c.args.system.now in
+    let t = g.T.TransitionSystem.means c.args.problem.now.system.now in
     let one = c.requires.expanding.holds.turn.found in
     let here = (goal.at.After-node-node g c).After-from in
     let same : c.index-before.result.now.cost ≡ one.node.cost = ap (λ (n : Node). n.cost) (read_parent g here) in
@@ -84,15 +84,15 @@ step g c =
     }
 
 -- what guides the search keeps its laws
-admissible : (g : Over) (c : After-from g) → IsAdmissible (g.T.TransitionSystem.means c.args.system.now) (g.G.Guide.estimate_of c.args.guide.now)
+admissible : (g : Over) (c : After-from g) → IsAdmissible (g.T.TransitionSystem.means c.args.problem.now.system.now) (g.G.Guide.estimate_of c.args.problem.now.guide.now)
 admissible g c =
-    subst (λ (u : System (List Bool) ℕ). IsAdmissible u (g.G.Guide.estimate_of c.args.guide.now)) c.requires.made_for (g.met.G.Guide.is_admissible c.args.guide.now)
+    subst (λ (u : System (List Bool) ℕ). IsAdmissible u (g.G.Guide.estimate_of c.args.problem.now.guide.now)) c.requires.made_for (g.met.G.Guide.is_admissible c.args.problem.now.guide.now)
 
-reports : (g : Over) (c : After-from g) → ReportsDeadEnds (g.T.TransitionSystem.means c.args.system.now) (g.G.Guide.is_dead c.args.guide.now)
+reports : (g : Over) (c : After-from g) → ReportsDeadEnds (g.T.TransitionSystem.means c.args.problem.now.system.now) (g.G.Guide.is_dead c.args.problem.now.guide.now)
 reports g c =
-    subst (λ (u : System (List Bool) ℕ). ReportsDeadEnds u (g.G.Guide.is_dead c.args.guide.now)) c.requires.made_for (g.met.G.Guide.reports_dead_ends c.args.guide.now)
+    subst (λ (u : System (List Bool) ℕ). ReportsDeadEnds u (g.G.Guide.is_dead c.args.problem.now.guide.now)) c.requires.made_for (g.met.G.Guide.reports_dead_ends c.args.problem.now.guide.now)
 
-laws : (g : Over) (c : After-from g) → AreShown (g.T.TransitionSystem.means c.args.system.now) (g.V.ValuesOnDemand.shows c.args.values.now)
+laws : (g : Over) (c : After-from g) → AreShown (g.T.TransitionSystem.means c.args.problem.now.system.now) (g.V.ValuesOnDemand.shows c.args.values.now)
 laws g c =
     subst (λ (u : System (List Bool) ℕ). AreShown u (g.V.ValuesOnDemand.shows c.args.values.now)) c.requires.values_for
     (record { admissible = g.met.V.ValuesOnDemand.is_admissible c.args.values.now; dead_ends = g.met.V.ValuesOnDemand.reports_dead_ends c.args.values.now })
@@ -130,21 +130,21 @@ take_place-requires-clause-within g c =
 
 pub take_place-requires-clause-sum : goal.take_place-requires-clause-sum
 take_place-requires-clause-sum g c =
-    estimate_fits (g.G.Guide.estimate_of c.args.guide.now) (g.G.Guide.is_dead c.args.guide.now) (g.V.ValuesOnDemand.shows c.args.values.now) (bits_of c.args.to.state.now)
-    c.standing_at-standing.result c.estimate_by-estimate.result c.node-node.result.cost c.estimate_by-estimate.ensures.estimate
+    estimate_fits (g.G.Guide.estimate_of c.args.problem.now.guide.now) (g.G.Guide.is_dead c.args.problem.now.guide.now) (g.V.ValuesOnDemand.shows c.args.values.now) (bits_of c.args.to.state.now)
+    c.standing_at-standing.result c.estimate-estimate.result c.node-node.result.cost c.estimate-estimate.ensures.estimate
     (omega (arith, c.node-node.ensures.cost, limits g (goal.at.take_place-requires-clause-sum g c).After-from, c.from.ensures, c.cost.ensures))
 
 pub standing_at-standing-requires : goal.standing_at-standing-requires
 standing_at-standing-requires g c =
     place_among _ _ _ _ _ _ (length c.args.self.now.nodes.items) c.requires.expanding.holds.search.one_each c.requires.within c.requires.limit c.in-Some.place (placed g (goal.at.standing_at-standing-requires g c).In-Some)
 
-pub estimate_by-estimate-requires-clause-values_width : goal.estimate_by-estimate-requires-clause-values_width
-estimate_by-estimate-requires-clause-values_width g c = c.requires.values_width ∙ sym c.requires.guide_width
+pub estimate-estimate-requires-clause-values_width : goal.estimate-estimate-requires-clause-values_width
+estimate-estimate-requires-clause-values_width g c = c.requires.values_width ∙ sym c.requires.guide_width
 
-pub estimate_by-estimate-requires-clause-named : goal.estimate_by-estimate-requires-clause-named
-estimate_by-estimate-requires-clause-named g c =
+pub estimate-estimate-requires-clause-named : goal.estimate-estimate-requires-clause-named
+estimate-estimate-requires-clause-named g c =
     let by = c.requires.expanding in
-    named_at (g.T.TransitionSystem.means c.args.system.now) (g.G.Guide.estimate_of c.args.guide.now) (g.G.Guide.is_dead c.args.guide.now) (g.V.ValuesOnDemand.shows c.args.values.now)
+    named_at (g.T.TransitionSystem.means c.args.problem.now.system.now) (g.G.Guide.estimate_of c.args.problem.now.guide.now) (g.G.Guide.is_dead c.args.problem.now.guide.now) (g.V.ValuesOnDemand.shows c.args.values.now)
     (found_of (g.L.StateListing.states c.args.self.now.store) c.args.self.now.nodes.items) c.args.self.now.nodes.items c.args.self.now.bases by.value by.is_dead by.valued c.args.to.parent.0 c.in-Some.place
     c.standing_at-standing.result c.standing_at-standing.ensures
 
@@ -155,7 +155,7 @@ returns-in_default-clause-listed g c =
     let class_of = g.L.StateListing.class_of c.args.self.now.store in
     let states = g.L.StateListing.states c.args.self.now.store in
     let s = bits_of c.args.to.state.now in
-    let full : (¬ Contains states s) × (length states ≡ c.args.max_states) × (g.L.StateListing.states c.place.new.self ≡ states) = rw c.in_default.is at c.in_ok-place.ensures.placed in
+    let full : (¬ Contains states s) × (length states ≡ c.args.problem.now.max_states) × (g.L.StateListing.states c.place.new.self ≡ states) = rw c.in_default.is at c.in_ok-place.ensures.placed in
     record {
       value = by.value;
       is_dead = by.is_dead;
@@ -163,9 +163,9 @@ returns-in_default-clause-listed g c =
       holds = (
         e,
         record {
-          more = more_reachable (g.T.TransitionSystem.means c.args.system.now) class_of by.value by.is_dead states
+          more = more_reachable (g.T.TransitionSystem.means c.args.problem.now.system.now) class_of by.value by.is_dead states
               c.args.self.now.nodes.items (waiting_in c.args.self.now.open_list) e.search.one_each e.search.nodes c.args.to.parent.0 e.turn c.args.to.action s
-              (leads g (goal.at.returns-in_default-clause-listed g c).After-from) full.0 c.args.max_states full.1;
+              (leads g (goal.at.returns-in_default-clause-listed g c).After-from) full.0 c.args.problem.now.max_states full.1;
           full = full.1;
           store = full.2;
           nodes = refl {A = List Node};
@@ -179,7 +179,7 @@ pub returns-then-is_reached_within-clause-listed : goal.returns-then-is_reached_
 returns-then-is_reached_within-clause-listed g c =
     let by = c.requires.expanding in
     let e = by.holds in
-    let t = g.T.TransitionSystem.means c.args.system.now in
+    let t = g.T.TransitionSystem.means c.args.problem.now.system.now in
     let class_of = g.L.StateListing.class_of c.args.self.now.store in
     let states = g.L.StateListing.states c.args.self.now.store in
     let after = g.L.StateListing.states c.place.new.self in
@@ -191,12 +191,12 @@ returns-then-is_reached_within-clause-listed g c =
     let within : IsReachedWithin all cost c.in-Some.place = rw c.if-is_reached_within.true at c.is_reached_within.ensures in
     let placed_at = placed g (goal.at.returns-then-is_reached_within-clause-listed g c).In-Some in
     let step = reached_before t class_of by.value by.is_dead states all (waiting_in c.args.self.now.open_list) c.args.to.parent.0
-    e.search.one_each e.search.nodes e.turn e.others_open s (g.L.StateListing.is_current c.place.new.self) after c.args.max_states
+    e.search.one_each e.search.nodes e.turn e.others_open s (g.L.StateListing.is_current c.place.new.self) after c.args.problem.now.max_states
     c.args.to.action cost (omega (arith, same, c.from.ensures, c.cost.ensures)) c.in-Some.place placed_at within in
     record {
       value = by.value;
       is_dead = by.is_dead;
-      valued = subst (λ (ss : List (List Bool)). AreValued t (g.G.Guide.estimate_of c.args.guide.now) (g.G.Guide.is_dead c.args.guide.now) (g.V.ValuesOnDemand.shows c.args.values.now) (found_of ss all) c.args.self.now.bases by.value by.is_dead) (sym step.0) by.valued;
+      valued = subst (λ (ss : List (List Bool)). AreValued t (g.G.Guide.estimate_of c.args.problem.now.guide.now) (g.G.Guide.is_dead c.args.problem.now.guide.now) (g.V.ValuesOnDemand.shows c.args.values.now) (found_of ss all) c.args.self.now.bases by.value by.is_dead) (sym step.0) by.valued;
       holds = record {
         expanding = record {
           search = record { one_each = step.1.0; nodes = step.1.1.sound; heap = e.search.heap; single = e.search.single };
@@ -214,9 +214,9 @@ pub returns-clause-listed : goal.returns-clause-listed
 returns-clause-listed g c =
     let by = c.requires.expanding in
     let e = by.holds in
-    let t = g.T.TransitionSystem.means c.args.system.now in
-    let estimate = g.G.Guide.estimate_of c.args.guide.now in
-    let reported = g.G.Guide.is_dead c.args.guide.now in
+    let t = g.T.TransitionSystem.means c.args.problem.now.system.now in
+    let estimate = g.G.Guide.estimate_of c.args.problem.now.guide.now in
+    let reported = g.G.Guide.is_dead c.args.problem.now.guide.now in
     let shown = g.V.ValuesOnDemand.shows c.args.values.now in
     let class_of = g.L.StateListing.class_of c.args.self.now.store in
     let is_current = g.L.StateListing.is_current c.place.new.self in
@@ -225,7 +225,7 @@ returns-clause-listed g c =
     let all = c.args.self.now.nodes.items in
     let s = bits_of c.args.to.state.now in
     let i = c.args.to.parent.0 in
-    let max_states = c.args.max_states in
+    let max_states = c.args.problem.now.max_states in
     let place = c.in-Some.place in
     let at = goal.at.returns-clause-listed g c in
     let node = c.node-node.result in
@@ -240,8 +240,8 @@ returns-clause-listed g c =
     (λ is_taken. match_each {B = IsLeftOut states_of old new s max_states} is_taken
     (λ takes.
     let is = reached_placed t class_of estimate reported shown states_of states old new i max_states e.search.one_each by.value by.is_dead by.valued e.search.nodes e.turn e.others_open
-    (admissible g at.After-from) (reports g at.After-from) (laws g at.After-from) is_current s node c.estimate_by-estimate.result (step g at.After-node-node) c.requires.within
-    place placed_at cheaper c.standing_at-standing.result c.standing_at-standing.ensures c.estimate_by-estimate.ensures.estimate (subst (λ (b : Option Basis). TakesPlace states_of old new s node c.estimate_by-estimate.result b max_states place) c.basis.ensures takes) in
+    (admissible g at.After-from) (reports g at.After-from) (laws g at.After-from) is_current s node c.estimate-estimate.result (step g at.After-node-node) c.requires.within
+    place placed_at cheaper c.standing_at-standing.result c.standing_at-standing.ensures c.estimate-estimate.ensures.estimate (subst (λ (b : Option Basis). TakesPlace states_of old new s node c.estimate-estimate.result b max_states place) c.basis.ensures takes) in
     let of = is.holds in
     record {
       value = is.value;

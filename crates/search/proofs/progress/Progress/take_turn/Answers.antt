@@ -45,15 +45,15 @@ returns-then-branch-clause-buffers g c = record {
 }
 
 pub returns-then-branch-clause-scratch : goal.returns-then-branch-clause-scratch
-returns-then-branch-clause-scratch g c = subst (g.G.Guide.fits c.args.guide.now) (sym c.defer.ensures.scratch) c.requires.scratch
+returns-then-branch-clause-scratch g c = subst (g.G.Guide.fits c.args.problem.now.guide.now) (sym c.defer.ensures.scratch) c.requires.scratch
 
 pub returns-then-branch-clause-over : goal.returns-then-branch-clause-over
 returns-then-branch-clause-over g c =
     let deferred : c.in_ok-defer.field-0 ≡ true = c.if-branch.true in
     let fewer : c.defer.new.buffers.asks < c.args.buffers.now.asks = rw deferred at c.in_ok-defer.ensures.asks in
-    let within : length (g.L.StateListing.states c.defer.new.self.store) ≤ c.args.max_states = rw c.defer.ensures.store c.requires.within in
-    over_by_ask (g.T.TransitionSystem.means c.args.system.now) (g.L.StateListing.class_of c.args.self.now.store) (g.G.Guide.estimate_of c.args.guide.now) (g.G.Guide.is_dead c.args.guide.now)
-    (g.V.ValuesOnDemand.shows c.defer.new.values) g.L.StateListing.states c.args.self.now c.defer.new.self c.args.buffers.now c.defer.new.buffers c.args.max_states fewer within
+    let within : length (g.L.StateListing.states c.defer.new.self.store) ≤ c.args.problem.now.max_states = rw c.defer.ensures.store c.requires.within in
+    over_by_ask (g.T.TransitionSystem.means c.args.problem.now.system.now) (g.L.StateListing.class_of c.args.self.now.store) (g.G.Guide.estimate_of c.args.problem.now.guide.now) (g.G.Guide.is_dead c.args.problem.now.guide.now)
+    (g.V.ValuesOnDemand.shows c.defer.new.values) g.L.StateListing.states c.args.self.now c.defer.new.self c.args.buffers.now c.defer.new.buffers c.args.problem.now.max_states fewer within
     (rw (deferred, c.requires.made_for) at c.in_ok-defer.ensures.deferred)
 
 pub expand-requires-clause-values_for : goal.expand-requires-clause-values_for
@@ -65,9 +65,9 @@ expand-requires-clause-values_width g c = c.defer.ensures.values_width ∙ c.req
 pub expand-requires-clause-turn : goal.expand-requires-clause-turn
 expand-requires-clause-turn g c =
     let by = c.requires.turn in
-    let t = g.T.TransitionSystem.means c.args.system.now in
-    let estimate = g.G.Guide.estimate_of c.args.guide.now in
-    let reported = g.G.Guide.is_dead c.args.guide.now in
+    let t = g.T.TransitionSystem.means c.args.problem.now.system.now in
+    let estimate = g.G.Guide.estimate_of c.args.problem.now.guide.now in
+    let reported = g.G.Guide.is_dead c.args.problem.now.guide.now in
     let shown = g.V.ValuesOnDemand.shows c.args.values.now in
     let shown' = g.V.ValuesOnDemand.shows c.defer.new.values in
     let states_of = g.L.StateListing.states in
@@ -85,11 +85,11 @@ pub expand-requires-clause-classes : goal.expand-requires-clause-classes
 expand-requires-clause-classes g c = rw c.defer.ensures.store c.requires.classes
 
 pub expand-requires-clause-scratch : goal.expand-requires-clause-scratch
-expand-requires-clause-scratch g c = subst (g.G.Guide.fits c.args.guide.now) (sym c.defer.ensures.scratch) c.requires.scratch
+expand-requires-clause-scratch g c = subst (g.G.Guide.fits c.args.problem.now.guide.now) (sym c.defer.ensures.scratch) c.requires.scratch
 
 pub expand-requires-clause-open : goal.expand-requires-clause-open
 expand-requires-clause-open g c =
-    let t = g.T.TransitionSystem.means c.args.system.now in
+    let t = g.T.TransitionSystem.means c.args.problem.now.system.now in
     let same = stays g (goal.at.expand-requires-clause-open g c).In_ok-defer c.if-branch.false in
     subst (λ (p : Progress _). AreOpen t (g.L.StateListing.class_of p.store) (nodes_in g.L.StateListing.states p)) (sym same) c.requires.open
 
@@ -119,17 +119,17 @@ returns-clause-extends g c = if_ok c.expand.result (λ _ _. c.in_ok-defer.ensure
 
 pub returns-clause-over : goal.returns-clause-over
 returns-clause-over g c =
-    let t = g.T.TransitionSystem.means c.args.system.now in
+    let t = g.T.TransitionSystem.means c.args.problem.now.system.now in
     let class_of = g.L.StateListing.class_of in
-    let estimate = g.G.Guide.estimate_of c.args.guide.now in
-    let reported = g.G.Guide.is_dead c.args.guide.now in
+    let estimate = g.G.Guide.estimate_of c.args.problem.now.guide.now in
+    let reported = g.G.Guide.is_dead c.args.problem.now.guide.now in
     let shown = g.V.ValuesOnDemand.shows c.defer.new.values in
     let states_of = g.L.StateListing.states in
     let old = c.args.self.now in
     let new = c.expand.new.self in
     let before = c.args.buffers.now in
     let after = c.expand.new.buffers in
-    let max_states = c.args.max_states in
+    let max_states = c.args.problem.now.max_states in
     let same = stays g (goal.at.returns-clause-over g c).In_ok-defer c.if-branch.false in
     let kept : c.in_ok-defer.field-0 ≡ false = c.if-branch.false in
     let asks : c.defer.new.buffers.asks ≡ before.asks = rw kept at c.in_ok-defer.ensures.asks in
