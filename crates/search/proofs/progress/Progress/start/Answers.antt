@@ -4,6 +4,7 @@ use Rattle.packed_state.specs.Packed.{bits_of}
 use Rattle.search.specs.Outcome.{is_expanded_status, is_dead_status}
 use Rattle.search.proofs.Steps.{value_fits, joined_by, marked_by, nodes_start}
 use Rattle.search.proofs.Reached.{placed_first}
+use Rattle.search.proofs.Single.{single_first}
 use Rattle.search.proofs.progress.Progress.start.Goals as goal
 
 pub returns-clause-search : goal.returns-clause-search
@@ -22,7 +23,12 @@ returns-clause-search g c =
     (ap is_expanded_status c.of_reached.ensures ∙ marks.0) (ap is_dead_status c.of_reached.ensures ∙ marks.1) (same ∙ placed)
     (rw c.new.ensures.items at c.in_ok-add.ensures.nodes)
     c.in_ok-initial.ensures.initial refl c.new-2.ensures.none joined.0 in
-    record { one_each = nodes.0; nodes = nodes.1; heap = joined.1 c.new-2.ensures.open_list }
+    record {
+      one_each = nodes.0;
+      nodes = nodes.1;
+      heap = joined.1 c.new-2.ensures.open_list;
+      single = single_first _ _ (waiting_in c.new-2.result) (waiting_in c.add.new.self.open_list) c.new-2.ensures.none joined.0;
+    }
 
 pub add-requires-clause-sum : goal.add-requires-clause-sum
 add-requires-clause-sum g c =
