@@ -378,9 +378,9 @@ fn answer_in_time(
     let Halted {
         bound,
         states,
-        marks,
+        marked,
     } = halted;
-    let cert = cert_of(alloc, space, guidance, Claim::Bound(bound), marks, states)?;
+    let cert = cert_of(alloc, space, guidance, Claim::Bound(bound), marked, states)?;
     Ok(Answer::Unknown(Exceeded::Time { bound, cert }))
 }
 
@@ -393,11 +393,11 @@ fn answer_of_search(
     requires space { IsSearchSpace setting.space }
     requires ground { IsGroundOf (task_in (ground_in setting.space)) [] setting.limits.instances (ground_in setting.space) }
     requires guidance { IsGuidanceFor setting.space (guidance_of guidance) }
-    requires searched { IsSearched setting.space (estimate_by (guidance_of guidance)) (reports_dead (guidance_of guidance)) setting.limits.states searched.outcome searched.marks.items }
+    requires searched { IsSearched setting.space (estimate_by (guidance_of guidance)) (reports_dead (guidance_of guidance)) setting.limits.states searched.outcome searched.marked.marks.items }
     ensures { IfOk result (IsTrueAnswer (task_in (ground_in setting.entry.space)) setting.entry.limits.seconds setting.entry.limits.states setting.entry.limits.instances) }
 {
     let Setting { alloc, space, .. } = setting;
-    let Searched { outcome, marks } = searched;
+    let Searched { outcome, marked } = searched;
     match outcome {
         Outcome::Found {
             steps,
@@ -406,17 +406,17 @@ fn answer_of_search(
         } => {
             let steps = plan_of(alloc, space.ground(), &steps)?;
             let claim = Claim::Bound(cost);
-            let cert = cert_of(alloc, space, guidance, claim, marks, states)?;
+            let cert = cert_of(alloc, space, guidance, claim, marked, states)?;
             Ok(Answer::Plan { steps, cost, cert })
         }
         Outcome::Exhausted { states } => {
             let claim = Claim::Unsolvable;
-            let cert = cert_of(alloc, space, guidance, claim, marks, states)?;
+            let cert = cert_of(alloc, space, guidance, claim, marked, states)?;
             Ok(Answer::Unsolvable { cert })
         }
         Outcome::States { bound, states } => {
             let claim = Claim::Bound(bound);
-            let cert = cert_of(alloc, space, guidance, claim, marks, states)?;
+            let cert = cert_of(alloc, space, guidance, claim, marked, states)?;
             Ok(Answer::Unknown(Exceeded::States { bound, cert }))
         }
     }

@@ -29,10 +29,11 @@ ghost use Rattle.table_rows.specs.declared.table.Table as in_memory;
 ghost use Rattle.tables.specs.Several.{several_of, width_of};
 
 use crate::answer::{Answer, answer_of};
+use crate::asking::{is_measured, search_asking, search_or_ask};
 use crate::attempt::Attempt;
 use crate::guidance::{Guidance, potential_of};
 use crate::searched::{Ending, search_by};
-use crate::setting::Setting;
+use crate::setting::{Session, Setting};
 use crate::stopped::Stopped;
 use certificate::{Evidence, Landmarks, Potential, Version};
 use cost_partitioning::{DraftedTables, Wanted, drafted_tables};
@@ -267,6 +268,20 @@ fn search_if_fair<'l, 't, E: Sink + Clock>(
     match functions.fairness(setting.alloc, ground)? {
         ValuesFairness::Fair => {
             let guide = FairTables::new(functions, ground);
+            let session = Session {
+                setting,
+                guide: &guide,
+            };
+            if is_measured(&setting, 2) {
+                return match search_asking(&session, err)? {
+                    Some(ending) => Ok(Attempt::Done(ending)),
+                    None => Ok(Attempt::InVain),
+                };
+            }
+            if is_measured(&setting, 4) {
+                let ending = search_or_ask(&session, err)?;
+                return Ok(Attempt::Done(ending));
+            }
             let ending = search_by(setting, &guide, err)?;
             Ok(Attempt::Done(ending))
         }

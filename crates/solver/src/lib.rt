@@ -2,6 +2,7 @@
 #![tactic(auto)]
 
 mod answer;
+mod asking;
 mod attempt;
 mod by_tables;
 mod guidance;
@@ -14,6 +15,7 @@ mod reports;
 mod searched;
 mod setting;
 mod stopped;
+mod supported;
 
 pub use answer::{Answer, Exceeded, solve, solve_and_say};
 pub use limits::{Limits, MAX_LIMIT};

@@ -24,7 +24,8 @@ ghost use Rattle.model.specs.NumberedAtoms.{are_distinct};
 ghost use Rattle.certificate_definitions.specs.Certificates.{is_claim, are_exchanges};
 
 use crate::guidance::Guidance;
-use certificate::{Cert, Claim, Header, Listed, States};
+use crate::searched::Marked;
+use certificate::{Cert, Claim, Evidence, Header, States, Version};
 use faults::NoMemory;
 use formulas::Atom;
 use ground_listings::{GroundListing, SearchSpace};
@@ -39,7 +40,7 @@ pub(crate) fn cert_of(
     space: SearchSpace<'_, '_>,
     guidance: Guidance,
     claim: Claim,
-    marks: Vec<Listed>,
+    marked: Marked,
     found: FoundStates<GroundListing<'_, '_>>,
 ) -> Result<Cert, NoMemory>
     requires claim { IsTrue (is_claim (claim_of claim)) }
@@ -47,16 +48,25 @@ pub(crate) fn cert_of(
     requires space { IsSearchSpace space }
     requires exchanges { IsTrue (are_exchanges (version_by (guidance_of guidance)) (exchanges_in space)) }
     requires few { length (atoms_in (ground_in space)) ≤ MAX_ATOMS }
-    requires marks { AreMarksOf (estimate_by (guidance_of guidance)) (reports_dead (guidance_of guidance)) found marks.items }
+    requires marks { AreMarksOf (estimate_by (guidance_of guidance)) (reports_dead (guidance_of guidance)) found marked.marks.items }
     requires found { AreFound (system_of space) (class_in space) (estimate_by (guidance_of guidance)) (reports_dead (guidance_of guidance)) (claim_of claim) MAX_STATE_LINES (listed_states found.store) found.nodes.items }
     ensures { IfOk result (λ cert. certificate_of cert ≡ found_certificate (claim_of claim) (exchanges_in space.entry) (atoms_in (ground_in space.entry)) (guidance_of guidance) (listed_states found.entry.store) found.entry.nodes.items) }
 {
+    let Marked { marks, landmarks } = marked;
+    let version = match landmarks.value_count() {
+        0 => guidance.version(),
+        _ => Version::Four,
+    };
+    let evidence = guidance.into_evidence(alloc)?;
     let header = Header {
-        version: guidance.version(),
+        version,
         claim,
         exchanges: space.written_exchanges(alloc)?,
         atoms: copied(alloc, space.ground().atoms().as_slice())?,
-        evidence: guidance.into_evidence(alloc)?,
+        evidence: Evidence {
+            landmarks,
+            ..evidence
+        },
     };
     let sets = sets_of(alloc, found.store)?;
     Ok(Cert::from_parts(header, States { marks, sets }))

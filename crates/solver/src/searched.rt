@@ -15,7 +15,7 @@ ghost use Rattle.solver.specs.Stretches.{IsBetweenTurns, IsStretch, IsUnderWay};
 use crate::pauses::{Milestone, is_news, next_pause};
 use crate::reports::{Report, say};
 use crate::setting::{Session, Setting};
-use certificate::{Basis, Listed, Mark};
+use certificate::{Basis, Landmarks, Listed, Mark};
 use devices::Sink;
 use devices_clock::Clock;
 use faults::NoMemory;
@@ -26,11 +26,28 @@ use search::{
 };
 use std::alloc::Global;
 
+/// The certificate's mark of each found state, in order, and the landmark values that some of them name.
+#[derive(Drop)]
+pub(crate) struct Marked {
+    pub(crate) marks: Vec<Listed>,
+    pub(crate) landmarks: Landmarks,
+}
+
+impl Marked {
+    /// Marks that name no landmark value.
+    pub(crate) fn by_guide(alloc: Global, marks: Vec<Listed>) -> Marked {
+        Marked {
+            marks,
+            landmarks: Landmarks::none(alloc),
+        }
+    }
+}
+
 /// The outcome of a search, and the certificate's mark of each found state, in order.
 #[derive(Drop)]
 pub(crate) struct Searched<'l, 't> {
     pub(crate) outcome: Outcome<GroundListing<'l, 't>>,
-    pub(crate) marks: Vec<Listed>,
+    pub(crate) marked: Marked,
 }
 
 /// A search that was stopped at a pause: its bound, the found states, and the certificate's mark of each, in order.
@@ -39,7 +56,7 @@ pub(crate) struct Halted<'l, 't> {
     /// A lower bound of every plan's cost.
     pub(crate) bound: u64,
     pub(crate) states: FoundStates<GroundListing<'l, 't>>,
-    pub(crate) marks: Vec<Listed>,
+    pub(crate) marked: Marked,
 }
 
 /// How a search ended.
@@ -95,8 +112,8 @@ fn stretch_by<'l, 't, G: Guide>(
     let system = GroundSystem(space.ground());
     match go_on(alloc, &system, guide, search, pause, limits.states())? {
         Halt::Ended(outcome) => {
-            let marks = marks(alloc, found_in(&outcome))?;
-            Ok(Stretch::Ended(Ending::Complete(Searched { outcome, marks })))
+            let marked = Marked::by_guide(alloc, marks(alloc, found_in(&outcome))?);
+            Ok(Stretch::Ended(Ending::Complete(Searched { outcome, marked })))
         }
         Halt::Paused(search) => Ok(Stretch::Paused(search)),
     }
@@ -116,15 +133,15 @@ pub(crate) fn stop_by<'l, 't, G: Guide>(
     let alloc = session.setting.alloc;
     match stop_at_pause(alloc, session.guide, search)? {
         Stop::Ended(outcome) => {
-            let marks = marks(alloc, found_in(&outcome))?;
-            Ok(Ending::Complete(Searched { outcome, marks }))
+            let marked = Marked::by_guide(alloc, marks(alloc, found_in(&outcome))?);
+            Ok(Ending::Complete(Searched { outcome, marked }))
         }
         Stop::Waiting { bound, states } => {
-            let marks = marks(alloc, &states)?;
+            let marked = Marked::by_guide(alloc, marks(alloc, &states)?);
             Ok(Ending::OutOfTime(Halted {
                 bound,
                 states,
-                marks,
+                marked,
             }))
         }
     }
@@ -162,7 +179,7 @@ pub(crate) fn go_on_by<'l, 't, G: Guide, E: Sink + Clock>(
 }
 
 /// Reports progress if there is news after the last report. The result is the last report from now on.
-fn say_news<G: Guide, E: Sink>(
+pub(crate) fn say_news<G: Guide, E: Sink>(
     session: &Session<'_, '_, '_, G>,
     search: &Search<GroundListing<'_, '_>, G::Scratch>,
     last: Option<Milestone>,
@@ -255,7 +272,7 @@ pub(crate) fn search_by<'l, 't, G: Guide, E: Sink + Clock>(
 }
 
 /// The found states.
-fn found_in<'o, 'l, 't>(
+pub(crate) fn found_in<'o, 'l, 't>(
     outcome: &'o Outcome<GroundListing<'l, 't>>,
 ) -> &'o FoundStates<GroundListing<'l, 't>>
     ensures { result.now ≡ guided.found_in outcome.now }

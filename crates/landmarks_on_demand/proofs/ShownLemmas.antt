@@ -1,0 +1,81 @@
+-- What tested values show, and one more.
+use Rattle.std.proofs.Common.{◌≡◌, ◌∙◌, ℕ, zero, suc, ◌<◌, ◌≤◌, ◌^◌, Bool, true, false, List, [], ◌∷◌, ◌++◌, length, None, Some, refl, sym, ap, subst, arith}
+use Rattle.std.specs.Prelude.{All, slice_get}
+use Rattle.std.specs.Option.{option_map_or}
+use Rattle.std.proofs.lemmas.List.{length_push}
+use Rattle.std.proofs.lemmas.List.Elements.{All-head, All-tail}
+use Rattle.model.specs.Task.{Atom, Task}
+use Rattle.model.specs.Grounding.{ground_system}
+use Rattle.search.specs.declared.on_demand.Basis.{Basis}
+use Rattle.search.specs.declared.on_demand.Answer.TheVariants.{Raised, Dead}
+use Rattle.search.specs.Estimates.{IsAdmissible}
+use Rattle.search.specs.DeadEnds.{ReportsDeadEnds}
+use Rattle.search.specs.OnDemand.{Extends, IsAnswer}
+use Rattle.landmarks_on_demand.specs.declared.tested.TestedValue.{TestedValue}
+use Rattle.landmarks_on_demand.specs.Tested.{IsTested, is_dead_by, value_by}
+use Rattle.landmarks_on_demand.specs.Shown.{is_dead_at, shown_by, value_at}
+
+-- ---- each base
+
+pub admissible_at : (task : Task) (atoms : List Atom) (values : List TestedValue) → All (IsTested task atoms) values → (basis : ℕ) → basis < length values
+    → IsAdmissible (ground_system task atoms) (value_at values basis)
+admissible_at task atoms [] tested basis within = absurd (omega arith)
+admissible_at task atoms (v ∷ values) tested zero within = (All-head (IsTested task atoms) v values tested).admissible
+admissible_at task atoms (v ∷ values) tested (suc basis) within = admissible_at task atoms values (All-tail (IsTested task atoms) v values tested) basis (omega arith)
+
+pub dead_ends_at : (task : Task) (atoms : List Atom) (values : List TestedValue) → All (IsTested task atoms) values → (basis : ℕ) → basis < length values
+    → ReportsDeadEnds (ground_system task atoms) (is_dead_at values basis)
+dead_ends_at task atoms [] tested basis within = absurd (omega arith)
+dead_ends_at task atoms (v ∷ values) tested zero within = (All-head (IsTested task atoms) v values tested).dead_ends
+dead_ends_at task atoms (v ∷ values) tested (suc basis) within = dead_ends_at task atoms values (All-tail (IsTested task atoms) v values tested) basis (omega arith)
+
+-- what shows a dead end is there
+dead-there : (values : List TestedValue) (basis : ℕ) (bits : List Bool) → is_dead_at values basis bits ≡ true → basis < length values
+dead-there [] basis bits dead = absurd (cc)
+dead-there (v ∷ values) zero bits dead = omega arith
+dead-there (v ∷ values) (suc basis) bits dead = omega (arith, dead-there values basis bits dead)
+
+-- ---- one more
+
+got-left : {X : Type 0} (xs : List X) (y : X) (k : ℕ) → k < length xs → slice_get (xs ++ y ∷ []) k ≡ slice_get xs k
+got-left [] y k within = absurd (omega arith)
+got-left (x ∷ xs) y zero within = refl
+got-left (x ∷ xs) y (suc k) within = got-left xs y k (omega arith)
+
+got-last : {X : Type 0} (xs : List X) (y : X) → slice_get (xs ++ y ∷ []) (length xs) ≡ Some y
+got-last [] y = refl
+got-last (x ∷ xs) y = got-last xs y
+
+pub extends_same : (values : List TestedValue) → Extends (shown_by values) (shown_by values)
+extends_same values = record { more = omega arith; same = λ basis s within. refl; same_dead = λ basis s within. refl }
+
+pub extends_as : (old new : List TestedValue) → new ≡ old → Extends (shown_by old) (shown_by new)
+extends_as old new is = subst (λ values. Extends (shown_by old) (shown_by values)) (sym is) (extends_same old)
+
+pub extends_push : (old new : List TestedValue) (v : TestedValue) → new ≡ old ++ v ∷ [] → Extends (shown_by old) (shown_by new)
+extends_push old new v is =
+    subst (λ values. Extends (shown_by old) (shown_by values)) (sym is) (record {
+      more = omega (arith, length_push old v);
+      same = λ basis s within. ap (λ o. option_map_or (λ (w : TestedValue). value_by w s) o 0) (got-left old v basis within);
+      same_dead = λ basis s within. ap (λ o. option_map_or (λ (w : TestedValue). is_dead_by w s) o false) (got-left old v basis within);
+    })
+
+pub answers_raised : (old new : List TestedValue) (v : TestedValue) (basis : Basis) (bits : List Bool) (value higher : ℕ) → new ≡ old ++ v ∷ [] → basis.0 ≡ length old → length old < 1048576
+    → higher ≡ value_by v bits → value < higher → higher < 2 ^ 63 → IsAnswer (shown_by new) bits value (Raised basis higher)
+answers_raised old new v basis bits value higher is here few gives above below =
+    let found : value_at new basis.0 bits ≡ value_by v bits =
+    ap (λ o. option_map_or (λ (w : TestedValue). value_by w bits) o 0) (ap (slice_get new) here ∙ ap (λ values. slice_get values (length old)) is ∙ got-last old v) in
+    ((omega (arith, ap length is, length_push old v, here), omega (arith, here)), gives ∙ sym found, above, below)
+
+pub answers_dead : (old new : List TestedValue) (v : TestedValue) (basis : Basis) (bits : List Bool) (value : ℕ) → new ≡ old ++ v ∷ [] → basis.0 ≡ length old → length old < 1048576
+    → is_dead_by v bits ≡ true → IsAnswer (shown_by new) bits value (Dead basis)
+answers_dead old new v basis bits value is here few dead =
+    let found : is_dead_at new basis.0 bits ≡ is_dead_by v bits =
+    ap (λ o. option_map_or (λ (w : TestedValue). is_dead_by w bits) o false) (ap (slice_get new) here ∙ ap (λ values. slice_get values (length old)) is ∙ got-last old v) in
+    ((omega (arith, ap length is, length_push old v, here), omega (arith, here)), found ∙ dead)
+
+pub answers_known : (values : List TestedValue) (basis : Basis) (bits : List Bool) (value : ℕ) → length values < 1048576 → is_dead_at values basis.0 bits ≡ true
+    → IsAnswer (shown_by values) bits value (Dead basis)
+answers_known values basis bits value few dead =
+    let there = dead-there values basis.0 bits dead in
+    ((there, omega (arith, there)), dead)
