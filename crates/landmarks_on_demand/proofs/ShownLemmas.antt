@@ -3,16 +3,18 @@ use Rattle.std.proofs.Common.{◌≡◌, ◌∙◌, ℕ, zero, suc, ◌<◌, ◌
 use Rattle.std.specs.Prelude.{All, slice_get}
 use Rattle.std.specs.Option.{option_map_or}
 use Rattle.std.proofs.lemmas.List.{length_push}
-use Rattle.std.proofs.lemmas.List.Elements.{All-head, All-tail}
+use Rattle.std.proofs.lemmas.List.Elements.{All-contains, All-head, All-tail}
 use Rattle.model.specs.Task.{Atom, Task}
 use Rattle.model.specs.Grounding.{ground_system}
+use Rattle.model.proofs.ListLemmas.{Contains-got}
 use Rattle.search.specs.declared.on_demand.Basis.{Basis}
 use Rattle.search.specs.declared.on_demand.Answer.TheVariants.{Raised, Dead}
 use Rattle.search.specs.Estimates.{IsAdmissible}
 use Rattle.search.specs.DeadEnds.{ReportsDeadEnds}
 use Rattle.search.specs.OnDemand.{Extends, IsAnswer}
 use Rattle.landmarks_on_demand.specs.declared.tested.TestedValue.{TestedValue}
-use Rattle.landmarks_on_demand.specs.Tested.{IsTested, is_dead_by, value_by}
+use Rattle.landmark_zones.specs.Landmarks.{landmarks_of}
+use Rattle.landmarks_on_demand.specs.Tested.{IsOne, IsTested, is_dead_by, value_by}
 use Rattle.landmarks_on_demand.specs.Shown.{is_dead_at, shown_by, value_at}
 
 -- ---- each base
@@ -34,6 +36,24 @@ dead-there : (values : List TestedValue) (basis : ℕ) (bits : List Bool) → is
 dead-there [] basis bits dead = absurd (cc)
 dead-there (v ∷ values) zero bits dead = omega arith
 dead-there (v ∷ values) (suc basis) bits dead = omega (arith, dead-there values basis bits dead)
+
+-- what is shown by the value at a place, and where there is none
+pub one_at : (task : Task) (atoms : List Atom) (values : List TestedValue) → All (IsTested task atoms) values → (place : ℕ) (v : TestedValue) → slice_get values place ≡ Some v
+    → (bits : List Bool) → length bits ≡ length atoms → IsOne (length bits) (landmarks_of v.landmarks)
+one_at task atoms values tested place v at bits long =
+    subst (λ count. IsOne count (landmarks_of v.landmarks)) (sym long) (All-contains (IsTested task atoms) values v tested (Contains-got values place v at)).one
+
+pub value_of_one : (values : List TestedValue) (place : ℕ) (v : TestedValue) (bits : List Bool) → slice_get values place ≡ Some v → value_at values place bits ≡ value_by v bits
+value_of_one values place v bits at = ap (λ o. option_map_or (λ (w : TestedValue). value_by w bits) o 0) at
+
+pub dead_of_one : (values : List TestedValue) (place : ℕ) (v : TestedValue) (bits : List Bool) → slice_get values place ≡ Some v → is_dead_at values place bits ≡ is_dead_by v bits
+dead_of_one values place v bits at = ap (λ o. option_map_or (λ (w : TestedValue). is_dead_by w bits) o false) at
+
+pub value_of_none : (values : List TestedValue) (place : ℕ) (bits : List Bool) → slice_get values place ≡ None → value_at values place bits ≡ 0
+value_of_none values place bits at = ap (λ o. option_map_or (λ (w : TestedValue). value_by w bits) o 0) at
+
+pub dead_of_none : (values : List TestedValue) (place : ℕ) (bits : List Bool) → slice_get values place ≡ None → is_dead_at values place bits ≡ false
+dead_of_none values place bits at = ap (λ o. option_map_or (λ (w : TestedValue). is_dead_by w bits) o false) at
 
 -- ---- one more
 

@@ -156,9 +156,10 @@ impl<'i, 'g, 't> LandmarksOnDemand<'i, 'g, 't> {
         requires { length (bits_of state.now) ≡ length (atoms_of self.now.index.now) }
         ensures { IfSome result (λ basis. is_dead_at self.now.values.items basis.0 (bits_of state.now) ≡ true) }
     {
-        for number in &self.dead {
-            if self.shows_dead_end(Basis(*number), state) {
-                return Some(Basis(*number));
+        for place in 0..self.dead.len() {
+            let basis = Basis(self.dead[place]);
+            if self.shows_dead_end(basis, state) {
+                return Some(basis);
             }
         }
         None

@@ -11,3 +11,4 @@ pub mod Solver
 pub mod Stopped
 pub mod Stretches
 pub mod Said
+pub mod Supported

@@ -2,6 +2,13 @@
 //!
 //! While a search asks for landmark values, each is tested before it is used. The certificate has those that its lines name, numbered
 //! anew. So they are tested again, as a checker tests them: then nothing has to be known of how they were numbered.
+ghost use Rattle.std.specs.Prelude.{◌≡◌, IfOk, IsTrue, length, map};
+ghost use Rattle.grounding.specs.Ground.{atoms_in, task_in};
+ghost use Rattle.ground_listings.specs.GroundListing.{listed_states, listed_width};
+ghost use Rattle.certificate.specs.CertificateParts.{listed_of};
+ghost use Rattle.landmark_zones.specs.Landmarks.{landmarks_of};
+ghost use Rattle.solver.specs.Supported.{AreSupported, marks_in};
+
 use crate::searched::Marked;
 use certificate::{Basis, Landmarks, Mark};
 use faults::NoMemory;
@@ -27,7 +34,12 @@ pub(crate) fn are_supported(
     ground: &Ground<'_>,
     marked: &Marked,
     listing: &GroundListing<'_, '_>,
-) -> Result<bool, NoMemory> {
+) -> Result<bool, NoMemory>
+    requires width { listed_width listing.now ≡ length (atoms_in ground.now) }
+    requires one_for_each { length marked.now.marks.items ≡ length (listed_states listing.now) }
+    ensures { IfOk result (λ are. IsTrue are
+        → AreSupported (task_in ground.now) (atoms_in ground.now) (landmarks_of marked.now.landmarks) (listed_states listing.now) (marks_in (map listed_of marked.now.marks.items))) }
+{
     let landmarks = &marked.landmarks;
     if !landmarks.keep_limits(ground.width() as usize) {
         return Ok(false);
