@@ -2,7 +2,7 @@
 use crate::texts::{DOOR, GRIPPER, NO_KEY};
 use grounding::Ground;
 use landmarks::CutIndex;
-use landmarks_on_demand::{Drafting, LandmarksOnDemand, tested_instances};
+use landmarks_on_demand::{LandmarksOnDemand, tested_instances};
 use search::{Answer, Basis, ValuesOnDemand};
 use std::alloc::Global;
 use std::process::Abort;
@@ -26,7 +26,7 @@ fn answers(alloc: Global, task: &Task) -> Result<[Answer; 2], Fail> {
     let initial = ground.initial(alloc)?;
     let instances = tested_instances(alloc, &ground)?;
     let index = CutIndex::new(alloc, &ground, &instances)?;
-    let mut values = LandmarksOnDemand::new(alloc, &ground, &index, Drafting::FromKnown)?;
+    let mut values = LandmarksOnDemand::new(alloc, &ground, &index)?;
     let first = values.ask(&initial, 0, 0, None)?;
     let second = match first {
         Answer::Raised(basis, value) => values.ask(&initial, 0, value, Some(basis))?,

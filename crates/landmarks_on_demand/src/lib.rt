@@ -7,5 +7,5 @@ mod tested;
 mod used;
 
 pub use asked::tested_instances;
-pub use on_demand::{Drafting, LandmarksOnDemand};
+pub use on_demand::LandmarksOnDemand;
 pub use used::UsedValues;

@@ -26,15 +26,6 @@ const MAX_ENTRIES: usize = 134_217_728;
 /// The number of dead-fair values that are tried before one is drafted.
 const TRIED: usize = 16;
 
-/// From what values are drafted.
-#[derive(Clone, Copy, Debug, PartialEq, Eq)]
-pub enum Drafting {
-    /// From the whole costs.
-    FromScratch,
-    /// From what is left of the value that the state has already.
-    FromKnown,
-}
-
 /// Landmark values of a ground task, drafted by LM-cut where a search asks for them. Each is tested before it is used. It serves the
 /// state for which it was drafted, and those that are reached from there.
 #[derive(Drop)]
@@ -42,7 +33,6 @@ pub struct LandmarksOnDemand<'i, 'g, 't> {
     alloc: Global,
     index: &'i CutIndex<'g, 't>,
     drafter: CutDrafter,
-    drafting: Drafting,
     values: Vec<TestedValue>,
     /// The entries of all values.
     entries: usize,
@@ -71,7 +61,6 @@ impl<'i, 'g, 't> LandmarksOnDemand<'i, 'g, 't> {
         alloc: Global,
         ground: &Ground<'_>,
         index: &'i CutIndex<'g, 't>,
-        drafting: Drafting,
     ) -> Result<LandmarksOnDemand<'i, 'g, 't>, NoMemory>
         requires atoms { atoms_of index.now ≡ atoms_in ground.now }
         requires numbered { AreAllNumbered (task_of index.now) (atoms_of index.now) }
@@ -83,7 +72,6 @@ impl<'i, 'g, 't> LandmarksOnDemand<'i, 'g, 't> {
             alloc,
             index,
             drafter: CutDrafter::new(alloc, ground)?,
-            drafting,
             values: Vec::new(alloc),
             entries: 0,
             dead: Vec::new(alloc),
@@ -188,7 +176,8 @@ impl<'i, 'g, 't> LandmarksOnDemand<'i, 'g, 't> {
         self.keep(found, state, value)
     }
 
-    /// A draft for the state, which has this basis.
+    /// A draft for the state. What is left of the value with this number is kept, if there is one: that gives better values than to
+    /// begin from nothing, in less time.
     fn draft(&mut self, state: &Packed, basis: Option<Basis>) -> Result<Option<Draft>, NoMemory>
         ensures index { self.new.index.now ≡ self.old.index.now }
         ensures values { self.new.values.items ≡ self.old.values.items }
@@ -197,9 +186,6 @@ impl<'i, 'g, 't> LandmarksOnDemand<'i, 'g, 't> {
         let Some(basis) = basis else {
             return self.drafter.draft(self.alloc, state);
         };
-        if self.drafting == Drafting::FromScratch {
-            return self.drafter.draft(self.alloc, state);
-        }
         match self.values.get(basis.0 as usize) {
             Some(value) => self
                 .drafter

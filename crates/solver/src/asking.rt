@@ -12,7 +12,7 @@ use faults::NoMemory;
 use ground_listings::{GroundListing, GroundSystem};
 use landmarks::{CutIndex, value_in};
 use landmarks_drafted::{Claim, CutDrafter, Draft};
-use landmarks_on_demand::{Drafting, LandmarksOnDemand, UsedValues, tested_instances};
+use landmarks_on_demand::{LandmarksOnDemand, UsedValues, tested_instances};
 use packed_state::Packed;
 use search::{
     FoundStates, Guide, Halt, Node, NodeStatus, Search, StateListing, Stop, begin_asking,
@@ -31,11 +31,6 @@ const MAX_STEPS: u64 = 50_000_000;
 /// Cost model: this many steps of a draft take the time of one successor.
 const STEPS_FOR_SUCCESSOR: u64 = 40;
 
-/// For measurements: whether this bit of the limit of instances is set.
-pub(crate) fn is_measured(setting: &Setting<'_, '_>, bit: u32) -> bool {
-    setting.limits.instances() / bit % 2 == 1
-}
-
 /// Searches the ground task by the guide. At a pause it begins anew and asks for landmark values, if that is estimated to pay.
 pub(crate) fn search_or_ask<'l, 't, G: Guide, E: Sink + Clock>(
     session: &Session<'_, 'l, 't, G>,
@@ -47,14 +42,23 @@ pub(crate) fn search_or_ask<'l, 't, G: Guide, E: Sink + Clock>(
     }
     match go_on_by(session, search, PAUSE, err)? {
         Stretch::Ended(ending) => Ok(ending),
-        Stretch::Paused(search) => {
-            if pays(session, &search)? {
-                if let Some(ending) = search_asking(session, err)? {
-                    return Ok(ending);
-                }
-            }
-            finish_by(session, search, err)
-        }
+        Stretch::Paused(search) => match ask_if_it_pays(session, &search, err)? {
+            Some(ending) => Ok(ending),
+            None => finish_by(session, search, err),
+        },
+    }
+}
+
+/// Searches from the beginning and asks for landmark values, if it is estimated that this takes less time than the paused search.
+pub(crate) fn ask_if_it_pays<'l, 't, G: Guide, E: Sink + Clock>(
+    session: &Session<'_, 'l, 't, G>,
+    paused: &Search<GroundListing<'l, 't>, G::Scratch>,
+    err: &mut E,
+) -> Result<Option<Ending<'l, 't>>, NoMemory> {
+    if pays(session, paused)? {
+        search_asking(session, err)
+    } else {
+        Ok(None)
     }
 }
 
@@ -70,7 +74,7 @@ struct Sampled {
 }
 
 /// Whether it is estimated that a search which asks for landmark values takes less time than this one, which is paused.
-pub(crate) fn pays<G: Guide, R>(
+fn pays<G: Guide, R>(
     session: &Session<'_, '_, '_, G>,
     search: &Search<GroundListing<'_, '_>, R>,
 ) -> Result<bool, NoMemory> {
@@ -129,7 +133,7 @@ fn is_less(sampled: Sampled, steps: u64) -> bool {
 
 /// Searches the ground task by the guide, and asks for landmark values. `None`: they do not show what the lines would say, which is not
 /// expected.
-pub(crate) fn search_asking<'l, 't, G: Guide, E: Sink + Clock>(
+fn search_asking<'l, 't, G: Guide, E: Sink + Clock>(
     session: &Session<'_, 'l, 't, G>,
     err: &mut E,
 ) -> Result<Option<Ending<'l, 't>>, NoMemory> {
@@ -137,12 +141,7 @@ pub(crate) fn search_asking<'l, 't, G: Guide, E: Sink + Clock>(
     let ground = space.ground();
     let instances = tested_instances(alloc, ground)?;
     let index = CutIndex::new(alloc, ground, &instances)?;
-    let drafting = if is_measured(&session.setting, 8) {
-        Drafting::FromScratch
-    } else {
-        Drafting::FromKnown
-    };
-    let mut values = LandmarksOnDemand::new(alloc, ground, &index, drafting)?;
+    let mut values = LandmarksOnDemand::new(alloc, ground, &index)?;
     let listing = space.listing(alloc)?;
     let search = begin_asking(
         alloc,

@@ -29,10 +29,10 @@ ghost use Rattle.table_rows.specs.declared.table.Table as in_memory;
 ghost use Rattle.tables.specs.Several.{several_of, width_of};
 
 use crate::answer::{Answer, answer_of};
-use crate::asking::{is_measured, search_asking, search_or_ask};
+use crate::asking::search_or_ask;
 use crate::attempt::Attempt;
 use crate::guidance::{Guidance, potential_of};
-use crate::searched::{Ending, search_by};
+use crate::searched::Ending;
 use crate::setting::{Session, Setting};
 use crate::stopped::Stopped;
 use certificate::{Evidence, Landmarks, Potential, Version};
@@ -272,17 +272,7 @@ fn search_if_fair<'l, 't, E: Sink + Clock>(
                 setting,
                 guide: &guide,
             };
-            if is_measured(&setting, 2) {
-                return match search_asking(&session, err)? {
-                    Some(ending) => Ok(Attempt::Done(ending)),
-                    None => Ok(Attempt::InVain),
-                };
-            }
-            if is_measured(&setting, 4) {
-                let ending = search_or_ask(&session, err)?;
-                return Ok(Attempt::Done(ending));
-            }
-            let ending = search_by(setting, &guide, err)?;
+            let ending = search_or_ask(&session, err)?;
             Ok(Attempt::Done(ending))
         }
         _ => Ok(Attempt::InVain),

@@ -14,7 +14,7 @@ ghost use Rattle.solver.specs.Stopped.{IsStopped};
 ghost use Rattle.solver.specs.Stretches.{IsTrueEnd, IsTruePart, IsUnderWay};
 
 use crate::answer::{Answer, Exceeded};
-use crate::asking::{is_measured, pays, search_asking};
+use crate::asking::ask_if_it_pays;
 use crate::attempt::Attempt;
 use crate::by_tables::solve_by_tables;
 use crate::searched::{Ending, Stretch, begin_by, finish_by, go_on_by, stop_by};
@@ -104,11 +104,6 @@ pub(crate) fn search_in_parts<'l, 't, G: Guide, E: Sink + Clock>(
         pause: QUICK,
         given,
     };
-    if is_measured(&session.setting, 1) {
-        if let Some(ending) = search_asking(session, err)? {
-            return Ok(Parts::ByGuide(ending));
-        }
-    }
     let search = begin_by(session)?;
     match search_to_pause(session, search, drafting, err)? {
         Part::Ended(parts) => Ok(parts),
@@ -197,29 +192,16 @@ fn search_to_pause<'l, 't, G: Guide, E: Sink + Clock>(
                     }
                     Ok(Part::Ended(Parts::ByTables(answer)))
                 }
-                Attempt::Promising => ask_at_pause(session, search, true, err),
-                Attempt::InVain => ask_at_pause(session, search, false, err),
+                Attempt::Promising => match ask_if_it_pays(session, &search, err)? {
+                    Some(ending) => Ok(Part::Ended(Parts::ByGuide(ending))),
+                    None => Ok(Part::Promising(search)),
+                },
+                Attempt::InVain => match ask_if_it_pays(session, &search, err)? {
+                    Some(ending) => Ok(Part::Ended(Parts::ByGuide(ending))),
+                    None => Ok(Part::InVain(search)),
+                },
             }
         }
-    }
-}
-
-/// Begins anew and asks for landmark values, if that is estimated to pay.
-fn ask_at_pause<'l, 't, G: Guide, E: Sink + Clock>(
-    session: &Session<'_, 'l, 't, G>,
-    search: Search<GroundListing<'l, 't>, G::Scratch>,
-    is_promising: bool,
-    err: &mut E,
-) -> Result<Part<'l, 't, G::Scratch>, NoMemory> {
-    if is_measured(&session.setting, 4) && pays(session, &search)? {
-        if let Some(ending) = search_asking(session, err)? {
-            return Ok(Part::Ended(Parts::ByGuide(ending)));
-        }
-    }
-    if is_promising {
-        Ok(Part::Promising(search))
-    } else {
-        Ok(Part::InVain(search))
     }
 }
 

@@ -254,23 +254,6 @@ pub(crate) fn finish_by<'l, 't, G: Guide, E: Sink + Clock>(
     }
 }
 
-/// Searches the ground task by the guide, and reports progress.
-pub(crate) fn search_by<'l, 't, G: Guide, E: Sink + Clock>(
-    setting: Setting<'l, 't>,
-    guide: &G,
-    err: &mut E,
-) -> Result<Ending<'l, 't>, NoMemory>
-    requires space { IsSearchSpace setting.space }
-    requires system { G.system_of guide.now ≡ system_of setting.space }
-    requires width { G.width_of guide.now ≡ length (atoms_in (ground_in setting.space)) }
-    ensures ending { IfOk result (IsEnding setting.entry.space (G.estimate_of guide.now) (G.is_dead guide.now) setting.entry.limits) }
-    ensures said { GoesOn (IsTrueLine (task_in (ground_in setting.entry.space))) E.wants_memory (E.failures err.old) (E.taken err.old) (E.failures err.new) (E.taken err.new) }
-{
-    let session = Session { setting, guide };
-    let search = begin_by(&session)?;
-    finish_by(&session, search, err)
-}
-
 /// The found states.
 pub(crate) fn found_in<'o, 'l, 't>(
     outcome: &'o Outcome<GroundListing<'l, 't>>,
