@@ -119,7 +119,7 @@ impl Cert {
         self.header.atoms.as_slice()
     }
 
-    /// The costs and roles of its states, in line order. There is the landmark value that each rests on, if any.
+    /// The costs and roles of its states, in line order. The landmark values that they rest on exist.
     pub fn marks(&self) -> &[Listed]
         ensures marks { map listed_of result.now ≡ map marked (certificate_of self.now).lines }
         ensures at_most { length result.now ≤ MAX_STATE_LINES }

@@ -197,7 +197,7 @@ fn is_basis(version: Version, basis: Basis) -> bool
     }
 }
 
-/// Whether, of this many landmark values, there are those that the lines rest on.
+/// Whether all landmark values that the lines rest on are among this many.
 fn have_bases(lines: &[StateLine], value_count: usize) -> bool
     ensures { result ≡ list_all (λ (l : certificates.StateLine). has_basis value_count l.mark) (map line_of lines.now) }
 {
@@ -209,7 +209,7 @@ fn have_bases(lines: &[StateLine], value_count: usize) -> bool
     true
 }
 
-/// Whether, of this many landmark values, there is the one that the state's role rests on, if any.
+/// Whether the landmark value that the state's role rests on, if any, is among this many.
 fn has_basis(mark: Mark, value_count: usize) -> bool
     ensures { result ≡ has_basis value_count (mark_of mark) }
 {

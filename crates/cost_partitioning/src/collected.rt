@@ -4,7 +4,7 @@ use crate::costs::Costs;
 use crate::draft::Effort;
 use crate::goal_distances::{distance_of, distances};
 use crate::links::Links;
-use abstractions::{Reaching, RowGraph, Shutters, VariableTask, place_of};
+use abstractions::{Abstraction, Reaching, RowGraph, Shutters, VariableTask, place_of};
 use faults::NoMemory;
 use grounding::Ground;
 use potentials::instance_count;
@@ -201,7 +201,7 @@ impl Collecting<'_, '_> {
     fn push(&mut self, graph: RowGraph, is_for: Use) -> Result<(), NoMemory> {
         self.room = self
             .room
-            .saturating_add(graph.row_count())
+            .saturating_add(graph.state_count())
             .saturating_add(graph.arc_count() / 8);
         self.collected.graphs.push(graph)?;
         self.collected.uses.push(is_for)?;
@@ -224,8 +224,8 @@ impl Collecting<'_, '_> {
     fn gives(&self, graph: &RowGraph) -> Result<bool, NoMemory> {
         let distances = distances(self.alloc, graph, &self.costs)?;
         Ok(
-            self.states.iter().any(|values| match graph.row_of(values) {
-                Some(row) => distance_of(&distances, row) > 0,
+            self.states.iter().any(|values| match graph.state_of(values) {
+                Some(state) => distance_of(&distances, state) > 0,
                 None => false,
             }),
         )

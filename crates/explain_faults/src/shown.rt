@@ -87,7 +87,7 @@ enum NamesAllowed {
     Any,
     /// All but the reserved ones.
     Unreserved,
-    /// Those told one by one.
+    /// Those listed one by one.
     Told,
 }
 

@@ -10,7 +10,7 @@ use task::{ObjectId, PredicateId, Task};
 const MOST_NAMED: usize = 3;
 
 impl GoalNotes {
-    /// Adds a line for each atom of the goal that is never true, unless it is among those that are told already, and one for an atom
+    /// Adds a line for each atom of the goal that is never true, unless it is among those already reported, and one for an atom
     /// that the goal requires to be true and to be false.
     ///
     /// # Errors

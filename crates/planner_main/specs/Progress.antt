@@ -17,9 +17,10 @@ use Rattle.printed_answers.specs.declared.reports.Report.TheVariants as report
 
 -- ---- the lines
 
--- a line of a search, true of the task of two files
-abbrev pub IsSearchLine : (List ℕ → Option (List ℕ)) → (domain problem : List ℕ) → (progress : Bool) → List ℕ → Type 0
-IsSearchLine contents domain problem progress line = IsTrue progress × OnTwo contents domain problem (λ d p. IsTrueLineOf d p line)
+-- a line of a search within these limits, true of the task of two files
+abbrev pub IsSearchLine : (List ℕ → Option (List ℕ)) → (domain problem : List ℕ) → (seconds : Option ℕ) → (states instances : ℕ) → (progress : Bool) → List ℕ → Type 0
+IsSearchLine contents domain problem seconds states instances progress line =
+    IsTrue progress × OnTwo contents domain problem (λ d p. IsTrueLineOf d p seconds states instances line)
 
 -- the same for a check, for the task of two files and the text of a third
 abbrev pub IsCheckingLine : (List ℕ → Option (List ℕ)) → (domain problem cert : List ℕ) → (progress : Bool) → List ℕ → Type 0
@@ -70,7 +71,7 @@ IsWritingLineOn contents wanted line = (found : Report) × IsReportOn contents w
 abbrev pub IsProgressOn : (List ℕ → Option (List ℕ)) → Wanted → List ℕ → Type 0
 IsProgressOn contents (to_validate domain problem plan json) line = ⊥
 IsProgressOn contents (to_solve domain problem asked) line =
-    IsSearchLine contents domain problem asked.progress line ⊎ IsWritingLineOn contents (to_solve domain problem asked) line
+    IsSearchLine contents domain problem asked.seconds asked.states asked.instances asked.progress line ⊎ IsWritingLineOn contents (to_solve domain problem asked) line
 IsProgressOn contents (to_check domain problem cert asked) line = IsCheckingLine contents domain problem cert asked.progress line
 IsProgressOn contents (to_explain domain problem asked) line = ⊥
 

@@ -1,7 +1,9 @@
 //! The program.
 ghost use Rattle.std.specs.Prelude.{◌≡◌, ℕ, ◌⊎◌, IfErr, IfOk, IfSome, IsTrue, List, false};
 ghost use Rattle.command_line.specs.Orders.{IsCommand};
+ghost use Rattle.command_line.specs.Versions as words;
 ghost use Rattle.command_line.specs.View.{number_in, texts, wanted_of};
+ghost use Rattle.solver.specs.Versions as solver;
 ghost use Rattle.planner_main.specs.Failures.{device_line, is_failure, no_memory_line};
 ghost use Rattle.planner_main.specs.Program.{Reports, ReportsFor, ReportsPartly, ReportsPartlyFor, Refuses, HasFailed, HasNotFailed, CountsEither, CountsFailure, NamesInput, NamesText, IsFaultFor, IsFound, IsOneOf, IsUnread, SaysOfWords, fault_in, inputs_of, texts_of};
 ghost use Rattle.devices.specs.Texts.{AreKept};
@@ -21,7 +23,7 @@ mod writing;
 
 use crate::failures::{Failure, report_failure, report_words};
 use acceptance::{CheckAsked, InputNames, report_of_check};
-use command_line::{MaxCount, Order, read_words};
+use command_line::{CertVersion, MaxCount, Order, read_words};
 use devices::{Files, Sink};
 use devices_clock::Clock;
 use explaining::{ExplainAsked, report_of_explain};
@@ -30,7 +32,7 @@ use inputs::PairNames;
 use outputs::outputs_of;
 use printed_answers::Report;
 use solution::{SolveAsked, report_of_solve};
-use solver::Limits;
+use solver::{Limits, MaxVersion};
 use std::alloc::Global;
 use validation::report_of_validate;
 use writing::write_report;
@@ -93,8 +95,8 @@ pub fn run<F: Files, O: Sink, E: Sink + Clock>(
     ensures status { IsTrue (is_failure result)
         ⊎ Reports (texts words.now) F.is_known (F.contents files.old) (F.contents files.new) (O.taken out.old) (O.taken out.new) result }
     // Without `--progress`, standard error is unchanged when there is an answer. With it, lines come first, each of them true:
-    // lower bounds of plan costs, and the sizes of the task, the search and the certificate. For the answer of a search the last
-    // line is that of the end; if a certificate file is named, the line with the certificate's size in bytes follows it.
+    // lower bounds of plan costs, the sizes of the task, of a listing that shows such a bound and of the certificate, and the option
+    // that raises an exceeded limit. For the answer of a search the last line is that of the end; if a certificate file is named, the line with the certificate's size in bytes follows it.
     ensures quiet { (AsksForProgress (texts words.now) → ⊥) → is_failure result ≡ false → E.taken err.new ≡ E.taken err.old }
     ensures progress { is_failure result ≡ false → AreSaid (IsProgress (F.contents files.old) (texts words.now)) E.wants_memory (stream (E.failures err.old) (E.taken err.old)) (stream (E.failures err.new) (E.taken err.new)) }
     ensures ended { AsksForSearchProgress (texts words.now) → (result ≡ 0) ⊎ (result ≡ 10)
@@ -187,10 +189,11 @@ fn report_of<F: Files, E: Sink + Clock>(
             states,
             instances,
             seconds,
+            cert_version,
             progress,
             ..
         } => {
-            let limits = limits_of(states, instances, seconds);
+            let limits = limits_of(states, instances, seconds, cert_version);
             let names = PairNames { domain, problem };
             let asked = SolveAsked {
                 names,
@@ -255,14 +258,32 @@ fn steps_of(trace: bool) -> StepLines
 }
 
 /// The limits of a search.
-fn limits_of(states: MaxCount, instances: MaxCount, seconds: Option<MaxCount>) -> Limits
+fn limits_of(
+    states: MaxCount,
+    instances: MaxCount,
+    seconds: Option<MaxCount>,
+    cert_version: CertVersion,
+) -> Limits
     ensures states { result.states ≡ states.number }
     ensures instances { result.instances ≡ instances.number }
     ensures seconds { result.seconds ≡ number_in seconds }
+    ensures version { solver.number_of result.version ≡ words.number_of cert_version }
 {
     let limits = Limits::new(states.number(), instances.number()).unwrap();
+    let limits = limits.up_to_version(version_of(cert_version));
     match seconds {
         Some(most) => limits.within_seconds(most.number()),
         None => limits,
+    }
+}
+
+/// The same version, as a limit of the search.
+fn version_of(version: CertVersion) -> MaxVersion
+    ensures { solver.number_of result ≡ words.number_of version }
+{
+    match version {
+        CertVersion::Two => MaxVersion::Two,
+        CertVersion::Three => MaxVersion::Three,
+        CertVersion::Four => MaxVersion::Four,
     }
 }

@@ -17,7 +17,7 @@ use Rattle.solver.specs.declared.limits.Limits.{Limits}
 use Rattle.ground_listings.specs.SearchSpace.{class_in, ground_in, system_of}
 use Rattle.ground_listings.specs.declared.search_space.SearchSpace.{SearchSpace}
 use Rattle.solver.specs.Guided.{IsEnding}
-use Rattle.solver.specs.Solver.{IsTrueAnswer}
+use Rattle.solver.specs.Solver.{IsAnswerWithin}
 
 module _ {R : Type 0} (space : SearchSpace) (estimate : List Bool → ℕ) (is_dead : List Bool → Bool) (fits : R → Type 0) where
   -- between two turns
@@ -38,7 +38,7 @@ IsBetweenTurns space estimate is_dead s =
 
 -- an answer by tables, or what the search came to
 abbrev pub IsTrueEnd : (space : SearchSpace) (estimate : List Bool → ℕ) (is_dead : List Bool → Bool) → Limits → Parts → Type 0
-IsTrueEnd space estimate is_dead limits (ByTables answer) = IsTrueAnswer (task_in (ground_in space)) limits.seconds limits.states limits.instances answer
+IsTrueEnd space estimate is_dead limits (ByTables answer) = IsAnswerWithin (task_in (ground_in space)) limits answer
 IsTrueEnd space estimate is_dead limits (ByGuide ending) = IsEnding space estimate is_dead limits ending
 
 -- such an end, or a search to go on with

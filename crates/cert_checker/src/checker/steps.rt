@@ -38,9 +38,9 @@ use symmetries::Exchange;
 use tables::KnownState;
 use task::Task;
 
-/// Grounds the task and checks, in this order: the exchanges are symmetries; the values are fair, that for dead ends dead-fair; so
-/// are the landmark values, and those that dead ends rest on;
-/// a state alike the initial one is listed at cost 0; each state line is right.
+/// Grounds the task and checks, in this order: the exchanges are symmetries; the values are fair, and the one for dead ends is
+/// dead-fair; the landmark values are fair, and those that dead ends rest on are dead-fair; a state of the initial state's class is
+/// listed at cost 0; each state line is right.
 pub(super) fn check_cert(
     alloc: Global,
     task: &Task,
@@ -119,8 +119,8 @@ fn check_symmetric(
     check_packed(alloc, &packed)
 }
 
-/// Checks the listing of a certificate with fair values: a state alike the initial one is listed at cost 0, and each state line is
-/// right.
+/// Checks the listing of a certificate with fair values: a state of the initial state's class is listed at cost 0, and each state
+/// line is right.
 fn check_packed(alloc: Global, listing: &PackedListing) -> Result<(), Refusal>
     requires fair { AreFairFor (task_at listing.now) (certificate_at listing.now) }
     requires landmarks { AreLandmarksFair (task_at listing.now) (certificate_at listing.now) }
@@ -132,7 +132,7 @@ fn check_packed(alloc: Global, listing: &PackedListing) -> Result<(), Refusal>
     check_lines(alloc, listing)
 }
 
-/// Checks that a state alike the initial one is listed at cost 0.
+/// Checks that a state of the initial state's class is listed at cost 0.
 fn check_initial(alloc: Global, listing: &PackedListing) -> Result<(), Refusal>
     ensures right { OnOk result (IsListedWithin (AreAlikeFor (task_at listing.now) (certificate_at listing.now)) (lines_of (task_at listing.now) (certificate_at listing.now)) (meaning.system_of (task_at listing.now)).initial 0) }
     ensures wrong { IfErr result (IsTrueAnyway (task_at listing.now) (certificate_at listing.now)) }
@@ -259,8 +259,8 @@ fn check_goal(
     }
 }
 
-/// Checks that for each successor of an open state, by the instances with these numbers, an alike state is listed, at no more than
-/// the cost of the step after `cost`.
+/// Checks the successors of an open state by the instances with these numbers: a state of each one's class is listed, at no more
+/// than `cost` and the instance's cost together.
 fn check_successors(
     listing: &PackedListing,
     place: usize,
@@ -294,7 +294,7 @@ fn check_successors(
     Ok(())
 }
 
-/// A cut: where it is listed, at which cost, and by which basis at least how much is still to pay.
+/// A cut: its place, its cost, its basis, and its lower bound of the remaining cost.
 #[derive(Clone, Copy)]
 struct CutLine {
     place: usize,
@@ -303,7 +303,7 @@ struct CutLine {
     rest: u64,
 }
 
-/// Checks a cut: the state's value by its basis is at least what it tells, and that and its cost together are no less than claimed.
+/// Checks a cut: its bound is at most the state's value by its basis, and its cost and bound together are no less than claimed.
 fn check_cut(
     listing: &PackedListing,
     line: CutLine,
@@ -330,7 +330,7 @@ fn check_cut(
     }
 }
 
-/// A dead end: where it is listed, and by which basis it is one.
+/// A dead end: its place and its basis.
 #[derive(Clone, Copy)]
 struct DeadLine {
     place: usize,

@@ -24,8 +24,8 @@ use potentials::Potentials;
 use std::alloc::Global;
 use tables::{IndexedTables, TableFunctions, ValuesFairness};
 
-/// The certificate's values, if they are fair for the ground task, and that for dead ends dead-fair. The ground task numbers the
-/// certificate's atoms first.
+/// The certificate's values, if they are fair for the ground task, and the one for dead ends is dead-fair. The ground task numbers
+/// the certificate's atoms first.
 pub(super) fn fair_values<'a>(
     alloc: Global,
     cert: &'a Cert,
@@ -91,7 +91,7 @@ fn fair_with_tables<'a>(
     Ok(functions)
 }
 
-/// Checks that these values of the certificate are fair, and that for dead ends dead-fair.
+/// Checks that these values of the certificate are fair, and that the one for dead ends is dead-fair.
 fn check_fairness(
     alloc: Global,
     cert: &Cert,

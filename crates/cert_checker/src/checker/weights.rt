@@ -70,8 +70,7 @@ pub(super) fn dead_fair_potentials(
     }
 }
 
-/// Whether these potentials are dead-fair for the ground task. If all are 0, as in version 1, they are, and no instance is looked
-/// at.
+/// Whether these potentials are dead-fair for the ground task. If all are 0, as in version 1, they are: no instance is looked at.
 fn dead_fairness(
     alloc: Global,
     potentials: &Potentials,

@@ -27,8 +27,8 @@ returns-in-Validate-clause-found g c = subst
 pub returns-in-Solve-clause-found : goal.returns-in-Solve-clause-found
 returns-in-Solve-clause-found g c = subst
     (λ (wanted : Wanted). IsFound (g.F.Files.contents c.args.files.now) (g.F.Files.is_missing c.args.files.now) (g.F.Files.is_unreadable c.args.files.now) wanted c.report_of_solve.result)
-    (wanted_of_solve c.args.order c.in-Solve.domain c.in-Solve.problem _ _ c.in-Solve.states c.in-Solve.instances c.in-Solve.seconds _ c.in-Solve.progress c.limits_of-limits.result c.in-Solve.is c.limits_of-limits.ensures.states c.limits_of-limits.ensures.instances
-    c.limits_of-limits.ensures.seconds)
+    (wanted_of_solve c.args.order c.in-Solve.domain c.in-Solve.problem _ _ c.in-Solve.states c.in-Solve.instances c.in-Solve.seconds c.in-Solve.cert_version _ c.in-Solve.progress c.limits_of-limits.result c.in-Solve.is c.limits_of-limits.ensures.states c.limits_of-limits.ensures.instances
+    c.limits_of-limits.ensures.seconds c.limits_of-limits.ensures.version)
     (let said = c.report_of_solve.ensures in record { report = said.report; refused = said.refused; unread = said.unread; unreadable = said.unreadable })
 
 pub returns-in-Check-clause-found : goal.returns-in-Check-clause-found
@@ -66,8 +66,8 @@ pub returns-in-Solve-clause-progress : goal.returns-in-Solve-clause-progress
 returns-in-Solve-clause-progress g c =
     subst (λ (wanted : Wanted). AreSaid (IsProgressOn (g.F.Files.contents c.args.files.now) wanted) g.E.Sink.wants_memory (stream (g.E.Sink.failures c.args.err.now) (g.E.Sink.taken c.args.err.now))
     (stream (g.E.Sink.failures c.report_of_solve.new.err) (g.E.Sink.taken c.report_of_solve.new.err)))
-    (wanted_of_solve c.args.order c.in-Solve.domain c.in-Solve.problem _ _ c.in-Solve.states c.in-Solve.instances c.in-Solve.seconds _ c.in-Solve.progress c.limits_of-limits.result c.in-Solve.is c.limits_of-limits.ensures.states c.limits_of-limits.ensures.instances
-    c.limits_of-limits.ensures.seconds)
+    (wanted_of_solve c.args.order c.in-Solve.domain c.in-Solve.problem _ _ c.in-Solve.states c.in-Solve.instances c.in-Solve.seconds c.in-Solve.cert_version _ c.in-Solve.progress c.limits_of-limits.result c.in-Solve.is c.limits_of-limits.ensures.states c.limits_of-limits.ensures.instances
+    c.limits_of-limits.ensures.seconds c.limits_of-limits.ensures.version)
     (said_of_more (λ line is. inl is) c.report_of_solve.ensures.progress)
 
 pub returns-in-Validate-clause-ended : goal.returns-in-Validate-clause-ended
@@ -88,6 +88,6 @@ returns-in-Explain-clause-ended g c =
 pub returns-in-Solve-clause-ended : goal.returns-in-Solve-clause-ended
 returns-in-Solve-clause-ended g c =
     subst (λ (wanted : Wanted). IfOk c.report_of_solve.result (HasEndedFor wanted g.E.Sink.wants_memory (g.E.Sink.failures c.report_of_solve.new.err) (g.E.Sink.taken c.report_of_solve.new.err)))
-    (wanted_of_solve c.args.order c.in-Solve.domain c.in-Solve.problem _ _ c.in-Solve.states c.in-Solve.instances c.in-Solve.seconds _ c.in-Solve.progress c.limits_of-limits.result c.in-Solve.is c.limits_of-limits.ensures.states c.limits_of-limits.ensures.instances
-    c.limits_of-limits.ensures.seconds)
+    (wanted_of_solve c.args.order c.in-Solve.domain c.in-Solve.problem _ _ c.in-Solve.states c.in-Solve.instances c.in-Solve.seconds c.in-Solve.cert_version _ c.in-Solve.progress c.limits_of-limits.result c.in-Solve.is c.limits_of-limits.ensures.states c.limits_of-limits.ensures.instances
+    c.limits_of-limits.ensures.seconds c.limits_of-limits.ensures.version)
     c.report_of_solve.ensures.ended
