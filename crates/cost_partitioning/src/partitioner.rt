@@ -5,7 +5,7 @@ use crate::goal_distances::{NO_WAY, distance_of, distances, saturated_sum};
 use crate::orders::{Order, Worth};
 use abstractions::Abstraction;
 use faults::NoMemory;
-use potentials_drafted::Chance;
+use potentials_drafted::RandomGenerator;
 use std::alloc::Global;
 
 /// The part, in thousandths, of the states' sum of values that is left without tables that add little.
@@ -26,7 +26,7 @@ pub(crate) struct Partitioner<'a, A> {
     alone: Vec<Vec<i64>>,
     /// The sum of the saturated costs of each table in that case.
     saturated: Vec<i64>,
-    chance: Chance,
+    random: RandomGenerator,
     /// Work counter (arcs, rows and instances), and its limit, after which no order is modified any more.
     work: u64,
     max_work: u64,
@@ -69,7 +69,7 @@ impl<'a, A: Abstraction> Partitioner<'a, A> {
             states,
             alone: Vec::new(alloc),
             saturated: Vec::new(alloc),
-            chance: Chance::new(),
+            random: RandomGenerator::new(),
             work: 0,
             max_work: 0,
         };
@@ -226,8 +226,8 @@ impl<'a, A: Abstraction> Partitioner<'a, A> {
             if self.is_done() {
                 break;
             }
-            let from = self.chance.below(best.order.tables().len());
-            let to = self.chance.below(best.order.tables().len());
+            let from = self.random.below(best.order.tables().len());
+            let to = self.random.below(best.order.tables().len());
             if from != to {
                 let moved = best.order.moved(self.alloc, from, to)?;
                 let moved = self.ranked(moved, state)?;

@@ -43,7 +43,7 @@
 //!   (`PrecedesPlans`). The bound is the least sum of cost and estimate over the cuts: the found states that are neither expanded nor
 //!   reported dead. The found states prove it (`IsAtLimit`).
 //! - Exactly the states that are reported dead are marked dead, and none of them is expanded.
-//! - The estimate of each cut is told, so nobody has to ask for it again.
+//! - The estimate of each cut is reported, so it need not be computed again.
 //! - With a consistent estimate, at the limit no expanded state has a greater sum than the bound, and the initial state no greater
 //!   estimate. If moreover each state is a class of its own, and successors of reported dead ends are reported too, expanded states
 //!   were reached by a cheapest way.

@@ -17,7 +17,7 @@ use grounding::Ground;
 use potentials::{Allowance, GoalAtoms, Potentials, loses_at_most};
 use std::alloc::Global;
 
-/// One of several values, with what instances may lose of it.
+/// One of several values, for the test of what instances may lose by it.
 #[derive(Clone, Copy)]
 pub(crate) struct TableValue<'a, 't> {
     /// The constant and the weights of atoms.

@@ -34,7 +34,7 @@ enum Direction {
 
 /// The weights under repair, and the best weights so far.
 #[derive(Drop)]
-pub(crate) struct Mending {
+pub(crate) struct Repair {
     weights: Vec<i64>,
     /// The slack of each instance, and the instances with negative slack.
     slacks: Vec<i64>,
@@ -46,15 +46,15 @@ pub(crate) struct Mending {
     gain: Gain,
 }
 
-impl Mending {
+impl Repair {
     /// Starts with these weights as the best so far.
     pub(crate) fn new(
         alloc: Global,
         input: &ProgramInput,
         aims: &Aims,
         weights: &[i64],
-    ) -> Result<Mending, NoMemory> {
-        Ok(Mending {
+    ) -> Result<Repair, NoMemory> {
+        Ok(Repair {
             weights: Vec::new(alloc),
             slacks: Vec::new(alloc),
             unfair: Vec::new(alloc),
@@ -79,7 +79,7 @@ impl Mending {
     ) -> Result<(), NoMemory> {
         for lift in LIFTS {
             self.start(input, weights, lift)?;
-            if self.mend(input, aims)? {
+            if self.repair(input, aims)? {
                 self.keep_if_better(input, aims);
             }
             if weights.iter().all(|weight| is_whole(*weight)) {
@@ -130,7 +130,7 @@ impl Mending {
     }
 
     /// Changes single weights by one until each instance is fair. Returns whether that succeeds.
-    fn mend(&mut self, input: &ProgramInput, aims: &Aims) -> Result<bool, NoMemory> {
+    fn repair(&mut self, input: &ProgramInput, aims: &Aims) -> Result<bool, NoMemory> {
         for moves in 0..MAX_MOVES {
             let Some(number) = self.unfair.pop() else {
                 return Ok(true);
@@ -195,24 +195,24 @@ impl Mending {
     /// The score of the move: the gain of the initial state and the reduction of unfairness.
     fn score(&mut self, input: &ProgramInput, aims: &Aims, step: WeightStep) -> i64 {
         let gain = aims.gain(input, step, self.weight(step.atom));
-        let mended = self.mended(input, step);
-        gain.saturating_mul(4).saturating_add(mended)
+        let repaired = self.repaired(input, step);
+        gain.saturating_mul(4).saturating_add(repaired)
     }
 
     /// The total reduction of unfairness by the move.
-    fn mended(&mut self, input: &ProgramInput, step: WeightStep) -> i64 {
+    fn repaired(&mut self, input: &ProgramInput, step: WeightStep) -> i64 {
         let before = self.weight(step.atom);
         let after = before.saturating_add(step.by);
         let touches = input.instances_of(step.atom);
-        let mut mended = 0i64;
+        let mut repaired = 0i64;
         for touch in touches {
             let slack = self.slack_of(touch.number);
             let less = touch.loss(before).saturating_sub(touch.loss(after));
             let later = slack.saturating_add(less);
-            mended = mended.saturating_add(later.min(0).saturating_sub(slack.min(0)));
+            repaired = repaired.saturating_add(later.min(0).saturating_sub(slack.min(0)));
         }
         self.count(touches.len());
-        mended
+        repaired
     }
 
     /// Makes the move, and lists the instances that become unfair.
