@@ -7,7 +7,7 @@ use Rattle.grounding.specs.Ground.{task_in, atoms_in}
 use Rattle.model.specs.StaticallyFalse.{kept_instances}
 use Rattle.model.specs.Grounding.{ground_step}
 use Rattle.model.proofs.ListLemmas.{filter-Contains}
-use Rattle.reading_tests.proofs.ground_tasks.next.Goals as goal
+use Rattle.solver_tests.proofs.ground_tasks.next.Goals as goal
 
 pub successor-requires-clause-applicable : goal.successor-requires-clause-applicable
 successor-requires-clause-applicable c =

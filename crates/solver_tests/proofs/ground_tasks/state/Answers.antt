@@ -1,7 +1,7 @@
 use Rattle.std.proofs.Common.{◌∙◌, ap, [], length, nat_eq}
 use Rattle.std.specs.List.{list_any}
 use Rattle.std.proofs.lemmas.List.FromFn.{length-map-range_with_len}
-use Rattle.reading_tests.proofs.ground_tasks.state.Goals as goal
+use Rattle.solver_tests.proofs.ground_tasks.state.Goals as goal
 
 pub loop-number-init : goal.loop-number-init
 loop-number-init c =
