@@ -89,37 +89,58 @@ impl<A: Abstraction> Choosing<'_, A> {
 
     /// The candidates: by an order for the initial state, and by orders for other states.
     fn candidates(&self, input: &mut ProgramInput) -> Result<Vec<CandidateValue>, NoMemory> {
-        let states = self.sampled.abstract_states.len();
-        let mut candidates = CandidateValues {
-            partitioner: Partitioner::new(
-                self.alloc,
-                self.abstractions,
-                self.costs,
-                self.sampled.abstract_states,
-            )?,
+        let mut candidates = self.no_candidates()?;
+        self.add_first(input, &mut candidates)?;
+        self.add_others(input, &mut candidates)?;
+        let CandidateValues { all, .. } = candidates;
+        Ok(all)
+    }
+
+    /// No candidates: each state has the value 0.
+    fn no_candidates(&self) -> Result<CandidateValues<'_, A>, NoMemory> {
+        let states = self.sampled.abstract_states;
+        let most = vec![in self.alloc; 0; states.len()]?;
+        let most_by_tables = vec![in self.alloc; 0; states.len()]?;
+        Ok(CandidateValues {
+            partitioner: Partitioner::new(self.alloc, self.abstractions, self.costs, states)?,
             all: Vec::new(self.alloc),
-            most: vec![in self.alloc; 0; states]?,
-            most_by_tables: vec![in self.alloc; 0; states]?,
+            most,
+            most_by_tables,
             rests: 0,
-        };
+        })
+    }
+
+    /// Adds the candidates by an order for the initial state.
+    fn add_first(
+        &self,
+        input: &mut ProgramInput,
+        candidates: &mut CandidateValues<'_, A>,
+    ) -> Result<(), NoMemory> {
         candidates.partitioner.allow(MAX_WORK_OF_PRUNING);
         let order = candidates.partitioner.best_order()?;
         candidates.partitioner.allow(self.part_of(MAX_WORK));
         let order = candidates.partitioner.improved(order, TRIALS)?;
-        self.add(input, &order, &mut candidates)?;
-        self.add_after_potentials(input, &order, &mut candidates)?;
+        self.add(input, &order, candidates)?;
+        self.add_after_potentials(input, &order, candidates)
+    }
+
+    /// Adds the candidates by orders for the other states.
+    fn add_others(
+        &self,
+        input: &mut ProgramInput,
+        candidates: &mut CandidateValues<'_, A>,
+    ) -> Result<(), NoMemory> {
         candidates
             .partitioner
             .allow(self.part_of(MAX_WORK_OF_STATES));
-        for state in 1..states {
+        for state in 1..self.sampled.abstract_states.len() {
             if candidates.partitioner.is_done() {
                 break;
             }
             let order = candidates.partitioner.order_for(state, TRIALS_OF_STATE)?;
-            self.add(input, &order, &mut candidates)?;
+            self.add(input, &order, candidates)?;
         }
-        let CandidateValues { all, .. } = candidates;
-        Ok(all)
+        Ok(())
     }
 
     /// Adds the partition by this order, with potentials for the remaining costs, if its tables alone raise the value of some
@@ -212,20 +233,26 @@ impl<A: Abstraction> Choosing<'_, A> {
         let mut most = self.given(&alone)?;
         values.push(alone)?;
         for _ in 1..MAX_VALUES {
-            let Some(place) = best(&candidates, &most) else {
+            let Some(value) = next_value(&mut candidates, &mut most) else {
                 return Ok(values);
             };
-            if place >= candidates.len() {
-                return Ok(values);
-            }
-            let CandidateValue { value, given } = candidates.swap_remove(place);
-            for (before, value) in most.iter_mut().zip(&given) {
-                *before = (*before).max(*value);
-            }
             values.push(value)?;
         }
         Ok(values)
     }
+}
+
+/// Removes the candidate by which the states gain most, and raises their values to those by it. `None` if none gains.
+fn next_value(candidates: &mut Vec<CandidateValue>, most: &mut [i64]) -> Option<PartitionedValue> {
+    let place = best(candidates, most)?;
+    if place >= candidates.len() {
+        return None;
+    }
+    let CandidateValue { value, given } = candidates.swap_remove(place);
+    for (before, value) in most.iter_mut().zip(&given) {
+        *before = (*before).max(*value);
+    }
+    Some(value)
 }
 
 /// Raises each number to the one at its index, if that is greater. Returns whether any was raised.

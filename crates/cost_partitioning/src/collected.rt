@@ -93,23 +93,33 @@ impl Collecting<'_, '_> {
             }
         }
         let links = Links::new(self.alloc, self.ground, self.task.variables)?;
+        let mut level = self.first_level()?;
+        for _ in 1..MAX_VARIABLES {
+            let candidates = self.add_level(level)?;
+            level = self.grown(&links, &candidates)?;
+        }
+        self.add_level(level)?;
+        Ok(())
+    }
+
+    /// The single variables that the goal asks of.
+    fn first_level(&self) -> Result<Vec<Vec<u32>>, NoMemory> {
         let mut level: Vec<Vec<u32>> = Vec::new(self.alloc);
         for variable in 0..self.task.variables.count() {
             if self.task.goals.ask_of(variable) {
                 level.push(vec![in self.alloc; variable]?)?;
             }
         }
-        for size in 1..=MAX_VARIABLES {
-            let candidates = self.candidates(level)?;
-            for candidate in &candidates {
-                self.add(&candidate.variables)?;
-            }
-            level = Vec::new(self.alloc);
-            if size < MAX_VARIABLES {
-                level = self.grown(&links, &candidates)?;
-            }
+        Ok(level)
+    }
+
+    /// Adds the tables over these sets of variables, smaller ones first. Returns the sets that are not too large.
+    fn add_level(&mut self, level: Vec<Vec<u32>>) -> Result<Vec<CandidateTable>, NoMemory> {
+        let candidates = self.candidates(level)?;
+        for candidate in &candidates {
+            self.add(&candidate.variables)?;
         }
-        Ok(())
+        Ok(candidates)
     }
 
     /// The sets of variables that are not too large, those with the fewest combinations first.

@@ -134,13 +134,9 @@ impl Subject<'_, '_> {
     {
         let atoms = samples(self.alloc, input.states(), self.wanted.states)?;
         let values = values_of_all(self.alloc, self.variables, &atoms)?;
-        let starts = samples(self.alloc, first_of(input.states()), self.wanted.starts)?;
-        let starts = values_of_all(self.alloc, self.variables, &starts)?;
-        let Some(steps) = Steps::new(self.alloc, self.ground, self.variables)? else {
+        let Some(known) = self.known(input, &values)? else {
             return Ok(None);
         };
-        let known = self.known(&steps, &starts, &values)?;
-        drop(steps);
         let numbers = abstract_states_of_all(self.alloc, &known.collected.graphs, &values)?;
         let sampled = Sampled {
             atoms: &atoms,
@@ -151,8 +147,19 @@ impl Subject<'_, '_> {
     }
 
     /// Tables over the variables, and the costs of the instances that they do not shut out, for the values of variables in the
-    /// start states and in the sampled states.
-    fn known(
+    /// sampled states. `None` if the task is too large.
+    fn known(&self, input: &ProgramInput, states: &[Vec<u32>]) -> Result<Option<Known>, NoMemory> {
+        let starts = samples(self.alloc, first_of(input.states()), self.wanted.starts)?;
+        let starts = values_of_all(self.alloc, self.variables, &starts)?;
+        let Some(steps) = Steps::new(self.alloc, self.ground, self.variables)? else {
+            return Ok(None);
+        };
+        let known = self.known_by(&steps, &starts, states)?;
+        Ok(Some(known))
+    }
+
+    /// The same by these effects of the instances, and for the values of variables in the start states too.
+    fn known_by(
         &self,
         steps: &Steps,
         starts: &[Vec<u32>],

@@ -35,10 +35,9 @@ state_line line = record { cost = line.cost; mark = by_all line.mark; atoms = nu
 abbrev pub mark_of_line : {S : Type 0} → Line S → Marked
 mark_of_line line = record { cost = line.cost; mark = by_all line.mark }
 
--- the certificate that lists these states, which were found by this guidance, each expanded one as open, each other as a dead end
--- where it is reported one, and else as a cut with its estimate; by these exchanges some are alike
-abbrev pub found_certificate : Claim → List Exchange → List Atom → Guidance → List (List Bool) → List Node → Certificate
-found_certificate claim exchanges atoms guidance states nodes = record {
+-- the certificate of a search by this guidance, with these lines
+abbrev pub certificate_by : Claim → List Exchange → List Atom → Guidance → List StateLine → Certificate
+certificate_by claim exchanges atoms guidance lines = record {
   version = version_by guidance;
   claim = claim;
   exchanges = exchanges;
@@ -47,8 +46,14 @@ found_certificate claim exchanges atoms guidance states nodes = record {
   dead_ends = (values_by guidance).dead_ends;
   tables = (values_by guidance).tables;
   landmarks = no_landmarks;
-  lines = map state_line (search.lines_of (estimate_by guidance) (reports_dead guidance) states nodes);
+  lines = lines;
 }
+
+-- the certificate that lists these states, which were found by this guidance, each expanded one as open, each other as a dead end
+-- where it is reported one, and else as a cut with its estimate; by these exchanges some are alike
+abbrev pub found_certificate : Claim → List Exchange → List Atom → Guidance → List (List Bool) → List Node → Certificate
+found_certificate claim exchanges atoms guidance states nodes =
+    certificate_by claim exchanges atoms guidance (map state_line (search.lines_of (estimate_by guidance) (reports_dead guidance) states nodes))
 
 -- The certificate is closed for the task, claims this, keeps the limits of a certificate's text, its exchanges can be named, and it
 -- lists at most `max_states` states by the numbered atoms, each at the place that is its number: different ones, as it is closed, and
