@@ -11,41 +11,13 @@ use crate::explaining::of_plan::joined;
 use crate::explanation::{Explanation, FurtherFault};
 use crate::files::faults_of_files;
 use explain_faults::{FileRefusal, explain_fault};
-use explain_hints::{File, NamedTexts};
+use explain_hints::{CutTexts, File, NamedTexts};
 use faults::{Code, NoMemory};
 use std::alloc::Global;
 use typing::{TaskFile, TaskRefusal};
 
 /// The maximum number of further faults that are reported.
 const MOST: usize = 20;
-
-/// The explanation of a fault, followed by the lines of the other faults of the two files.
-pub(super) fn with_further(
-    alloc: Global,
-    texts: &NamedTexts<'_>,
-    first: FileRefusal,
-    alone: Explanation,
-) -> Result<Explanation, NoMemory>
-    requires { IsExplainedAlone texts.now first.file first.code first.span alone }
-    ensures { IfOk result (IsFaultExplained texts.now first.file first.code first.span) }
-{
-    let search = FurtherSearch {
-        alloc,
-        texts,
-        first,
-    };
-    let further = search.further_faults()?;
-    let more = further_text(alloc, &further)?;
-    let text = joined(alone.text, more.as_str())?;
-    Ok(Explanation {
-        subject: alone.subject,
-        text,
-        location: alone.location,
-        hints: alone.hints,
-        further,
-        notes: alone.notes,
-    })
-}
 
 /// The lines of the faults, with an empty line before each. If the limit is reached, a last line says that there may be more.
 fn further_text(alloc: Global, further: &[FurtherFault]) -> Result<String, NoMemory>
@@ -64,13 +36,33 @@ fn further_text(alloc: Global, further: &[FurtherFault]) -> Result<String, NoMem
 
 /// A search for the faults of two files other than the first.
 #[derive(Clone, Copy)]
-struct FurtherSearch<'a> {
-    alloc: Global,
-    texts: &'a NamedTexts<'a>,
-    first: FileRefusal,
+pub(super) struct FurtherSearch<'a> {
+    pub(super) alloc: Global,
+    pub(super) texts: &'a NamedTexts<'a>,
+    /// The pieces of the texts.
+    pub(super) pieces: &'a CutTexts<'a>,
+    pub(super) first: FileRefusal,
 }
 
 impl FurtherSearch<'_> {
+    /// The explanation of the first fault, followed by the lines of the others.
+    pub(super) fn with_further(self, alone: Explanation) -> Result<Explanation, NoMemory>
+        requires { IsExplainedAlone self.texts.now self.first.file self.first.code self.first.span alone }
+        ensures { IfOk result (IsFaultExplained self.entry.texts.now self.entry.first.file self.entry.first.code self.entry.first.span) }
+    {
+        let further = self.further_faults()?;
+        let more = further_text(self.alloc, &further)?;
+        let text = joined(alone.text, more.as_str())?;
+        Ok(Explanation {
+            subject: alone.subject,
+            text,
+            location: alone.location,
+            hints: alone.hints,
+            further,
+            notes: alone.notes,
+        })
+    }
+
     /// The further faults, each with its lines, if the first is a typing fault.
     fn further_faults(self) -> Result<Vec<FurtherFault>, NoMemory>
         ensures { IfOk result (λ further. AreFurther self.entry.texts.now further.items) }
@@ -100,9 +92,17 @@ impl FurtherSearch<'_> {
         if further.len() >= MOST || self.is_told(fault, further) {
             return Ok(());
         }
-        let text = text_of(self.alloc, self.texts, fault)?;
+        let text = self.text_of(fault)?;
         further.push(FurtherFault { fault, text })?;
         Ok(())
+    }
+
+    /// The lines of a fault.
+    fn text_of(self, fault: FileRefusal) -> Result<String, NoMemory>
+        ensures { IfOk result (λ text. SayFault (name_in self.entry.texts.now fault.file) (text_in self.entry.texts.now fault.file) fault (string_bytes text)) }
+    {
+        let explained = explain_fault(self.alloc, self.texts, self.pieces, fault)?;
+        explained.text(self.alloc, self.texts)
     }
 
     /// Whether a fault is the first or one of those already reported, or comes from the same mistake.
@@ -138,14 +138,6 @@ fn one_of_files(file: TaskFile) -> File
         TaskFile::Domain => File::Domain,
         TaskFile::Problem => File::Problem,
     }
-}
-
-/// The lines of a fault.
-fn text_of(alloc: Global, texts: &NamedTexts<'_>, fault: FileRefusal) -> Result<String, NoMemory>
-    ensures { IfOk result (λ text. SayFault (name_in texts.now fault.file) (text_in texts.now fault.file) fault (string_bytes text)) }
-{
-    let explained = explain_fault(alloc, texts, fault)?;
-    explained.text(alloc, texts)
 }
 
 /// Whether a fault may come from the same mistake as another: they are equal, it follows from the other, or the same word is refused

@@ -2,11 +2,11 @@
 ghost use Rattle.std.specs.Prelude.{IfOk};
 ghost use Rattle.file_answers.specs.Explanations.{IsExplainedAlone, IsOfFault};
 
-use crate::explaining::further::with_further;
+use crate::explaining::further::FurtherSearch;
 use crate::explanation::{Explanation, Location, Subject};
 use crate::files::FileFault;
 use explain_faults::{FileRefusal, explain_fault};
-use explain_hints::NamedTexts;
+use explain_hints::{CutTexts, NamedTexts};
 use faults::NoMemory;
 use std::alloc::Global;
 
@@ -21,8 +21,15 @@ pub(super) fn explain_refused(
     match fault {
         FileFault::At { file, code, span } => {
             let first = FileRefusal { file, code, span };
-            let alone = explain_at(alloc, texts, first)?;
-            with_further(alloc, texts, first, alone)
+            let pieces = CutTexts::of(alloc, texts, code)?;
+            let alone = explain_at(alloc, texts, &pieces, first)?;
+            let search = FurtherSearch {
+                alloc,
+                texts,
+                pieces: &pieces,
+                first,
+            };
+            search.with_further(alone)
         }
         FileFault::NoMemory => Err(NoMemory),
     }
@@ -32,12 +39,13 @@ pub(super) fn explain_refused(
 fn explain_at(
     alloc: Global,
     texts: &NamedTexts<'_>,
+    pieces: &CutTexts<'_>,
     fault: FileRefusal,
 ) -> Result<Explanation, NoMemory>
     ensures { IfOk result (IsExplainedAlone texts.now fault.file fault.code fault.span) }
 {
     let FileRefusal { file, code, span } = fault;
-    let explained = explain_fault(alloc, texts, fault)?;
+    let explained = explain_fault(alloc, texts, pieces, fault)?;
     let text = explained.text(alloc, texts)?;
     let hints = explained.hints(alloc, texts)?;
     let location = Location::new(alloc, texts.name(file), explained.place, span)?;

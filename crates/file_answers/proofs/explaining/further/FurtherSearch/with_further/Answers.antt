@@ -6,7 +6,7 @@ use Rattle.file_answers.specs.ExplanationLines.{place_in}
 use Rattle.file_answers.specs.FurtherFaults.{further_text}
 use Rattle.file_answers.specs.declared.explanation.Location.{Location}
 use Rattle.file_answers.proofs.FurtherLemmas.{says_before}
-use Rattle.file_answers.proofs.explaining.further.with_further.Goals as goal
+use Rattle.file_answers.proofs.explaining.further.FurtherSearch.with_further.Goals as goal
 
 pub returns : goal.returns
 returns c =
@@ -15,7 +15,7 @@ returns c =
     record {
       subject = c.requires.subject;
       located = c.requires.located;
-      says = says_before c.args.alone.location (λ (at : Location). IsHeading (string_bytes at.file) (text_in c.args.texts.now c.args.first.file) c.args.first.span.start (place_in at) c.args.first.code) new old more is c.requires.says;
+      says = says_before c.args.alone.location (λ (at : Location). IsHeading (string_bytes at.file) (text_in c.args.self.texts.now c.args.self.first.file) c.args.self.first.span.start (place_in at) c.args.self.first.code) new old more is c.requires.says;
       further = c.in_ok-further.ensures;
       says_further = (old, is);
     }

@@ -5,11 +5,11 @@ use Rattle.explain_hints.specs.Files.{name_in, text_in}
 use Rattle.explain_faults.specs.Explained.{BeginsWith, IsHeading}
 use Rattle.explain_hints.specs.declared.refusal.FileRefusal.{FileRefusal}
 use Rattle.file_answers.specs.FurtherFaults.{SayFault}
-use Rattle.file_answers.proofs.explaining.further.text_of.Goals as goal
+use Rattle.file_answers.proofs.explaining.further.FurtherSearch.text_of.Goals as goal
 
 pub returns : goal.returns
 returns c =
-    let texts = c.args.texts.now in let fault = c.args.fault in let explained = c.in_ok-explained.explained in
+    let texts = c.args.self.texts.now in let fault = c.args.fault in let explained = c.in_ok-explained.explained in
     IfOk-weaker c.text.result _ (λ text. SayFault (name_in texts fault.file) (text_in texts fault.file) fault (string_bytes text))
     (λ text begins. (
       explained.place,
