@@ -22,6 +22,7 @@ use Rattle.file_answers.specs.ExplanationLines.{Files, Named, BeginAt, IsLocated
 use Rattle.file_answers.specs.Files.{fault_at}
 use Rattle.file_answers.specs.FurtherFaults.{AreFurther, EndsWith, further_text}
 use Rattle.file_answers.specs.Inputs.{IsInputFault}
+use Rattle.file_answers.specs.Notes.{AreAllTold}
 use Rattle.file_answers.specs.declared.explanation.Explanation.{Explanation}
 use Rattle.file_answers.specs.declared.explanation.Grounded.{Grounded}
 use Rattle.file_answers.specs.declared.explanation.Grounded.TheVariants.{Within, Beyond}
@@ -127,11 +128,12 @@ abbrev pub IsLocatedIf : Named → Option Span → Option Location → Type 0
 IsLocatedIf file None at = Unit {0}
 IsLocatedIf file (Some span) at = IsSomeAnd at (IsLocated file span)
 
--- the subject is the summary of the task and the outcome of grounding
+-- the subject is the summary of the task and the outcome of grounding, and the notes are those on the task
 pub record IsTaskExplained (task : model.Task) (most : ℕ) (e : Explanation) : Type 0 where
   pub holds : Summary
   pub grounded : Grounded
   pub subject : e.subject ≡ Task holds grounded
   pub is_held : IsHeld task most holds grounded
+  pub noted : AreAllTold task most grounded (map string_bytes e.notes.items)
   pub says : string_bytes e.text ≡ summary_text holds ++ (grounded_line grounded ++ on_lines (map string_bytes e.notes.items))
   pub no_further : e.further.items ≡ []

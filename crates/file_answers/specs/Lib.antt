@@ -1,5 +1,6 @@
 pub mod Checked
 pub mod ExplanationLines
+pub mod Notes
 pub mod Explanations
 pub mod Files
 pub mod Inputs

@@ -26,6 +26,7 @@ use Rattle.printed_answers.specs.CheckReported.{IsReportedRefusal}
 use Rattle.planner_main.specs.Asked.{outputs_of}
 use Rattle.file_answers.specs.declared.explanation.Explanation.{Explanation}
 use Rattle.file_answers.specs.Explanations.{IsTrueOf}
+use Rattle.file_answers.specs.Notes.{AreNoted}
 use Rattle.file_answers.specs.ExplanationLines.{Files, IsSaidOf, named_as}
 use Rattle.devices.specs.Texts.{AreKept, IsText}
 use Rattle.devices.specs.Written.{NamedText, AreWritten, AreWrittenPartly}
@@ -116,12 +117,13 @@ abbrev pub named_inputs : (domain problem : List ℕ) → (plan : Option (List �
 named_inputs domain problem plan d p l =
     record { domain = record { name = domain; text = d }; problem = record { name = problem; text = p }; plan = named_as plan l }
 
--- or the explanation of two texts, and of the plan of a third, if one is given: it is correct, and its lines and its location
--- state it.
+-- or the explanation of two texts, and of the plan of a third, if one is given: it is correct, its lines and its location state it, and
+-- its notes are those on the task.
 abbrev pub IsExplanationOn : (List ℕ → Option (List ℕ)) → (domain problem : List ℕ) → (plan : Option (List ℕ)) → (traced : Bool) → (most : ℕ) → Report → Type 0
 IsExplanationOn contents domain problem plan traced most found =
     (e : Explanation) × (found ≡ report.Explain e)
-    × OnInputs contents domain problem plan (λ d p l. IsTrueOf d p l most e.subject × IsSaidOf traced (named_inputs domain problem plan d p l) e)
+    × OnInputs contents domain problem plan (λ d p l. IsTrueOf d p l most e.subject × IsSaidOf traced (named_inputs domain problem plan d p l) e
+    × AreNoted d p most e)
 
 -- the result is the one asked for, and correct
 abbrev pub IsReportOn : (List ℕ → Option (List ℕ)) → Wanted → Report → Type 0
