@@ -71,7 +71,7 @@ pub enum Accepted {
 /// - 62: the first landmark value that is not fair, with its line;
 /// - 63: the first dead end that rests on a landmark value that is not dead-fair, with its line;
 /// - 45: no state of the initial state's class is listed at cost 0;
-/// - line by line, 48 to 51, 58: a wrong open state, cut or dead end;
+/// - line by line, 48 to 51, 58: a wrong expanded state, cut or dead end;
 /// - 53, 54: the plan does not solve the task, or is dearer than claimed.
 ///
 /// [`Refusal::Device`]: the device failed. [`Refusal::NoMemory`]: an allocation failed.

@@ -24,7 +24,7 @@ pub fn closed_claim_holds()
     ensures dead_ends { (task : Task) (c : Certificate) → IsClosedFor task c → AreDeadEnds (system_of task) (is_dead_end_of task c) }
 {}
 
-/// The reason: for each state that a solving list goes through, an open state of its class is listed at no more than the cost so
+/// The reason: for each state that a solving list goes through, an expanded state of its class is listed at no more than the cost so
 /// far, up to the list's end or to a state in the class of a cut; none is in the class of a dead end. At the cut, the list's cost is
 /// at least the line's cost and bound together. Without exchanges the states are listed themselves.
 pub fn solving_list_stays_listed()

@@ -181,7 +181,7 @@ fn is_mark(version: Version, mark: Mark) -> bool
     ensures { result ≡ is_mark (version_of version) (mark_of mark) }
 {
     match mark {
-        Mark::Open => true,
+        Mark::Expanded => true,
         Mark::Cut { by, rest } => is_basis(version, by) && is_number(rest),
         Mark::Dead { by } => version != Version::One && is_basis(version, by),
     }
@@ -214,7 +214,7 @@ fn has_basis(mark: Mark, value_count: usize) -> bool
     ensures { result ≡ has_basis value_count (mark_of mark) }
 {
     match mark {
-        Mark::Open => true,
+        Mark::Expanded => true,
         Mark::Cut { by, .. } | Mark::Dead { by } => match by {
             Basis::OfAll => true,
             Basis::Landmark(number) => (number as usize) < value_count,

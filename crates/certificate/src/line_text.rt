@@ -195,7 +195,7 @@ fn add_mark(mark: Mark, cost: u64, text: &mut Vec<u8>) -> Result<(), AllocError>
     ensures { OnOk result (text.new.items ≡ text.old.items ++ mark_text (mark_of mark) cost) }
 {
     match mark {
-        Mark::Open => add_number(b"open ", cost, text),
+        Mark::Expanded => add_number(b"open ", cost, text),
         Mark::Cut {
             by: Basis::OfAll,
             rest,

@@ -226,7 +226,7 @@ fn write_states<W: Sink>(
     };
     let mut line = StateLine {
         cost: 0,
-        mark: Mark::Open,
+        mark: Mark::Expanded,
         atoms: Vec::new(alloc),
     };
     for place in 0..cert.line_count() {

@@ -11,7 +11,7 @@ use Rattle.certificate_definitions.specs.CertificateText.{WeightedAtom, scope, r
 use Rattle.certificate_definitions.specs.CertificateMachine.{CertificatePlace, in_body, ended, place_from, place_after}
 use Rattle.certificate_definitions.specs.CertificateNames.{parts_of, values_said, dead_ends_said, exchange_said, named_exchange}
 use Rattle.certificate_definitions.specs.CertificateChecking.{IsWrongAfter}
-use Rattle.certificate_definitions.specs.CertificateExamples.{open_at, linked, tied}
+use Rattle.certificate_definitions.specs.CertificateExamples.{expanded_at, linked, tied}
 use Rattle.symmetries_definitions.specs.SymmetryExamples.{gripper}
 
 abbrev pub weighs : List ℤ → (name : List ℕ) → WeightedAtom
@@ -33,7 +33,7 @@ abbrev pub table_lines_of_both : List TextLine
 table_lines_of_both = part (tabled (scope (0 ∷ 1 ∷ []))) ∷ row_line zeros [] ∷ row_line (minus 2 ∷ pos 0 ∷ pos 1 ∷ []) (0 ∷ 1 ∷ []) ∷ []
 
 abbrev pub last_lines : List TextLine
-last_lines = listed (open_at 0 []) ∷ last 1 ∷ []
+last_lines = listed (expanded_at 0 []) ∷ last 1 ∷ []
 
 -- a certificate with one table over both atoms, which has a row with these weights and atoms
 abbrev pub with_row : Version → List ℤ → List ℕ → Certificate
@@ -92,8 +92,8 @@ pub record AreTextsJudged : Type 0 where
   pub without_tables : behind_atoms three 3 (last_lines) ≡ Some ended
   pub row_first : behind_atoms three 3 (row_line zeros [] ∷ []) ≡ None
   pub atom_behind_a_table : behind_atoms three 3 (table_lines_of_both ++ atom (weighs zeros (codes "r")) ∷ []) ≡ None
-  pub row_behind_a_state : behind_atoms three 3 (table_lines_of_both ++ listed (open_at 0 []) ∷ row_line zeros (0 ∷ []) ∷ []) ≡ None
-  pub table_behind_a_state : behind_atoms three 3 (listed (open_at 0 []) ∷ part (tabled (scope (0 ∷ []))) ∷ []) ≡ None
+  pub row_behind_a_state : behind_atoms three 3 (table_lines_of_both ++ listed (expanded_at 0 []) ∷ row_line zeros (0 ∷ []) ∷ []) ≡ None
+  pub table_behind_a_state : behind_atoms three 3 (listed (expanded_at 0 []) ∷ part (tabled (scope (0 ∷ []))) ∷ []) ≡ None
   -- A scope has at least one atom, and its numbers ascend and are those of atoms; the same holds for a row, which has one weight
   -- for each constant.
   pub empty_scope : behind_atoms three 3 (part (tabled (scope [])) ∷ []) ≡ None
@@ -107,7 +107,7 @@ pub record AreTextsJudged : Type 0 where
   -- Exchanges come right after the constants.
   pub exchanges : behind_constants three (swapped (codes "a" ∷ codes "b" ∷ []) ∷ swapped (codes "b" ∷ codes "c" ∷ codes "d" ∷ codes "a" ∷ []) ∷ last_lines) ≡ Some ended
   pub exchange_behind_atoms : behind_atoms three 2 (swapped (codes "a" ∷ codes "b" ∷ []) ∷ []) ≡ None
-  pub exchange_behind_a_state : behind_constants three (listed (open_at 0 []) ∷ swapped (codes "a" ∷ codes "b" ∷ []) ∷ []) ≡ None
+  pub exchange_behind_a_state : behind_constants three (listed (expanded_at 0 []) ∷ swapped (codes "a" ∷ codes "b" ∷ []) ∷ []) ≡ None
   pub exchange_in_version_1 : behind_constants one (swapped (codes "a" ∷ codes "b" ∷ []) ∷ []) ≡ None
   pub exchange_in_version_2 : behind_constants two (swapped (codes "a" ∷ codes "b" ∷ []) ∷ []) ≡ None
   -- The names of an exchange are at least two, even in number, and all different.

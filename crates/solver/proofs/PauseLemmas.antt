@@ -3,13 +3,13 @@ use Rattle.std.proofs.Common.{◌≡◌, ◌∙◌, ℕ, ◌+◌, ◌≤◌, Boo
 use Rattle.std.specs.Prelude.{slice_get, count_by, Contains, if◌then◌else◌}
 use Rattle.std.specs.List.{fold}
 use Rattle.model.specs.Runs.{System, CostsAtLeast, IsReachable}
-use Rattle.model.specs.Claims.{bound, opened, cut, dead, Line, IsClosed}
+use Rattle.model.specs.Claims.{bound, expanded, cut, dead, Line, IsClosed}
 use Rattle.model.proofs.ClaimsLemmas.{claim-of_closed}
 use Rattle.model.proofs.ListLemmas.{Contains-place}
 use Rattle.packed_state.specs.Store.{AreDistinct}
 use Rattle.search.specs.declared.nodes.Node.{Node}
 use Rattle.search.specs.declared.progress.Progress.{Progress}
-use Rattle.search.specs.Nodes.{Waiting, found_of, sum_of, entry, AreOpen}
+use Rattle.search.specs.Nodes.{Waiting, found_of, sum_of, entry, AreClosed}
 use Rattle.search.specs.OpenList.{waiting_in, IsLeastSum}
 use Rattle.search.specs.Estimates.{IsAdmissible}
 use Rattle.search.specs.DeadEnds.{ReportsDeadEnds}
@@ -18,7 +18,7 @@ use Rattle.search.specs.Progress.{IsSearch, nodes_in}
 use Rattle.search.proofs.Closed.{are_listed, closed, lines_are_true, node_at}
 use Rattle.search.proofs.Lists.{get_exists}
 use Rattle.solver.specs.Listing.{by_all}
-use Rattle.solver.specs.Said.{is_opened, is_open_line, IsListing}
+use Rattle.solver.specs.Said.{has_expanded_mark, is_expanded_line, IsListing}
 use Rattle.solver.proofs.FoundLines.{found_line, length-lines}
 use Rattle.std.proofs.lemmas.Option.{slice_get_within}
 use Rattle.std.proofs.lemmas.List.Elements.{All-contains}
@@ -26,22 +26,22 @@ use Rattle.std.proofs.lemmas.List.Elements.{All-contains}
 -- ---- the lines of found states
 
 -- a line is open exactly where its state was expanded
-opened_if : (expanded reported : Bool) (estimate : ℕ) → is_opened (by_all (if expanded then opened else (if reported then dead else cut estimate))) ≡ expanded
+opened_if : (was_expanded reported : Bool) (estimate : ℕ) → has_expanded_mark (by_all (if was_expanded then expanded else (if reported then dead else cut estimate))) ≡ was_expanded
 opened_if true reported estimate = refl
 opened_if false true estimate = refl
 opened_if false false estimate = refl
 
 open_from : {S : Type 0} (value : S → ℕ) (is_dead : S → Bool) (count : ℕ) (states : List S) (nodes : List Node) → length nodes ≡ length states
-    → fold (λ (n : ℕ) (line : Line S). n + cond (is_open_line line) 1 0) count (lines_of value is_dead states nodes) ≡ fold (λ (n : ℕ) (node : Node). n + cond (is_expanded node) 1 0) count nodes
+    → fold (λ (n : ℕ) (line : Line S). n + cond (is_expanded_line line) 1 0) count (lines_of value is_dead states nodes) ≡ fold (λ (n : ℕ) (node : Node). n + cond (is_expanded node) 1 0) count nodes
 open_from value is_dead count [] [] same = refl
 open_from value is_dead count [] (n ∷ nodes) same = absurd (omega (arith, same))
 open_from value is_dead count (s ∷ states) [] same = absurd (omega (arith, same))
 open_from {S} value is_dead count (s ∷ states) (n ∷ nodes) same =
-    ap (λ (e : Bool). fold (λ (m : ℕ) (line : Line S). m + cond (is_open_line line) 1 0) (count + cond e 1 0) (lines_of value is_dead states nodes)) (opened_if (is_expanded n) (is_dead s) (value s))
+    ap (λ (e : Bool). fold (λ (m : ℕ) (line : Line S). m + cond (is_expanded_line line) 1 0) (count + cond e 1 0) (lines_of value is_dead states nodes)) (opened_if (is_expanded n) (is_dead s) (value s))
     ∙ open_from value is_dead (count + cond (is_expanded n) 1 0) states nodes (omega (arith, same))
 
 pub count-open : {S : Type 0} (value : S → ℕ) (is_dead : S → Bool) (states : List S) (nodes : List Node) → length nodes ≡ length states
-    → count_by is_open_line (lines_of value is_dead states nodes) ≡ count_by is_expanded nodes
+    → count_by is_expanded_line (lines_of value is_dead states nodes) ≡ count_by is_expanded nodes
 count-open value is_dead states nodes same = open_from value is_dead 0 states nodes same
 
 -- their states are those that were found
@@ -63,7 +63,7 @@ module _ {S Store : Type 0} (t : System S ℕ) (class_of : S → S) (value : S �
   abbrev lines : List (Line S)
   lines = lines_of value is_dead states all
 
-  found_closed : AreOpen t class_of (nodes_in states_of p) → (least : ℕ) → IsLeastSum p.open_list (Some least) → IsClosed t (AreOfOneClass class_of) (bound least) lines
+  found_closed : AreClosed t class_of (nodes_in states_of p) → (least : ℕ) → IsLeastSum p.open_list (Some least) → IsClosed t (AreOfOneClass class_of) (bound least) lines
   found_closed successors_found least is =
       let listed = are_listed t class_of value is_dead (found_of states all) (waiting_in p.open_list) search.nodes in
       let each = is.1 search.heap in
@@ -71,7 +71,7 @@ module _ {S Store : Type 0} (t : System S ℕ) (class_of : S → S) (value : S �
       (λ k n at waits. All-contains (λ (w : Waiting). least ≤ sum_of w) (waiting_in p.open_list) (entry n.node.cost (value n.state) k) each (search.nodes.queued k n at waits))
 
   -- the least sum is a lower bound of what plans cost
-  pub bound_holds : AreClassesOf t class_of → IsAdmissible t value → ReportsDeadEnds t is_dead → AreOpen t class_of (nodes_in states_of p) → (least : ℕ) → IsLeastSum p.open_list (Some least) → CostsAtLeast t least
+  pub bound_holds : AreClassesOf t class_of → IsAdmissible t value → ReportsDeadEnds t is_dead → AreClosed t class_of (nodes_in states_of p) → (least : ℕ) → IsLeastSum p.open_list (Some least) → CostsAtLeast t least
   bound_holds classes admissible reports successors_found least is =
       claim-of_closed t (AreOfOneClass class_of) classes (bound least) lines (lines_are_true t value is_dead states all admissible reports) (found_closed successors_found least is)
 
@@ -102,7 +102,7 @@ module _ {S Store : Type 0} (t : System S ℕ) (class_of : S → S) (value : S �
       subst (λ (l : Line S). IsReachableAt t l.state l.cost) (sym from) (search.nodes.reachable k (record { state = s; node = n }) there)
 
   -- the found states are a listing that shows this
-  pub found_listing : AreClassesOf t class_of → IsAdmissible t value → ReportsDeadEnds t is_dead → AreOpen t class_of (nodes_in states_of p) → (least : ℕ) → IsLeastSum p.open_list (Some least) → IsListing t least lines
+  pub found_listing : AreClassesOf t class_of → IsAdmissible t value → ReportsDeadEnds t is_dead → AreClosed t class_of (nodes_in states_of p) → (least : ℕ) → IsLeastSum p.open_list (Some least) → IsListing t least lines
   found_listing classes admissible reports successors_found least is = record {
     class_of = class_of;
     classes = classes;

@@ -7,7 +7,7 @@ use Rattle.search.specs.Outcome as search
 use Rattle.search.specs.Outcome.{IsReachableAt}
 use Rattle.model.specs.Task.{Task, Atom}
 use Rattle.model.specs.Meaning.{State, system_of}
-use Rattle.model.specs.Claims.{Claim, Mark, opened, cut, dead, Line}
+use Rattle.model.specs.Claims.{Claim, Mark, expanded, cut, dead, Line}
 use Rattle.certificate_definitions.specs.Evidence as evidence
 use Rattle.certificate_definitions.specs.Evidence.{of_all, LineMark}
 use Rattle.symmetries_definitions.specs.Exchanges.{Exchange}
@@ -23,7 +23,7 @@ numbers_in bits = filter (has bits) (range_with_len 0 (length bits))
 
 -- what is found of a state rests on the values of all states
 abbrev pub by_all : Mark → LineMark
-by_all opened = evidence.opened
+by_all expanded = evidence.expanded
 by_all (cut rest) = evidence.cut of_all rest
 by_all dead = evidence.dead of_all
 
@@ -70,7 +70,7 @@ pub record IsShownBy (task : Task) (claim : Claim) (max_states : ℕ) (certifica
   pub version : (certificate.version ≡ two) ⊎ (certificate.version ≡ three)
   pub dead_ends_are_reported : (line : Line State) → Contains (lines_of task certificate) line → IsTrue (is_dead_end_of task certificate line.state) → line.mark ≡ dead
 
--- each open state of the certificate costs, with its value, at most this
-abbrev pub AreOpenWithin : Task → ℕ → Certificate → Type 0
-AreOpenWithin task most certificate =
-    (line : Line State) → Contains (lines_of task certificate) line → line.mark ≡ opened → line.cost + value_of task certificate line.state ≤ most
+-- each expanded state of the certificate costs, with its value, at most this
+abbrev pub AreExpandedWithin : Task → ℕ → Certificate → Type 0
+AreExpandedWithin task most certificate =
+    (line : Line State) → Contains (lines_of task certificate) line → line.mark ≡ expanded → line.cost + value_of task certificate line.state ≤ most

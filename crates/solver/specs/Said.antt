@@ -21,7 +21,7 @@ use Rattle.model.specs.Meaning.{system_of}
 use Rattle.model.specs.NumberedAtoms.{numbered_atoms}
 use Rattle.model.specs.StaticallyFalse.{kept_instances}
 use Rattle.certificate_definitions.specs.Certificates.{Certificate, IsClosedFor}
-use Rattle.certificate_definitions.specs.Evidence.{LineMark, opened, cut, dead}
+use Rattle.certificate_definitions.specs.Evidence.{LineMark, expanded, cut, dead}
 use Rattle.certificate.specs.Certificate.{certificate_of}
 use Rattle.certificate.specs.ListedSets.{Marked, marked}
 use Rattle.solver.specs.declared.answer.Answer.{Answer}
@@ -32,30 +32,30 @@ use Rattle.solver.specs.declared.answer.Exceeded.TheVariants.{Instances, Atoms, 
 abbrev pub line_of : Report → List ℕ
 line_of (Ground instances atoms) =
     codes "progress=ground instances=" ++ (decimal instances ++ (codes " atoms=" ++ (decimal atoms ++ codes "\n")))
-line_of (Search least listed expanded) =
-    codes "progress=search bound=" ++ (decimal least ++ (codes " listed=" ++ (decimal listed ++ (codes " expanded=" ++ (decimal expanded ++ codes "\n")))))
+line_of (Search least listed expansions) =
+    codes "progress=search bound=" ++ (decimal least ++ (codes " listed=" ++ (decimal listed ++ (codes " expanded=" ++ (decimal expansions ++ codes "\n")))))
 line_of (Limit raised_by.States) = codes "progress=limit raise=--states\n"
 line_of (Limit raised_by.Instances) = codes "progress=limit raise=--instances\n"
 line_of (Limit raised_by.Seconds) = codes "progress=limit raise=--seconds\n"
-line_of (End listed expanded) =
-    codes "progress=end listed=" ++ (decimal listed ++ (codes " expanded=" ++ (decimal expanded ++ codes "\n")))
+line_of (End listed expansions) =
+    codes "progress=end listed=" ++ (decimal listed ++ (codes " expanded=" ++ (decimal expansions ++ codes "\n")))
 
--- what is said of a certificate at the end: how many states it lists, and how many of them are open
-abbrev pub is_opened : LineMark → Bool
-is_opened opened = true
-is_opened (cut basis rest) = false
-is_opened (dead basis) = false
+-- what is said of a certificate at the end: how many states it lists, and how many of them are expanded
+abbrev pub has_expanded_mark : LineMark → Bool
+has_expanded_mark expanded = true
+has_expanded_mark (cut basis rest) = false
+has_expanded_mark (dead basis) = false
 
-abbrev pub is_open : Marked → Bool
-is_open line = is_opened line.mark
+abbrev pub is_expanded : Marked → Bool
+is_expanded line = has_expanded_mark line.mark
 
 abbrev pub report_of : Certificate → Report
-report_of certificate = End (length certificate.lines) (count_by is_open (map marked certificate.lines))
+report_of certificate = End (length certificate.lines) (count_by is_expanded (map marked certificate.lines))
 
 -- ---- of a search that is under way
 
-abbrev pub is_open_line : {S : Type 0} → Line S → Bool
-is_open_line line = is_opened (by_all line.mark)
+abbrev pub is_expanded_line : {S : Type 0} → Line S → Bool
+is_expanded_line line = has_expanded_mark (by_all line.mark)
 
 -- A listing shows that every list that solves the system costs at least this: its states are different, each is reached at its cost, its
 -- marks are true, and it is closed, up to classes of states from which the goal is reached alike.
@@ -67,11 +67,11 @@ pub record IsListing {S A : Type 0} (t : System S A) (least : ℕ) (lines : List
   pub are_true : AreTrue t lines
   pub closed : IsClosed t (AreOfOneClass class_of) (bound least) lines
 
--- Such a listing of the ground task has this many states, of which this many are open.
-abbrev pub IsListed : Task → (bound listed expanded : ℕ) → Type 0
-IsListed task least listed expanded =
+-- Such a listing of the ground task has this many states, of which this many are expanded.
+abbrev pub IsListed : Task → (bound listed expansions : ℕ) → Type 0
+IsListed task least listed expansions =
     (lines : List (Line (List Bool))) × IsListing (ground_system task (numbered_atoms task [])) least lines
-    × (length lines ≡ listed) × (count_by is_open_line lines ≡ expanded)
+    × (length lines ≡ listed) × (count_by is_expanded_line lines ≡ expansions)
 
 -- ---- true reports
 
@@ -83,15 +83,15 @@ Raises task seconds states instances raised_by.Instances = exceeded_limit instan
 Raises task seconds states instances raised_by.Seconds = IsTrue (is_some seconds)
 
 -- The report is true of the task, within these limits. Its counts are those of the kept instances and of the numbered atoms; or every
--- list of instances that solves it costs at least the bound, as a listing of as many states shows, of which as many are open as were
--- expanded; or the option raises an exceeded limit; or a closed certificate of it has as many states, and as many open ones.
+-- list of instances that solves it costs at least the bound, as a listing of as many states shows, of which as many are marked as were
+-- expanded; or the option raises an exceeded limit; or a closed certificate of it has as many states, and as many expanded ones.
 abbrev pub IsTrueReport : Task → (seconds : Option ℕ) → (states instances : ℕ) → Report → Type 0
 IsTrueReport task seconds states instances (Ground kept atoms) = (kept ≡ length (kept_instances task)) × (atoms ≡ length (numbered_atoms task []))
-IsTrueReport task seconds states instances (Search least listed expanded) =
-    CostsAtLeast (system_of task) least × AreReachable (system_of task) listed × (expanded ≤ listed) × IsListed task least listed expanded
+IsTrueReport task seconds states instances (Search least listed expansions) =
+    CostsAtLeast (system_of task) least × AreReachable (system_of task) listed × (expansions ≤ listed) × IsListed task least listed expansions
 IsTrueReport task seconds states instances (Limit option) = Raises task seconds states instances option
-IsTrueReport task seconds states instances (End listed expanded) =
-    (certificate : Certificate) × IsClosedFor task certificate × (End listed expanded ≡ report_of certificate)
+IsTrueReport task seconds states instances (End listed expansions) =
+    (certificate : Certificate) × IsClosedFor task certificate × (End listed expansions ≡ report_of certificate)
 
 -- the line is that of a true report
 abbrev pub IsTrueLine : Task → (seconds : Option ℕ) → (states instances : ℕ) → List ℕ → Type 0

@@ -103,7 +103,7 @@ pub enum Exceeded {
 ///
 /// **Values.** The search is guided by fair potentials of the ground task, improved in at most 8 rounds; the certificate has them too.
 /// If they are not settled, the initial state's value by them is at least 8. During the search, values over tables may replace them:
-/// the potentials of the first value are these, and are fair by themselves. With a plan, each open state of the certificate costs,
+/// the potentials of the first value are these, and are fair by themselves. With a plan, each expanded state of the certificate costs,
 /// with its value, no more than the plan. Dead-fair potentials, also in the certificate and also settled or high, report dead ends:
 /// such states are listed and not expanded.
 ///
@@ -114,7 +114,7 @@ pub enum Exceeded {
 ///
 /// **Limits.** With the limits above, the certificate lists at most 100,000 distinct states, each at the cost of a list of instances
 /// that leads to it. If more are reachable and may have to be listed, the answer is `Unknown(Exceeded::States { .. })` with a
-/// certificate of 100,000. Its bound is the least sum of cost and value of a state that waits to be expanded. No open state has a
+/// certificate of 100,000. Its bound is the least sum of cost and value of a state that waits to be expanded. No expanded state has a
 /// greater sum, and the bound is at least the initial state's value.
 ///
 /// If the time is limited (`Limits::within_seconds`), it is looked at before the search, whenever 5,000 more states are listed, and between
@@ -206,13 +206,13 @@ fn end_of(cert: &Cert) -> Report
     }
 }
 
-/// The number of open states.
+/// The number of expanded states.
 fn open_in(marks: &[Listed]) -> usize
     ensures { result ≡ count_by is_open (map listed_of marks.now) }
 {
     let mut count = 0;
     for listed in marks {
-        if matches!(listed.mark, Mark::Open) {
+        if matches!(listed.mark, Mark::Expanded) {
             count += 1;
         }
     }

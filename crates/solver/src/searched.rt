@@ -288,13 +288,13 @@ fn listed(node: Node, estimate: u64) -> Listed
     match node.status {
         NodeStatus::Expanded => Listed {
             cost,
-            mark: Mark::Open,
+            mark: Mark::Expanded,
         },
         NodeStatus::Dead => Listed {
             cost,
             mark: Mark::Dead { by: Basis::OfAll },
         },
-        NodeStatus::Open | NodeStatus::Reopened => Listed {
+        NodeStatus::Unexpanded | NodeStatus::Reopened => Listed {
             cost,
             mark: Mark::Cut {
                 by: Basis::OfAll,

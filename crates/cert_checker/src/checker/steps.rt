@@ -10,13 +10,13 @@ ghost use Rattle.packed_state.specs.PooledView.{pooled_width};
 ghost use Rattle.certificate.specs.Certificate.{certificate_of, store_in};
 ghost use Rattle.cert_checker.specs.CertChecker.{IsFirstRefusal, IsTrueRefusal};
 ghost use Rattle.cert_checker.specs.FluentAtoms.{AreFluent};
-ghost use Rattle.cert_checker.specs.CheckedLines.{AreSymmetries, CutsAreAllowed, IsCutClosed, IsFirstGrounded, IsLineClosed, IsOpenClosed, IsRightGrounded, IsRightUpTo, IsTrueAnyway, IsListedAs, IsListedBy};
+ghost use Rattle.cert_checker.specs.CheckedLines.{AreSymmetries, CutsAreAllowed, IsCutClosed, IsFirstGrounded, IsLineClosed, IsExpandedClosed, IsRightGrounded, IsRightUpTo, IsTrueAnyway, IsListedAs, IsListedBy};
 ghost use Rattle.cert_checker.specs.Exchanged.{is_said};
 ghost use Rattle.cert_checker.specs.PackedListing.{task_at, atoms_at, certificate_at, state_at, IsPacked, IsKnownIn};
 ghost use Rattle.model.specs.Task as model_task;
 ghost use Rattle.model.specs.Meaning as meaning;
 ghost use Rattle.model.specs.Claims as claims;
-ghost use Rattle.model.specs.Claims.{opened, Allows, IsListedWithin};
+ghost use Rattle.model.specs.Claims.{expanded, Allows, IsListedWithin};
 ghost use Rattle.certificate_definitions.specs.Evidence.{cut, dead};
 ghost use Rattle.model.specs.NumberedAtoms.{numbered_atoms};
 ghost use Rattle.model.specs.Grounding.{applicable_numbers};
@@ -198,7 +198,7 @@ fn check_line(
     let listed = listing.cert.marks()[place];
     listing.get(place, state);
     match listed.mark {
-        Mark::Open => check_open(listing, place, listed.cost, state, next, numbers),
+        Mark::Expanded => check_expanded(listing, place, listed.cost, state, next, numbers),
         Mark::Cut { by, rest } => {
             let line = CutLine {
                 place,
@@ -212,8 +212,8 @@ fn check_line(
     }
 }
 
-/// Checks an open state, its place and cost given: first the goal, then the successors in order.
-fn check_open(
+/// Checks an expanded state, its place and cost given: first the goal, then the successors in order.
+fn check_expanded(
     listing: &PackedListing,
     place: usize,
     cost: u64,
@@ -224,10 +224,10 @@ fn check_open(
     requires within { place < length (certificate_at listing.now).lines }
     requires state { IsPacked listing.now state.now }
     requires next { IsPacked listing.now next.old }
-    requires listed { IsListedAs (task_at listing.now) (certificate_at listing.now) place (state_at listing.now state.now) cost opened }
+    requires listed { IsListedAs (task_at listing.now) (certificate_at listing.now) place (state_at listing.now state.now) cost expanded }
     requires small { cost < 1152921504606846976 }
     ensures next { IsPacked listing.now next.new }
-    ensures right { OnOk result (IsOpenClosed (task_at listing.now) (certificate_at listing.now) (state_at listing.now state.now) cost) }
+    ensures right { OnOk result (IsExpandedClosed (task_at listing.now) (certificate_at listing.now) (state_at listing.now state.now) cost) }
     ensures wrong { IfErr result (IsTrueAnyway (task_at listing.now) (certificate_at listing.now)) }
     ensures first { IfErr result (λ e. (plan : Option (List model_task.Instance)) (most : ℕ) → IsRightUpTo (task_at listing.now) (certificate_at listing.now) most place
         → IsFirstRefusal (task_at listing.now) (certificate_at listing.now) plan most e) }
@@ -237,7 +237,7 @@ fn check_open(
     check_successors(listing, place, cost, state, numbers, next)
 }
 
-/// Checks that an open state that meets the goal costs no less than claimed.
+/// Checks that an expanded state that meets the goal costs no less than claimed.
 fn check_goal(
     listing: &PackedListing,
     place: usize,
@@ -246,7 +246,7 @@ fn check_goal(
 ) -> Result<(), Refusal>
     requires within { place < length (certificate_at listing.now).lines }
     requires state { IsPacked listing.now state.now }
-    requires listed { IsListedAs (task_at listing.now) (certificate_at listing.now) place (state_at listing.now state.now) cost opened }
+    requires listed { IsListedAs (task_at listing.now) (certificate_at listing.now) place (state_at listing.now state.now) cost expanded }
     ensures right { OnOk result (IsTrue (meaning.meets_goal (task_at listing.now) (state_at listing.now state.now)) → Allows (certificate_at listing.now).claim cost) }
     ensures wrong { IfErr result (IsTrueAnyway (task_at listing.now) (certificate_at listing.now)) }
     ensures first { IfErr result (λ e. (plan : Option (List model_task.Instance)) (most : ℕ) → IsRightUpTo (task_at listing.now) (certificate_at listing.now) most place
@@ -259,7 +259,7 @@ fn check_goal(
     }
 }
 
-/// Checks the successors of an open state by the instances with these numbers: a state of each one's class is listed, at no more
+/// Checks the successors of an expanded state by the instances with these numbers: a state of each one's class is listed, at no more
 /// than `cost` and the instance's cost together.
 fn check_successors(
     listing: &PackedListing,
@@ -272,12 +272,12 @@ fn check_successors(
     requires within { place < length (certificate_at listing.now).lines }
     requires state { IsPacked listing.now state.now }
     requires next { IsPacked listing.now next.old }
-    requires listed { IsListedAs (task_at listing.now) (certificate_at listing.now) place (state_at listing.now state.now) cost opened }
+    requires listed { IsListedAs (task_at listing.now) (certificate_at listing.now) place (state_at listing.now state.now) cost expanded }
     requires small { cost < 1152921504606846976 }
     requires numbers { numbers.now ≡ applicable_numbers (task_at listing.now) (atoms_at listing.now) (bits_of state.now) }
     requires goal { IsTrue (meaning.meets_goal (task_at listing.now) (state_at listing.now state.now)) → Allows (certificate_at listing.now).claim cost }
     ensures next { IsPacked listing.now next.new }
-    ensures right { OnOk result (IsOpenClosed (task_at listing.now) (certificate_at listing.now) (state_at listing.now state.now) cost) }
+    ensures right { OnOk result (IsExpandedClosed (task_at listing.now) (certificate_at listing.now) (state_at listing.now state.now) cost) }
     ensures wrong { IfErr result (IsTrueAnyway (task_at listing.now) (certificate_at listing.now)) }
     ensures first { IfErr result (λ e. (plan : Option (List model_task.Instance)) (most : ℕ) → IsRightUpTo (task_at listing.now) (certificate_at listing.now) most place
         → IsFirstRefusal (task_at listing.now) (certificate_at listing.now) plan most e) }

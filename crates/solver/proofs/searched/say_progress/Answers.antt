@@ -14,7 +14,7 @@ use Rattle.search.specs.DeadEnds.{ReportsDeadEnds}
 use Rattle.search.specs.Estimates.{IsAdmissible}
 use Rattle.search.specs.OpenList.{IsLeastSum}
 use Rattle.search.specs.Outcome.{is_expanded, lines_of}
-use Rattle.solver.specs.Said.{is_open_line, IsListing}
+use Rattle.solver.specs.Said.{is_expanded_line, IsListing}
 use Rattle.solver.proofs.PauseLemmas.{bound_holds, count-open, distinct, found_listing, listed_count, reachable}
 use Rattle.solver.proofs.searched.say_progress.Goals as goal
 
@@ -43,7 +43,7 @@ returns g c =
     omega (arith, c.expanded_in-expanded.ensures, count_by-le-length is_expanded c.nodes.result.now, ap length c.nodes.ensures, search.one_each, count) in
     let lines = lines_of estimate is_dead (listed_states p.store) p.nodes.items in
     let listing = found_listing t class_of estimate is_dead listed_states p search (classes_reach_alike space c.requires.space) admissible reports c.requires.successors.1 c.in-Some.bound least in
-    let opened : count_by is_open_line lines ≡ c.expanded_in-expanded.result =
+    let expanded_count : count_by is_expanded_line lines ≡ c.expanded_in-expanded.result =
     count-open estimate is_dead (listed_states p.store) p.nodes.items search.one_each ∙ sym (c.expanded_in-expanded.ensures ∙ ap (count_by is_expanded) c.nodes.ensures) in
     let limits = c.args.session.now.setting.limits in
     c.say.ensures.said task limits.seconds limits.states limits.instances (
@@ -54,6 +54,6 @@ returns g c =
         lines,
         subst (λ (known : List Atom). IsListing (ground_system task known) c.in-Some.bound lines) numbered listing,
         listed_count t class_of estimate is_dead listed_states p search ∙ count,
-        opened,
+        expanded_count,
       ),
     )
