@@ -46,11 +46,11 @@ has_expanded_mark expanded = true
 has_expanded_mark (cut basis rest) = false
 has_expanded_mark (dead basis) = false
 
-abbrev pub is_expanded : Marked → Bool
-is_expanded line = has_expanded_mark line.mark
+abbrev pub is_marked_expanded : Marked → Bool
+is_marked_expanded line = has_expanded_mark line.mark
 
 abbrev pub report_of : Certificate → Report
-report_of certificate = End (length certificate.lines) (count_by is_expanded (map marked certificate.lines))
+report_of certificate = End (length certificate.lines) (count_by is_marked_expanded (map marked certificate.lines))
 
 -- ---- of a search that is under way
 

@@ -10,7 +10,7 @@ ghost use Rattle.ground_listings.specs.Exchanges.{AreExchangesFor};
 ghost use Rattle.symmetries.specs.Exchange.{exchange_of};
 ghost use Rattle.solver.specs.Improved.{AreSettledOrHigh, AreDeadSettledOrHigh};
 ghost use Rattle.devices.specs.Progress.{GoesOn};
-ghost use Rattle.solver.specs.Said.{HasEnded, IsLineWithin, IsTrueLine, IsTrueReport, is_open, report_of};
+ghost use Rattle.solver.specs.Said.{HasEnded, IsLineWithin, IsTrueLine, IsTrueReport, is_marked_expanded, report_of};
 ghost use Rattle.model.specs.NumberedAtoms.{numbered_atoms};
 ghost use Rattle.ground_listings.specs.SearchSpace.{ground_in, IsSearchSpace};
 ghost use Rattle.solver.specs.Solver.{HasVersionUpTo, IsAnswerWithin, IsTrueAnswer};
@@ -202,13 +202,13 @@ fn end_of(cert: &Cert) -> Report
 {
     Report::End {
         listed: cert.line_count(),
-        expanded: open_in(cert.marks()),
+        expanded: count_expanded(cert.marks()),
     }
 }
 
 /// The number of expanded states.
-fn open_in(marks: &[Listed]) -> usize
-    ensures { result ≡ count_by is_open (map listed_of marks.now) }
+fn count_expanded(marks: &[Listed]) -> usize
+    ensures { result ≡ count_by is_marked_expanded (map listed_of marks.now) }
 {
     let mut count = 0;
     for listed in marks {
