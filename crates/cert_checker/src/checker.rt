@@ -128,7 +128,7 @@ pub fn check_and_say<R: Source, E: Sink>(
     ensures failures { CountsRefusal (R.failures (source_of reader.old)) (R.failures (source_of reader.new)) result }
 
     // Progress lines are true.
-    ensures said { AreSaid (IsCheckLine (task_of task.now) (R.remaining (source_of reader.old))) E.wants_memory (stream (E.failures err.old) (E.taken err.old)) (stream (E.failures err.new) (E.taken err.new)) }
+    ensures said { AreSaid (IsCheckLine (task_of task.now) (R.remaining (source_of reader.old))) E.may_lack_memory (stream (E.failures err.old) (E.taken err.old)) (stream (E.failures err.new) (E.taken err.new)) }
 {
     let cert = read_cert(alloc, task, reader, err)?;
     say_whole(alloc, &cert, err);

@@ -15,8 +15,8 @@ use Rattle.explain_hints.specs.declared.texts.NamedTexts.{NamedTexts}
 use Rattle.validator.specs.Verdict.{verdict_of}
 use Rattle.validator.specs.declared.verdict.Verdict.{Verdict}
 use Rattle.validator.specs.declared.verdict.Verdict.TheVariants.{NotApplicable}
-use Rattle.file_answers.specs.ExplanationLines.{Files, Named, IsLocated, IsSaidOf, IsStepLocated, IsSubjectLocated, SaySubject, IsPlanSaid, IsStepAt, IsToldIn, SayFurther, SayPlanAs, SayVerdict, file_in, files_of, named_of}
-use Rattle.file_answers.specs.Explanations.{IsFaultExplained, IsLocatedIf, IsOfFault, IsPlanTold, IsStepFound, IsStepOf, IsTaskExplained, IsTrueOf, IsVerdictExplained, files_in, in_texts, text_in}
+use Rattle.file_answers.specs.ExplanationLines.{Files, Named, IsLocated, IsSaidOf, IsStepLocated, IsSubjectLocated, SaySubject, IsPlanSaid, IsStepAt, IsReportedIn, SayFurther, SayPlanAs, SayVerdict, file_in, files_of, named_of}
+use Rattle.file_answers.specs.Explanations.{IsFaultExplained, IsLocatedIf, IsOfFault, IsPlanReported, IsStepFound, IsStepOf, IsTaskExplained, IsTrueOf, IsVerdictExplained, files_in, in_texts, text_in}
 use Rattle.file_answers.specs.Files.{reported_in}
 use Rattle.file_answers.specs.FurtherFaults.{IsToldOf}
 use Rattle.file_answers.specs.declared.explanation.FurtherFault.{FurtherFault}
@@ -48,14 +48,14 @@ abbrev pub AreAmong : Files → NamedTexts → Type 0
 AreAmong files texts = (file : File) → IfSome (file_in files file) (λ named. named ≡ in_texts texts file)
 
 -- no further fault is reported
-none_told : (files : Files) (further : List FurtherFault) → further ≡ [] → All (IsToldIn files) further
-none_told files further none = subst (All (IsToldIn files)) (sym none) (λ k f below. absurd (omega (arith, below)))
+none_told : (files : Files) (further : List FurtherFault) → further ≡ [] → All (IsReportedIn files) further
+none_told files further none = subst (All (IsReportedIn files)) (sym none) (λ k f below. absurd (omega (arith, below)))
 
 -- ---- a fault
 
 module _ (traced : Bool) (texts : NamedTexts) (files : Files) (among : AreAmong files texts) where
   -- a fault reported for the texts is reported for the files
-  told_in : (f : FurtherFault) → IsToldOf texts.domain.text.now texts.problem.text.now (name_in texts f.fault.file) (bytes_in texts f.fault.file) f → IsToldIn files f
+  told_in : (f : FurtherFault) → IsToldOf texts.domain.text.now texts.problem.text.now (name_in texts f.fault.file) (bytes_in texts f.fault.file) f → IsReportedIn files f
   told_in f told = by_file (file_in files f.fault.file) (among f.fault.file)
     where
       of_files : (named : Named) → named ≡ in_texts texts f.fault.file → IsToldOf files.domain.text files.problem.text named.name named.text f
@@ -202,13 +202,13 @@ step_located file runs.goal_missed found at is located = tt
 module _ (task : model.Task) (names : VariableNames) (steps : List model.Instance) where
   -- what is reported of the subject is true if the subject is
   pub explained_told : (traced : Bool) (file : Named) (explained : PlanExplanation) → IsVerdict (system_of task) steps (plans.verdict_of explained)
-      → IsExplained task names steps explained → (r : Result Explanation NoMemory) → IfOk r (IsPlanTold task steps traced file explained)
+      → IsExplained task names steps explained → (r : Result Explanation NoMemory) → IfOk r (IsPlanReported task steps traced file explained)
       → IfOk r (IsVerdictExplained task names steps traced file)
   explained_told traced file explained is_true is_explained (Ok e) told = (explained, is_true, is_explained, told)
   explained_told traced file explained is_true is_explained (Err failed) told = tt
 
   module _ (traced : Bool) (texts : NamedTexts) (is : IsNamedTask texts.domain.text.now texts.problem.text.now task names) (is_plan : IsPlanText task texts.plan.text.now steps) where
-    plan_said : (explained : PlanExplanation) (e : Explanation) → IsExplained task names steps explained → (told : IsPlanTold task steps traced (named_of texts.plan) explained e)
+    plan_said : (explained : PlanExplanation) (e : Explanation) → IsExplained task names steps explained → (told : IsPlanReported task steps traced (named_of texts.plan) explained e)
         → IsPlanSaid traced (files_in texts) texts.plan.text.now (verdict_of told.code) e.location (string_bytes e.text)
     plan_said explained e is_explained told = record {
       task = task;

@@ -154,8 +154,8 @@ SaySubject traced files (Plan verdict) at notes lines = IfSome files.plan (λ na
 SaySubject traced files (Task holds grounded) at notes lines = lines ≡ summary_text holds ++ (grounded_line grounded ++ on_lines notes)
 
 -- a further fault is one of the domain and the problem, and its lines state it
-abbrev pub IsToldIn : Files → FurtherFault → Type 0
-IsToldIn files f = IfSome (file_in files f.fault.file) (λ named. IsToldOf files.domain.text files.problem.text named.name named.text f)
+abbrev pub IsReportedIn : Files → FurtherFault → Type 0
+IsReportedIn files f = IfSome (file_in files f.fault.file) (λ named. IsToldOf files.domain.text files.problem.text named.name named.text f)
 
 -- the lines of a fault end with those of the further faults; there are none for a subject that is not a fault
 abbrev pub SayFurther : Subject → List FurtherFault → (lines : List ℕ) → Type 0
@@ -167,5 +167,5 @@ SayFurther (Task holds grounded) further lines = further ≡ []
 pub record IsSaidOf (traced : Bool) (files : Files) (e : Explanation) : Type 0 where
   pub located : IsSubjectLocated files e.subject e.location
   pub lines : SaySubject traced files e.subject e.location (map string_bytes e.notes.items) (string_bytes e.text)
-  pub further : All (IsToldIn files) e.further.items
+  pub further : All (IsReportedIn files) e.further.items
   pub further_lines : SayFurther e.subject e.further.items (string_bytes e.text)

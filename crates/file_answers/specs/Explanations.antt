@@ -22,7 +22,7 @@ use Rattle.file_answers.specs.ExplanationLines.{Files, Named, BeginAt, IsLocated
 use Rattle.file_answers.specs.Files.{fault_at}
 use Rattle.file_answers.specs.FurtherFaults.{AreFurther, EndsWith, further_text}
 use Rattle.file_answers.specs.Inputs.{IsInputFault}
-use Rattle.file_answers.specs.Notes.{AreAllTold}
+use Rattle.file_answers.specs.Notes.{AreAllReported}
 use Rattle.file_answers.specs.declared.explanation.Explanation.{Explanation}
 use Rattle.file_answers.specs.declared.explanation.Grounded.{Grounded}
 use Rattle.file_answers.specs.declared.explanation.Grounded.TheVariants.{Within, Beyond}
@@ -97,7 +97,7 @@ IsOfFault texts (refused.At file code span) e = IsFaultExplained texts file code
 IsOfFault texts refused.NoMemory e = ⊥
 
 -- for these steps of the task the subject is the verdict, with the place of the inapplicable step, and the lines state it
-pub record IsPlanTold (task : model.Task) (steps : List model.Instance) (traced : Bool) (file : Named) (explained : PlanExplanation) (e : Explanation) : Type 0 where
+pub record IsPlanReported (task : model.Task) (steps : List model.Instance) (traced : Bool) (file : Named) (explained : PlanExplanation) (e : Explanation) : Type 0 where
   pub code : Verdict
   pub subject : e.subject ≡ Plan code
   pub same : verdict_of code ≡ plans.verdict_of explained
@@ -109,7 +109,7 @@ pub record IsPlanTold (task : model.Task) (steps : List model.Instance) (traced 
 abbrev pub IsVerdictExplained : model.Task → VariableNames → List model.Instance → (traced : Bool) → (file : Named) → Explanation → Type 0
 IsVerdictExplained task names steps traced file e =
     (explained : PlanExplanation) × IsVerdict (system_of task) steps (plans.verdict_of explained) × IsExplained task names steps explained
-    × IsPlanTold task steps traced file explained e
+    × IsPlanReported task steps traced file explained e
 
 -- the inapplicable step is one of the text
 abbrev pub IsStepOf : (text : List ℕ) → runs.Verdict → Type 0
@@ -134,6 +134,6 @@ pub record IsTaskExplained (task : model.Task) (most : ℕ) (e : Explanation) : 
   pub grounded : Grounded
   pub subject : e.subject ≡ Task holds grounded
   pub is_held : IsHeld task most holds grounded
-  pub noted : AreAllTold task most grounded (map string_bytes e.notes.items)
+  pub noted : AreAllReported task most grounded (map string_bytes e.notes.items)
   pub says : string_bytes e.text ≡ summary_text holds ++ (grounded_line grounded ++ on_lines (map string_bytes e.notes.items))
   pub no_further : e.further.items ≡ []

@@ -27,20 +27,20 @@ pub record AreTold (t : model.Task) (lines : List (List ℕ)) : Type 0 where
   pub told : lines ≡ task_lines t notes
 
 -- the lines that grounding the task leads to; none where a limit is exceeded
-abbrev pub AreToldOfGround : model.Task → (most : ℕ) → Grounded → List (List ℕ) → Type 0
-AreToldOfGround t most (Within instances atoms) lines = AreGroundTold t most lines
-AreToldOfGround t most (Beyond limit) lines = lines ≡ []
+abbrev pub AreReportedOfGround : model.Task → (most : ℕ) → Grounded → List (List ℕ) → Type 0
+AreReportedOfGround t most (Within instances atoms) lines = AreGroundTold t most lines
+AreReportedOfGround t most (Beyond limit) lines = lines ≡ []
 
 -- the lines of all notes on the task, in order, and no others
-abbrev pub AreAllTold : model.Task → (most : ℕ) → Grounded → List (List ℕ) → Type 0
-AreAllTold t most grounded lines =
-    (first : List (List ℕ)) × (others : List (List ℕ)) × AreToldOfGround t most grounded first × AreTold t others × (lines ≡ first ++ others)
+abbrev pub AreAllReported : model.Task → (most : ℕ) → Grounded → List (List ℕ) → Type 0
+AreAllReported t most grounded lines =
+    (first : List (List ℕ)) × (others : List (List ℕ)) × AreReportedOfGround t most grounded first × AreTold t others × (lines ≡ first ++ others)
 
 -- the notes of an explanation of two texts, if they are a task and no plan is given
 abbrev pub AreNotedOf : (domain problem : List ℕ) → (most : ℕ) → Subject → List (List ℕ) → Type 0
 AreNotedOf domain problem most (Fault file code span) notes = ⊤
 AreNotedOf domain problem most (Plan verdict) notes = ⊤
-AreNotedOf domain problem most (Task holds grounded) notes = (task : model.Task) × IsTaskOf domain problem task × AreAllTold task most grounded notes
+AreNotedOf domain problem most (Task holds grounded) notes = (task : model.Task) × IsTaskOf domain problem task × AreAllReported task most grounded notes
 
 abbrev pub AreNoted : (domain problem : List ℕ) → (most : ℕ) → Explanation → Type 0
 AreNoted domain problem most e = AreNotedOf domain problem most e.subject (map string_bytes e.notes.items)

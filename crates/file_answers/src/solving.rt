@@ -77,8 +77,8 @@ pub fn solve_files_and_say<E: Sink + Clock>(
     ensures taken { (task : model.Task) → IsTaskOf files.entry.domain.now files.entry.problem.now task → IfErr result (λ fault. reported_in fault ≡ None) }
 
     // Every progress line is true of the task of the two texts.
-    ensures said { GoesOn (IsTrueLineOf files.entry.domain.now files.entry.problem.now limits.seconds limits.states limits.instances) E.wants_memory (E.failures err.old) (E.taken err.old) (E.failures err.new) (E.taken err.new) }
-    ensures ended { IfOk result (λ s. HasEnded E.wants_memory (E.failures err.new) (E.taken err.new) s.answer) }
+    ensures said { GoesOn (IsTrueLineOf files.entry.domain.now files.entry.problem.now limits.seconds limits.states limits.instances) E.may_lack_memory (E.failures err.old) (E.taken err.old) (E.failures err.new) (E.taken err.new) }
+    ensures ended { IfOk result (λ s. HasEnded E.may_lack_memory (E.failures err.new) (E.taken err.new) s.answer) }
 {
     let task = task_of_files(alloc, files.domain, files.problem)?;
     solve_task(alloc, task, limits, err)
@@ -97,8 +97,8 @@ fn solve_task<E: Sink + Clock>(
     ensures version { IfOk result (λ s. HasVersionUpTo (number_of limits.version) s.answer) }
     ensures memory { IfErr result (λ fault. reported_in fault ≡ None) }
     ensures said { (domain problem : List ℕ) → IsTaskOf domain problem (task_of task)
-        → GoesOn (IsTrueLineOf domain problem limits.seconds limits.states limits.instances) E.wants_memory (E.failures err.old) (E.taken err.old) (E.failures err.new) (E.taken err.new) }
-    ensures ended { IfOk result (λ s. HasEnded E.wants_memory (E.failures err.new) (E.taken err.new) s.answer) }
+        → GoesOn (IsTrueLineOf domain problem limits.seconds limits.states limits.instances) E.may_lack_memory (E.failures err.old) (E.taken err.old) (E.failures err.new) (E.taken err.new) }
+    ensures ended { IfOk result (λ s. HasEnded E.may_lack_memory (E.failures err.new) (E.taken err.new) s.answer) }
 {
     match solve_and_say(alloc, &task, limits, err) {
         Ok(answer) => Ok(Solved { task, answer }),

@@ -246,9 +246,9 @@ module _ (contents : List ℕ → Option (List ℕ)) where
   refused_on_inputs domain problem plan d p l d_is p_is l_is (Some fault) h = (d, p, l, d_is, p_is, l_is, h)
 
 -- the guarantee of a call that writes all of the bytes or says why not
-pub written_by : {T : Type 0} (wants_memory : Bool) (failures failures_after : ℕ) (before after : Option (List ℕ)) (bytes : List ℕ) (r : Result T IoFault)
+pub written_by : {T : Type 0} (may_lack_memory : Bool) (failures failures_after : ℕ) (before after : Option (List ℕ)) (bytes : List ℕ) (r : Result T IoFault)
     → OnOk r (Appends before after bytes) → AppendsBeginning before after bytes → CountsDevice failures failures_after r
-    → (r ≡ Err device.NoMemory → IsTrue wants_memory) → IsWritten wants_memory failures failures_after before after bytes
-written_by wants_memory failures failures_after before after bytes (Ok done) all beginning counted wants = (beginning, inl all)
-written_by wants_memory failures failures_after before after bytes (Err device.Device) all beginning counted wants = (beginning, inr (inl counted))
-written_by wants_memory failures failures_after before after bytes (Err device.NoMemory) all beginning counted wants = (beginning, inr (inr (wants refl)))
+    → (r ≡ Err device.NoMemory → IsTrue may_lack_memory) → IsWritten may_lack_memory failures failures_after before after bytes
+written_by may_lack_memory failures failures_after before after bytes (Ok done) all beginning counted wants = (beginning, inl all)
+written_by may_lack_memory failures failures_after before after bytes (Err device.Device) all beginning counted wants = (beginning, inr (inl counted))
+written_by may_lack_memory failures failures_after before after bytes (Err device.NoMemory) all beginning counted wants = (beginning, inr (inr (wants refl)))

@@ -98,9 +98,9 @@ pub fn run<F: Files, O: Sink, E: Sink + Clock>(
     // lower bounds of plan costs, the sizes of the task, of a listing that shows such a bound and of the certificate, and the option
     // that raises an exceeded limit. For the answer of a search the last line is that of the end; if a certificate file is named, the line with the certificate's size in bytes follows it.
     ensures quiet { (AsksForProgress (texts words.now) → ⊥) → is_failure result ≡ false → E.taken err.new ≡ E.taken err.old }
-    ensures progress { is_failure result ≡ false → AreSaid (IsProgress (F.contents files.old) (texts words.now)) E.wants_memory (stream (E.failures err.old) (E.taken err.old)) (stream (E.failures err.new) (E.taken err.new)) }
+    ensures progress { is_failure result ≡ false → AreSaid (IsProgress (F.contents files.old) (texts words.now)) E.may_lack_memory (stream (E.failures err.old) (E.taken err.old)) (stream (E.failures err.new) (E.taken err.new)) }
     ensures ended { AsksForSearchProgress (texts words.now) → (result ≡ 0) ⊎ (result ≡ 10)
-        → Ends (F.contents files.old) (F.contents files.new) F.is_known (texts words.now) E.wants_memory (stream (E.failures err.new) (E.taken err.new)) }
+        → Ends (F.contents files.old) (F.contents files.new) F.is_known (texts words.now) E.may_lack_memory (stream (E.failures err.new) (E.taken err.new)) }
 
     // The exit status for words that are not a command occurs exactly for such words, unless an allocation for reading them
     // fails. The one for refused texts occurs only for such texts: `explain` prints the fault on standard output, as asked, and
@@ -108,16 +108,16 @@ pub fn run<F: Files, O: Sink, E: Sink + Clock>(
     ensures words { result ≡ 2 → IsCommand (texts words.now) → ⊥ }
     ensures no_command { (IsCommand (texts words.now) → ⊥) → (result ≡ 2) ⊎ (result ≡ 22) }
     ensures usage { result ≡ 2 → (O.taken out.new ≡ O.taken out.old) × AreKept (F.contents files.old) (F.contents files.new)
-        × SaysOfWords (IsWritten E.wants_memory (E.failures err.old) (E.failures err.new) (E.taken err.old) (E.taken err.new)) }
+        × SaysOfWords (IsWritten E.may_lack_memory (E.failures err.old) (E.failures err.new) (E.taken err.old) (E.taken err.new)) }
     ensures refused { result ≡ 20 → Refuses (texts words.now) (F.contents files.old) (F.contents files.new)
-        (O.taken out.old) (O.taken out.new) (SaysAfter (IsProgress (F.contents files.old) (texts words.now)) E.wants_memory (E.failures err.old) (E.failures err.new) (E.taken err.old) (E.taken err.new))
-        ⊎ (Reports (texts words.now) F.is_known (F.contents files.old) (F.contents files.new) (O.taken out.old) (O.taken out.new) result × AreSaid (IsProgress (F.contents files.old) (texts words.now)) E.wants_memory (stream (E.failures err.old) (E.taken err.old)) (stream (E.failures err.new) (E.taken err.new))) }
+        (O.taken out.old) (O.taken out.new) (SaysAfter (IsProgress (F.contents files.old) (texts words.now)) E.may_lack_memory (E.failures err.old) (E.failures err.new) (E.taken err.old) (E.taken err.new))
+        ⊎ (Reports (texts words.now) F.is_known (F.contents files.old) (F.contents files.new) (O.taken out.old) (O.taken out.new) result × AreSaid (IsProgress (F.contents files.old) (texts words.now)) E.may_lack_memory (stream (E.failures err.old) (E.taken err.old)) (stream (E.failures err.new) (E.taken err.new))) }
 
     // The exit status for a device failure occurs exactly if a device failed. Part of an answer may have been printed.
     ensures unfailed { (result ≡ 21 → ⊥) → HasNotFailed (F.failures files.old) (F.failures files.new) (O.failures out.old) (O.failures out.new) }
     ensures device { result ≡ 21 → HasFailed (F.failures files.old) (F.failures files.new) (O.failures out.old) (O.failures out.new)
         × ReportsPartly (texts words.now) F.is_known (F.contents files.old) (F.contents files.new) (O.taken out.old) (O.taken out.new)
-        × SaysAfter (IsProgress (F.contents files.old) (texts words.now)) E.wants_memory (E.failures err.old) (E.failures err.new) (E.taken err.old) (E.taken err.new) device_line }
+        × SaysAfter (IsProgress (F.contents files.old) (texts words.now)) E.may_lack_memory (E.failures err.old) (E.failures err.new) (E.taken err.old) (E.taken err.new) device_line }
     // All files are opened before any fault in their texts is reported.
     ensures unread { (name : List ℕ) → NamesInput (texts words.now) name → IsTrue (F.is_missing files.old name)
         → (result ≡ 21) ⊎ (result ≡ 22) }
@@ -125,7 +125,7 @@ pub fn run<F: Files, O: Sink, E: Sink + Clock>(
     ensures unreadable { (name : List ℕ) → NamesText (texts words.now) name → IsTrue (F.is_unreadable files.old name)
         → (result ≡ 21) ⊎ (result ≡ 22) }
     ensures memory { result ≡ 22 → ReportsPartly (texts words.now) F.is_known (F.contents files.old) (F.contents files.new) (O.taken out.old) (O.taken out.new)
-        × SaysAfter (IsProgress (F.contents files.old) (texts words.now)) E.wants_memory (E.failures err.old) (E.failures err.new) (E.taken err.old) (E.taken err.new) no_memory_line }
+        × SaysAfter (IsProgress (F.contents files.old) (texts words.now)) E.may_lack_memory (E.failures err.old) (E.failures err.new) (E.taken err.old) (E.taken err.new) no_memory_line }
 {
     match read_words(alloc, words) {
         Err(fault) => report_words(alloc, fault, err),
@@ -152,8 +152,8 @@ fn carry_out<F: Files, O: Sink, E: Sink + Clock>(
     ensures failures { IfErr result (CountsEither (F.failures files.old) (F.failures files.new) (O.failures out.old) (O.failures out.new)) }
     ensures unread { (name : List ℕ) → IsOneOf (inputs_of (wanted_of order.entry)) name → IsTrue (F.is_missing files.old name) → IsUnread result }
     ensures unreadable { (name : List ℕ) → IsOneOf (texts_of (wanted_of order.entry)) name → IsTrue (F.is_unreadable files.old name) → IsUnread result }
-    ensures progress { AreSaid (IsProgressOn (F.contents files.old) (wanted_of order.entry)) E.wants_memory (stream (E.failures err.old) (E.taken err.old)) (stream (E.failures err.new) (E.taken err.new)) }
-    ensures ended { IfOk result (HasSaidEnd (F.contents files.old) (F.contents files.new) F.is_known (wanted_of order.entry) E.wants_memory (stream (E.failures err.new) (E.taken err.new))) }
+    ensures progress { AreSaid (IsProgressOn (F.contents files.old) (wanted_of order.entry)) E.may_lack_memory (stream (E.failures err.old) (E.taken err.old)) (stream (E.failures err.new) (E.taken err.new)) }
+    ensures ended { IfOk result (HasSaidEnd (F.contents files.old) (F.contents files.new) F.is_known (wanted_of order.entry) E.may_lack_memory (stream (E.failures err.new) (E.taken err.new))) }
 {
     let report = report_of(alloc, order, files, err)?;
     write_report(alloc, &report, outputs_of(order), files, out, err)
@@ -170,8 +170,8 @@ fn report_of<F: Files, E: Sink + Clock>(
     ensures kept { AreKept (F.contents files.old) (F.contents files.new) }
     ensures unfailed { IfOk result (λ _. F.failures files.new ≡ F.failures files.old) }
     ensures failures { IfErr result (CountsFailure (F.failures files.old) (F.failures files.new)) }
-    ensures progress { AreSaid (IsProgressOn (F.contents files.old) (wanted_of order.entry)) E.wants_memory (stream (E.failures err.old) (E.taken err.old)) (stream (E.failures err.new) (E.taken err.new)) }
-    ensures ended { IfOk result (HasEndedFor (wanted_of order.entry) E.wants_memory (E.failures err.new) (E.taken err.new)) }
+    ensures progress { AreSaid (IsProgressOn (F.contents files.old) (wanted_of order.entry)) E.may_lack_memory (stream (E.failures err.old) (E.taken err.old)) (stream (E.failures err.new) (E.taken err.new)) }
+    ensures ended { IfOk result (HasEndedFor (wanted_of order.entry) E.may_lack_memory (E.failures err.new) (E.taken err.new)) }
 {
     match order {
         Order::Validate {

@@ -105,23 +105,23 @@ IsLineWithin task limits = IsTrueLine task limits.seconds limits.states limits.i
 -- The last line is that of the end: where the answer has a certificate, of this. Where a limit is exceeded that an option raises, a line
 -- names that option; it is the last, or the last but one.
 abbrev pub EndsBy : Bool → (failures : ℕ) (taken : Option (List ℕ)) → Certificate → Type 0
-EndsBy wants_memory failures taken certificate =
-    (now : Stream) × IsWritten wants_memory now.failures failures now.taken taken (line_of (report_of certificate))
+EndsBy may_lack_memory failures taken certificate =
+    (now : Stream) × IsWritten may_lack_memory now.failures failures now.taken taken (line_of (report_of certificate))
 
 -- the last line names the option that raises this limit
 abbrev pub EndsByLimit : Bool → (failures : ℕ) (taken : Option (List ℕ)) → RaisedBy → Type 0
-EndsByLimit wants_memory failures taken option =
-    (now : Stream) × IsWritten wants_memory now.failures failures now.taken taken (line_of (Limit option))
+EndsByLimit may_lack_memory failures taken option =
+    (now : Stream) × IsWritten may_lack_memory now.failures failures now.taken taken (line_of (Limit option))
 
 -- the last but one does, and the last is that of the end
 abbrev pub EndsAtLimit : Bool → (failures : ℕ) (taken : Option (List ℕ)) → RaisedBy → Certificate → Type 0
-EndsAtLimit wants_memory failures taken option certificate =
-    (now : Stream) × EndsByLimit wants_memory now.failures now.taken option × IsWritten wants_memory now.failures failures now.taken taken (line_of (report_of certificate))
+EndsAtLimit may_lack_memory failures taken option certificate =
+    (now : Stream) × EndsByLimit may_lack_memory now.failures now.taken option × IsWritten may_lack_memory now.failures failures now.taken taken (line_of (report_of certificate))
 
 abbrev pub HasEnded : Bool → (failures : ℕ) (taken : Option (List ℕ)) → Answer → Type 0
-HasEnded wants_memory failures taken (Plan steps cost cert) = EndsBy wants_memory failures taken (certificate_of cert)
-HasEnded wants_memory failures taken (Unsolvable cert) = EndsBy wants_memory failures taken (certificate_of cert)
-HasEnded wants_memory failures taken (Unknown Instances) = EndsByLimit wants_memory failures taken raised_by.Instances
-HasEnded wants_memory failures taken (Unknown Atoms) = ⊤
-HasEnded wants_memory failures taken (Unknown (States least cert)) = EndsAtLimit wants_memory failures taken raised_by.States (certificate_of cert)
-HasEnded wants_memory failures taken (Unknown (Time least cert)) = EndsAtLimit wants_memory failures taken raised_by.Seconds (certificate_of cert)
+HasEnded may_lack_memory failures taken (Plan steps cost cert) = EndsBy may_lack_memory failures taken (certificate_of cert)
+HasEnded may_lack_memory failures taken (Unsolvable cert) = EndsBy may_lack_memory failures taken (certificate_of cert)
+HasEnded may_lack_memory failures taken (Unknown Instances) = EndsByLimit may_lack_memory failures taken raised_by.Instances
+HasEnded may_lack_memory failures taken (Unknown Atoms) = ⊤
+HasEnded may_lack_memory failures taken (Unknown (States least cert)) = EndsAtLimit may_lack_memory failures taken raised_by.States (certificate_of cert)
+HasEnded may_lack_memory failures taken (Unknown (Time least cert)) = EndsAtLimit may_lack_memory failures taken raised_by.Seconds (certificate_of cert)

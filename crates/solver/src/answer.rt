@@ -151,8 +151,8 @@ pub fn solve_and_say<E: Sink + Clock>(
 ) -> Result<Answer, NoMemory>
     ensures answer { IfOk result (IsTrueAnswer (task_of task.now) limits.seconds limits.states limits.instances) }
     ensures version { IfOk result (HasVersionUpTo (number_of limits.version)) }
-    ensures said { GoesOn (IsTrueLine (task_of task.now) limits.seconds limits.states limits.instances) E.wants_memory (E.failures err.old) (E.taken err.old) (E.failures err.new) (E.taken err.new) }
-    ensures ended { IfOk result (HasEnded E.wants_memory (E.failures err.new) (E.taken err.new)) }
+    ensures said { GoesOn (IsTrueLine (task_of task.now) limits.seconds limits.states limits.instances) E.may_lack_memory (E.failures err.old) (E.taken err.old) (E.failures err.new) (E.taken err.new) }
+    ensures ended { IfOk result (HasEnded E.may_lack_memory (E.failures err.new) (E.taken err.new)) }
 {
     match Ground::new(alloc, task, &[], limits.instances()) {
         Ok(ground) => solve_ground(alloc, &ground, limits, err),
@@ -167,8 +167,8 @@ pub fn solve_and_say<E: Sink + Clock>(
 
 /// Reports the end: the option that raises the exceeded limit, and the size of the answer's certificate, if there are such.
 fn say_end<E: Sink>(alloc: Global, answer: &Answer, err: &mut E) -> Result<(), NoMemory>
-    ensures said { (task : model.Task) (seconds : Option ℕ) (states instances : ℕ) → IsTrueAnswer task seconds states instances answer.now → GoesOn (IsTrueLine task seconds states instances) E.wants_memory (E.failures err.old) (E.taken err.old) (E.failures err.new) (E.taken err.new) }
-    ensures ended { OnOk result (HasEnded E.wants_memory (E.failures err.new) (E.taken err.new) answer.now) }
+    ensures said { (task : model.Task) (seconds : Option ℕ) (states instances : ℕ) → IsTrueAnswer task seconds states instances answer.now → GoesOn (IsTrueLine task seconds states instances) E.may_lack_memory (E.failures err.old) (E.taken err.old) (E.failures err.new) (E.taken err.new) }
+    ensures ended { OnOk result (HasEnded E.may_lack_memory (E.failures err.new) (E.taken err.new) answer.now) }
 {
     match answer {
         Answer::Plan { cert, .. } => say(alloc, end_of(cert), err),
@@ -179,8 +179,8 @@ fn say_end<E: Sink>(alloc: Global, answer: &Answer, err: &mut E) -> Result<(), N
 
 /// Reports the end where a limit is exceeded.
 fn say_limit<E: Sink>(alloc: Global, limit: &Exceeded, err: &mut E) -> Result<(), NoMemory>
-    ensures said { (task : model.Task) (seconds : Option ℕ) (states instances : ℕ) → IsTrueAnswer task seconds states instances (Unknown limit.now) → GoesOn (IsTrueLine task seconds states instances) E.wants_memory (E.failures err.old) (E.taken err.old) (E.failures err.new) (E.taken err.new) }
-    ensures ended { OnOk result (HasEnded E.wants_memory (E.failures err.new) (E.taken err.new) (Unknown limit.now)) }
+    ensures said { (task : model.Task) (seconds : Option ℕ) (states instances : ℕ) → IsTrueAnswer task seconds states instances (Unknown limit.now) → GoesOn (IsTrueLine task seconds states instances) E.may_lack_memory (E.failures err.old) (E.taken err.old) (E.failures err.new) (E.taken err.new) }
+    ensures ended { OnOk result (HasEnded E.may_lack_memory (E.failures err.new) (E.taken err.new) (Unknown limit.now)) }
 {
     match limit {
         Exceeded::States { cert, .. } => {
@@ -230,8 +230,8 @@ fn solve_ground<E: Sink + Clock>(
     requires ground { IsGroundOf (task_in ground.now) [] limits.instances ground.now }
     ensures answer { IfOk result (IsTrueAnswer (task_in ground.now) limits.seconds limits.states limits.instances) }
     ensures version { IfOk result (HasVersionUpTo (number_of limits.version)) }
-    ensures said { GoesOn (IsLineWithin (task_in ground.now) limits) E.wants_memory (E.failures err.old) (E.taken err.old) (E.failures err.new) (E.taken err.new) }
-    ensures ended { IfOk result (HasEnded E.wants_memory (E.failures err.new) (E.taken err.new)) }
+    ensures said { GoesOn (IsLineWithin (task_in ground.now) limits) E.may_lack_memory (E.failures err.old) (E.taken err.old) (E.failures err.new) (E.taken err.new) }
+    ensures ended { IfOk result (HasEnded E.may_lack_memory (E.failures err.new) (E.taken err.new)) }
 {
     say(alloc, ground_report(ground), err)?;
     let answer = solve_in_version(alloc, ground, limits, err)?;
@@ -260,7 +260,7 @@ fn solve_in_version<E: Sink + Clock>(
     requires typed { IsTrue (is_task (task_in ground.now)) }
     requires ground { IsGroundOf (task_in ground.now) [] limits.instances ground.now }
     ensures answer { IfOk result (IsAnswerWithin (task_in ground.now) limits) }
-    ensures said { GoesOn (IsLineWithin (task_in ground.now) limits) E.wants_memory (E.failures err.old) (E.taken err.old) (E.failures err.new) (E.taken err.new) }
+    ensures said { GoesOn (IsLineWithin (task_in ground.now) limits) E.may_lack_memory (E.failures err.old) (E.taken err.old) (E.failures err.new) (E.taken err.new) }
 {
     if !limits.allow_version_three() {
         return solve_listed(alloc, SearchSpace::Alone(ground), limits, err);
@@ -282,7 +282,7 @@ fn solve_by_exchanges<E: Sink + Clock>(
     requires ground { IsGroundOf (task_in ground.now) [] limits.instances ground.now }
     requires exchanges { AreExchangesFor ground.now (map exchange_of exchanges.now) }
     ensures answer { IfOk result (IsAnswerWithin (task_in ground.now) limits) }
-    ensures said { GoesOn (IsLineWithin (task_in ground.now) limits) E.wants_memory (E.failures err.old) (E.taken err.old) (E.failures err.new) (E.taken err.new) }
+    ensures said { GoesOn (IsLineWithin (task_in ground.now) limits) E.may_lack_memory (E.failures err.old) (E.taken err.old) (E.failures err.new) (E.taken err.new) }
 {
     if exchanges.is_empty() {
         return solve_listed(alloc, SearchSpace::Alone(ground), limits, err);
@@ -306,7 +306,7 @@ fn solve_listed<E: Sink + Clock>(
     requires space { IsSearchSpace space }
     requires ground { IsGroundOf (task_in (ground_in space)) [] limits.instances (ground_in space) }
     ensures answer { IfOk result (IsAnswerWithin (task_in (ground_in space.entry)) limits) }
-    ensures said { GoesOn (IsLineWithin (task_in (ground_in space.entry)) limits) E.wants_memory (E.failures err.old) (E.taken err.old) (E.failures err.new) (E.taken err.new) }
+    ensures said { GoesOn (IsLineWithin (task_in (ground_in space.entry)) limits) E.may_lack_memory (E.failures err.old) (E.taken err.old) (E.failures err.new) (E.taken err.new) }
 {
     let ground = space.ground();
     let groundwork = Groundwork::new(alloc, ground)?;
@@ -336,7 +336,7 @@ fn solve_by_potentials<E: Sink + Clock>(
     requires dead_ends { fair.ground_in dead_ends.now ≡ ground_in setting.space }
     requires dead_ends_improved { AreDeadSettledOrHigh (task_in (ground_in setting.space)) (atoms_in (ground_in setting.space)) (potentials_in dead_ends.now) }
     ensures answer { IfOk result (IsAnswerWithin (task_in (ground_in setting.entry.space)) setting.entry.limits) }
-    ensures said { GoesOn (IsLineWithin (task_in (ground_in setting.entry.space)) setting.entry.limits) E.wants_memory (E.failures err.old) (E.taken err.old) (E.failures err.new) (E.taken err.new) }
+    ensures said { GoesOn (IsLineWithin (task_in (ground_in setting.entry.space)) setting.entry.limits) E.may_lack_memory (E.failures err.old) (E.taken err.old) (E.failures err.new) (E.taken err.new) }
 {
     let guide = EstimateWithDeadEnds::new(estimate, dead_ends);
     let given = Given {

@@ -80,7 +80,7 @@ pub fn is_instance_shut_out(
     ensures { (i : Instance) → slice_get (kept_instances (task_in ground.now)) number ≡ Some i
         → IfOk result (λ out. out ≡ model.is_instance_shut_out (task_in ground.now) (atoms_in ground.now) (tables_of tables.now) i) }
 {
-    if ground.wants_unnumbered(number) {
+    if ground.requires_unnumbered(number) {
         return Ok(true);
     }
     tables.is_shut_out(alloc, ground.literals(number))

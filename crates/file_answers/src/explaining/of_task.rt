@@ -5,7 +5,7 @@ ghost use Rattle.task.specs.Task.{task_of};
 ghost use Rattle.explain_tasks.specs.Summary.{summary_text};
 ghost use Rattle.file_answers.specs.ExplanationLines.{grounded_line, on_lines};
 ghost use Rattle.file_answers.specs.Explanations.{IsGrounded, IsTaskExplained};
-ghost use Rattle.file_answers.specs.Notes.{AreGroundTold, AreTold, AreToldOfGround};
+ghost use Rattle.file_answers.specs.Notes.{AreGroundTold, AreTold, AreReportedOfGround};
 ghost use Rattle.explain_goals.specs.Notes.{AreGoalNotesOf};
 ghost use Rattle.grounding_instances.specs.Numbering.{task_in};
 ghost use Rattle.model.specs.Grounding.{exceeded_limit};
@@ -88,7 +88,7 @@ fn add_lines(lines: &[String], text: &mut String) -> Result<(), NoMemory>
 /// The number of kept instances and numbered atoms, or the limit that is exceeded.
 fn ground(alloc: Global, task: &Task, max_instances: u32) -> Result<Grounding, NoMemory>
     ensures grounded { IfOk result (λ g. IsGrounded (task_of task.now) max_instances g.grounded) }
-    ensures notes { IfOk result (λ g. AreToldOfGround (task_of task.now) max_instances g.grounded (map string_bytes g.notes.items)) }
+    ensures notes { IfOk result (λ g. AreReportedOfGround (task_of task.now) max_instances g.grounded (map string_bytes g.notes.items)) }
 {
     match Numbering::new(alloc, task, &[], max_instances) {
         Ok(numbering) => {

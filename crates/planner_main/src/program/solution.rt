@@ -48,8 +48,8 @@ pub(super) fn report_of_solve<F: Files, E: Sink + Clock>(
     ensures failures { IfErr result (CountsFailure (F.failures files.old) (F.failures files.new)) }
     ensures unread { (name : List ℕ) → IsOneOf (asked.entry.names.domain.now ∷ asked.entry.names.problem.now ∷ []) name → IsTrue (F.is_missing files.old name) → IsUnread result }
     ensures unreadable { (name : List ℕ) → IsOneOf (asked.entry.names.domain.now ∷ asked.entry.names.problem.now ∷ []) name → IsTrue (F.is_unreadable files.old name) → IsUnread result }
-    ensures progress { AreSaid (IsSearchLine (F.contents files.old) asked.entry.names.domain.now asked.entry.names.problem.now asked.entry.limits.seconds asked.entry.limits.states asked.entry.limits.instances asked.entry.progress) E.wants_memory (stream (E.failures err.old) (E.taken err.old)) (stream (E.failures err.new) (E.taken err.new)) }
-    ensures ended { IfOk result (HasEndedIf asked.entry.progress E.wants_memory (E.failures err.new) (E.taken err.new)) }
+    ensures progress { AreSaid (IsSearchLine (F.contents files.old) asked.entry.names.domain.now asked.entry.names.problem.now asked.entry.limits.seconds asked.entry.limits.states asked.entry.limits.instances asked.entry.progress) E.may_lack_memory (stream (E.failures err.old) (E.taken err.old)) (stream (E.failures err.new) (E.taken err.new)) }
+    ensures ended { IfOk result (HasEndedIf asked.entry.progress E.may_lack_memory (E.failures err.new) (E.taken err.new)) }
 {
     let pair = read_pair(alloc, files, asked.names.domain, asked.names.problem)?;
     let solved = solved(alloc, &pair, asked, err)?;
@@ -67,8 +67,8 @@ fn solved<E: Sink + Clock>(
     ensures answer { IfOk result (λ s. IsTrueAnswer (task_of s.task) asked.entry.limits.seconds asked.entry.limits.states asked.entry.limits.instances s.answer) }
     ensures version { IfOk result (λ s. HasVersionUpTo (number_of asked.entry.limits.version) s.answer) }
     ensures refused { IfErr result (λ fault. IfSome (reported_in fault) (IsTaskFault pair.now.domain.items pair.now.problem.items)) }
-    ensures progress { AreSaid (λ line. IsTrue asked.entry.progress × IsTrueLineOf pair.now.domain.items pair.now.problem.items asked.entry.limits.seconds asked.entry.limits.states asked.entry.limits.instances line) E.wants_memory (stream (E.failures err.old) (E.taken err.old)) (stream (E.failures err.new) (E.taken err.new)) }
-    ensures ended { IfOk result (λ s. IsTrue asked.entry.progress → HasEnded E.wants_memory (E.failures err.new) (E.taken err.new) s.answer) }
+    ensures progress { AreSaid (λ line. IsTrue asked.entry.progress × IsTrueLineOf pair.now.domain.items pair.now.problem.items asked.entry.limits.seconds asked.entry.limits.states asked.entry.limits.instances line) E.may_lack_memory (stream (E.failures err.old) (E.taken err.old)) (stream (E.failures err.new) (E.taken err.new)) }
+    ensures ended { IfOk result (λ s. IsTrue asked.entry.progress → HasEnded E.may_lack_memory (E.failures err.new) (E.taken err.new) s.answer) }
 {
     let files = TaskFiles {
         domain: &pair.domain,

@@ -2,7 +2,7 @@ use Rattle.std.proofs.Common.{◌∙◌, not, ap}
 use Rattle.grounding.specs.Ground.{task_in, atoms_in}
 use Rattle.grounding.proofs.GroundLemmas.{named, condition-at}
 use Rattle.grounding.proofs.ConditionalLemmas.{wants-of}
-use Rattle.grounding.proofs.ground.Ground.wants_unnumbered.Goals as goal
+use Rattle.grounding.proofs.ground.Ground.requires_unnumbered.Goals as goal
 
 pub returns : goal.returns
 returns c =
