@@ -11,7 +11,7 @@ use Rattle.explain_hints.specs.declared.texts.File.{File}
 use Rattle.explain_hints.specs.declared.texts.File.TheVariants.{Domain, Problem}
 use Rattle.explain_hints.specs.declared.texts.NamedTexts.{NamedTexts}
 use Rattle.explain_hints.specs.ReportedBytes.{reported_in}
-use Rattle.explain_hints.specs.declared.refusal.FileRefusal.{FileRefusal}
+use Rattle.explain_hints.specs.Refusals.{FileRefusal}
 use Rattle.explain_faults.specs.Explained.{AreWhole}
 use Rattle.explain_faults.specs.Expected.{AreTold, AreReportedIn, MayFollow, MayOccur, words_before}
 

@@ -13,7 +13,7 @@ use Rattle.explain_hints.specs.Places.{IsLineAt, IsPlace, lines_ended}
 use Rattle.explain_hints.specs.declared.texts.File.TheVariants.{Domain, Problem, Plan}
 use Rattle.explain_hints.specs.declared.texts.NamedTexts.{NamedTexts}
 use Rattle.explain_hints.specs.ReportedBytes.{reported_in}
-use Rattle.explain_hints.specs.declared.refusal.FileRefusal.{FileRefusal}
+use Rattle.explain_hints.specs.Refusals.{FileRefusal}
 use Rattle.explain_faults.specs.declared.explanation.FaultExplanation.{FaultExplanation}
 use Rattle.explain_faults.specs.Expected.{MayOccur, AreReportedIn}
 use Rattle.tokens.specs.declared.word.Word.{Word}

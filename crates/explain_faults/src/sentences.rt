@@ -3,9 +3,9 @@ use crate::explanation::FaultExplanation;
 use crate::words::{is_suggested, wanted_sentence};
 use crate::wrong::{Nesting, WrongPlace};
 use explain_hints::{
-    Context, FilePlace, FileRefusal, Name, NamedTexts, after_word, marked, reported_bytes,
+    Context, FilePlace, Name, NamedTexts, after_word, marked, reported_bytes,
 };
-use faults::NoMemory;
+use faults::{NoMemory, RefusalIn};
 use std::alloc::{AllocError, Global};
 use tokens::Word;
 
@@ -121,7 +121,7 @@ impl FaultExplanation<'_> {
         wrong: WrongPlace,
         out: &mut String,
     ) -> Result<(), AllocError> {
-        let shown = FileRefusal {
+        let shown = RefusalIn {
             file: self.fault.file,
             code: wrong.refusal.code,
             span: wrong.shown,

@@ -20,7 +20,7 @@ ghost use Rattle.model.specs.PlanText.{IsPlanText};
 use crate::quantifiers::variable_names;
 use explain_hints::File;
 use explain_plans::VariableNames;
-use faults::{Code, Fault, NoMemory, Refused, Span, TextRefusal};
+use faults::{Code, Fault, NoMemory, RefusalIn, Refused, Span, TextRefusal};
 use formulas::Plan;
 use plan_file::read_plan;
 use std::alloc::Global;
@@ -71,7 +71,7 @@ impl From<TaskFault> for FileFault {
 
     fn from(fault: TaskFault) -> FileFault {
         match fault {
-            Refused::At(TaskRefusal { file, code, span }) => {
+            Refused::At(RefusalIn { file, code, span }) => {
                 let file = match file {
                     TaskFile::Domain => File::Domain,
                     TaskFile::Problem => File::Problem,

@@ -12,7 +12,7 @@ use crate::explanation::{Explanation, FurtherFault};
 use crate::files::faults_of_files;
 use explain_faults::{FileRefusal, explain_fault};
 use explain_hints::{CutTexts, File, NamedTexts};
-use faults::{Code, NoMemory};
+use faults::{Code, NoMemory, RefusalIn};
 use std::alloc::Global;
 use typing::{TaskFile, TaskRefusal};
 
@@ -123,7 +123,7 @@ fn is_of_typing(code: Code) -> bool {
 fn in_file(refusal: TaskRefusal) -> FileRefusal
     ensures { IsReportedAt (refusal_of refusal) result }
 {
-    FileRefusal {
+    RefusalIn {
         file: one_of_files(refusal.file),
         code: refusal.code,
         span: refusal.span,

@@ -7,7 +7,7 @@ use crate::explanation::{Explanation, Location, Subject};
 use crate::files::FileFault;
 use explain_faults::{FileRefusal, explain_fault};
 use explain_hints::{CutTexts, NamedTexts};
-use faults::NoMemory;
+use faults::{NoMemory, RefusalIn};
 use std::alloc::Global;
 
 /// Explains the fault of a file.
@@ -20,7 +20,7 @@ pub(super) fn explain_refused(
 {
     match fault {
         FileFault::At { file, code, span } => {
-            let first = FileRefusal { file, code, span };
+            let first = RefusalIn { file, code, span };
             let pieces = CutTexts::of(alloc, texts, code)?;
             let alone = explain_at(alloc, texts, &pieces, first)?;
             let search = FurtherSearch {
@@ -44,7 +44,7 @@ fn explain_at(
 ) -> Result<Explanation, NoMemory>
     ensures { IfOk result (IsExplainedAlone texts.now fault.file fault.code fault.span) }
 {
-    let FileRefusal { file, code, span } = fault;
+    let RefusalIn { file, code, span } = fault;
     let explained = explain_fault(alloc, texts, pieces, fault)?;
     let text = explained.text(alloc, texts)?;
     let hints = explained.hints(alloc, texts)?;

@@ -3,7 +3,7 @@ use Rattle.std.proofs.lemmas.Result.{IfOk-weaker}
 use Rattle.std.specs.String.{string_bytes}
 use Rattle.explain_hints.specs.Files.{name_in, text_in}
 use Rattle.explain_faults.specs.Explained.{BeginsWith, IsHeading}
-use Rattle.explain_hints.specs.declared.refusal.FileRefusal.{FileRefusal}
+use Rattle.explain_hints.specs.Refusals.{FileRefusal}
 use Rattle.file_answers.specs.FurtherFaults.{SayFault}
 use Rattle.file_answers.proofs.explaining.further.FurtherSearch.text_of.Goals as goal
 
