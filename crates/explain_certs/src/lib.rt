@@ -1,0 +1,8 @@
+//! Explains the checker's answer to a certificate: what its refusal means, at which line, and by how much.
+#![tactic(auto)]
+
+mod lines;
+mod numbers;
+mod words;
+
+pub use words::{CheckedCert, words_of};
