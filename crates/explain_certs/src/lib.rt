@@ -2,6 +2,7 @@
 #![tactic(auto)]
 
 mod lines;
+mod meanings;
 mod numbers;
 mod words;
 

@@ -9,6 +9,7 @@ use crate::program::acceptance::{CheckAsked, InputNames, report_of_check};
 use crate::program::explaining::{ExplainAsked, report_of_explain};
 use crate::program::inputs::PairNames;
 use crate::program::validation::report_of_validate;
+use cert_checker::{Accepted, Refusal, RefusalCode};
 use devices::{Files, IoFault, Unheard, read_file};
 use explain_certs::{CheckedCert, words_of};
 use file_answers::{Checked, ExplainOptions, FileFault, StepLines};
@@ -130,8 +131,8 @@ fn words_beside<F: Files>(
     ensures unfailed { IfOk result (λ _. F.failures files.new ≡ F.failures files.old) }
     ensures failures { IfErr result (CountsFailure (F.failures files.old) (F.failures files.new)) }
 {
-    let text = read_file(alloc, files, names.cert)?;
-    let verdict = verdict_beside(alloc, names, files)?;
+    let text = refused_text(alloc, names, &checked.answer, files)?;
+    let verdict = verdict_beside(alloc, names, &checked.answer, files)?;
     let cert = CheckedCert {
         task: &checked.task,
         text: &text,
@@ -140,10 +141,29 @@ fn words_beside<F: Files>(
     Ok(words_of(alloc, cert, &checked.answer)?)
 }
 
-/// The verdict on the plan beside the certificate, if there is one.
+/// The text of a certificate that is refused. It is empty for one that is accepted: no line of it is shown.
+fn refused_text<F: Files>(
+    alloc: Global,
+    names: InputNames<'_>,
+    answer: &Result<Accepted, Refusal>,
+    files: &mut F,
+) -> Result<Vec<u8>, Failure>
+    ensures no_text { IfErr result (λ failure. fault_in failure ≡ None) }
+    ensures kept { AreKept (F.contents files.old) (F.contents files.new) }
+    ensures unfailed { IfOk result (λ _. F.failures files.new ≡ F.failures files.old) }
+    ensures failures { IfErr result (CountsFailure (F.failures files.old) (F.failures files.new)) }
+{
+    match answer {
+        Ok(_) => Ok(Vec::new(alloc)),
+        Err(_) => Ok(read_file(alloc, files, names.cert)?),
+    }
+}
+
+/// The verdict on the plan beside a certificate, if the plan is why the certificate is refused.
 fn verdict_beside<F: Files>(
     alloc: Global,
     names: InputNames<'_>,
+    answer: &Result<Accepted, Refusal>,
     files: &mut F,
 ) -> Result<Option<Verdict>, Failure>
     ensures no_text { IfErr result (λ failure. fault_in failure ≡ None) }
@@ -151,12 +171,20 @@ fn verdict_beside<F: Files>(
     ensures unfailed { IfOk result (λ _. F.failures files.new ≡ F.failures files.old) }
     ensures failures { IfErr result (CountsFailure (F.failures files.old) (F.failures files.new)) }
 {
-    let Some(plan) = names.plan else {
+    let Some(plan) = refused_plan(names, answer) else {
         return Ok(None);
     };
     match report_of_validate(alloc, pair_of(names), plan, files) {
         Ok(report) => Ok(verdict_in(&report)),
         Err(failure) => no_verdict(failure),
+    }
+}
+
+/// The name of the plan file, if the plan is why the certificate is refused.
+fn refused_plan<'a>(names: InputNames<'a>, answer: &Result<Accepted, Refusal>) -> Option<&'a str> {
+    match answer {
+        Err(Refusal::Plain(RefusalCode::PlanInvalid | RefusalCode::PlanDearer)) => names.plan,
+        _ => None,
     }
 }
 
