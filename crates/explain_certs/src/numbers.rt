@@ -20,17 +20,19 @@ pub(crate) fn claimed(text: &[u8]) -> Option<Claimed> {
     }
 }
 
-/// What has been paid in the state of a line, and for a cut what is still to pay.
+/// A listed state.
 #[derive(Clone, Copy, Debug, PartialEq, Eq)]
-pub(crate) struct Listed {
+pub(crate) struct Listed<'a> {
     /// What has been paid.
     pub paid: u64,
     /// What is still to pay; 0 for a line that is no cut.
     pub left: u64,
+    /// The numbers of its atoms, as the line has them.
+    pub numbers: &'a [u8],
 }
 
-/// The numbers of the line of a state; `None` if it is none.
-pub(crate) fn listed(line: &[u8]) -> Option<Listed> {
+/// The state of a line; `None` if it lists none.
+pub(crate) fn listed(line: &[u8]) -> Option<Listed<'_>> {
     match word_at(line, 0) {
         b"open" | b"dead" => at_cost(line, 1),
         b"dead-by" => at_cost(line, 2),
@@ -40,21 +42,70 @@ pub(crate) fn listed(line: &[u8]) -> Option<Listed> {
     }
 }
 
-/// The numbers of a line whose cost is the word at this place, counted from 0.
-fn at_cost(line: &[u8], place: usize) -> Option<Listed> {
+/// The state of a line whose cost is the word at this place, counted from 0.
+fn at_cost(line: &[u8], place: usize) -> Option<Listed<'_>> {
     let paid = number_at(line, place)?;
-    Some(Listed { paid, left: 0 })
+    let numbers = from_word(line, place.saturating_add(1));
+    Some(Listed {
+        paid,
+        left: 0,
+        numbers,
+    })
 }
 
 /// The same for a cut, whose bound follows the cost.
-fn of_cut(line: &[u8], place: usize) -> Option<Listed> {
+fn of_cut(line: &[u8], place: usize) -> Option<Listed<'_>> {
     let paid = number_at(line, place)?;
     let left = number_at(line, place.saturating_add(1))?;
-    Some(Listed { paid, left })
+    let numbers = from_word(line, place.saturating_add(2));
+    Some(Listed {
+        paid,
+        left,
+        numbers,
+    })
+}
+
+/// The cost at which a text lists the state whose atoms have these numbers; `None` if it does not list it.
+pub(crate) fn cost_listed(text: &[u8], numbers: &[u8]) -> Option<u64> {
+    for line in text.split(|byte| *byte == b'\n') {
+        if let Some(at) = listed(line) {
+            if at.numbers == numbers {
+                return Some(at.paid);
+            }
+        }
+    }
+    None
+}
+
+/// The value of a state by the only function of what is still to pay, in a text of version 1 or 2. `None` in other versions.
+pub(crate) fn value_of(text: &[u8], numbers: &[u8]) -> Option<u64> {
+    match number_at(line_of(text, 1)?.bytes, 1)? {
+        1 | 2 => {}
+        _ => return None,
+    }
+    let mut sum = signed_at(line_of(text, 3)?.bytes, 1)?;
+    if !numbers.is_empty() {
+        for word in numbers.split(|byte| *byte == b' ') {
+            let Some(weight) = weight_of(text, word) else {
+                return None;
+            };
+            sum = sum.saturating_add(weight);
+        }
+    }
+    match u64::try_from(sum) {
+        Ok(value) => Some(value),
+        Err(_) => Some(0),
+    }
+}
+
+/// The first weight of the atom with this number, in a text of version 1 or 2: atoms follow the third line.
+fn weight_of(text: &[u8], number: &[u8]) -> Option<i64> {
+    let line = number_in(number)?.saturating_add(4);
+    signed_at(line_of(text, line)?.bytes, 1)
 }
 
 /// The word at this place of a line, counted from 0; empty if there is none.
-fn word_at(line: &[u8], place: usize) -> &[u8] {
+pub(crate) fn word_at(line: &[u8], place: usize) -> &[u8] {
     let mut left = place;
     for word in line.split(|byte| *byte == b' ') {
         if left == 0 {
@@ -65,12 +116,40 @@ fn word_at(line: &[u8], place: usize) -> &[u8] {
     b""
 }
 
+/// What a line has from the word at this place on; empty if it has fewer words.
+fn from_word(line: &[u8], place: usize) -> &[u8] {
+    let mut left = place;
+    for piece in line.splitn(place.saturating_add(1), |byte| *byte == b' ') {
+        if left == 0 {
+            return piece;
+        }
+        left -= 1;
+    }
+    b""
+}
+
 /// The number at this place of a line.
 fn number_at(line: &[u8], place: usize) -> Option<u64> {
-    let Ok(digits) = str::from_utf8(word_at(line, place)) else {
+    number_in(word_at(line, place))
+}
+
+/// The number that a word denotes.
+pub(crate) fn number_in(word: &[u8]) -> Option<u64> {
+    let Ok(digits) = str::from_utf8(word) else {
         return None;
     };
     match digits.parse::<u64>() {
+        Ok(number) => Some(number),
+        Err(_) => None,
+    }
+}
+
+/// The number at this place of a line, which may be negative.
+fn signed_at(line: &[u8], place: usize) -> Option<i64> {
+    let Ok(digits) = str::from_utf8(word_at(line, place)) else {
+        return None;
+    };
+    match digits.parse::<i64>() {
         Ok(number) => Some(number),
         Err(_) => None,
     }

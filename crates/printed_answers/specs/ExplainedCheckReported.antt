@@ -11,25 +11,22 @@ use Rattle.cert_checker.specs.declared.checker.Accepted.{Accepted}
 use Rattle.cert_checker.specs.declared.checker.Accepted.TheVariants as accepted
 use Rattle.printed_answers.specs.CheckReported.{line_of}
 use Rattle.printed_answers.specs.JsonText.{Member, number, text}
-use Rattle.printed_answers.specs.Objects.{member, command, result}
+use Rattle.printed_answers.specs.Objects.{member, result}
+use Rattle.printed_answers.specs.ExplanationObjects.{explain, told}
 use Rattle.printed_answers.specs.declared.explained_check.ExplainedCheck.{ExplainedCheck}
 
 -- the line that `check` prints, and the words
 abbrev pub text_of : ExplainedCheck → List ℕ
 text_of e = line_of (task_of e.checked.task) e.checked.answer ++ string_bytes e.words
 
--- the text as a member
-abbrev told : (lines : List ℕ) → Member
-told lines = member (codes "text") (text lines)
-
 abbrev pub of_accepted : Accepted → (lines : List ℕ) → List Member
-of_accepted (accepted.Optimal cost) lines = command (codes "explain") ∷ member (codes "cost") (number cost) ∷ result (codes "optimal") ∷ told lines ∷ []
-of_accepted (accepted.AtLeast cost) lines = command (codes "explain") ∷ member (codes "cost") (number cost) ∷ result (codes "at least") ∷ told lines ∷ []
-of_accepted accepted.Unsolvable lines = command (codes "explain") ∷ result (codes "unsolvable") ∷ told lines ∷ []
+of_accepted (accepted.Optimal cost) lines = explain ∷ member (codes "cost") (number cost) ∷ result (codes "optimal") ∷ told lines ∷ []
+of_accepted (accepted.AtLeast cost) lines = explain ∷ member (codes "cost") (number cost) ∷ result (codes "at least") ∷ told lines ∷ []
+of_accepted accepted.Unsolvable lines = explain ∷ result (codes "unsolvable") ∷ told lines ∷ []
 
 abbrev pub of_refused : RefusalCode → (lines : List ℕ) → List Member
 of_refused code lines =
-    member (codes "code") (number (number_of code)) ∷ command (codes "explain") ∷ member (codes "name") (text (name_of code))
+    member (codes "code") (number (number_of code)) ∷ explain ∷ member (codes "name") (text (name_of code))
     ∷ result (codes "not accepted") ∷ told lines ∷ []
 
 abbrev pub of_answer : Result Accepted Refusal → (lines : List ℕ) → List Member

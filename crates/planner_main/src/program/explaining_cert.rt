@@ -36,7 +36,7 @@ pub(super) fn report_of_cert<F: Files>(
         → IsTrue (F.is_unreadable files.old name) → IsUnread result }
 {
     match report_of_check(alloc, asked, files, &mut Unheard) {
-        Ok(report) => in_words(alloc, asked.names, report, files),
+        Ok(report) => in_words(alloc, asked, report, files),
         Err(failure) => instead_of(alloc, asked, failure, files),
     }
 }
@@ -44,7 +44,7 @@ pub(super) fn report_of_cert<F: Files>(
 /// The same answer, with words beside it. The files are read once more for them.
 fn in_words<F: Files>(
     alloc: Global,
-    names: InputNames<'_>,
+    asked: CheckAsked<'_>,
     report: Report,
     files: &mut F,
 ) -> Result<Report, Failure>
@@ -57,7 +57,7 @@ fn in_words<F: Files>(
 {
     match report {
         Report::Check(checked) => {
-            let words = words_beside(alloc, names, &checked, files)?;
+            let words = words_beside(alloc, asked, &checked, files)?;
             Ok(Report::ExplainCheck(ExplainedCheck { checked, words }))
         }
         report => Ok(report),
@@ -122,7 +122,7 @@ fn pair_of<'a>(names: InputNames<'a>) -> PairNames<'a>
 /// The words about the checker's answer. No clause says what they mean.
 fn words_beside<F: Files>(
     alloc: Global,
-    names: InputNames<'_>,
+    asked: CheckAsked<'_>,
     checked: &Checked,
     files: &mut F,
 ) -> Result<String, Failure>
@@ -131,12 +131,13 @@ fn words_beside<F: Files>(
     ensures unfailed { IfOk result (λ _. F.failures files.new ≡ F.failures files.old) }
     ensures failures { IfErr result (CountsFailure (F.failures files.old) (F.failures files.new)) }
 {
-    let text = refused_text(alloc, names, &checked.answer, files)?;
-    let verdict = verdict_beside(alloc, names, &checked.answer, files)?;
+    let text = refused_text(alloc, asked.names, &checked.answer, files)?;
+    let verdict = verdict_beside(alloc, asked.names, &checked.answer, files)?;
     let cert = CheckedCert {
         task: &checked.task,
         text: &text,
         verdict,
+        max_instances: asked.instances,
     };
     Ok(words_of(alloc, cert, &checked.answer)?)
 }
