@@ -137,15 +137,24 @@ impl CheckedCert<'_> {
         Ok(())
     }
 
-    /// What a text is that is no certificate, or else that its line is out of place.
+    /// What is wrong with a line that is malformed or out of place.
     fn form_words(self, line: Line<'_>) -> &'static str {
-        if line.span.start > 0 {
-            return meaning_of(RefusalCode::CertForm);
+        if line.span.start == 0 {
+            self.first_line_words(line)
+        } else if line.bytes.starts_with(b"end") {
+            "The last line is `end N`, where N is the number of states that are listed."
+        } else {
+            meaning_of(RefusalCode::CertForm)
         }
-        let is_marked = self.text.starts_with(b"\xef\xbb\xbf");
+    }
+
+    /// What the text is, if its first line begins no certificate.
+    fn first_line_words(self, line: Line<'_>) -> &'static str {
         let is_plan = self.text.starts_with(b"(") || self.text.starts_with(b";");
-        if is_marked {
+        if self.text.starts_with(b"\xef\xbb\xbf") {
             "The file begins with a byte order mark. Save it without one."
+        } else if line.bytes.ends_with(b"\r") {
+            "The lines end with CR LF. Save the file with LF alone."
         } else if self.text.starts_with(b"(define") {
             "This is PDDL, not a certificate. A certificate begins with a line such as `pddl-cert 2`."
         } else if is_plan {
