@@ -11,7 +11,7 @@ pub(crate) enum Claimed {
 }
 
 /// The claim of a text; `None` if its second line has none.
-pub(crate) fn claimed(text: &[u8]) -> Option<Claimed> {
+pub(crate) fn claim_in(text: &[u8]) -> Option<Claimed> {
     let line = line_of(text, 2)?.bytes;
     match word_at(line, 1) {
         b"bound" => Some(Claimed::Bound(number_at(line, 2)?)),
@@ -32,7 +32,7 @@ pub(crate) struct Listed<'a> {
 }
 
 /// The state of a line; `None` if it lists none.
-pub(crate) fn listed(line: &[u8]) -> Option<Listed<'_>> {
+pub(crate) fn state_in(line: &[u8]) -> Option<Listed<'_>> {
     match word_at(line, 0) {
         b"open" | b"dead" => at_cost(line, 1),
         b"dead-by" => at_cost(line, 2),
@@ -68,7 +68,7 @@ fn of_cut(line: &[u8], place: usize) -> Option<Listed<'_>> {
 /// The cost at which a text lists the state whose atoms have these numbers; `None` if it does not list it.
 pub(crate) fn cost_listed(text: &[u8], numbers: &[u8]) -> Option<u64> {
     for line in text.split(|byte| *byte == b'\n') {
-        if let Some(at) = listed(line) {
+        if let Some(at) = state_in(line) {
             if at.numbers == numbers {
                 return Some(at.paid);
             }

@@ -2,7 +2,7 @@
 use crate::gap::{Gap, gap_at};
 use crate::lines::{Line, line_of};
 use crate::meanings::meaning_of;
-use crate::numbers::{Claimed, Listed, claimed, listed, value_of};
+use crate::numbers::{Claimed, Listed, claim_in, state_in, value_of};
 use cert_checker::{Accepted, Refusal, RefusalCode};
 use explain_hints::marked;
 use faults::NoMemory;
@@ -91,7 +91,7 @@ impl CheckedCert<'_> {
         line: Line<'_>,
         words: &mut String,
     ) -> Result<(), NoMemory> {
-        match (code, listed(line.bytes)) {
+        match (code, state_in(line.bytes)) {
             (RefusalCode::CertForm, _) => words.push_str(self.form_words(line))?,
             (RefusalCode::GoalOpen, Some(at)) => self.add_goal(at, words)?,
             (RefusalCode::CutWeak, Some(at)) => self.add_weak_cut(at, words)?,
@@ -105,7 +105,7 @@ impl CheckedCert<'_> {
 
     /// Adds that an expanded state meets the goal at a cost that the claim rules out.
     fn add_goal(self, at: Listed<'_>, words: &mut String) -> Result<(), AllocError> {
-        match claimed(self.text) {
+        match claim_in(self.text) {
             Some(Claimed::Bound(bound)) => add_goal_below(at, bound, words),
             Some(Claimed::Nothing) => add_goal_of_none(at, words),
             None => words.push_str(meaning_of(RefusalCode::GoalOpen)),
@@ -114,7 +114,7 @@ impl CheckedCert<'_> {
 
     /// Adds why a cut is too weak: for the claim, or by its values.
     fn add_weak_cut(self, at: Listed<'_>, words: &mut String) -> Result<(), AllocError> {
-        match claimed(self.text) {
+        match claim_in(self.text) {
             Some(Claimed::Bound(bound)) if at.paid.saturating_add(at.left) < bound => {
                 add_cut_below(at, bound, words)
             }
@@ -184,7 +184,7 @@ impl CheckedCert<'_> {
 
     /// The words of a refusal without a line.
     fn plain_words(self, alloc: Global, code: RefusalCode) -> Result<String, AllocError> {
-        match (code, self.verdict, claimed(self.text)) {
+        match (code, self.verdict, claim_in(self.text)) {
             (RefusalCode::PlanDearer, Some(Verdict::Valid { cost }), Some(Claimed::Bound(bound))) =>
                 {
                     let more = cost.saturating_sub(bound);
