@@ -144,7 +144,7 @@ explain_cert_in rows cert = do
   problem ← first_of (codes "PROBLEM") rows
   instances ← limit_in (codes "instances") rows
   if is_given (codes "trace") rows then None
-    else Some (to_explain_cert domain problem cert (record { instances = instances; plan = first_of (codes "plan") rows; json = is_given (codes "json") rows }))
+      else Some (to_explain_cert domain problem cert (record { instances = instances; plan = first_of (codes "plan") rows; json = is_given (codes "json") rows }))
 
 abbrev pub explain_in : List Row → Option Wanted
 explain_in rows =

@@ -60,10 +60,12 @@ fn no_order(alloc: Global, matches: &ArgMatches<'_>) -> WordsFault {
 /// The error for options that do not go together.
 fn unfitting(alloc: Global, matches: &ArgMatches<'_>) -> Result<Error, AllocError> {
     if has_value(matches, "cert") {
-        let text = "`--cert` goes without PLAN and `--trace`: optplan explain DOMAIN PROBLEM --cert FILE [--plan FILE]";
+        let text =
+            "`--cert` goes without PLAN and `--trace`: optplan explain DOMAIN PROBLEM --cert FILE [--plan FILE]";
         program(alloc)?.error(ErrorKind::ArgumentConflict, text)
     } else if has_value(matches, "plan") {
-        let text = "`--plan` needs `--cert`: optplan explain DOMAIN PROBLEM PLAN, or --cert FILE --plan FILE";
+        let text =
+            "`--plan` needs `--cert`: optplan explain DOMAIN PROBLEM PLAN, or --cert FILE --plan FILE";
         program(alloc)?.error(ErrorKind::MissingRequiredArgument, text)
     } else {
         let text = "`--trace` needs a plan: optplan explain DOMAIN PROBLEM PLAN --trace";

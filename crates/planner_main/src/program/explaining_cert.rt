@@ -8,7 +8,7 @@ use crate::failures::Failure;
 use crate::program::acceptance::{CheckAsked, InputNames, report_of_check};
 use crate::program::explaining::{ExplainAsked, report_of_explain};
 use crate::program::inputs::PairNames;
-use crate::program::validation::report_of_validate;
+use crate::program::validation::verdict_on;
 use cert_checker::{Accepted, Refusal, RefusalCode};
 use devices::{Files, IoFault, Unheard, read_file};
 use explain_certs::{CheckedCert, words_of};
@@ -49,7 +49,7 @@ fn in_words<F: Files>(
     files: &mut F,
 ) -> Result<Report, Failure>
     ensures report { (contents : List ℕ → Option (List ℕ)) (domain problem cert : List ℕ) (plan : Option (List ℕ)) (most : ℕ)
-        → IsCheckOn contents domain problem cert plan most report.entry → IfOk result (IsWordedCheckOn contents domain problem cert plan most) }
+        → IsCheckOn contents domain problem cert plan most report → IfOk result (IsWordedCheckOn contents domain problem cert plan most) }
     ensures no_text { IfErr result (λ failure. fault_in failure ≡ None) }
     ensures kept { AreKept (F.contents files.old) (F.contents files.new) }
     ensures unfailed { IfOk result (λ _. F.failures files.new ≡ F.failures files.old) }
@@ -175,8 +175,8 @@ fn verdict_beside<F: Files>(
     let Some(plan) = refused_plan(names, answer) else {
         return Ok(None);
     };
-    match report_of_validate(alloc, pair_of(names), plan, files) {
-        Ok(report) => Ok(verdict_in(&report)),
+    match verdict_on(alloc, pair_of(names), plan, files) {
+        Ok(verdict) => Ok(Some(verdict)),
         Err(failure) => no_verdict(failure),
     }
 }
@@ -185,14 +185,6 @@ fn verdict_beside<F: Files>(
 fn refused_plan<'a>(names: InputNames<'a>, answer: &Result<Accepted, Refusal>) -> Option<&'a str> {
     match answer {
         Err(Refusal::Plain(RefusalCode::PlanInvalid | RefusalCode::PlanDearer)) => names.plan,
-        _ => None,
-    }
-}
-
-/// The verdict in a result.
-fn verdict_in(report: &Report) -> Option<Verdict> {
-    match report {
-        Report::Validate(verdict) => Some(*verdict),
         _ => None,
     }
 }
