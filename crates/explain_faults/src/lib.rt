@@ -3,6 +3,7 @@
 
 mod explanation;
 mod report;
+mod same_mistake;
 mod sentences;
 mod wanted;
 mod words;
@@ -10,4 +11,5 @@ mod wrong;
 
 pub use explain_hints::{CutTexts, File, FileRefusal, LineColumn, NamedText, NamedTexts};
 pub use explanation::{FaultExplanation, explain_fault};
+pub use same_mistake::are_of_one_mistake;
 pub use wrong::{Nesting, WrongPlace};

@@ -2,9 +2,7 @@
 use crate::explanation::FaultExplanation;
 use crate::words::{is_suggested, wanted_sentence};
 use crate::wrong::{Nesting, WrongPlace};
-use explain_hints::{
-    Context, FilePlace, Name, NamedTexts, after_word, marked, reported_bytes,
-};
+use explain_hints::{Context, FilePlace, Name, NamedTexts, after_word, marked, reported_bytes};
 use faults::{NoMemory, RefusalIn};
 use std::alloc::{AllocError, Global};
 use tokens::Word;

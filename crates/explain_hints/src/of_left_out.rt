@@ -24,7 +24,10 @@ impl<'a> Context<'_, 'a> {
                 "For each, add an action that gives it up, with its penalty as the cost.",
             ))
         } else if is(b"maximize") {
-            Some(Hint::text("nothing can be maximized; the only metric is `minimize (total-cost)`"))
+            Some(Hint::advised(
+                "nothing can be maximized; the only metric is `minimize (total-cost)`",
+                "Minimize what is lost: for each gain, add an action that gives it up, with its worth as the cost.",
+            ))
         } else if is(b"when") {
             Some(Hint::advised(
                 "a `when` cannot contain another one",
@@ -45,7 +48,12 @@ impl<'a> Context<'_, 'a> {
         let word = self.word;
         if is_among(word, &[b"assign", b"decrease", b"scale-up", b"scale-down"]) {
             let text = " is not supported: only the total cost changes, by `increase`";
-            return Some(Hint::of(Sentence::After(word, text)));
+            return Some(Hint {
+                message: Some(Sentence::After(word, text)),
+                advice: Some(
+                    "If a number has few values, declare an object for each, and a predicate for the one that holds.",
+                ),
+            });
         }
         let head = head_of(self.outer());
         let is_metric = head.eq_ignore_ascii_case(b":metric");

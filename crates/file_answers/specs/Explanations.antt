@@ -20,6 +20,7 @@ use Rattle.validator.specs.Verdict.{verdict_of}
 use Rattle.validator.specs.declared.verdict.Verdict.{Verdict}
 use Rattle.file_answers.specs.ExplanationLines.{Files, Named, BeginAt, IsLocated, IsStepAt, IsStepLocated, SayPlanAs, files_of, grounded_line, on_lines}
 use Rattle.file_answers.specs.Files.{fault_at}
+use Rattle.file_answers.specs.Complete.{IsComplete}
 use Rattle.file_answers.specs.FurtherFaults.{AreFurther, EndsWith, further_text}
 use Rattle.file_answers.specs.Inputs.{IsInputFault}
 use Rattle.file_answers.specs.Notes.{AreAllReported}
@@ -90,6 +91,7 @@ pub record IsFaultExplained (texts : NamedTexts) (file : File) (code : Code) (sp
   pub says : IfSome e.location (λ at. BeginAt (bytes_in texts file) code span at (string_bytes e.text))
   pub further : AreFurther texts e.further.items
   pub says_further : EndsWith (string_bytes e.text) (further_text e.further.items)
+  pub complete : IsComplete (bytes_in texts) (record { file = file; code = code; span = span }) e.further.items
 
 -- running out of memory is not explained
 abbrev pub IsOfFault : NamedTexts → FileFault → Explanation → Type 0

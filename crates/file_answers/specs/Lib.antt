@@ -8,3 +8,4 @@ pub mod QuantifiedNames
 pub mod FurtherFaults
 pub mod SaidOf
 pub mod StepLines
+pub mod Complete

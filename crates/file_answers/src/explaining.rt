@@ -1,5 +1,7 @@
 //! From the bytes of files to their explanation.
-ghost use Rattle.std.specs.Prelude.{◌≡◌, IfOk, IfSome};
+ghost use Rattle.std.specs.Prelude.{◌≡◌, [], IfOk, IfSome};
+ghost use Rattle.std.specs.Option.{option_map_or};
+ghost use Rattle.explain_hints.specs.declared.texts.NamedText.{NamedText};
 ghost use Rattle.file_answers.specs.ExplanationLines.{IsSaidOf, files_of};
 ghost use Rattle.file_answers.specs.Explanations.{IsTrueOf, text_in};
 ghost use Rattle.file_answers.specs.Notes.{AreNoted};
@@ -83,6 +85,7 @@ fn texts_of<'a>(files: ExplainedFiles<'a>) -> NamedTexts<'a>
     ensures domain { result.domain ≡ files.entry.domain }
     ensures problem { result.problem ≡ files.entry.problem }
     ensures plan { IfSome files.entry.plan (λ named. result.plan ≡ named) }
+    ensures text { result.plan.text.now ≡ option_map_or (λ (named : NamedText). named.text.now) files.entry.plan [] }
 {
     let nothing = NamedText {
         name: "",

@@ -1,6 +1,6 @@
 //! Tests of the limits of certificates that are made in memory.
 use certificate::{
-    Basis, Cert, Claim, Evidence, Header, Landmarks, Mark, Potential, StateLine, Version,
+    Basis, Cert, Claim, Evidence, Header, Landmarks, Mark, StateLine, Version, WrittenPotentials,
 };
 use faults::NoMemory;
 use indexmap::IndexSet;
@@ -71,10 +71,10 @@ static ROWS: [Row; 32] = [
 ];
 
 /// The potential function with this constant and these weights.
-fn potential(alloc: Global, weights: &Weights) -> Result<Potential, AllocError> {
+fn potential(alloc: Global, weights: &Weights) -> Result<WrittenPotentials, AllocError> {
     let (constant, weights) = *weights;
     let weights = Vec::from_slice(alloc, weights)?;
-    Ok(Potential { constant, weights })
+    Ok(WrittenPotentials { constant, weights })
 }
 
 /// The set of these atoms.

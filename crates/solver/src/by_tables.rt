@@ -35,7 +35,7 @@ use crate::guidance::{Guidance, potential_of};
 use crate::searched::{Ending, search_by};
 use crate::setting::Setting;
 use crate::stopped::Stopped;
-use certificate::{Evidence, Landmarks, Potential, Version};
+use certificate::{Evidence, Landmarks, Version, WrittenPotentials};
 use cost_partitioning::{DraftedTables, Wanted, drafted_tables};
 use devices::Sink;
 use devices_clock::Clock;
@@ -134,7 +134,7 @@ fn drafted(
 }
 
 /// The constants and weights of these values, as a certificate has them.
-fn written(alloc: Global, values: &[Potentials]) -> Result<Vec<Potential>, NoMemory>
+fn written(alloc: Global, values: &[Potentials]) -> Result<Vec<WrittenPotentials>, NoMemory>
     ensures { IfOk result (λ written. map potential_of written.items ≡ map potentials_of values.now) }
 {
     let mut written = Vec::with_capacity(alloc, values.len())?;

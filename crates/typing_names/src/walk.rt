@@ -7,7 +7,7 @@ ghost use Rattle.model.specs.Typing.{folded, refused_word};
 
 use crate::TaskFile;
 use crate::fault::{PairFault, PairRefusal, TaskRefusal, precedes};
-use faults::{Code, NoMemory, Refused};
+use faults::{Code, NoMemory, RefusalIn, Refused};
 use pddl_tree_parts::Name;
 use std::alloc::Global;
 

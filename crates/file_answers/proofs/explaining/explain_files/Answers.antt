@@ -7,7 +7,7 @@ use Rattle.file_answers.proofs.FilesRead.{task_input}
 use Rattle.file_answers.specs.ExplanationLines.{Files, IsSaidOf, files_of}
 use Rattle.file_answers.specs.Explanations.{IsTrueOf, text_in}
 use Rattle.file_answers.specs.StepLines.{is_traced}
-use Rattle.file_answers.proofs.ExplanationLemmas.{files_given, given_among, plan_given, refused_explained, refused_said, task_explained, task_given, task_said}
+use Rattle.file_answers.proofs.ExplanationLemmas.{files_given, given_among, given_bytes, plan_given, refused_explained, refused_said, task_explained, task_given, task_said}
 use Rattle.file_answers.proofs.explaining.explain_files.Goals as goal
 
 pub returns-in-Err-clause-subject : goal.returns-in-Err-clause-subject
@@ -22,6 +22,7 @@ returns-in-Err-clause-said c =
     let texts = c.texts_of-texts in
     refused_said (is_traced c.args.options.steps) texts.result (files_of c.args.files.domain c.args.files.problem c.args.files.plan)
     (given_among texts.result c.args.files.domain c.args.files.problem texts.ensures.domain texts.ensures.problem c.args.files.plan texts.ensures.plan)
+    (given_bytes texts.result c.args.files.domain c.args.files.problem c.args.files.plan texts.ensures.domain texts.ensures.problem texts.ensures.text)
     c.in-Err.fault c.explain_refused.result c.explain_refused.ensures
 
 pub returns-in-Some-clause-subject : goal.returns-in-Some-clause-subject

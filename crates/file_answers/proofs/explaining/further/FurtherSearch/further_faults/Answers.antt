@@ -1,3 +1,5 @@
+use Rattle.explain_hints.specs.Files.{text_in}
+use Rattle.file_answers.proofs.CompleteLemmas.{complete}
 use Rattle.file_answers.proofs.explaining.further.FurtherSearch.further_faults.Goals as goal
 
 pub faults-preserved : goal.faults-preserved
