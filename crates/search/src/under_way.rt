@@ -181,7 +181,6 @@ pub fn begin<T: TransitionSystem, G: Guide, L: StateListing>(
 /// # Errors
 /// Memory is refused.
 pub fn begin_asking<T: TransitionSystem, G: Guide, V: ValuesOnDemand, L: StateListing>(
-    alloc: Global,
     problem: &Problem<'_, T, G>,
     _values: &V,
     store: L,
@@ -193,7 +192,7 @@ pub fn begin_asking<T: TransitionSystem, G: Guide, V: ValuesOnDemand, L: StateLi
     ensures { IfOk result (λ search. (max_states : ℕ) → 1 ≤ max_states
         → IsUnderWayBy (T.means problem.now.system.now) (L.class_of store) (G.estimate_of problem.now.guide.now) (G.is_dead problem.now.guide.now) (V.shows _values.now) (G.fits problem.now.guide.now) L.states L.class_of L.width_of (T.width_of problem.now.system.now) max_states search) }
 {
-    start(alloc, problem.system, problem.guide, store)
+    start(problem.alloc, problem.system, problem.guide, store)
 }
 
 /// A search whose initial state alone is found, and stands on the guide.
@@ -239,11 +238,12 @@ pub fn go_on<T: TransitionSystem, G: Guide, L: StateListing>(
     let search = search.without_bases(alloc);
     let mut values = GuideAlone(guide);
     let problem = Problem {
+        alloc,
         system,
         guide,
         max_states,
     };
-    go_on_asking(alloc, &problem, &mut values, search, pause)
+    go_on_asking(&problem, &mut values, search, pause)
 }
 
 /// Continues the search as `go_on` does. The values of states are asked for when their turn comes.
@@ -251,7 +251,6 @@ pub fn go_on<T: TransitionSystem, G: Guide, L: StateListing>(
 /// # Errors
 /// Memory is refused.
 pub fn go_on_asking<T: TransitionSystem, G: Guide, V: ValuesOnDemand, L: StateListing>(
-    alloc: Global,
     problem: &Problem<'_, T, G>,
     values: &mut V,
     search: Search<L, G::Scratch>,
@@ -276,13 +275,13 @@ pub fn go_on_asking<T: TransitionSystem, G: Guide, V: ValuesOnDemand, L: StateLi
     buffers.asks = u32::MAX;
     'turns: while progress.store.len() < pause as usize {
         let Some(turn) = progress.next_waiting() else {
-            let states = progress.into_states(alloc)?;
+            let states = progress.into_states(problem.alloc)?;
             return Ok(Halt::Ended(Outcome::Exhausted { states }));
         };
         progress.store.get(turn.id.0, &mut buffers.state);
         if problem.system.meets_goal(&buffers.state) {
             let cost = progress.nodes[turn.id.0 as usize].cost;
-            let (steps, states) = progress.into_plan(alloc, turn)?;
+            let (steps, states) = progress.into_plan(problem.alloc, turn)?;
             return Ok(Halt::Ended(Outcome::Found {
                 steps,
                 cost,
@@ -290,7 +289,7 @@ pub fn go_on_asking<T: TransitionSystem, G: Guide, V: ValuesOnDemand, L: StateLi
             }));
         }
         if !progress.take_turn(problem, values, &mut buffers, turn)? {
-            let (bound, states) = progress.into_bound(alloc, turn)?;
+            let (bound, states) = progress.into_bound(problem.alloc, turn)?;
             return Ok(Halt::Ended(Outcome::States { bound, states }));
         }
     }

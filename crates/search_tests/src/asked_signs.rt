@@ -98,12 +98,13 @@ fn is_as_wanted<S: StateStore>(alloc: Global, row: &Row, store: S) -> Result<boo
         bases: 0,
     };
     let problem = Problem {
+        alloc,
         system: &row.rooms,
         guide: &guide,
         max_states: 100,
     };
-    let search = begin_asking(alloc, &problem, &values, OwnClasses(store))?;
-    match go_on_asking(alloc, &problem, &mut values, search, u32::MAX)? {
+    let search = begin_asking(&problem, &values, OwnClasses(store))?;
+    match go_on_asking(&problem, &mut values, search, u32::MAX)? {
         Halt::Ended(outcome) => is_reported(alloc, &in_store(outcome), row),
         Halt::Paused(_) => Ok(false),
     }
