@@ -367,12 +367,16 @@ impl<L: StateListing> Progress<L> {
             (HoldsIn (T.means problem.now.system.now) (G.estimate_of problem.now.guide.now) (G.is_dead problem.now.guide.now) (V.shows values.now) L.states self.new
             (λ value is_dead. IsStopped (T.means problem.now.system.now) (L.class_of self.old.store) value is_dead L.states self.new turn problem.now.max_states))) }
     {
-        problem.system.applicable(&buffers.state, &mut buffers.applicable)?;
+        problem
+            .system
+            .applicable(&buffers.state, &mut buffers.applicable)?;
         self.mark(turn.id, NodeStatus::Expanded);
         problem.guide.move_to(&buffers.state, &mut buffers.scratch);
         buffers.touch_successors(problem.system, &self.store)?;
         for &action in &buffers.applicable {
-            problem.system.successor(action, &buffers.state, &mut buffers.next);
+            problem
+                .system
+                .successor(action, &buffers.state, &mut buffers.next);
             let to = Successor {
                 parent: turn.id,
                 action,

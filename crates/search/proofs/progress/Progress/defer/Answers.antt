@@ -74,25 +74,25 @@ bury-requires g c =
     let all = c.args.self.now.nodes.items in
     slice_get_within all c.args.turn.id.0 e.found.node (found_of-get (g.L.StateListing.states c.args.self.now.store) all c.args.turn.id.0 e.found e.occurs).1
 
-pub returns-then-asks-eq0-clause-extends : goal.returns-then-asks-eq0-clause-extends
-returns-then-asks-eq0-clause-extends g c = extends_same _
+pub returns-then-buffers-eq0-clause-extends : goal.returns-then-buffers-eq0-clause-extends
+returns-then-buffers-eq0-clause-extends g c = extends_same _
 
 pub returns-then-has_been_expanded-clause-extends : goal.returns-then-has_been_expanded-clause-extends
 returns-then-has_been_expanded-clause-extends g c = extends_same _
 
-pub returns-in-Raised-clause-deferred : goal.returns-in-Raised-clause-deferred
-returns-in-Raised-clause-deferred g c =
-    let here = (goal.at.returns-in-Raised-clause-deferred g c).In_ok-answer in
+pub returns-in_ok-raise-in-Raised-clause-deferred : goal.returns-in_ok-raise-in-Raised-clause-deferred
+returns-in_ok-raise-in-Raised-clause-deferred g c =
+    let here = (goal.at.returns-in_ok-raise-in-Raised-clause-deferred g c).In_ok-answer in
     let states_of = g.L.StateListing.states in
     defers_raised (g.G.Guide.system_of c.args.guide.now) (g.L.StateListing.class_of c.args.self.now.store) (g.G.Guide.estimate_of c.args.guide.now) (g.G.Guide.is_dead c.args.guide.now)
     (g.V.ValuesOnDemand.shows c.args.values.now) (g.V.ValuesOnDemand.shows c.ask.new.self) states_of c.args.self.now c.raise.new.self c.args.turn
     c.requires.turn c.requires.open c.in_ok-answer.ensures.extends (laws g here) (bits_of c.args.buffers.now.state) c.requires.state (fresh g here) (ap states_of c.raise.ensures.store)
     c.in-Raised.basis c.in-Raised.value (is_right g here (Raised c.in-Raised.basis c.in-Raised.value) c.in-Raised.is)
-    c.in_ok-raise.ensures.bases c.raise.ensures.nodes c.in_ok-raise.ensures.open_list
+    c.in_ok-raise-in-Raised.ensures.bases c.raise.ensures.nodes c.in_ok-raise-in-Raised.ensures.open_list
 
-pub returns-in-Dead-clause-deferred : goal.returns-in-Dead-clause-deferred
-returns-in-Dead-clause-deferred g c =
-    let here = (goal.at.returns-in-Dead-clause-deferred g c).In_ok-answer in
+pub returns-in_ok-bury-in-Dead-clause-deferred : goal.returns-in_ok-bury-in-Dead-clause-deferred
+returns-in_ok-bury-in-Dead-clause-deferred g c =
+    let here = (goal.at.returns-in_ok-bury-in-Dead-clause-deferred g c).In_ok-answer in
     let states_of = g.L.StateListing.states in
     let all = c.args.self.now.nodes.items in
     let e = c.requires.turn.holds in
@@ -100,4 +100,4 @@ returns-in-Dead-clause-deferred g c =
     (g.V.ValuesOnDemand.shows c.args.values.now) (g.V.ValuesOnDemand.shows c.ask.new.self) states_of c.args.self.now c.bury.new.self c.args.turn
     c.requires.turn c.requires.open c.in_ok-answer.ensures.extends (laws g here) (bits_of c.args.buffers.now.state) c.requires.state (fresh g here) (ap states_of c.bury.ensures.store)
     c.in-Dead.basis (is_right g here (Dead c.in-Dead.basis) c.in-Dead.is)
-    c.in_ok-bury.ensures.bases (c.bury.ensures.nodes e.found.node (found_of-get (states_of c.args.self.now.store) all c.args.turn.id.0 e.found e.occurs).1) c.bury.ensures.open_list
+    c.in_ok-bury-in-Dead.ensures.bases (c.bury.ensures.nodes e.found.node (found_of-get (states_of c.args.self.now.store) all c.args.turn.id.0 e.found e.occurs).1) c.bury.ensures.open_list

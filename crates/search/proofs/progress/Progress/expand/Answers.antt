@@ -1,4 +1,4 @@
-use Rattle.std.proofs.Common.{◌≡◌, ◌≢◌, ℕ, Bool, List, Option, ◌+◌, length, get_or, drop, set, refl, sym, ap, ◌∙◌, subst, arith, Some, true, false}
+use Rattle.std.proofs.Common.{◌≡◌, ◌≢◌, ℕ, Bool, List, Option, ◌+◌, length, get_or, drop, set, refl, sym, ap, ◌∙◌, subst, arith, Some, true, false, ◌∷◌}
 use Rattle.std.specs.Prelude.{IsTrue, is_some, slice_get}
 use Rattle.search.specs.declared.nodes.NodeStatus.TheVariants.{Reopened, Expanded}
 use Rattle.search.specs.OpenList.{waiting_in}
@@ -9,7 +9,7 @@ use Rattle.packed_state.specs.Packed.{bits_of}
 use Rattle.search.specs.declared.bases.Bases.{Bases}
 use Rattle.search.specs.declared.on_demand.Basis.{Basis}
 use Rattle.search.specs.declared.nodes.Node.{Node}
-use Rattle.search.specs.Nodes.{Found, found_of, total_of, marked_as, marked}
+use Rattle.search.specs.Nodes.{AreClosedBut, AreNodes, Found, Waiting, entry, found_of, marked, marked_as, total_of}
 use Rattle.search.specs.OnDemand.{basis_at, value_on}
 use Rattle.search.proofs.Linked.{found_of-get, found_of-set, length-found_of, set_was}
 use Rattle.search.proofs.Lists.{get-set_here, get-set_other}
@@ -58,12 +58,6 @@ mark-requires-then-not-branch g c =
 pub reach-requires-clause-values_width : goal.reach-requires-clause-values_width
 reach-requires-clause-values_width g c = c.requires.values_width ∙ sym c.loop-action.invariant.width
 
-pub returns-then-not-branch-clause-asks : goal.returns-then-not-branch-clause-asks
-returns-then-not-branch-clause-asks g c = c.loop-action.invariant.asks
-
-pub returns-clause-asks : goal.returns-clause-asks
-returns-clause-asks g c = c.loop-action.invariant.asks
-
 pub touch_successors-requires-clause-buffers : goal.touch_successors-requires-clause-buffers
 touch_successors-requires-clause-buffers g c = record { state = c.requires.buffers.state; next = c.requires.buffers.next }
 
@@ -102,7 +96,6 @@ loop-action-init g c =
       state = ap (λ s. length (bits_of s)) touched.state ∙ c.requires.buffers.state;
       scratch = subst (g.G.Guide.fits c.args.problem.now.guide.now) (sym touched.scratch) c.move_to.ensures;
       next = touched.next;
-      asks = touched.asks;
       occurs = rw (c.mark.ensures.store, touched.state) c.requires.state;
       left = rw (c.deref-action-items.ensures.value, touched.applicable)
           (left_start t (g.L.StateListing.class_of begun.store) nodes c.args.turn.id.0 (marked Expanded turn.found) begins.occurs (bits_of c.args.buffers.now.state) c.applicable.new.into.items
@@ -154,7 +147,6 @@ loop-action-preserved g c =
       state = inv.state;
       scratch = c.in_ok-reach.ensures.scratch;
       next = c.successor.ensures.width;
-      asks = inv.asks;
       occurs = occurs_still class_of states states' c.loop-action.self.nodes.items c.reach.new.self.nodes.items c.args.turn.id.0 e.turn.found s e.turn.occurs reaches.continues inv.occurs;
       left = left_more t class_of nodes c.args.turn.id.0 e.turn.found e.turn.occurs after a next (drop (c.loop-action.action-index + 1) numbers) left leads reaches.continues reaches.listed;
     }
@@ -226,8 +218,9 @@ returns-then-not-branch-clause-listed g c =
         waits = (refl, alive);
         sum = sum;
         estimate = first.holds.estimate ∙ same_value;
-        nodes = rw (c.mark-then-not-branch.ensures.open_list, full.open_list) (nodes_unmarked t class_of value is_dead nodes after i e.turn occurs others (waiting_in c.loop-action.self.open_list) (rw same_classes at e.search.nodes) long);
-        are_open = open_unmarked t class_of value is_dead nodes after i e.turn occurs others (rw same_classes at e.others_open);
+        nodes = subst (λ (ws : List Waiting). AreNodes t class_of value is_dead after (entry e.turn.found.node.cost (value e.turn.found.state) i ∷ ws)) (sym (ap waiting_in (c.mark-then-not-branch.ensures.open_list ∙ full.open_list)))
+            (nodes_unmarked t class_of value is_dead nodes after i e.turn occurs others (waiting_in c.loop-action.self.open_list) (subst (λ (k : List Bool → List Bool). AreNodes t k value is_dead nodes (waiting_in c.loop-action.self.open_list)) same_classes e.search.nodes) long);
+        are_open = open_unmarked t class_of value is_dead nodes after i e.turn occurs others (subst (λ (k : List Bool → List Bool). AreClosedBut t k nodes i) same_classes e.others_open);
         heap = rw (c.mark-then-not-branch.ensures.open_list, full.open_list) e.search.heap;
       };
     }

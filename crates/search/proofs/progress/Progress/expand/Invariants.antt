@@ -22,6 +22,5 @@ invariant-loop-action g l =
       next : length (bits_of l.buffers.1.1.0) ≡ g.T.TransitionSystem.width_of l.problem.system.now;
       occurs : slice_get (states_of l.self.store) l.turn.id.0 ≡ Some (bits_of l.buffers.1.0);
       scratch : g.G.Guide.fits l.problem.guide.now l.buffers.1.1.1.1.1.0;
-      asks : l.buffers.1.1.1.1.0 ≡ l.fn.buffers.asks;
       left : AreLeft t class_of (nodes_in states_of l.self) l.turn.id.0 (drop l.action-index l.action-items);
     }
