@@ -143,8 +143,11 @@ impl CutDrafter {
             return Ok(Claim::DeadEnd);
         }
         for _ in 0..MAX_CUTS {
-            if self.levels.of(GOAL) == 0 || !self.add_cut()? {
-                break;
+            if self.levels.of(GOAL) == 0 {
+                return Ok(Claim::LowerBound);
+            }
+            if !self.add_cut()? {
+                return Ok(Claim::LowerBound);
             }
         }
         Ok(Claim::LowerBound)
