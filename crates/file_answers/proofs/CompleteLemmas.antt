@@ -1,23 +1,23 @@
 -- No fault of a pair is left out.
-use Rattle.std.proofs.Common.{◌≡◌, ◌∙◌, ◌≤◌, ℕ, List, [], ◌∷◌, ◌++◌, length, map, take, Contains, ◌⊎◌, inl, inr, refl, sym, ap, subst, arith}
+use Rattle.std.proofs.Common.{◌≡◌, ◌∙◌, ◌≤◌, ◌<◌, ◌+◌, get_or, suc, ℕ, List, [], ◌∷◌, ◌++◌, length, map, take, Contains, ◌⊎◌, inl, inr, refl, sym, ap, subst, arith}
 use Rattle.std.proofs.lemmas.List.{length-append, map_push}
-use Rattle.std.proofs.lemmas.List.Elements.{Contains-append_left, Contains-append_right}
+use Rattle.std.proofs.Math.Seq.{take-suc}
+use Rattle.std.proofs.lemmas.List.Elements.{All-contains_itself, Contains-append_cases, Contains-append_left, Contains-append_right}
 use Rattle.std.proofs.lemmas.List.Sorted.{Contains-permutation}
 use Rattle.explain_hints.specs.Refusals.{FileRefusal}
 use Rattle.explain_faults.specs.SameMistake.{AreOfOneMistake, Texts}
 use Rattle.typing.specs.Listed.{AreListed, faults_listed}
 use Rattle.typing.specs.Task.{refusal_of}
-use Rattle.typing_names.specs.Refusals.{TaskRefusal}
 use Rattle.pddl_tree_parts.specs.declared.tree.TaskFile.{TaskFile}
 use Rattle.pddl_tree_parts.specs.declared.tree.TaskFile.TheVariants as pair
 use Rattle.pddl_tree_parts.specs.Tree.{file_of}
 use Rattle.explain_hints.specs.Files.{file_view}
 use Rattle.model.specs.Files.{of_task}
-use Rattle.file_answers.specs.Complete.{AreListedOf, IsAccounted, IsComplete, IsReportedAmong, fault_in, of_pair, one_of_files}
+use Rattle.file_answers.specs.Complete.{AreListedOf, IsAccounted, IsComplete, IsReportedAmong, TaskRefusal, fault_in, of_pair, one_of_files}
 use Rattle.file_answers.specs.FurtherFaults.{IsReportedAt}
 use Rattle.file_answers.specs.declared.explanation.FurtherFault.{FurtherFault}
 use Rattle.explain_hints.specs.declared.texts.File.TheVariants.{Domain, Problem}
-use Rattle.model.proofs.ListLemmas.{Contains-here, Contains-there, map-Contains}
+use Rattle.model.proofs.ListLemmas.{Contains-cases, Contains-here, Contains-map, Contains-none, Contains-there, map-Contains}
 use Rattle.model.specs.Resolution.{TypingFault}
 
 -- a fault of a pair is reported for its file
@@ -27,6 +27,20 @@ at_file pair.Problem = refl
 
 pub of_pair_reported : (r : TaskRefusal) → IsReportedAt (refusal_of r) (of_pair r)
 of_pair_reported r = record { file = at_file r.file; fault = refl }
+
+-- what holds of the first elements and of the next one holds of one more
+pub taken_more : {A : Type 0} (items : List A) (i : ℕ) (P : A → Type 0) (d : A) → i < length items → ((x : A) → Contains (take i items) x → P x) → P (get_or items i d)
+    → (x : A) → Contains (take (i + 1) items) x → P x
+taken_more items i P d below before next x at =
+    let next_is : i + 1 ≡ suc i = omega arith in
+    let one : take (i + 1) items ≡ take i items ++ (get_or items i d ∷ []) = ap (λ n. take n items) next_is ∙ take-suc items i d below in
+    elim (Contains-append_cases (take i items) (get_or items i d ∷ []) x (subst (λ l. Contains l x) one at)) [
+      | inl early ↦ before x early
+      | inr last ↦ elim (Contains-cases (get_or items i d) [] x last) [
+        | inl is ↦ subst P is next
+        | inr none ↦ absurd (Contains-none x none)
+      ]
+    ]
 
 module _ (text_of : Texts) (first : FileRefusal) where
   -- what the last of the further faults adds
@@ -46,6 +60,13 @@ module _ (text_of : Texts) (first : FileRefusal) where
   -- it comes from the mistake of the first, or of a further one
   pub of_first : (further : List FurtherFault) (fault : FileRefusal) → AreOfOneMistake text_of fault first → IsReportedAmong text_of (first ∷ map fault_in further) fault
   of_first further fault same = (first, Contains-here first (map fault_in further), inr same)
+
+  pub of_further : (further : List FurtherFault) (fault : FileRefusal) (k : ℕ) (d : FurtherFault) → k < length further
+      → AreOfOneMistake text_of fault (get_or further k d).fault → IsReportedAmong text_of (first ∷ map fault_in further) fault
+  of_further further fault k d below same =
+      let other = get_or further k d in
+      let among : Contains further other = All-contains_itself further k d below in
+      (fault_in other, Contains-there first (map fault_in further) (fault_in other) (Contains-map fault_in further other among), inr same)
 
   -- Each of the pair's faults in this list is accounted for, and so is each that is found with them.
   pub complete : (further : List FurtherFault) (found : List TaskRefusal) → AreListedOf (text_of Domain) (text_of Problem) found

@@ -18,6 +18,7 @@ use Rattle.validator.specs.declared.verdict.Verdict.TheVariants.{NotApplicable}
 use Rattle.file_answers.specs.ExplanationLines.{Files, Named, IsLocated, IsSaidOf, IsStepLocated, IsSubjectLocated, SaySubject, IsPlanSaid, IsStepAt, IsReportedIn, IsWhole, SayFurther, SayPlanAs, SayVerdict, bytes_of, file_in, files_of, named_of}
 use Rattle.file_answers.specs.Explanations.{IsFaultExplained, IsLocatedIf, IsOfFault, IsPlanReported, IsStepFound, IsStepOf, IsTaskExplained, IsTrueOf, IsVerdictExplained, files_in, in_texts, text_in}
 use Rattle.file_answers.specs.Files.{reported_in}
+use Rattle.file_answers.specs.Notes.{AreNoted, AreNotedOf}
 use Rattle.explain_faults.specs.SameMistake.{Texts}
 use Rattle.file_answers.specs.Complete.{IsComplete}
 use Rattle.file_answers.specs.FurtherFaults.{IsToldOf}
@@ -28,6 +29,7 @@ use Rattle.file_answers.specs.Inputs.{IsInputFault}
 use Rattle.file_answers.specs.declared.explanation.Explanation.{Explanation}
 use Rattle.file_answers.specs.declared.explanation.Location.{Location}
 use Rattle.file_answers.specs.declared.explanation.Subject.{Subject}
+use Rattle.file_answers.specs.declared.explanation.Subject.TheVariants.{Fault, Plan, Task}
 use Rattle.file_answers.specs.declared.files.FileFault.{FileFault}
 use Rattle.file_answers.specs.declared.files.FileFault.TheVariants as refused
 use Rattle.model.specs.Task as model
@@ -303,3 +305,15 @@ module _ (task : model.Task) (most : ℕ) where
         → IfOk r (IsTaskExplained task most) → IfOk r (λ e. IsTrueOf domain problem plan most e.subject)
     task_explained plan none (Ok e) is = subst (λ (plan : Option (List ℕ)). IsTrueOf domain problem plan most e.subject) (sym none) (summary_true e is)
     task_explained plan none (Err failed) is = tt
+
+-- ---- notes
+
+-- with a plan nothing is noted
+pub noted_with_plan : (domain problem text : List ℕ) (most : ℕ) (s : Subject) → IsTrueOf domain problem (Some text) most s → (notes : List (List ℕ)) → AreNotedOf domain problem most s notes
+noted_with_plan domain problem text most (Fault file code span) is notes = tt
+noted_with_plan domain problem text most (Plan verdict) is notes = tt
+noted_with_plan domain problem text most (Task holds grounded) is notes = absurd is
+
+pub noted_of_task : (domain problem : List ℕ) (most : ℕ) (task : model.Task) → IsTaskOf domain problem task → (e : Explanation) → IsTaskExplained task most e → AreNoted domain problem most e
+noted_of_task domain problem most task is_task e is =
+    subst (λ (s : Subject). AreNotedOf domain problem most s (map string_bytes e.notes.items)) (sym is.subject) (task, is_task, is.noted)

@@ -5,7 +5,7 @@ use Rattle.faults.specs.declared.code.Code.{Code}
 use Rattle.pddl_tree_parts.specs.declared.tree.TaskFile.{TaskFile}
 use Rattle.pddl_tree_parts.specs.declared.tree.TaskFile.TheVariants as pair
 use Rattle.typing.specs.Listed.{AreListed, faults_listed}
-use Rattle.typing_names.specs.Refusals.{TaskRefusal}
+use Rattle.faults.specs.declared.refused.RefusalIn.{RefusalIn}
 use Rattle.explain_hints.specs.Refusals.{FileRefusal}
 use Rattle.explain_hints.specs.declared.texts.File.{File}
 use Rattle.explain_hints.specs.declared.texts.File.TheVariants.{Domain, Problem}
@@ -15,6 +15,9 @@ use Rattle.file_answers.specs.declared.explanation.FurtherFault.{FurtherFault}
 use Rattle.model.specs.Trees as tree
 use Rattle.model.specs.Resolution.{TypingFault}
 use Rattle.model.specs.Files.{IsDomainText, IsProblemText}
+
+abbrev pub TaskRefusal : Type 0
+TaskRefusal = RefusalIn TaskFile
 
 -- a fault of names and types, by its code
 abbrev pub IsOfTyping : Code → Type 0

@@ -1,5 +1,5 @@
 -- The notes of an explanation of a task: a line for each, in order.
-use Rattle.std.specs.Prelude.{◌≡◌, ℕ, List, [], ◌++◌, map, ⊤}
+use Rattle.std.specs.Prelude.{◌≡◌, ℕ, List, [], ◌++◌, map}
 use Rattle.std.specs.String.{string_bytes}
 use Rattle.explain_tasks.specs.NoteLines.{ground_lines, task_lines}
 use Rattle.explain_tasks.specs.Notes.{AreGroundNotesOf, AreNotesOf}
@@ -38,8 +38,8 @@ AreAllReported t most grounded lines =
 
 -- the notes of an explanation of two texts, if they are a task and no plan is given
 abbrev pub AreNotedOf : (domain problem : List ℕ) → (most : ℕ) → Subject → List (List ℕ) → Type 0
-AreNotedOf domain problem most (Fault file code span) notes = ⊤
-AreNotedOf domain problem most (Plan verdict) notes = ⊤
+AreNotedOf domain problem most (Fault file code span) notes = Unit {0}
+AreNotedOf domain problem most (Plan verdict) notes = Unit {0}
 AreNotedOf domain problem most (Task holds grounded) notes = (task : model.Task) × IsTaskOf domain problem task × AreAllReported task most grounded notes
 
 abbrev pub AreNoted : (domain problem : List ℕ) → (most : ℕ) → Explanation → Type 0

@@ -110,7 +110,7 @@ answered_status contents wanted text status written (found, is_found, (is_text, 
 -- the result for files can be printed
 pub can_be_reported : (contents : List ℕ → Option (List ℕ)) (wanted : Wanted) (found : Report) → IsReportOn contents wanted found → reported.IsReported found
 can_be_reported contents (to_validate domain problem plan json) found (v, is, on) = subst reported.IsReported (sym is) tt
-can_be_reported contents (to_solve domain problem asked) found (s, is, on) = subst reported.IsReported (sym is) tt
+can_be_reported contents (to_solve domain problem asked) found (s, is, version, on) = subst reported.IsReported (sym is) tt
 can_be_reported contents (to_check domain problem cert asked) found (c, is, (d, p, l, d_is, p_is, l_is, (text, steps, whole, is_task, handed, is_true, said))) =
     subst reported.IsReported (sym is) said
 can_be_reported contents (to_explain domain problem asked) found (e, is, on) = subst reported.IsReported (sym is) tt

@@ -132,9 +132,9 @@ module _ (contents contents_after : List ℕ → Option (List ℕ)) (known may_l
       → SaysIf (size_line_for (outputs_of wanted).cert (cert_text found) (outputs_of wanted).progress) may_lack_memory before after
       → status ≡ status_of found → HasSaidEnd contents contents_after known wanted may_lack_memory after status
   ended_by_status before (to_validate domain problem plan json) found status is ended held sized same = tt
-  ended_by_status before (to_solve domain problem asked) found status (s, is, on) ended held sized same = λ asks which.
+  ended_by_status before (to_solve domain problem asked) found status (s, is, version, on) ended held sized same = λ asks which.
       let answered = ended_of_answer may_lack_memory before.failures before.taken s.answer status (subst (HasEndedIf asked.progress may_lack_memory before.failures before.taken) is ended asks) (same ∙ ap status_of is) which in
-      (found, (s, is, on), held, (before, answered, sized))
+      (found, (s, is, version, on), held, (before, answered, sized))
   ended_by_status before (to_check domain problem cert asked) found status is ended held sized same = tt
   ended_by_status before (to_explain domain problem asked) found status is ended held sized same = tt
 

@@ -17,7 +17,7 @@ use Rattle.search.proofs.Closed.{cut_told, dead_told}
 use Rattle.search.specs.Outcome.{AreFound, AreExpandedWithin, AreOfOneClass, IsReachableAt}
 use Rattle.lower_bounds.specs.Settled.{initial_value}
 use Rattle.solver.specs.Improved.{AreSettledOrHigh, AreDeadSettledOrHigh, HasSettledOrHigh}
-use Rattle.solver.specs.Listing.{numbers_in, by_all, state_line, found_certificate, IsShownBy, AreExpandedWithin}
+use Rattle.solver.specs.Listing.{numbers_in, by_all, state_line, found_certificate, IsShownBy, AreLinesExpandedWithin}
 use Rattle.solver.proofs.TypedLemmas.{numbered_typed}
 use Rattle.ground_listings.proofs.GroundLemmas.{distinct_states}
 use Rattle.solver.specs.Guidance.{Guidance, by_potentials, by_tables, CanBeWritten, AreFairBy, estimate_by, reports_dead, version_by, values_by, first_value}
@@ -290,7 +290,7 @@ module _ (task : Task) (claim : Claim) (most : ℕ) (exchanges : List Exchange) 
         limits : AreLimits (version_by guidance) (length atoms) values
         limits = limits_of (version_by guidance) (length atoms) values written.within_limits
 
-    pub open_within : (cost : ℕ) → AreExpandedWithin (estimate_by guidance) cost states nodes → AreExpandedWithin task cost made
+    pub open_within : (cost : ℕ) → AreExpandedWithin (estimate_by guidance) cost states nodes → AreLinesExpandedWithin task cost made
     open_within cost within line among is_open =
         let (k, s, n, there, here, is) = line_found line among in
         let marked : search.mark_of (estimate_by guidance) (reports_dead guidance) s n ≡ expanded = ap (λ (l : Line State). l.mark) (sym is) ∙ is_open in
@@ -362,8 +362,8 @@ module _ (task : Task) (claim : Claim) (most : ℕ) (exchanges : List Exchange) 
       (shown_by task claim most exchanges guidance states nodes class_of found_by_numbers well classes named (subst (λ (l : List Atom). CanBeWritten (length l) guidance) numbered written)
       (subst (λ (l : List Atom). AreFairBy task l guidance) numbered fair) (ap keeps_limits is_made ∙ kept))) le
 
-  pub opened_within : (cost : ℕ) → AreExpandedWithin (estimate_by guidance) cost states nodes → AreExpandedWithin task cost certificate
-  opened_within cost within = subst (AreExpandedWithin task cost) is_made (open_within task claim most exchanges guidance states nodes class_of found_by_numbers cost within)
+  pub opened_within : (cost : ℕ) → AreExpandedWithin (estimate_by guidance) cost states nodes → AreLinesExpandedWithin task cost certificate
+  opened_within cost within = subst (AreLinesExpandedWithin task cost) is_made (open_within task claim most exchanges guidance states nodes class_of found_by_numbers cost within)
 
   pub value_at_start : value_of task certificate (initial_state task) ≡ estimate_by guidance (ground_system task known).initial
   value_at_start =

@@ -4,7 +4,7 @@ use Rattle.model.specs.Task.{Task}
 use Rattle.model.specs.Meaning.{State, initial_state}
 use Rattle.model.specs.Claims.{cut, Line}
 use Rattle.certificate_definitions.specs.Certificates.{Certificate, lines_of, value_of}
-use Rattle.solver.specs.Listing.{AreExpandedWithin}
+use Rattle.solver.specs.Listing.{AreLinesExpandedWithin}
 
 -- the certificate lists the state as a cut, and what follows it costs at least `rest`
 abbrev pub IsCutOf : Task → Certificate → Line State → (rest : ℕ) → Type 0
@@ -18,5 +18,5 @@ pub record IsAtLimit (task : Task) (least max_states : ℕ) (certificate : Certi
   pub cuts_by_value : (line : Line State) (rest : ℕ) → IsCutOf task certificate line rest → rest ≡ value_of task certificate line.state
   pub at_most_each_cut : (line : Line State) (rest : ℕ) → IsCutOf task certificate line rest → least ≤ line.cost + rest
   pub of_some_cut : (line : Line State) × (rest : ℕ) × IsCutOf task certificate line rest × (line.cost + rest ≡ least)
-  pub open_within : AreExpandedWithin task least certificate
+  pub open_within : AreLinesExpandedWithin task least certificate
   pub start_within : value_of task certificate (initial_state task) ≤ least

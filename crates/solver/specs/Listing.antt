@@ -71,6 +71,6 @@ pub record IsShownBy (task : Task) (claim : Claim) (max_states : ℕ) (certifica
   pub dead_ends_are_reported : (line : Line State) → Contains (lines_of task certificate) line → IsTrue (is_dead_end_of task certificate line.state) → line.mark ≡ dead
 
 -- each expanded state of the certificate costs, with its value, at most this
-abbrev pub AreExpandedWithin : Task → ℕ → Certificate → Type 0
-AreExpandedWithin task most certificate =
+abbrev pub AreLinesExpandedWithin : Task → ℕ → Certificate → Type 0
+AreLinesExpandedWithin task most certificate =
     (line : Line State) → Contains (lines_of task certificate) line → line.mark ≡ expanded → line.cost + value_of task certificate line.state ≤ most

@@ -11,7 +11,7 @@ use Rattle.solver.specs.declared.answer.Exceeded.TheVariants.{Instances, Atoms, 
 use Rattle.solver.specs.declared.limits.Limits.{Limits}
 use Rattle.solver.specs.Versions.{number_of}
 use Rattle.solver.specs.Improved.{HasSettledOrHigh}
-use Rattle.solver.specs.Listing.{IsShownBy, AreExpandedWithin}
+use Rattle.solver.specs.Listing.{IsShownBy, AreLinesExpandedWithin}
 use Rattle.solver.specs.AtLimit.{IsAtLimit}
 use Rattle.ground_listings.specs.Reachable.{AreMoreReachable}
 use Rattle.model.specs.Task.{Task}
@@ -35,7 +35,7 @@ IsTrueAnswer task seconds states instances (Plan steps cost cert) =
     × IsTrue (list_all (is_instance task) (plan_of steps))
     × IsShownBy task (bound cost) states (certificate_of cert)
     × HasSettledOrHigh task (certificate_of cert)
-    × AreExpandedWithin task cost (certificate_of cert)
+    × AreLinesExpandedWithin task cost (certificate_of cert)
     × (exceeded_limit instances max_numbered_atoms task [] ≡ None)
 IsTrueAnswer task seconds states instances (Unsolvable cert) =
     IsUnsolvable (system_of task) × IsShownBy task none states (certificate_of cert) × HasSettledOrHigh task (certificate_of cert)

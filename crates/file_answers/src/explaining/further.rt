@@ -38,15 +38,15 @@ fn further_text(alloc: Global, further: &[FurtherFault]) -> Result<String, NoMem
 
 /// A search for the faults of two files other than the first.
 #[derive(Clone, Copy)]
-pub(super) struct FurtherSearch<'a> {
+pub(super) struct FurtherSearch<'w, 'a> {
     pub(super) alloc: Global,
-    pub(super) texts: &'a NamedTexts<'a>,
+    pub(super) texts: &'w NamedTexts<'a>,
     /// The pieces of the texts.
-    pub(super) pieces: &'a CutTexts<'a>,
+    pub(super) pieces: &'w CutTexts<'a>,
     pub(super) first: FileRefusal,
 }
 
-impl FurtherSearch<'_> {
+impl FurtherSearch<'_, '_> {
     /// The explanation of the first fault, followed by the lines of the others.
     pub(super) fn with_further(self, alone: Explanation) -> Result<Explanation, NoMemory>
         requires { IsExplainedAlone self.texts.now self.first.file self.first.code self.first.span alone }

@@ -51,7 +51,7 @@ pub(super) fn explain_task(
 
 /// The notes, followed by those that the files themselves lead to.
 fn with_task_notes(alloc: Global, task: &Task, notes: Vec<String>) -> Result<Vec<String>, NoMemory>
-    ensures { IfOk result (λ lines. (others : List (List ℕ)) × AreTold (task_of task.now) others × (map string_bytes lines.items ≡ map string_bytes notes.entry.items ++ others)) }
+    ensures { IfOk result (λ lines. (others : List (List ℕ)) × AreTold (task_of task.now) others × (map string_bytes lines.items ≡ map string_bytes notes.items ++ others)) }
 {
     let mut lines = notes;
     TaskNotes::of(alloc, task)?.add_lines(alloc, task, &mut lines)?;

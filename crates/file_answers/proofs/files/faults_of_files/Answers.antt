@@ -1,11 +1,14 @@
 use Rattle.std.proofs.Common.{arith, subst, sym}
 use Rattle.std.proofs.lemmas.Result.{IfOk-weaker}
-use Rattle.std.specs.Prelude.{All}
+use Rattle.std.specs.Prelude.{All, IfSome}
 use Rattle.pddl_tree_parts.specs.Tree.{domain_of, problem_of}
 use Rattle.model.specs.Trees.{Domain, Problem}
 use Rattle.typing.specs.Task.{refusal_of}
 use Rattle.typing.specs.Listed.{AreListed, faults_listed}
+use Rattle.file_answers.specs.Complete.{AreUnread}
+use Rattle.file_answers.specs.Files.{reported_in}
 use Rattle.file_answers.specs.FurtherFaults.{IsFaultOfTexts}
+use Rattle.file_answers.specs.declared.files.FileFault.{FileFault}
 use Rattle.file_answers.proofs.FilesRead.{domain_of_text, problem_of_text}
 use Rattle.file_answers.proofs.files.faults_of_files.Goals as goal
 
@@ -34,4 +37,7 @@ returns-in-Err-At-clause-each c =
     subst (All (λ r. IsFaultOfTexts c.args.domain.now c.args.problem.now (refusal_of r))) (sym c.new.ensures.items) (λ k r below. absurd (omega (arith, below)))
 
 pub returns-in-Err-At-clause-all : goal.returns-in-Err-At-clause-all
-returns-in-Err-At-clause-all c = λ d p d_reads p_reads. absurd (c.in-Err-At.ensures.unread d p d_reads p_reads)
+returns-in-Err-At-clause-all c = λ d p d_reads p_reads.
+    let unread : AreUnread c.args.domain.now c.args.problem.now =
+    subst (λ (f : FileFault). IfSome (reported_in f) (λ _. AreUnread c.args.domain.now c.args.problem.now)) c.in-Err-At.field-0-is c.in-Err-At.ensures.unread in
+    absurd (unread d p d_reads p_reads)

@@ -15,4 +15,4 @@ returns c =
     let atoms = c.in_ok-names.ensures ∙ ap (map atom_of) c.as_slice.ensures.keys ∙ c.atoms.ensures ∙ ap atoms_in c.ground.ensures in
     let evidence = c.in_ok-evidence.ensures.values in
     let exchanges = c.in_ok-written_exchanges.ensures in
-    λ lines. λ i. record { version = c.version.ensures i; claim = claim_of c.args.claim; exchanges = exchanges i; atoms = atoms i; values = (evidence i).values; dead_ends = (evidence i).dead_ends; tables = (evidence i).tables; landmarks = c.in_ok-evidence.ensures.landmarks i; lines = lines }
+    λ lines. λ i. record { version = c.version-version.ensures i; claim = claim_of c.args.claim; exchanges = exchanges i; atoms = atoms i; values = (evidence i).values; dead_ends = (evidence i).dead_ends; tables = (evidence i).tables; landmarks = c.in_ok-evidence.ensures.landmarks i; lines = lines }

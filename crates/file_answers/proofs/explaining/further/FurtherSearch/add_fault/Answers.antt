@@ -1,20 +1,21 @@
-use Rattle.std.proofs.Common.{inl, inr, subst, sym}
+use Rattle.std.proofs.Common.{List, ◌∷◌, inl, inr, map, subst, sym, arith}
 use Rattle.typing.specs.Task.{refusal_of}
 use Rattle.explain_hints.specs.Files.{text_in}
 use Rattle.explain_hints.specs.Refusals.{FileRefusal}
-use Rattle.file_answers.specs.Complete.{IsAccounted, of_pair}
+use Rattle.file_answers.specs.Complete.{IsAccounted, IsReportedAmong, fault_in, of_pair}
 use Rattle.file_answers.specs.FurtherFaults.{AreFurther}
 use Rattle.file_answers.specs.declared.explanation.FurtherFault.{FurtherFault}
 use Rattle.file_answers.proofs.CompleteLemmas.{one_more_accounted, still_accounted}
 use Rattle.file_answers.proofs.FurtherLemmas.{one_more_told}
 use Rattle.file_answers.proofs.explaining.further.FurtherSearch.add_fault.Goals as goal
 
-pub returns-then-clause-added : goal.returns-then-clause-added
-returns-then-clause-added c = inl c.in-then.is
+pub returns-then-len-ge-MOST-clause-added : goal.returns-then-len-ge-MOST-clause-added
+returns-then-len-ge-MOST-clause-added c = inl (omega (arith, c.if-len-ge-MOST.true, c.len.ensures))
 
 pub returns-then-is_reported-clause-added : goal.returns-then-is_reported-clause-added
 returns-then-is_reported-clause-added c =
-    subst (IsAccounted (text_in c.args.self.texts.now) c.args.self.first c.args.further.now.items) c.in_file-fault.ensures.value (inr (c.is_reported.ensures c.in-then-is_reported.is))
+    subst (IsAccounted (text_in c.args.self.texts.now) c.args.self.first c.args.further.now.items) c.in_file-fault.ensures.value
+    (inr (subst (λ (fs : List FurtherFault). IsReportedAmong (text_in c.args.self.texts.now) (c.args.self.first ∷ map fault_in fs) c.in_file-fault.result) c.deref.ensures.value (c.is_reported.ensures c.if-is_reported.true)))
 
 pub returns-clause-further : goal.returns-clause-further
 returns-clause-further c = λ are.

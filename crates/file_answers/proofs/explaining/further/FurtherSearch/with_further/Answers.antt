@@ -16,6 +16,7 @@ returns c =
       subject = c.requires.subject;
       located = c.requires.located;
       says = says_before c.args.alone.location (λ (at : Location). IsHeading (string_bytes at.file) (text_in c.args.self.texts.now c.args.self.first.file) c.args.self.first.span.start (place_in at) c.args.self.first.code) new old more is c.requires.says;
-      further = c.in_ok-further.ensures;
+      further = c.in_ok-further.ensures.further;
+      complete = c.in_ok-further.ensures.complete;
       says_further = (old, is);
     }
