@@ -192,9 +192,7 @@ impl<'i, 'g, 't> LandmarksOnDemand<'i, 'g, 't> {
             return self.drafter.draft(self.alloc, state);
         };
         match self.values.get(basis.0 as usize) {
-            Some(value) => self
-                .drafter
-                .draft_from(self.alloc, state, value.known()),
+            Some(value) => self.drafter.draft_from(self.alloc, state, value.known()),
             None => self.drafter.draft(self.alloc, state),
         }
     }
