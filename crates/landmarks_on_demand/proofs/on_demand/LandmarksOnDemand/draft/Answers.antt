@@ -20,4 +20,4 @@ pub returns-in-Some-value-clause-drafted : goal.returns-in-Some-value-clause-dra
 returns-in-Some-value-clause-drafted c = subst (λ (count : ℕ). IfOk c.draft_from.result (λ found. IfSome found (IsOneValue count))) c.args.self.now.drafts c.draft_from.ensures.form
 
 pub returns-in-None-clause-drafted : goal.returns-in-None-clause-drafted
-returns-in-None-clause-drafted c = subst (λ (count : ℕ). IfOk c.draft-2.result (λ found. IfSome found (IsOneValue count))) c.args.self.now.drafts c.draft-2.ensures.form
+returns-in-None-clause-drafted c = subst (λ (count : ℕ). IfOk c.draft-in-None.result (λ found. IfSome found (IsOneValue count))) c.args.self.now.drafts c.draft-in-None.ensures.form
