@@ -10,7 +10,7 @@ while True:
             try:
                 cmd=open(f'/proc/{p}/cmdline').read(); cwd=os.readlink(f'/proc/{p}/cwd'); rss=int(open(f'/proc/{p}/statm').read().split()[1])*4096
             except (OSError,IndexError): continue
-            if 'bin/rattle' in cmd and not cwd.startswith(('/work/gate','/work/merge')) and not cwd.startswith('/tmp/rt-copy') and '/work/gate' not in cmd and (best is None or rss>best[0]): best=(rss,int(p),cwd)
+            if 'bin/rattle' in cmd and not cwd.startswith(('/work/gate','/work/gate2','/work/merge')) and not cwd.startswith('/tmp/rt-copy') and '/work/gate' not in cmd and (best is None or rss>best[0]): best=(rss,int(p),cwd)
         if best:
             os.kill(best[1],signal.SIGKILL); print(time.strftime('%H:%M:%S'),'ended',best,flush=True)
     time.sleep(2)

@@ -1,5 +1,0 @@
-(define (domain lamps) (:requirements :adl) (:types lamp)
- (:predicates (lit ?x - lamp) (warm ?x - lamp))
- (:action on :parameters (?x - lamp) :precondition (not (lit ?x)) :effect (lit ?x))
- (:action off :parameters (?x - lamp) :precondition (lit ?x) :effect (not (lit ?x)))
- (:action cool :parameters (?x - lamp) :precondition (not (warm ?x)) :effect (not (warm ?x))))

@@ -1,5 +1,0 @@
-(define (domain bottleneck)
-  (:predicates (walker ?w) (near ?a ?b) (at ?w ?a) (free ?a))
-  (:action move :parameters (?w ?a ?b)
-    :precondition (and (walker ?w) (near ?a ?b) (at ?w ?a) (free ?b))
-    :effect (and (not (at ?w ?a)) (at ?w ?b) (not (free ?b)))))

@@ -1,9 +1,0 @@
-pub mod LineTextLemmas
-pub mod GatheringLemmas
-pub mod WholeText
-pub mod SetsLemmas
-pub mod LimitsLemmas
-pub mod RowsLemmas
-pub mod WideningLemmas
-pub mod NumbersLemmas
-pub mod ListedLemmas

@@ -1,8 +1,0 @@
-use Rattle.std.proofs.Common.{refl}
-use Rattle.certificate.proofs.NumbersLemmas.{value_count_kept, values_kept, dead_ends_kept, tables_kept}
-use Rattle.certificate.proofs.cert.Cert.bounds.Goals as goal
-
-pub returns : goal.returns
-returns c =
-    let cert = c.args.self.now in
-    record { bounds = refl; value_count = value_count_kept cert; values = values_kept cert; dead_ends = dead_ends_kept cert; tables = tables_kept cert; in_memory = refl }

@@ -1,9 +1,0 @@
-pub mod Lines
-pub mod Ends
-pub mod Words
-pub mod Parsing
-pub mod Stages
-pub mod Waiting
-pub mod Ready
-pub mod Next
-pub mod Reader

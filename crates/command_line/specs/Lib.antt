@@ -1,6 +1,0 @@
-pub mod Limit
-pub mod Description
-pub mod Described
-pub mod Orders
-pub mod View
-pub mod Examples

@@ -1,4 +1,0 @@
-pub mod Filling
-pub mod Readings
-pub mod WrittenFiles
-pub mod ProgressLemmas

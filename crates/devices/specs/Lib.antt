@@ -1,4 +1,0 @@
-pub mod Devices
-pub mod Texts
-pub mod Written
-pub mod Progress

@@ -1,3 +1,0 @@
-pub mod Candidates
-pub mod WantedWords
-pub mod WrongLemmas

@@ -1,4 +1,0 @@
-use Rattle.explain_faults.proofs.sentences.heading.Goals as goal
-
-pub returns : goal.returns
-returns c = rw (c.number-number.ensures, c.name-code.ensures) at c.format.ensures.ok

@@ -1,3 +1,0 @@
-pub mod Expected
-pub mod Explained
-pub mod Wrong

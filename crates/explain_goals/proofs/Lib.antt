@@ -1,5 +1,0 @@
-pub mod Invariants
-pub mod GrownLemmas
-pub mod SettledLemmas
-pub mod NeedLemmas
-pub mod ChainLemmas

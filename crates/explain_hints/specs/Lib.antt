@@ -1,3 +1,0 @@
-pub mod Files
-pub mod Places
-pub mod ReportedBytes

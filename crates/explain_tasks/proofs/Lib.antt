@@ -1,8 +1,0 @@
-pub mod MentionLemmas
-pub mod TableLemmas
-pub mod CostLemmas
-pub mod FoldLemmas
-pub mod CountLemmas
-pub mod LackingLemmas
-pub mod AddedLemmas
-pub mod FormsLemmas

@@ -1,8 +1,0 @@
-pub mod Mentions
-pub mod Views
-pub mod Unused
-pub mod Costs
-pub mod Goals
-pub mod Notes
-pub mod Forms
-pub mod Summary

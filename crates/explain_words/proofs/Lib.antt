@@ -1,5 +1,0 @@
-pub mod Automaton
-pub mod Left
-pub mod Levels
-pub mod Stacked
-pub mod Told

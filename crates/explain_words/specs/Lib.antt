@@ -1,3 +1,0 @@
-pub mod Expected
-pub mod Frames
-pub mod States

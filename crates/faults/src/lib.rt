@@ -1,8 +1,0 @@
-//! Faults of texts, by number and place, and the error for running out of memory.
-#![tactic(auto)]
-
-mod code;
-mod refused;
-
-pub use code::Code;
-pub use refused::{Fault, NoMemory, Refused, Span, TextRefusal};

@@ -1,4 +1,0 @@
-use Rattle.file_answers.proofs.explaining.further.FurtherSearch.further_faults.Goals as goal
-
-pub faults-preserved : goal.faults-preserved
-faults-preserved c = c.in_ok-add_fault.ensures c.faults.invariant

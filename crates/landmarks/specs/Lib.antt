@@ -1,8 +1,0 @@
-pub mod Breaking
-pub mod Values
-pub mod Rows
-pub mod Makers
-pub mod Counters
-pub mod CutIndex
-pub mod Fairness
-pub mod Laws

@@ -1,6 +1,0 @@
-use Rattle.std.proofs.Common.{◌∙◌, sym}
-use Rattle.packed_state.proofs.LaneLemmas.{apart_lanes}
-use Rattle.packed_state.proofs.lanes.IsApartRelation.of_chunks.Goals as goal
-
-pub returns : goal.returns
-returns c = apart_lanes c.args.words c.args.others (c.requires.0 ∙ sym c.requires.1)

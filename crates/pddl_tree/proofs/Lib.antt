@@ -1,4 +1,0 @@
-pub mod Parts
-pub mod Files
-pub mod Heads
-pub mod Reported

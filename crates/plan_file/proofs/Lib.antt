@@ -1,4 +1,0 @@
-pub mod PlanWords
-pub mod ReadSoFar
-pub mod PlanSteps
-pub mod WritingLemmas

@@ -1,6 +1,0 @@
-pub mod ListLemmas
-pub mod GroundLemmas
-pub mod LossLemmas
-mod ScoreLemmas
-pub mod FairLemmas
-pub mod WordLemmas

@@ -1,4 +1,0 @@
-pub mod Potentials
-pub mod Fairness
-pub mod Swing
-pub mod Words

@@ -1,2 +1,0 @@
-pub mod Incidence
-pub mod Tables

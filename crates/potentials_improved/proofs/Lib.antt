@@ -1,4 +1,0 @@
-pub mod EstimateLemmas
-mod ClimbLemmas
-mod FairAtLemmas
-mod TestedLemmas

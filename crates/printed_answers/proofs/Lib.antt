@@ -1,4 +1,0 @@
-mod JsonWritten
-mod MembersInOrder
-mod JsonExampleProofs
-mod JsonReported

@@ -1,2 +1,0 @@
-mod RoomLemmas
-mod TwinLemmas

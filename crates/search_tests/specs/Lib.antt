@@ -1,4 +1,0 @@
-pub mod Rooms
-pub mod BlindRooms
-pub mod FarSigns
-pub mod Twins

@@ -1,9 +1,0 @@
-use Rattle.std.proofs.Common.{◌∙◌, [], ◌∷◌, ◌++◌, ap, map}
-use Rattle.certificate.specs.CertificateParts.{potential_of}
-use Rattle.table_rows.specs.Tables.{table_of}
-use Rattle.solver.proofs.guidance.bounds_of.Goals as goal
-
-pub returns : goal.returns
-returns c =
-    let values = ap (map potential_of) (c.in_ok-push.ensures.items ∙ ap (λ before. before ++ c.args.value ∷ []) c.new-values.ensures.items) in
-    λ i. record { values = values i; dead_ends = potential_of c.args.dead_ends; tables = map table_of (c.new.ensures.items i) }

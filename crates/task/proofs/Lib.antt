@@ -1,4 +1,0 @@
-pub mod Lists
-pub mod Tables
-pub mod AtomEquality
-pub mod Shapes

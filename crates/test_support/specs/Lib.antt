@@ -1,4 +1,0 @@
-pub mod Endless
-pub mod Failing
-pub mod Pieces
-pub mod Table

@@ -1,5 +1,0 @@
-pub mod Form
-pub mod Cut
-pub mod Word
-pub mod Scanner
-pub mod Reported

@@ -1,5 +1,0 @@
-pub mod Refusals
-pub mod Walk
-pub mod TypedLists
-pub mod Scope
-pub mod Resolver

@@ -1,2 +1,0 @@
-pub mod VerdictRuns
-pub mod VerdictLaws

@@ -1,3 +1,0 @@
-﻿(define (domain marked)
-  (:predicates (p))
-  (:action go :parameters () :effect (p)))

@@ -1,1 +1,0 @@
-﻿(define (problem marked-1) (:domain marked) (:init) (:goal (p)))

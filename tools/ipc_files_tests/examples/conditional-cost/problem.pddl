@@ -1,1 +1,0 @@
-(define (problem a-toll) (:domain tolls) (:init) (:goal (p)) (:metric minimize (total-cost)))

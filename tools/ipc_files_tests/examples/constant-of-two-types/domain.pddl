@@ -1,5 +1,0 @@
-(define (domain robots)
-  (:types place machine)
-  (:constants robot - machine)
-  (:predicates (at ?m - machine))
-  (:action go :parameters () :effect (at robot)))

@@ -1,2 +1,0 @@
-(define (problem one-robot) (:domain robots)
-  (:objects robot - place) (:init) (:goal (at robot)))

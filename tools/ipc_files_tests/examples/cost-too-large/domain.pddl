@@ -1,5 +1,0 @@
-(define (domain tolls)
-  (:predicates (p))
-  (:functions (total-cost) - number)
-  (:action cheap :parameters () :effect (and (p) (increase (total-cost) 0.001)))
-  (:action dear :parameters () :effect (and (p) (increase (total-cost) 3000000))))

@@ -1,1 +1,0 @@
-(define (problem a-tower) (:domain towers) (:objects a b) (:init) (:goal (on a b)))

@@ -1,6 +1,0 @@
-(define (domain towers)
-  (:requirements :derived-predicates)
-  (:predicates (on ?x ?y) (above ?x ?y) (below ?x ?y))
-  (:derived (above ?x ?y) (or (on ?x ?y) (below ?y ?x)))
-  (:derived (below ?x ?y) (exists (?z) (and (on ?z ?x) (above ?y ?z))))
-  (:action put :parameters (?x ?y) :precondition (not (above ?y ?x)) :effect (on ?x ?y)))

@@ -1,2 +1,0 @@
-(define (problem a-tower) (:domain towers) (:objects a b)
-  (:init) (:goal (above a b)))

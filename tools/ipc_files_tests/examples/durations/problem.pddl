@@ -1,1 +1,0 @@
-(define (problem timed-1) (:domain timed) (:init) (:goal (p)) (:metric minimize (total-time)))

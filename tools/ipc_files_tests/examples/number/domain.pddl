@@ -1,6 +1,0 @@
-(define (domain tolls)
-  (:predicates (at ?x) (road ?x ?y))
-  (:functions (total-cost) - number (toll ?x ?y) - number)
-  (:action drive :parameters (?x ?y) :precondition (and (at ?x) (road ?x ?y))
-    :effect (and (not (at ?x)) (at ?y) (increase (total-cost) (toll ?x ?y))))
-  (:action rest :parameters (?x) :precondition (at ?x) :effect (increase (total-cost) 1.0)))

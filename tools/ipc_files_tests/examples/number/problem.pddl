@@ -1,3 +1,0 @@
-(define (problem two-tolls) (:domain tolls) (:objects a b c)
-  (:init (= (total-cost) 0.0) (at a) (road a b) (road b c) (= (toll a b) 3.00) (= (toll b c) 4))
-  (:goal (at c)) (:metric minimize (total-cost)))

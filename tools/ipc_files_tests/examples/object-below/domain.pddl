@@ -1,4 +1,0 @@
-(define (domain things)
-  (:types thing object - thing)
-  (:predicates (p))
-  (:action go :parameters () :effect (p)))

@@ -1,1 +1,0 @@
-(define (problem things-1) (:domain things) (:init) (:goal (p)))

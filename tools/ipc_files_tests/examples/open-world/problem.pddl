@@ -1,1 +1,0 @@
-(define (problem a-door) (:domain doors) (:init) (:goal (open)))

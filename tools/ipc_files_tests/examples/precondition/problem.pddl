@@ -1,1 +1,0 @@
-(define (problem cold) (:domain engine) (:init) (:goal (on)))

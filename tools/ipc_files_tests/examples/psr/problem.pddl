@@ -1,6 +1,0 @@
-(define (problem psr-1)
-(:domain psr)
-(:objects cb1 sd1 sd2 - DEVICE l1 l2 l3 - LINE)
-(:init (feeds cb1 l1) (feeds cb1 l2) (feeds sd1 l2) (feeds sd2 l3)
-       (breaker cb1) (closed cb1) (faulty l1))
-(:goal (and (fed l2) (forall (?l - LINE) (imply (not (faulty ?l)) (fed ?l))) (not (fed l1)))))

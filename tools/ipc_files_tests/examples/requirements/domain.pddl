@@ -1,5 +1,0 @@
-(define (domain doors)
-  (:requirements :strips :derived-predicates :domain-axioms :durative-actions :typing :preferences :no-such-key)
-  (:types door)
-  (:predicates (open ?d - door))
-  (:action push :parameters (?d - door) :precondition (not (open ?d)) :effect (open ?d)))

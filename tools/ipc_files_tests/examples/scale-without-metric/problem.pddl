@@ -1,1 +1,0 @@
-(define (problem a-flight) (:domain tolls) (:objects a b) (:init (at a)) (:goal (at b)))

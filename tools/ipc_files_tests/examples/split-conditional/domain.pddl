@@ -1,5 +1,0 @@
-(define (domain many)
-  (:predicates (p ?x) (q))
-  (:action all :parameters (?v1 ?v2 ?v3 ?v4 ?v5 ?v6 ?v7 ?v8 ?v9 ?v10 ?v11 ?v12 ?v13 ?v14 ?v15 ?v16 ?v17 ?v18 )
-    :precondition (p ?v1)
-    :effect (and (p ?v18) (when (p ?v2) (q)))))

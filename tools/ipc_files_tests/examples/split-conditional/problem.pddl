@@ -1,1 +1,0 @@
-(define (problem few) (:domain many) (:objects x) (:init (p x)) (:goal (q)))

@@ -1,1 +1,0 @@
-(define (problem ring-1) (:domain ring) (:init) (:goal (p)))

@@ -1,1 +1,0 @@
-(define (problem one-boat) (:domain boats) (:objects h - houseboat) (:init) (:goal (at h)))

@@ -1,1 +1,0 @@
-(define (problem typo-1) (:domain typo) (:objects here) (:init) (:goal (p hre)))
