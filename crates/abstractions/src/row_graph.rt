@@ -1,31 +1,10 @@
 //! The reachable rows of a table, and the arcs between them.
+use crate::abstraction::{Abstraction, Arc, InstanceClass};
 use crate::numbers::{number_of, place_of};
 use crate::reached::VariableTask;
 use crate::variables::Variables;
 use faults::NoMemory;
 use std::alloc::Global;
-
-/// Instances with the same behaviour in a table.
-#[derive(Clone, Copy, Debug)]
-pub struct RowClass {
-    /// Their start among the instances of all classes.
-    pub(crate) start: u32,
-    /// Their end.
-    pub(crate) end: u32,
-    /// Whether applying one of them may leave some row unchanged.
-    pub stays: bool,
-    /// The number of rows that allow them.
-    pub row_count: u32,
-}
-
-/// An arc: the instances of a class may lead from this row to another.
-#[derive(Clone, Copy, Debug)]
-pub struct Arc {
-    /// The number of the source row.
-    pub from: u32,
-    /// The number of the class.
-    pub class: u32,
-}
 
 /// The reachable rows of a table, by number, the initial state's first, with the arcs between them.
 #[derive(Drop)]
@@ -38,7 +17,7 @@ pub struct RowGraph {
     /// Pairs of a row's index and its number, sorted by index.
     pub(crate) by_index: Vec<(u32, u32)>,
     pub(crate) is_goal: Vec<bool>,
-    pub(crate) classes: Vec<RowClass>,
+    pub(crate) classes: Vec<InstanceClass>,
     pub(crate) instances: Vec<u32>,
     /// The end of the arcs into each row, among the arcs that lead to another row.
     pub(crate) ends: Vec<u32>,
@@ -64,19 +43,9 @@ impl RowGraph {
         Ok(())
     }
 
-    /// The number of rows.
-    pub fn row_count(&self) -> usize {
-        self.rows.len()
-    }
-
     /// The number of arcs that lead to another row.
     pub fn arc_count(&self) -> usize {
         self.arcs.len()
-    }
-
-    /// The number of instances in classes.
-    pub fn instance_count(&self) -> usize {
-        self.instances.len()
     }
 
     /// The number of row tests needed to test the loss of every instance: for each instance, the rows that allow it.
@@ -84,45 +53,9 @@ impl RowGraph {
         let mut count = 0u64;
         for class in &self.classes {
             let instances = self.instances_of(class).len() as u64;
-            count = count.saturating_add(instances.saturating_mul(u64::from(class.row_count)));
+            count = count.saturating_add(instances.saturating_mul(u64::from(class.state_count)));
         }
         count
-    }
-
-    /// The classes, by their numbers.
-    pub fn classes(&self) -> &[RowClass] {
-        &self.classes
-    }
-
-    /// The instances of the class, in ascending order.
-    pub fn instances_of(&self, class: &RowClass) -> &[u32] {
-        match self
-            .instances
-            .get(place_of(class.start)..place_of(class.end))
-        {
-            Some(instances) => instances,
-            None => &[],
-        }
-    }
-
-    /// Whether the goal allows the row with this number.
-    pub fn is_goal(&self, row: u32) -> bool {
-        match self.is_goal.get(place_of(row)) {
-            Some(is_goal) => *is_goal,
-            None => false,
-        }
-    }
-
-    /// The arcs from other rows to the row with this number.
-    pub fn arcs_to(&self, row: u32) -> &[Arc] {
-        let start = match place_of(row).checked_sub(1) {
-            Some(before) => self.end(before),
-            None => 0,
-        };
-        match self.arcs.get(start..self.end(place_of(row))) {
-            Some(arcs) => arcs,
-            None => &[],
-        }
     }
 
     /// The end of the arcs into the row with this number.
@@ -137,26 +70,11 @@ impl RowGraph {
     pub fn shut_out(&self, alloc: Global) -> Result<Vec<u32>, NoMemory> {
         let mut found = Vec::new(alloc);
         for class in &self.classes {
-            if class.row_count == 0 {
+            if class.state_count == 0 {
                 found.extend_from_slice(self.instances_of(class))?;
             }
         }
         Ok(found)
-    }
-
-    /// The number of the row with these values, indexed by variable, if it was reached.
-    pub fn row_of(&self, values: &[u32]) -> Option<u32> {
-        let index = self.index_of(values);
-        match self
-            .by_index
-            .binary_search_by_key(&index, |(index, _)| *index)
-        {
-            Ok(place) => match self.by_index.get(place) {
-                Some((_, row)) => Some(*row),
-                None => None,
-            },
-            Err(_) => None,
-        }
     }
 
     /// The index of the row with these values.
@@ -202,6 +120,65 @@ impl RowGraph {
         scope.sort_unstable();
         scope.dedup();
         Ok(scope)
+    }
+}
+
+impl Abstraction for RowGraph {
+    fn state_count(&self) -> usize {
+        self.rows.len()
+    }
+
+    fn state_of(&self, values: &[u32]) -> Option<u32> {
+        let index = self.index_of(values);
+        match self
+            .by_index
+            .binary_search_by_key(&index, |(index, _)| *index)
+        {
+            Ok(place) => match self.by_index.get(place) {
+                Some((_, row)) => Some(*row),
+                None => None,
+            },
+            Err(_) => None,
+        }
+    }
+
+    fn is_goal(&self, state: u32) -> bool {
+        match self.is_goal.get(place_of(state)) {
+            Some(is_goal) => *is_goal,
+            None => false,
+        }
+    }
+
+    fn classes(&self) -> &[InstanceClass] {
+        &self.classes
+    }
+
+    fn instances_of(&self, class: &InstanceClass) -> &[u32] {
+        match self
+            .instances
+            .get(place_of(class.start)..place_of(class.end))
+        {
+            Some(instances) => instances,
+            None => &[],
+        }
+    }
+
+    fn arcs_to(&self, state: u32) -> &[Arc] {
+        let start = match place_of(state).checked_sub(1) {
+            Some(before) => self.end(before),
+            None => 0,
+        };
+        match self.arcs.get(start..self.end(place_of(state))) {
+            Some(arcs) => arcs,
+            None => &[],
+        }
+    }
+
+    fn size(&self) -> usize {
+        self.arcs
+            .len()
+            .saturating_add(self.rows.len())
+            .saturating_add(self.instances.len())
     }
 }
 

@@ -184,7 +184,7 @@ impl Shutters {
     pub fn new(alloc: Global, ground: &Ground<'_>) -> Result<Shutters, NoMemory> {
         let mut is_shut_out = Vec::new(alloc);
         for number in 0..instance_count(ground) {
-            is_shut_out.push(ground.wants_unnumbered(number))?;
+            is_shut_out.push(ground.requires_unnumbered(number))?;
         }
         Ok(Shutters { is_shut_out })
     }

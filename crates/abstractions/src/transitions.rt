@@ -180,7 +180,7 @@ impl InstancePart<'_, '_> {
 
     /// Whether the change may take effect from the value.
     fn is_open(&self, change: &CountingChange<'_>, from: u32) -> bool {
-        !change.wants_unnumbered() && self.allows(change.condition(), from)
+        !change.requires_unnumbered() && self.allows(change.condition(), from)
     }
 }
 

@@ -1,7 +1,7 @@
 //! A case: the files, the words of the command, and the expected results.
 use crate::files::CaseFiles;
 use crate::follow_up::FollowUp;
-use crate::holdings::Holdings;
+use crate::holdings::{Expected, Holdings};
 use crate::section::{Escapes, Section};
 use crate::stream::Stream;
 use faults::NoMemory;
@@ -133,20 +133,24 @@ impl<'a> Case<'a> {
     }
 }
 
-/// Expects the section's file to have these bytes after the run.
+/// Expects the section's file to have these bytes after the run, or to begin with them.
 fn expect_file<'a>(
     alloc: Global,
     holdings: &mut Holdings<'a>,
     section: Section<'a>,
 ) -> Result<(), CaseFault> {
     let bytes = section.bytes(alloc)?;
-    Ok(holdings.require(section.words, Some(bytes))?)
+    match section.verb() {
+        (name, "") => Ok(holdings.require(name, Expected::Whole(bytes))?),
+        (name, "begins") => Ok(holdings.require(name, Expected::Beginning(bytes))?),
+        _ => Err(CaseFault::Words),
+    }
 }
 
 /// Expects the section's file not to exist after the run.
 fn expect_no_file<'a>(holdings: &mut Holdings<'a>, section: Section<'a>) -> Result<(), CaseFault> {
     match section.verb() {
-        ("file", name) => Ok(holdings.require(name, None)?),
+        ("file", name) => Ok(holdings.require(name, Expected::Missing)?),
         _ => Err(CaseFault::Words),
     }
 }

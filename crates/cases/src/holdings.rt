@@ -3,27 +3,49 @@ use std::alloc::{AllocError, Global};
 use std::fmt;
 use test_support::Table;
 
-/// A file that should have these bytes, or should not exist.
+/// What is expected of a file.
+#[derive(Drop)]
+pub enum Expected {
+    /// These bytes.
+    Whole(Vec<u8>),
+    /// Bytes that begin with these.
+    Beginning(Vec<u8>),
+    /// That there is no such file.
+    Missing,
+}
+
+/// A file of which this is expected.
 #[derive(Drop)]
 struct Holding<'a> {
     name: &'a str,
-    // `None` if there should be no file with this name.
-    bytes: Option<Vec<u8>>,
+    expected: Expected,
+}
+
+impl Expected {
+    /// The bytes; `None` if there should be no file.
+    fn bytes(&self) -> Option<&[u8]> {
+        match self {
+            Expected::Whole(bytes) => Some(bytes.as_slice()),
+            Expected::Beginning(bytes) => Some(bytes.as_slice()),
+            Expected::Missing => None,
+        }
+    }
 }
 
 impl Holding<'_> {
     /// Whether the file is as expected; `None` stands for no file.
     fn is_met(&self, found: Option<&[u8]>) -> bool {
-        match (found, &self.bytes) {
-            (Some(found), Some(expected)) => found == expected.as_slice(),
-            (None, None) => true,
+        match (found, &self.expected) {
+            (Some(found), Expected::Whole(bytes)) => found == bytes.as_slice(),
+            (Some(found), Expected::Beginning(bytes)) => found.starts_with(bytes),
+            (None, Expected::Missing) => true,
             _ => false,
         }
     }
 
     /// How the file differs from the expectation.
     fn text(&self, alloc: Global, found: Option<&[u8]>) -> Result<String, AllocError> {
-        let (name, is, expected) = (self.name, Shown(found), Shown(self.bytes.as_deref()));
+        let (name, is, expected) = (self.name, Shown(found), Shown(self.expected.bytes()));
         format!(in alloc; "the file {name} is {is}, and not {expected}")
     }
 }
@@ -55,10 +77,10 @@ impl<'a> Holdings<'a> {
         }
     }
 
-    /// Expects the file with this name to have these bytes, or not to exist. Replaces earlier expectations.
-    pub fn require(&mut self, name: &'a str, bytes: Option<Vec<u8>>) -> Result<(), AllocError> {
+    /// Expects this of the file with this name. Replaces earlier expectations.
+    pub fn require(&mut self, name: &'a str, expected: Expected) -> Result<(), AllocError> {
         self.expected.retain(|other| other.name != name);
-        self.expected.push(Holding { name, bytes })?;
+        self.expected.push(Holding { name, expected })?;
         Ok(())
     }
 

@@ -12,7 +12,7 @@ use Rattle.model.specs.WellTyped.{is_atom}
 use Rattle.model.specs.Fluents.{is_fluent}
 use Rattle.model.specs.Meaning.{State}
 use Rattle.model.specs.Claims.{Claim, Allows, Line, none}
-use Rattle.certificate_definitions.specs.Evidence.{opened, bare}
+use Rattle.certificate_definitions.specs.Evidence.{expanded, bare}
 use Rattle.model.proofs.ListLemmas.{Contains-cases, Contains-filter_map, Contains-here, Contains-map, Contains-none, Contains-there, map-Contains}
 use Rattle.lower_bounds.specs.TableFunctions.{Row, Table, is_among}
 use Rattle.certificate_definitions.specs.Certificates.{Version, one, two, three, four, Certificate, IsClosedFor, StateLine, are_weights, has_tables, is_row, is_table, rise, state_of_line}
@@ -259,7 +259,7 @@ module _ (task : Task) (c : Certificate) (closed : IsClosedFor task c) (text : L
         (subst (AllPairs (λ (k l : Line State). k.state ≢ l.state))
         (ap (map (line_at task c)) (lines_after l splits) ∙ map-append (line_at task c) (states_given before) (l ∷ states_given after)) closed.states_are_distinct)
         (Contains-map (line_at task c) (states_given before) k (Contains-filter_map state_in before (listed k) k there refl))
-        (ap (λ (numbers : List ℕ). state_of_line task c (record { cost = 0; mark = opened; atoms = numbers })) same)
+        (ap (λ (numbers : List ℕ). state_of_line task c (record { cost = 0; mark = expanded; atoms = numbers })) same)
 
     no_cut : (l : StateLine) → text_lines is.said ≡ before ++ listed l ∷ after → IsCut l.mark → Contains before (claims none) → ⊥
     no_cut l splits (basis, rest, cut_is) there =

@@ -18,7 +18,7 @@ use Rattle.model.specs.Task.{Task, Instance}
 use Rattle.model.specs.Runs.{System, cost_of_all, Solves, CostsAtLeast, IsOptimal, valid, IsVerdict}
 use Rattle.model.specs.Meaning.{State}
 use Rattle.model.specs.Claims.{Line}
-use Rattle.certificate_definitions.specs.Evidence.{LineMark, opened, cut, dead}
+use Rattle.certificate_definitions.specs.Evidence.{LineMark, expanded, cut, dead}
 use Rattle.certificate_definitions.specs.Certificates.{Certificate, StateLine, is_dead_end_weight, state_of_line, lines_of, IsSupported, IsClosedFor}
 use Rattle.certificate_definitions.specs.CertificateRefusals.{Reason, not_fluent, repeated, no_initial, unfair, unfair_goal, goal_open, successor_missing, successor_dearer, cut_weak, cut_not_allowed, plan_invalid, plan_dearer, limit, dead_unfair, dead_unfair_goal, not_dead, not_symmetry, value_unfair, value_not_dead, IsPlanWithin, IsWrongAt}
 use Rattle.model.proofs.ListLemmas.{Contains-place, map-Contains}
@@ -51,7 +51,7 @@ closed_for task c most right = record {
     successors_listed = λ line i next listed is leads.
         let (l, is_line, closed) = line_there line listed in
         (open_line task c l line is_line is closed).successors_listed i next leads;
-    open_goals_allowed = λ line listed is. let (l, is_line, closed) = line_there line listed in (open_line task c l line is_line is closed).goal_allowed;
+    expanded_goals_allowed = λ line listed is. let (l, is_line, closed) = line_there line listed in (open_line task c l line is_line is closed).goal_allowed;
     cuts_allowed = λ line rest listed is. let (l, is_line, closed) = line_there line listed in cut_line task c l line rest is_line is closed;
   };
   lines_are_supported = λ place d within.
@@ -63,7 +63,7 @@ closed_for task c most right = record {
     limits = limits_of c right.keeps
 
     supported : (s : State) (cost : ℕ) (mark : LineMark) → IsClosedAs task c s cost mark → IsSupported task c s mark
-    supported s cost opened closed = tt
+    supported s cost expanded closed = tt
     supported s cost (cut basis rest) closed = closed.0
     supported s cost (dead basis) closed = closed
 

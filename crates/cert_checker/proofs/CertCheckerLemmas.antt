@@ -8,13 +8,13 @@ use Rattle.std.proofs.lemmas.List.{take_all, take_more, map-append, length-map}
 use Rattle.std.proofs.lemmas.List.Elements.{Contains-append_cases}
 use Rattle.std.proofs.lemmas.Option.{slice_get_within}
 use Rattle.model.proofs.Tests.{passes_got}
-use Rattle.cert_checker.specs.CheckedLines.{HasCost, IsLeastCost, IsListedAs, IsListedBy, IsOpenClosed, IsClosedAs, IsLineClosed}
+use Rattle.cert_checker.specs.CheckedLines.{HasCost, IsLeastCost, IsListedAs, IsListedBy, IsExpandedClosed, IsClosedAs, IsLineClosed}
 use Rattle.model.specs.Task.{Task, Instance}
 use Rattle.model.specs.Meaning.{State, system_of}
 use Rattle.model.specs.Instances.{successors_of}
 use Rattle.model.specs.Claims as claims
 use Rattle.model.specs.Claims.{Allows, Line, IsListedWithin}
-use Rattle.certificate_definitions.specs.Evidence.{Basis, of_all, landmark, LineMark, opened, cut, dead, bare}
+use Rattle.certificate_definitions.specs.Evidence.{Basis, of_all, landmark, LineMark, expanded, cut, dead, bare}
 use Rattle.certificate_definitions.specs.Certificates.{Version, Certificate, StateLine, has_basis, is_basis, is_mark, is_number, is_state_line, keeps_limits, lines_of, AreAlikeFor, rise, state_of_line}
 use Rattle.certificate_definitions.specs.CertificateRefusals.{IsListed}
 use Rattle.model.proofs.ListLemmas.{Contains-cases, Contains-got, Contains-none}
@@ -50,7 +50,7 @@ pub listed_within : {S : Type 0} (alike : S → S → Type 0) (lines : List (Lin
 listed_within alike lines s listed cost (place, cheapest, is) le =
     (cheapest.line, Contains-got lines place cheapest.line cheapest.listed, cheapest.is_alike, omega (arith, is, le))
 
--- ---- the successors of an open state
+-- ---- the successors of an expanded state
 
 -- for each of these states one that is alike is listed at no more than this cost and that of the instance that leads to it
 abbrev pub AllListed : Task → Certificate → ℕ → List (Instance × State) → Type 0
@@ -76,7 +76,7 @@ AllListed-more {X} task cert cost view xs k x lt at before here i next among =
 
 pub open_closed : {X : Type 0} (task : Task) (cert : Certificate) (state : State) (cost : ℕ) (view : X → Instance × State) (xs : List X) (k : ℕ)
     → length xs ≤ k → map view xs ≡ successors_of task state → AllListed task cert cost (map view (take k xs))
-    → (IsTrue ((system_of task).meets_goal state) → Allows cert.claim cost) → IsOpenClosed task cert state cost
+    → (IsTrue ((system_of task).meets_goal state) → Allows cert.claim cost) → IsExpandedClosed task cert state cost
 open_closed task cert state cost view xs k past is all goal = record {
   successors_listed = λ i next leads.
       all i next (subst (λ l. Contains {X = Instance × State} l (i, next)) (sym is ∙ ap (map view) (sym (take_all k xs past))) (Contains-successors task state i next leads));
@@ -90,20 +90,20 @@ pub as_listed : (task : Task) (c : Certificate) (place : ℕ) (s : State) (cost 
 as_listed task c place s cost mark (l, at, state_is, cost_is, mark_is) =
     slice_get-map (entry task c) c.lines place l at ∙ (λ i. Some (record { state = state_is i; cost = cost_is i; mark = bare (mark_is i) }))
 
--- an open one is right as an open state
-open_as : (task : Task) (c : Certificate) (s : State) (cost : ℕ) (mark : LineMark) → bare mark ≡ claims.opened → IsClosedAs task c s cost mark → IsOpenClosed task c s cost
-open_as task c s cost opened is closed = closed
+-- an open one is right as an expanded state
+open_as : (task : Task) (c : Certificate) (s : State) (cost : ℕ) (mark : LineMark) → bare mark ≡ claims.expanded → IsClosedAs task c s cost mark → IsExpandedClosed task c s cost
+open_as task c s cost expanded is closed = closed
 open_as task c s cost (cut basis rest) is closed = absurd (cc)
 open_as task c s cost (dead basis) is closed = absurd (cc)
 
-pub open_line : (task : Task) (c : Certificate) (l : StateLine) (line : Line State) → entry task c l ≡ line → line.mark ≡ claims.opened → IsLineClosed task c l → IsOpenClosed task c line.state line.cost
+pub open_line : (task : Task) (c : Certificate) (l : StateLine) (line : Line State) → entry task c l ≡ line → line.mark ≡ claims.expanded → IsLineClosed task c l → IsExpandedClosed task c line.state line.cost
 open_line task c l line is is_open closed =
-    subst (λ (k : Line State). IsOpenClosed task c k.state k.cost) is
+    subst (λ (k : Line State). IsExpandedClosed task c k.state k.cost) is
     (open_as task c (state_of_line task c l) l.cost l.mark (ap (λ (k : Line State). k.mark) is ∙ is_open) closed)
 
 -- and a cut is allowed by the claim
 cut_as : (task : Task) (c : Certificate) (s : State) (cost rest : ℕ) (mark : LineMark) → bare mark ≡ claims.cut rest → IsClosedAs task c s cost mark → Allows c.claim (cost + rest)
-cut_as task c s cost rest opened is closed = absurd (cc)
+cut_as task c s cost rest expanded is closed = absurd (cc)
 cut_as task c s cost rest (cut basis least) is closed = let same : least ≡ rest = cc in subst (λ bound. Allows c.claim (cost + bound)) same closed.1
 cut_as task c s cost rest (dead basis) is closed = absurd (cc)
 

@@ -21,7 +21,7 @@ use Rattle.model.specs.Limits.{max_numbered_atoms}
 use Rattle.model.specs.Grounding.{exceeded_limit}
 use Rattle.model.specs.Claims as claims
 use Rattle.model.specs.Claims.{none, Line, IsListedWithin}
-use Rattle.certificate_definitions.specs.Evidence.{LineMark, opened, cut, dead, bare}
+use Rattle.certificate_definitions.specs.Evidence.{LineMark, expanded, cut, dead, bare}
 use Rattle.certificate_definitions.specs.Certificates.{Certificate, StateLine, keeps_limits, lines_of, AreAlikeFor, AreFairFor, AreLandmarksFair, IsClosedFor}
 use Rattle.certificate_definitions.specs.CertificateRefusals.{Reason, state_line, IsFirst}
 use Rattle.certificate_definitions.specs.CertificateChecking.{IsCut}
@@ -44,9 +44,9 @@ slice_get-take k xs i x lt at =
 
 -- the one that is gone through now is the first that may leave the listing
 pub first_to_leave : {X : Type 0} (task : Task) (c : Certificate) (place : ℕ) (s : State) (cost : ℕ) (view : X → Instance × State) (xs : List X) (k : ℕ) (x : X)
-    → slice_get (lines_of task c) place ≡ Some (record { state = s; cost = cost; mark = claims.opened }) → k < length xs → x ≡ get_or xs k x → map view xs ≡ successors_of task s
+    → slice_get (lines_of task c) place ≡ Some (record { state = s; cost = cost; mark = claims.expanded }) → k < length xs → x ≡ get_or xs k x → map view xs ≡ successors_of task s
     → AllListed task c cost (map view (take k xs))
-    → IsFirstToLeave task c (state_line c place) (record { state = s; cost = cost; mark = claims.opened }) (view x).0 (view x).1
+    → IsFirstToLeave task c (state_line c place) (record { state = s; cost = cost; mark = claims.expanded }) (view x).0 (view x).1
 first_to_leave {X} task c place s cost view xs k x there lt at is before = record {
   found_there = (place, refl, there);
   is_open = refl;
@@ -68,7 +68,7 @@ cuts_allowed task c all place l rest below at at_cut claim =
     All-contains (λ (l : StateLine). ¬ IsCut l.mark) c.lines line (all claim) (Contains-got c.lines place line there) (is_cut line.mark (ap (λ (l : Line State). l.mark) is ∙ at_cut))
   where
     is_cut : (mark : LineMark) → bare mark ≡ claims.cut rest → IsCut mark
-    is_cut opened same = absurd (cc)
+    is_cut expanded same = absurd (cc)
     is_cut (cut basis least) same = (basis, least, refl)
     is_cut (dead basis) same = absurd (cc)
 

@@ -4,11 +4,11 @@ use Rattle.std.specs.Prelude.{ℤ, slice_get}
 use Rattle.std.specs.List.{range_with_len}
 use Rattle.lower_bounds.specs.PotentialFunctions.{PotentialFunction}
 use Rattle.certificate_definitions.specs.CertificateNames.{weight_said}
-use Rattle.certificate.specs.declared.evidence.Potential.{Potential}
+use Rattle.certificate.specs.declared.evidence.WrittenPotentials.{WrittenPotentials}
 use Rattle.certificate.specs.Evidence.{potential_of}
 use Rattle.cert_checker.specs.Given.{push_at, value_given, with_weight, with_weights_from}
 
-pub set_pushes : (xs : List Potential) (place : ℕ) (x y : Potential) (w : ℤ) → slice_get xs place ≡ Some x → potential_of y ≡ with_weight (potential_of x) w
+pub set_pushes : (xs : List WrittenPotentials) (place : ℕ) (x y : WrittenPotentials) (w : ℤ) → slice_get xs place ≡ Some x → potential_of y ≡ with_weight (potential_of x) w
     → map potential_of (slice_set xs place y) ≡ push_at place w (map potential_of xs)
 set_pushes [] place x y w at is = absurd (cc)
 set_pushes (z ∷ xs) zero x y w at is = let same : x ≡ z = cc in ap (λ p. p ∷ map potential_of xs) (is ∙ ap (λ x. with_weight (potential_of x) w) same)

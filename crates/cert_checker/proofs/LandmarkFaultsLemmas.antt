@@ -19,7 +19,7 @@ use Rattle.landmarks.specs.declared.testing.Fairness.{Fairness}
 use Rattle.landmarks.specs.declared.testing.Fairness.TheVariants.{Unfair}
 use Rattle.landmarks.specs.Fairness.{AreFairness, is_dead_fair, is_unfair}
 use Rattle.landmarks.proofs.FairnessLemmas.{dead-of, fair-of, undead-of, unfair-of}
-use Rattle.certificate_definitions.specs.Evidence.{Basis, of_all, landmark, LineMark, opened, cut, dead}
+use Rattle.certificate_definitions.specs.Evidence.{Basis, of_all, landmark, LineMark, expanded, cut, dead}
 use Rattle.certificate_definitions.specs.Certificates.{Certificate, StateLine, AreLandmarksFair, dead_by, has_basis, has_landmarks, is_dead_by_landmark, keeps_limits, landmark_function, rise}
 use Rattle.cert_checker.specs.LandmarkFaults.{IsFirstWhere, rests_on_another}
 use Rattle.cert_checker.proofs.CertCheckerLemmas.{got_mapped, slice_get-map}
@@ -30,7 +30,7 @@ use Rattle.certificate.proofs.LimitsLemmas.{limits_of}
 
 -- the mark is that of a dead end that rests on this value
 resting : (mark : LineMark) (number : ℕ) → is_dead_by_landmark mark ≡ Some number → mark ≡ dead (landmark number)
-resting opened number is = absurd (cc is)
+resting expanded number is = absurd (cc is)
 resting (cut basis rest) number is = absurd (cc is)
 resting (dead of_all) number is = absurd (cc is)
 resting (dead (landmark other)) number is = let same : other ≡ number = cc in ap (λ n. dead (landmark n)) same
@@ -153,7 +153,7 @@ module _ (c : Certificate) (keeps : IsTrue (keeps_limits c)) where
         (l, number, at, marked, not_dead_fair_at number (basis_within place l number at marked) (subst (λ mark. rests_on_another found mark ≡ true) marked is))
       where
         by_mark : (mark : LineMark) → l.mark ≡ mark → rests_on_another found mark ≡ true → (number : ℕ) × (l.mark ≡ dead (landmark number))
-        by_mark opened same rests = absurd (false≢true rests)
+        by_mark expanded same rests = absurd (false≢true rests)
         by_mark (cut basis rest) same rests = absurd (false≢true rests)
         by_mark (dead of_all) same rests = absurd (false≢true rests)
         by_mark (dead (landmark number)) same rests = (number, same)

@@ -3,7 +3,7 @@ use Rattle.std.proofs.Common.{◌≡◌, ℕ, ◌≤◌, true, List, [], ◌∷�
 use Rattle.std.specs.Prelude.{All, IsTrue, nat_le}
 use Rattle.std.proofs.lemmas.Bool.{and_parts, eqb-true, leb-true}
 use Rattle.std.proofs.lemmas.List.Elements.{All-cons}
-use Rattle.certificate.specs.declared.evidence.Potential.{Potential}
+use Rattle.certificate.specs.declared.evidence.WrittenPotentials.{WrittenPotentials}
 use Rattle.certificate.specs.Evidence.{potential_of}
 use Rattle.certificate_definitions.specs.Certificates.{Version, one, two, three, four, is_value_count, are_potentials, is_weight}
 use Rattle.lower_bounds.specs.PotentialFunctions.{PotentialFunction, AreInRange}
@@ -17,11 +17,11 @@ use Rattle.certificate.proofs.WithinLimits.{one_weight_each, potentials_in_range
 -- ---- potentials
 
 -- each that is within the limits of a certificate's text is in range, and has a weight for each atom
-pub each_in_range : (count : ℕ) (said : List Potential) → All (λ (p : Potential). IsTrue (are_potentials is_weight count (potential_of p))) said → All (λ (p : Potential). AreInRange (potential_of p)) said
+pub each_in_range : (count : ℕ) (said : List WrittenPotentials) → All (λ (p : WrittenPotentials). IsTrue (are_potentials is_weight count (potential_of p))) said → All (λ (p : WrittenPotentials). AreInRange (potential_of p)) said
 each_in_range count said each = λ k d below. potentials_in_range count (potential_of (get_or said k d)) (each k d below)
 
-pub each_weighed : (count width : ℕ) (said : List Potential) → count ≤ width → All (λ (p : Potential). IsTrue (are_potentials is_weight count (potential_of p))) said
-    → All (λ (p : Potential). length (potential_of p).weights ≤ width) said
+pub each_weighed : (count width : ℕ) (said : List WrittenPotentials) → count ≤ width → All (λ (p : WrittenPotentials). IsTrue (are_potentials is_weight count (potential_of p))) said
+    → All (λ (p : WrittenPotentials). length (potential_of p).weights ≤ width) said
 each_weighed count width said few each = λ k d below. let weighed = one_weight_each is_weight count (potential_of (get_or said k d)) (each k d below) in omega (arith, weighed, few)
 
 -- ---- one value after another

@@ -1,4 +1,4 @@
--- A list of actions that solves stays on open states of a closed listing, up to a relation of states with the same steps, to its end or
+-- A list of actions that solves stays on expanded states of a closed listing, up to a relation of states with the same steps, to its end or
 -- until it comes to a cut.
 use Rattle.std.proofs.Common.{◌≡◌, ℕ, zero, suc, ◌+◌, ◌<◌, ◌≤◌, List, [], ◌∷◌, length, take, drop, Option, None, Some, refl, sym, ap, ◌∙◌, subst, arith}
 use Rattle.std.specs.Prelude.{Contains, IsTrue}
@@ -8,12 +8,12 @@ use Rattle.std.proofs.lemmas.Option.{same_Some}
 use Rattle.std.proofs.lemmas.List.Sums.{sum_by-cons}
 use Rattle.model.specs.Runs.{System, run, cost_of_all, Solves}
 use Rattle.model.specs.Bisimulation.{IsBisimulationEquivalence}
-use Rattle.model.specs.Claims.{Claim, opened, cut, dead, Line, AreTrue, IsClosed}
+use Rattle.model.specs.Claims.{Claim, expanded, cut, dead, Line, AreTrue, IsClosed}
 use Rattle.model.proofs.ClaimsLemmas.{related_reach_alike}
-use Rattle.cert_checker.specs.OnListing.{IsOpenWithin, IsOnCut, StaysListed, to_its_end, to_a_cut}
+use Rattle.cert_checker.specs.OnListing.{IsExpandedWithin, IsOnCut, StaysListed, to_its_end, to_a_cut}
 
 module _ {S A : Type 0} (t : System S A) (same : S → S → Type 0) (lines : List (Line S)) where
-  open_at_more : (s : S) (m n : ℕ) → IsOpenWithin same lines s m → m ≤ n → IsOpenWithin same lines s n
+  open_at_more : (s : S) (m n : ℕ) → IsExpandedWithin same lines s m → m ≤ n → IsExpandedWithin same lines s n
   open_at_more s m n at le = (at.0, at.1, at.2, omega (arith, at.3), at.4)
 
   -- a related state is listed as a cut at no more than this cost
@@ -23,16 +23,16 @@ module _ {S A : Type 0} (t : System S A) (same : S → S → Type 0) (lines : Li
   cut_at_more : (s : S) (m n : ℕ) → IsListedCut s m → m ≤ n → IsListedCut s n
   cut_at_more s m n at le = (at.0, at.1, at.2, omega (arith, at.3), at.4, at.5)
 
-  -- the first n actions lead from this state, at this cost, to an open state, or to a cut
-  abbrev OpenFrom : S → ℕ → List A → ℕ → Type 0
-  OpenFrom from cost plan n = (s : S) × (run t from (take n plan) ≡ Some s) × IsOpenWithin same lines s (cost + cost_of_all t (take n plan))
+  -- the first n actions lead from this state, at this cost, to an expanded state, or to a cut
+  abbrev ExpandedFrom : S → ℕ → List A → ℕ → Type 0
+  ExpandedFrom from cost plan n = (s : S) × (run t from (take n plan) ≡ Some s) × IsExpandedWithin same lines s (cost + cost_of_all t (take n plan))
 
   abbrev CutFrom : S → ℕ → List A → ℕ → Type 0
   CutFrom from cost plan n = (s : S) × (run t from (take n plan) ≡ Some s) × IsListedCut s (cost + cost_of_all t (take n plan))
 
   data StaysFrom (from : S) (cost : ℕ) (plan : List A) : Type 0 where
-    all_open : ((n : ℕ) → n ≤ length plan → OpenFrom from cost plan n) → StaysFrom from cost plan
-    open_to : (n : ℕ) → n ≤ length plan → ((k : ℕ) → k < n → OpenFrom from cost plan k) → CutFrom from cost plan n → StaysFrom from cost plan
+    all_open : ((n : ℕ) → n ≤ length plan → ExpandedFrom from cost plan n) → StaysFrom from cost plan
+    open_to : (n : ℕ) → n ≤ length plan → ((k : ℕ) → k < n → ExpandedFrom from cost plan k) → CutFrom from cost plan n → StaysFrom from cost plan
 
   -- what follows the first n actions of a list runs on from where they lead
   rest_runs : (plan : List A) (from s end : S) (n : ℕ) → run t from (take n plan) ≡ Some s → run t from plan ≡ Some end → run t s (drop n plan) ≡ Some end
@@ -53,7 +53,7 @@ module _ {S A : Type 0} (t : System S A) (same : S → S → Type 0) (lines : Li
   costs_before a plan cost there le = omega (arith, sum_by-cons t.cost a plan)
 
   module _ (a : A) (plan : List A) (from next : S) (cost there : ℕ) (leads : t.step from a ≡ Some next) (le : there ≤ cost + t.cost a) where
-    open_before : (n : ℕ) → OpenFrom next there plan n → OpenFrom from cost (a ∷ plan) (suc n)
+    open_before : (n : ℕ) → ExpandedFrom next there plan n → ExpandedFrom from cost (a ∷ plan) (suc n)
     open_before n at =
         (at.0, runs_before a (take n plan) from next at.0 leads at.1, open_at_more at.0 _ _ at.2 (costs_before a (take n plan) cost there le))
 
@@ -61,15 +61,15 @@ module _ {S A : Type 0} (t : System S A) (same : S → S → Type 0) (lines : Li
     cut_before n at =
         (at.0, runs_before a (take n plan) from next at.0 leads at.1, cut_at_more at.0 _ _ at.2 (costs_before a (take n plan) cost there le))
 
-    stays_before : IsOpenWithin same lines from cost → StaysFrom next there plan → StaysFrom from cost (a ∷ plan)
+    stays_before : IsExpandedWithin same lines from cost → StaysFrom next there plan → StaysFrom from cost (a ∷ plan)
     stays_before here (all_open each) = all_open each_one
       where
-        each_one : (n : ℕ) → n ≤ length (a ∷ plan) → OpenFrom from cost (a ∷ plan) n
+        each_one : (n : ℕ) → n ≤ length (a ∷ plan) → ExpandedFrom from cost (a ∷ plan) n
         each_one zero within = (from, refl, open_at_more from cost _ here (omega arith))
         each_one (suc n) within = open_before n (each n (omega arith))
     stays_before here (open_to m within each at_last) = open_to (suc m) (omega arith) each_one (cut_before m at_last)
       where
-        each_one : (k : ℕ) → k < suc m → OpenFrom from cost (a ∷ plan) k
+        each_one : (k : ℕ) → k < suc m → ExpandedFrom from cost (a ∷ plan) k
         each_one zero below = (from, refl, open_at_more from cost _ here (omega arith))
         each_one (suc k) below = open_before k (each k (omega arith))
 
@@ -79,10 +79,10 @@ module _ {S A : Type 0} (t : System S A) (alike same : S → S → Type 0) (equi
   at_cut : (plan : List A) (s : S) (line : Line S) (rest : ℕ) → Contains lines line → same line.state s → line.mark ≡ cut rest → StaysFrom t same lines s line.cost plan
   at_cut plan s line rest listed related is_cut = open_to 0 (omega arith) (λ k below. absurd (omega arith)) (s, refl, (line, listed, related, omega arith, rest, is_cut))
 
-  at_end : (s : S) (line : Line S) → Contains lines line → same line.state s → line.mark ≡ opened → StaysFrom t same lines s line.cost []
+  at_end : (s : S) (line : Line S) → Contains lines line → same line.state s → line.mark ≡ expanded → StaysFrom t same lines s line.cost []
   at_end s line listed related is_open = all_open each
     where
-      each : (n : ℕ) → n ≤ 0 → OpenFrom t same lines s line.cost [] n
+      each : (n : ℕ) → n ≤ 0 → ExpandedFrom t same lines s line.cost [] n
       each zero low = (s, refl, (line, listed, related, omega arith, is_open))
       each (suc n) low = absurd (omega arith)
 
@@ -97,13 +97,13 @@ module _ {S A : Type 0} (t : System S A) (alike same : S → S → Type 0) (equi
       → StaysFrom t same lines s line.cost plan
   from_line [] s line end listed related runs goal =
       elim line.mark as (λ m. line.mark ≡ m → StaysFrom t same lines s line.cost []) [
-        | opened ↦ λ is_open. at_end s line listed related is_open
+        | expanded ↦ λ is_open. at_end s line listed related is_open
         | cut rest ↦ λ is_cut. at_cut [] s line rest listed related is_cut
         | dead ↦ λ marked. absurd (at_dead [] s line end listed related marked runs goal)
       ] refl
   from_line (a ∷ plan) s line end listed related runs goal =
       elim line.mark as (λ m. line.mark ≡ m → StaysFrom t same lines s line.cost (a ∷ plan)) [
-        | opened ↦ λ is_open.
+        | expanded ↦ λ is_open.
             elim (t.step s a) as (λ o. t.step s a ≡ o → option_and_then (λ next. run t next plan) o ≡ Some end → StaysFrom t same lines s line.cost (a ∷ plan)) [
               | None ↦ λ _ none_runs. absurd (cc)
               | Some next ↦ λ leads runs_on.

@@ -10,7 +10,7 @@ use Rattle.model.specs.Runs.{Solves}
 use Rattle.model.specs.Meaning.{State, system_of}
 use Rattle.model.specs.Limits.{max_numbered_atoms}
 use Rattle.model.specs.Grounding.{exceeded_limit}
-use Rattle.model.specs.Claims.{none, Allows, opened, cut, Line, IsListedWithin}
+use Rattle.model.specs.Claims.{none, Allows, expanded, cut, Line, IsListedWithin}
 use Rattle.model.specs.Fluents.{is_fluent}
 use Rattle.landmark_functions.specs.LandmarkFunctions.{LandmarkFunction}
 use Rattle.landmark_functions.specs.FairLandmarks.{IsFair, IsDeadFair}
@@ -459,10 +459,10 @@ module _ (task : Task) (c : Certificate) where
   first_in_line plan most place reason right stage here r l (inr (same, inr (there, rank))) (inl wrong) = here r (same ∙ stage) rank (subst (IsWrongAt task c r) there wrong)
   first_in_line plan most place reason right stage here r l (inr (same, inr (there, rank))) (inr wrong) = of_state_line plan most r (same ∙ stage) wrong
 
-  -- of an open state whose goal is as it is to be
-  pub open_here : (place : ℕ) (l : Line State) → slice_get (lines_of task c) place ≡ Some l → l.mark ≡ opened → (IsTrue ((system_of task).meets_goal l.state) → Allows c.claim l.cost)
+  -- of an expanded state whose goal is as it is to be
+  pub open_here : (place : ℕ) (l : Line State) → slice_get (lines_of task c) place ≡ Some l → l.mark ≡ expanded → (IsTrue ((system_of task).meets_goal l.state) → Allows c.claim l.cost)
       → (r : Reason) → stage_of r ≡ 7 → rank_of r < 1 → IsWrongAt task c r (state_line c place) → ⊥
-  open_here place l here is_open allowed goal_open stage rank (other, (k, reported, at), is_opened, goal, denied) =
+  open_here place l here is_open allowed goal_open stage rank (other, (k, reported, at), has_expanded_mark, goal, denied) =
       let there : k ≡ place = omega arith in
       let same = the_line place k other l there at here in
       denied (subst (λ (a : Line State). Allows c.claim a.cost) (sym same) (allowed (subst (λ (a : Line State). IsTrue ((system_of task).meets_goal a.state)) same goal)))

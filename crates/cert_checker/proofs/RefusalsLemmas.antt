@@ -17,7 +17,7 @@ use Rattle.cert_checker.proofs.CertCheckerLemmas.{got_mapped, slice_get-map}
 use Rattle.model.specs.Task.{Task, Instance}
 use Rattle.model.specs.Meaning.{State, meets_goal, system_of}
 use Rattle.model.specs.Instances.{successors_of}
-use Rattle.model.specs.Claims.{Claim, Allows, opened, Line, IsListedWithin}
+use Rattle.model.specs.Claims.{Claim, Allows, expanded, Line, IsListedWithin}
 use Rattle.certificate_definitions.specs.Evidence.{Basis, cut, dead}
 use Rattle.certificate_definitions.specs.Certificates.{Certificate, is_dead_end_by, lines_of, AreAlikeFor, value_by}
 use Rattle.certificate_definitions.specs.CertificateRefusals.{goal_open, successor_missing, successor_dearer, cut_weak, not_dead, IsWrongAt, IsListed, state_line}
@@ -83,11 +83,11 @@ not_listed_at_none alike lines s t (Some cost) listed is same within =
       | inr (inr above) ↦ not_within alike lines s cost 0 listed above (subst (λ r. IsListedWithin alike lines r 0) (sym same) within)
     ]
 
--- ---- open states
+-- ---- expanded states
 
-pub wrong_goal : (task : Task) (c : Certificate) (place : ℕ) (s : State) (cost : ℕ) → IsListedAs task c place s cost opened → IsTrue (meets_goal task s) → ¬ Allows c.claim cost
+pub wrong_goal : (task : Task) (c : Certificate) (place : ℕ) (s : State) (cost : ℕ) → IsListedAs task c place s cost expanded → IsTrue (meets_goal task s) → ¬ Allows c.claim cost
     → IsWrongAt task c goal_open (state_line c place)
-wrong_goal task c place s cost there goal denied = (record { state = s; cost = cost; mark = opened }, (place, refl, there), refl, goal, denied)
+wrong_goal task c place s cost there goal denied = (record { state = s; cost = cost; mark = expanded }, (place, refl, there), refl, goal, denied)
 
 -- each successor that is gone through is one that an instance leads to
 pub leads_there : {X : Type 0} (task : Task) (c : Certificate) (s : State) (view : X → Instance × State) (xs : List X) (k : ℕ) (x : X) → k < length xs → x ≡ get_or xs k x
@@ -95,19 +95,19 @@ pub leads_there : {X : Type 0} (task : Task) (c : Certificate) (s : State) (view
 leads_there task c s view xs k x lt at is =
     successors-Contains task s (view x).0 (view x).1 (subst (λ l. Contains {X = Instance × State} l (view x)) is (Contains-map view xs x (k, lt, sym at)))
 
-pub wrong_missing : (task : Task) (c : Certificate) (place : ℕ) (s : State) (cost : ℕ) (i : Instance) (next : State) → IsListedAs task c place s cost opened → (system_of task).step s i ≡ Some next
+pub wrong_missing : (task : Task) (c : Certificate) (place : ℕ) (s : State) (cost : ℕ) (i : Instance) (next : State) → IsListedAs task c place s cost expanded → (system_of task).step s i ≡ Some next
     → ¬ IsListed (AreAlikeFor task c) (lines_of task c) next → IsWrongAt task c successor_missing (state_line c place)
 wrong_missing task c place s cost i next there leads missing =
-    (record { state = s; cost = cost; mark = opened }, i, next, ((place, refl, there), refl, leads), missing)
+    (record { state = s; cost = cost; mark = expanded }, i, next, ((place, refl, there), refl, leads), missing)
 
 pub listed_somewhere : {S : Type 0} (alike : S → S → Type 0) (lines : List (Line S)) (s : S) (listed : ℕ) → IsLeastCost alike lines s listed → IsListed alike lines s
 listed_somewhere alike lines s listed (place, cheapest, is) = (cheapest.line, Contains-got lines place cheapest.line cheapest.listed, cheapest.is_alike)
 
-pub wrong_dearer : (task : Task) (c : Certificate) (place : ℕ) (s : State) (cost : ℕ) (i : Instance) (next : State) (listed : ℕ) → IsListedAs task c place s cost opened
+pub wrong_dearer : (task : Task) (c : Certificate) (place : ℕ) (s : State) (cost : ℕ) (i : Instance) (next : State) (listed : ℕ) → IsListedAs task c place s cost expanded
     → (system_of task).step s i ≡ Some next → IsLeastCost (AreAlikeFor task c) (lines_of task c) next listed → cost + (system_of task).cost i < listed
     → IsWrongAt task c successor_dearer (state_line c place)
 wrong_dearer task c place s cost i next listed there leads at dearer = (
-  record { state = s; cost = cost; mark = opened },
+  record { state = s; cost = cost; mark = expanded },
   i,
   next,
   ((place, refl, there), refl, leads),

@@ -7,7 +7,7 @@ use Rattle.std.specs.Option.{option_and_then}
 use Rattle.std.proofs.lemmas.Bool.{and_parts, cases_lt, eqb-true, false≢true, leb-true, ltb-true, ne_eqb}
 use Rattle.std.proofs.lemmas.Fmt.{length-decimal-le}
 use Rattle.model.specs.Claims.{bound, none}
-use Rattle.certificate_definitions.specs.Evidence.{of_all, landmark, LineMark, opened, cut, dead}
+use Rattle.certificate_definitions.specs.Evidence.{of_all, landmark, LineMark, expanded, cut, dead}
 use Rattle.certificate_definitions.specs.Certificates.{Version, one, two, three, four, StateLine, are_weights, has_basis, has_exchanges, has_landmarks, has_tables, is_basis, is_mark, is_number, is_weight, rise}
 use Rattle.model.proofs.ListLemmas.{Contains-here, Contains-there}
 use Rattle.certificate_definitions.specs.CertificateText.{scope, row, NamedCertificate, TextLine, version, claims, constant, swapped, atom, tabled, landmark_line, part, listed, last, Format, format_of, BeginCertificate, HasLine, IsInOneLine, after_blank, are_exchanged, is_line, is_weight_count, keeps_text_limits, line_text, longest_line, mark_text, most_atoms, most_states, most_swaps, numbers_text, text_lines, text_of, version_number, weights_text, whole_line}
@@ -106,7 +106,7 @@ mark_short v (dead (landmark number)) cost is marked =
     dead_basis two marked = marked
     dead_basis three marked = marked
     dead_basis four marked = marked
-mark_short v opened cost is marked =
+mark_short v expanded cost is marked =
     let digits = number_short cost is in
     let word : length (codes "open " ++ decimal cost) ≡ 5 + length (decimal cost) = omega arith in
     omega (arith, digits, word)

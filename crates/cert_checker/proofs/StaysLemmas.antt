@@ -14,7 +14,7 @@ use Rattle.model.specs.Fluents.{is_fluent, HasInitialStatics}
 use Rattle.model.specs.NumberedAtoms.{numbered_atoms}
 use Rattle.model.specs.Claims as claims
 use Rattle.model.specs.Claims.{Line, AreTrue, ClaimHolds, IsLowerBound, AreDeadEnds}
-use Rattle.certificate_definitions.specs.Evidence.{Basis, of_all, landmark, LineMark, opened, cut, dead, bare}
+use Rattle.certificate_definitions.specs.Evidence.{Basis, of_all, landmark, LineMark, expanded, cut, dead, bare}
 use Rattle.certificate_definitions.specs.Certificates.{Version, one, two, three, four, StateLine, dead_by, has_landmarks, is_dead_by_landmark, landmark_function, Certificate, potentials_of, several_of, is_dead_end_in, is_dead_end_of, state_of_line, lines_of, AreAlikeFor, value_in, value_of, value_by, is_dead_end_by, AreFairIn, IsSupported, IsClosedFor}
 use Rattle.symmetries_definitions.specs.Symmetries.{is_symmetry}
 use Rattle.symmetries_definitions.specs.Orbits.{AreOfOneOrbit}
@@ -262,7 +262,7 @@ module _ (task : Task) (c : Certificate) (closed : IsClosedFor task c) where
   -- what a supported mark says of the state of a line is true
   cut_is_true : (s : State) (mark : LineMark) (rest : ℕ) (end : State) (plan : List Instance) → HasInitialStatics task s → IsSupported task c s mark → bare mark ≡ claims.cut rest
       → run (system_of task) s plan ≡ Some end → IsTrue (meets_goal task end) → rest ≤ cost_of_all (system_of task) plan
-  cut_is_true s opened rest end plan statics supported is runs goal = absurd (cc)
+  cut_is_true s expanded rest end plan statics supported is runs goal = absurd (cc)
   cut_is_true s (cut basis least) rest end plan statics supported is runs goal =
       let same : least ≡ rest = cc in
       omega (arith, same, supported, below_by basis s end plan statics runs goal)
@@ -270,7 +270,7 @@ module _ (task : Task) (c : Certificate) (closed : IsClosedFor task c) where
 
   -- what the line rests on shows dead ends, if the line is one
   abbrev MayDetect : LineMark → Type 0
-  MayDetect opened = Unit {0}
+  MayDetect expanded = Unit {0}
   MayDetect (cut basis rest) = Unit {0}
   MayDetect (dead basis) = Detects basis
 
@@ -278,7 +278,7 @@ module _ (task : Task) (c : Certificate) (closed : IsClosedFor task c) where
   detecting l among = by_mark l.mark refl
     where
       by_mark : (mark : LineMark) → l.mark ≡ mark → MayDetect mark
-      by_mark opened is = tt
+      by_mark expanded is = tt
       by_mark (cut basis rest) is = tt
       by_mark (dead of_all) is = tt
       by_mark (dead (landmark number)) is =
@@ -287,7 +287,7 @@ module _ (task : Task) (c : Certificate) (closed : IsClosedFor task c) where
 
   dead_end_is_true : (s : State) (mark : LineMark) (end : State) (plan : List Instance) → HasInitialStatics task s → IsSupported task c s mark → MayDetect mark → bare mark ≡ claims.dead
       → run (system_of task) s plan ≡ Some end → meets_goal task end ≡ false
-  dead_end_is_true s opened end plan statics supported detects is runs = absurd (cc)
+  dead_end_is_true s expanded end plan statics supported detects is runs = absurd (cc)
   dead_end_is_true s (cut basis least) end plan statics supported detects is runs = absurd (cc)
   dead_end_is_true s (dead basis) end plan statics supported detects is runs = detects_by basis detects s end plan statics supported runs
 

@@ -21,7 +21,7 @@ use Rattle.lower_bounds.proofs.Ranges.{zero-range}
 use Rattle.lower_bounds.proofs.Zero.{zero-dead_fair}
 use Rattle.potentials.specs.Fairness.{AreInstancesFairAt}
 use Rattle.certificate.specs.declared.evidence.Evidence.{Evidence}
-use Rattle.certificate.specs.declared.evidence.Potential.{Potential}
+use Rattle.certificate.specs.declared.evidence.WrittenPotentials.{WrittenPotentials}
 use Rattle.certificate.specs.Evidence.{evidence_of, potential_of}
 use Rattle.lower_bounds.specs.TableFunctions.{SeveralValues}
 use Rattle.certificate_definitions.specs.Certificates.{Version, Certificate, potentials_of, several_of, are_potentials, is_value_count, is_weight}
@@ -117,17 +117,17 @@ first_mapped : {X Y : Type 0} (f : X → Y) (xs : List X) (first : X) (d : Y) �
 first_mapped f [] first d some is = absurd (omega arith)
 first_mapped f (x ∷ xs) first d some is = ap f (sym is)
 
-pub first_value : (c : Certificate) (b : Evidence) (first : Potential) → IsTrue (is_value_count c.version (length b.values.items)) → evidence_of b ≡ several_of c → first ≡ get_or b.values.items 0 first
+pub first_value : (c : Certificate) (b : Evidence) (first : WrittenPotentials) → IsTrue (is_value_count c.version (length b.values.items)) → evidence_of b ≡ several_of c → first ≡ get_or b.values.items 0 first
     → potential_of first ≡ potentials_of c
 first_value c b first count same is =
     let none : PotentialFunction = record { constant = pos 0; weights = [] } in
     sym (first_mapped potential_of b.values.items first none (some_value c.version (length b.values.items) count) is) ∙ ap (λ (s : SeveralValues). get_or s.values 0 none) same
 
 -- it keeps the limits, as each of them does
-pub first_within : (v : Version) (atom_count : ℕ) (values : List Potential) (first : Potential) → IsTrue (is_value_count v (length values))
-    → All (λ (p : Potential). IsTrue (are_potentials is_weight atom_count (potential_of p))) values → first ≡ get_or values 0 first → IsTrue (are_potentials is_weight atom_count (potential_of first))
+pub first_within : (v : Version) (atom_count : ℕ) (values : List WrittenPotentials) (first : WrittenPotentials) → IsTrue (is_value_count v (length values))
+    → All (λ (p : WrittenPotentials). IsTrue (are_potentials is_weight atom_count (potential_of p))) values → first ≡ get_or values 0 first → IsTrue (are_potentials is_weight atom_count (potential_of first))
 first_within v atom_count values first count all is =
-    subst (λ (p : Potential). IsTrue (are_potentials is_weight atom_count (potential_of p))) (sym is) (all 0 first (some_value v (length values) count))
+    subst (λ (p : WrittenPotentials). IsTrue (are_potentials is_weight atom_count (potential_of p))) (sym is) (all 0 first (some_value v (length values) count))
 
 -- ---- a certificate's potentials, with weights for more atoms
 

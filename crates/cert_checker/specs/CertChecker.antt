@@ -11,7 +11,7 @@ use Rattle.model.specs.Runs.{cost_of_all, IsOptimal, CostsAtLeast, IsUnsolvable}
 use Rattle.model.specs.Meaning.{State, cost_of, system_of}
 use Rattle.model.specs.NumberedAtoms.{numbered_atoms}
 use Rattle.model.specs.Instances.{successors_of}
-use Rattle.model.specs.Claims.{Claim, bound, none, opened, Line, IsListedWithin}
+use Rattle.model.specs.Claims.{Claim, bound, none, expanded, Line, IsListedWithin}
 use Rattle.lower_bounds.specs.PotentialFunctions.{PotentialFunction}
 use Rattle.lower_bounds.specs.FairPotentials.{nothing, IsFirstUnfairAt}
 use Rattle.lower_bounds.specs.TableFunctions.{TableFunction, functions_of, dead_ends_of}
@@ -79,11 +79,11 @@ IsNoFault refusal.NoMemory = Unit {0}
 IsNoFault refusal.Device = Unit {0}
 IsNoFault _ = ⊥
 
--- This line lists an open state, from which this instance leads to this state. For each applicable instance before it, in the
+-- This line lists an expanded state, from which this instance leads to this state. For each applicable instance before it, in the
 -- order of all instances, a state alike the successor is listed at no more than the line's cost and the instance's.
 pub record IsFirstToLeave (task : Task) (c : Certificate) (line : ℕ) (l : Line State) (i : Instance) (next : State) : Type 0 where
   pub found_there : HasState task c line l
-  pub is_open : l.mark ≡ opened
+  pub is_open : l.mark ≡ expanded
   pub place : ℕ
   pub leads : slice_get (successors_of task l.state) place ≡ Some (i, next)
   pub listed_before : (k : ℕ) (j : Instance) (s : State) → k < place → slice_get (successors_of task l.state) k ≡ Some (j, s)

@@ -60,9 +60,9 @@ pub record IsCheapestAt {S : Type 0} (alike : S → S → Type 0) (lines : List 
 abbrev pub IsLeastCost : {S : Type 0} → (S → S → Type 0) → List (Line S) → S → ℕ → Type 0
 IsLeastCost alike lines s cost = (place : ℕ) × (cheapest : IsCheapestAt alike lines s place) × (cheapest.line.cost ≡ cost)
 
--- An open state of this cost: for each successor an alike state is listed at no more than the cost of the step after this one; if
+-- An expanded state of this cost: for each successor an alike state is listed at no more than the cost of the step after this one; if
 -- the state meets the goal, its cost is no less than claimed.
-pub record IsOpenClosed (task : Task) (c : Certificate) (state : State) (cost : ℕ) : Type 0 where
+pub record IsExpandedClosed (task : Task) (c : Certificate) (state : State) (cost : ℕ) : Type 0 where
   pub successors_listed : (i : Instance) (next : State) → (system_of task).step state i ≡ Some next → IsListedWithin (AreAlikeFor task c) (lines_of task c) next (cost + (system_of task).cost i)
   pub goal_allowed : IsTrue (meets_goal task state) → Allows c.claim cost
 
@@ -72,7 +72,7 @@ IsCutClosed task c state cost basis rest = (rest ≤ value_by task c basis state
 
 -- a state of a closed listing, at this cost and with this mark
 abbrev pub IsClosedAs : Task → Certificate → State → ℕ → LineMark → Type 0
-IsClosedAs task c state cost evidence.opened = IsOpenClosed task c state cost
+IsClosedAs task c state cost evidence.expanded = IsExpandedClosed task c state cost
 IsClosedAs task c state cost (evidence.cut basis rest) = IsCutClosed task c state cost basis rest
 IsClosedAs task c state cost (evidence.dead basis) = IsTrue (is_dead_end_by task c basis state)
 

@@ -37,7 +37,7 @@ pub(crate) fn read_cert<R: Source, E: Sink>(
     ensures weighed { IfOk result AreWeighedIn }
     ensures refused { IfErr result (IsLineRefusal R.remaining (task_of task.now) reader.old reader.new) }
     ensures failures { CountsRefusal (R.failures (source_of reader.old)) (R.failures (source_of reader.new)) result }
-    ensures said { AreSaid (IsReadLine (R.remaining (source_of reader.old))) E.wants_memory (stream (E.failures err.old) (E.taken err.old)) (stream (E.failures err.new) (E.taken err.new)) }
+    ensures said { AreSaid (IsReadLine (R.remaining (source_of reader.old))) E.may_lack_memory (stream (E.failures err.old) (E.taken err.old)) (stream (E.failures err.new) (E.taken err.new)) }
 {
     let (header, mut next) = read_header(alloc, task, reader)?;
     let mut states = States::new(alloc, header.atoms.len() as u32)?;

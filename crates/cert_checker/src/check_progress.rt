@@ -9,9 +9,9 @@ use certificate::Cert;
 use devices::{Sink, say_line};
 use std::alloc::{AllocError, Global};
 
-/// Says the certificate's numbers of atoms and listed states. If memory for the line is refused, says nothing.
+/// Reports the certificate's numbers of atoms and listed states. If memory for the line is refused, nothing is reported.
 pub(crate) fn say_whole<E: Sink>(alloc: Global, cert: &Cert, err: &mut E)
-    ensures { AreSaid (λ line. line ≡ whole_line (length (certificate_of cert.now).atoms) (length (certificate_of cert.now).lines)) E.wants_memory (stream (E.failures err.old) (E.taken err.old)) (stream (E.failures err.new) (E.taken err.new)) }
+    ensures { AreSaid (λ line. line ≡ whole_line (length (certificate_of cert.now).atoms) (length (certificate_of cert.now).lines)) E.may_lack_memory (stream (E.failures err.old) (E.taken err.old)) (stream (E.failures err.new) (E.taken err.new)) }
 {
     if let Ok(line) = whole_line(alloc, cert.atoms().len(), cert.line_count()) {
         say_line(err, line.as_bytes());

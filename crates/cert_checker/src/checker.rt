@@ -70,8 +70,8 @@ pub enum Accepted {
 /// - of the value for dead ends, 56: the first instance that may lose anything; or 57: more than 0 may be left in a goal state;
 /// - 62: the first landmark value that is not fair, with its line;
 /// - 63: the first dead end that rests on a landmark value that is not dead-fair, with its line;
-/// - 45: no state alike the initial one is listed at cost 0;
-/// - line by line, 48 to 51, 58: a wrong open state, cut or dead end;
+/// - 45: no state of the initial state's class is listed at cost 0;
+/// - line by line, 48 to 51, 58: a wrong expanded state, cut or dead end;
 /// - 53, 54: the plan does not solve the task, or is dearer than claimed.
 ///
 /// [`Refusal::Device`]: the device failed. [`Refusal::NoMemory`]: an allocation failed.
@@ -128,7 +128,7 @@ pub fn check_and_say<R: Source, E: Sink>(
     ensures failures { CountsRefusal (R.failures (source_of reader.old)) (R.failures (source_of reader.new)) result }
 
     // Progress lines are true.
-    ensures said { AreSaid (IsCheckLine (task_of task.now) (R.remaining (source_of reader.old))) E.wants_memory (stream (E.failures err.old) (E.taken err.old)) (stream (E.failures err.new) (E.taken err.new)) }
+    ensures said { AreSaid (IsCheckLine (task_of task.now) (R.remaining (source_of reader.old))) E.may_lack_memory (stream (E.failures err.old) (E.taken err.old)) (stream (E.failures err.new) (E.taken err.new)) }
 {
     let cert = read_cert(alloc, task, reader, err)?;
     say_whole(alloc, &cert, err);

@@ -18,7 +18,7 @@ use crate::named_atoms::fluent_atom_named;
 use crate::part_lines::take_part;
 use crate::refusal::{Refusal, RefusalCode};
 use certificate::{
-    CertLine, CertReader, Claim, Evidence, Header, Landmarks, NamedAtom, Potential, Version,
+    CertLine, CertReader, Claim, Evidence, Header, Landmarks, NamedAtom, Version, WrittenPotentials,
 };
 use devices::Source;
 use faults::NoMemory;
@@ -47,10 +47,10 @@ fn nothing_reported(alloc: Global) -> Header
 }
 
 /// The potential function with this constant and no atoms.
-fn of_no_atoms(alloc: Global, constant: i64) -> Potential
+fn of_no_atoms(alloc: Global, constant: i64) -> WrittenPotentials
     ensures { potential_of result ≡ record { constant = constant; weights = [] } }
 {
-    Potential {
+    WrittenPotentials {
         constant,
         weights: Vec::new(alloc),
     }
@@ -109,7 +109,11 @@ fn take_weights(evidence: &mut Evidence, weights: &[i64]) -> Result<(), NoMemory
 }
 
 /// Appends the weight to those of the value at this index.
-fn push_weight(values: &mut Vec<Potential>, place: usize, weight: i64) -> Result<(), NoMemory>
+fn push_weight(
+    values: &mut Vec<WrittenPotentials>,
+    place: usize,
+    weight: i64,
+) -> Result<(), NoMemory>
     requires { place < length values.old.items }
     ensures { OnOk result (map potential_of values.new.items ≡ push_at place weight (map potential_of values.old.items)) }
 {

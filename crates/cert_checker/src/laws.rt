@@ -24,9 +24,9 @@ pub fn closed_claim_holds()
     ensures dead_ends { (task : Task) (c : Certificate) → IsClosedFor task c → AreDeadEnds (system_of task) (is_dead_end_of task c) }
 {}
 
-/// The reason: each state that a solving list goes through is alike an open state listed at no more than the cost so far, up to
-/// the list's end or to a state alike a cut; no state is alike a dead end. At the cut, the list's cost is at least the line's cost
-/// and bound together. Without exchanges the states are listed themselves.
+/// The reason: for each state that a solving list goes through, an expanded state of its class is listed at no more than the cost so
+/// far, up to the list's end or to a state in the class of a cut; none is in the class of a dead end. At the cut, the list's cost is
+/// at least the line's cost and bound together. Without exchanges the states are listed themselves.
 pub fn solving_list_stays_listed()
     ensures stays { (task : Task) (c : Certificate) (plan : List Instance) → IsTrue (is_task task) → IsClosedFor task c
         → Solves (system_of task) plan → StaysListed (system_of task) (AreOfOneOrbit (system_of task)) (lines_of task c) plan }

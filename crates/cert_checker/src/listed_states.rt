@@ -95,7 +95,7 @@ fn is_cut(mark: Mark) -> bool
     ensures { IsTrue result ↔ IsCut (mark_of mark) }
 {
     match mark {
-        Mark::Open => false,
+        Mark::Expanded => false,
         Mark::Cut { .. } => true,
         Mark::Dead { .. } => false,
     }

@@ -12,7 +12,7 @@ pub(crate) const FIRST_REPORT: u64 = 1_024;
 
 /// Reports the number of lines read if the report is due, and returns when the next one is: at twice as many.
 pub(crate) fn say_if_due<E: Sink>(alloc: Global, lines: u64, due: u64, err: &mut E) -> u64
-    ensures { AreSaid (λ line. line ≡ lines_line lines) E.wants_memory (stream (E.failures err.old) (E.taken err.old)) (stream (E.failures err.new) (E.taken err.new)) }
+    ensures { AreSaid (λ line. line ≡ lines_line lines) E.may_lack_memory (stream (E.failures err.old) (E.taken err.old)) (stream (E.failures err.new) (E.taken err.new)) }
 {
     if lines < due {
         return due;
@@ -23,7 +23,7 @@ pub(crate) fn say_if_due<E: Sink>(alloc: Global, lines: u64, due: u64, err: &mut
 
 /// Reports the number of lines read. If an allocation for the line fails, nothing is reported.
 fn say_lines<E: Sink>(alloc: Global, lines: u64, err: &mut E)
-    ensures { AreSaid (λ line. line ≡ lines_line lines) E.wants_memory (stream (E.failures err.old) (E.taken err.old)) (stream (E.failures err.new) (E.taken err.new)) }
+    ensures { AreSaid (λ line. line ≡ lines_line lines) E.may_lack_memory (stream (E.failures err.old) (E.taken err.old)) (stream (E.failures err.new) (E.taken err.new)) }
 {
     if let Ok(line) = lines_line(alloc, lines) {
         say_line(err, line.as_bytes());

@@ -27,11 +27,11 @@ pub enum RefusalCode {
     Unfair = 46,
     /// The potential function may exceed 0 in a goal state.
     UnfairGoal = 47,
-    /// An open state satisfies the goal at a cost that contradicts the claim.
+    /// An expanded state satisfies the goal at a cost that contradicts the claim.
     GoalOpen = 48,
-    /// A successor of an open state is not listed.
+    /// A successor of an expanded state is not listed.
     SuccessorMissing = 49,
-    /// A successor of an open state is listed at more than the open state's cost plus that of the instance.
+    /// A successor of an expanded state is listed at more than the expanded state's cost plus that of the instance.
     SuccessorDearer = 50,
     /// A cut's bound exceeds the state's value, or does not reach the claim.
     CutWeak = 51,

@@ -19,7 +19,7 @@ use Rattle.certificate_definitions.specs.Certificates.{Version, one, two, three,
 use Rattle.model.specs.PlanWriting.{object_name, object_text}
 use Rattle.certificate_definitions.specs.CertificateText.{after_blank, claims, constant, line_text, mark_text, version, weights_text, whole_line}
 use Rattle.certificate_definitions.specs.CertificateNames.{named_atom, predicate_name, weights_in}
-use Rattle.certificate.specs.declared.evidence.Potential.{Potential}
+use Rattle.certificate.specs.declared.evidence.WrittenPotentials.{WrittenPotentials}
 use Rattle.certificate.specs.Evidence.{potential_of}
 use Rattle.certificate.specs.Gathering.{atom_line, number_text, row_line, scope_line, state_line, swap_line, weight_text}
 
@@ -67,7 +67,7 @@ then_dead_end three ws dead_end = sym (flat_map-append weight_text ws (dead_end 
 then_dead_end four ws dead_end = sym (flat_map-append weight_text ws (dead_end ∷ []))
 
 -- one more value, each of which has this number
-pub value_more : (of : PotentialFunction → ℤ) (values : List Potential) (i : ℕ) (p : Potential) → i < length values → p ≡ get_or values i p
+pub value_more : (of : PotentialFunction → ℤ) (values : List WrittenPotentials) (i : ℕ) (p : WrittenPotentials) → i < length values → p ≡ get_or values i p
     → weights_text (map of (map potential_of (take (i + 1) values))) ≡ weights_text (map of (map potential_of (take i values))) ++ weight_text (of (potential_of p))
 value_more of values i p within is =
     flat_map-map weight_text of (map potential_of (take (i + 1) values))
@@ -75,7 +75,7 @@ value_more of values i p within is =
     ∙ ap (λ bytes. bytes ++ weight_text (of (potential_of p))) (sym (flat_map-map weight_text of (map potential_of (take i values))))
 
 -- all values
-pub values_all : (of : PotentialFunction → ℤ) (values : List Potential) (i : ℕ) → length values ≤ i → weights_text (map of (map potential_of (take i values))) ≡ weights_text (map of (map potential_of values))
+pub values_all : (of : PotentialFunction → ℤ) (values : List WrittenPotentials) (i : ℕ) → length values ≤ i → weights_text (map of (map potential_of (take i values))) ≡ weights_text (map of (map potential_of values))
 values_all of values i past = ap (λ ps. weights_text (map of (map potential_of ps))) (take_all i values past)
 
 -- bytes added after others

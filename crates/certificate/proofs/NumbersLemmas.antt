@@ -22,7 +22,7 @@ use Rattle.certificate_reader.proofs.NumbersRead.{rise_parts}
 use Rattle.certificate.specs.ListedSets.{Marked, line_with, lines_with, marked, numbers_of}
 use Rattle.certificate.specs.declared.cert.Cert.{Cert}
 use Rattle.certificate.specs.CertificateParts.{listed_of}
-use Rattle.certificate.specs.declared.evidence.Potential.{Potential}
+use Rattle.certificate.specs.declared.evidence.WrittenPotentials.{WrittenPotentials}
 use Rattle.certificate.specs.declared.states.Listed.{Listed}
 use Rattle.certificate.specs.declared.states.States.{States}
 use Rattle.certificate.specs.CertificateParts.{certificate_with}
@@ -214,7 +214,7 @@ module _ (cert : Cert) where
   pub value_count_kept : is_value_count version (length cert.header.evidence.values.items) ≡ true
   value_count_kept = ap (is_value_count version) (sym (length-map cert.header.evidence.values.items potential_of)) ∙ limits.value_count
 
-  pub values_kept : All (λ (p : Potential). are_potentials is_weight count (potential_of p) ≡ true) cert.header.evidence.values.items
+  pub values_kept : All (λ (p : WrittenPotentials). are_potentials is_weight count (potential_of p) ≡ true) cert.header.evidence.values.items
   values_kept = all_kept (are_potentials is_weight count) potential_of cert.header.evidence.values.items limits.values
 
   pub dead_ends_kept : are_potentials is_weight count (potential_of cert.header.evidence.dead_ends) ≡ true

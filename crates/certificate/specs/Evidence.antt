@@ -8,10 +8,10 @@ use Rattle.landmark_functions.specs.LandmarkLines.{NumberedLandmarks}
 use Rattle.certificate_definitions.specs.Certificates.{Version, are_landmarks, are_potentials, are_tables, is_dead_end_weight, is_value_count, is_weight, rows_of}
 use Rattle.certificate_definitions.specs.CertificateNames.{weights_in}
 use Rattle.certificate.specs.declared.evidence.Evidence.{Evidence}
-use Rattle.certificate.specs.declared.evidence.Potential.{Potential}
+use Rattle.certificate.specs.declared.evidence.WrittenPotentials.{WrittenPotentials}
 use Rattle.certificate.specs.Gathering.{landmarks_text, table_text}
 
-abbrev pub potential_of : Potential → PotentialFunction
+abbrev pub potential_of : WrittenPotentials → PotentialFunction
 potential_of p = record { constant = p.constant; weights = p.weights.items }
 
 abbrev pub evidence_of : Evidence → SeveralValues

@@ -38,7 +38,7 @@ impl Cert {
     ghost use Rattle.landmark_zones.specs.Landmarks.{landmarks_of};
     ghost use Rattle.certificate_reader.specs.Lines.{claim_of, line_of, version_of};
     ghost use Rattle.certificate_reader.specs.declared.line.TheConstants.{MAX_ATOMS, MAX_STATE_LINES, MAX_SWAPS};
-    ghost use Rattle.certificate.specs.declared.evidence.Potential as code;
+    ghost use Rattle.certificate.specs.declared.evidence.WrittenPotentials as code;
     ghost use Rattle.certificate.specs.CertificateParts.{certificate_with_lines, exchange_in, listed_of};
     ghost use Rattle.certificate.specs.Evidence.{evidence_of, potential_of};
     ghost use Rattle.certificate.specs.ListedSets.{marked};
@@ -101,7 +101,7 @@ impl Cert {
     pub fn evidence(&self) -> &Evidence
         ensures evidence { evidence_of result.now ≡ several_of (certificate_of self.now) }
         ensures value_count { IsTrue (is_value_count (certificate_of self.now).version (length result.now.values.items)) }
-        ensures values { All (λ (p : code.Potential). IsTrue (are_potentials is_weight (length (certificate_of self.now).atoms) (potential_of p))) result.now.values.items }
+        ensures values { All (λ (p : code.WrittenPotentials). IsTrue (are_potentials is_weight (length (certificate_of self.now).atoms) (potential_of p))) result.now.values.items }
         ensures dead_ends { IsTrue (are_potentials is_weight (length (certificate_of self.now).atoms) (potential_of result.now.dead_ends)) }
         ensures tables { IsTrue (are_tables (certificate_of self.now).version (length (certificate_of self.now).atoms) (length result.now.values.items + 1) (certificate_of self.now).tables) }
         ensures in_memory { result.now.tables.items ≡ tables_in self.now }
@@ -119,7 +119,7 @@ impl Cert {
         self.header.atoms.as_slice()
     }
 
-    /// The costs and roles of its states, in line order. There is the landmark value that each rests on, if any.
+    /// The costs and roles of its states, in line order. The landmark values that they rest on exist.
     pub fn marks(&self) -> &[Listed]
         ensures marks { map listed_of result.now ≡ map marked (certificate_of self.now).lines }
         ensures at_most { length result.now ≤ MAX_STATE_LINES }

@@ -19,9 +19,10 @@ use landmark_zones::Landmarks;
 use std::alloc::Global;
 use table_rows::Table;
 
-/// A potential function: a constant, and a weight for each atom, in order.
+/// A potential function as a text has it: a constant, and a weight for each atom, in order. `potentials::Potentials` has them in the range
+/// in which sums are exact.
 #[derive(Drop)]
-pub struct Potential {
+pub struct WrittenPotentials {
     /// The constant.
     pub constant: i64,
     /// The weights.
@@ -33,9 +34,9 @@ pub struct Potential {
 pub struct Evidence {
     /// The potential functions that give the values of a state: lower bounds of the remaining cost, of which the maximum counts.
     /// Versions 1 and 2 have exactly one.
-    pub values: Vec<Potential>,
+    pub values: Vec<WrittenPotentials>,
     /// The potential function that detects dead ends. In version 1 it is 0 everywhere.
-    pub dead_ends: Potential,
+    pub dead_ends: WrittenPotentials,
     /// The tables. Each row has a weight for each value and, last, one for dead ends. Versions 1 and 2 have none.
     pub tables: Vec<Table>,
     /// The zones and landmark values, each of which counts for the lines that name it. Versions 1 to 3 have none.

@@ -21,7 +21,7 @@ pub use certificate_reader::{
     texts_are_certificates_one_for_one,
 };
 pub use devices::{Device, DeviceFault, IoFault, Memory, Sink, Source, write_all};
-pub use evidence::{Evidence, Potential};
+pub use evidence::{Evidence, WrittenPotentials};
 pub use header::Header;
 pub use landmark_zones::{Landmarks, Share, ZoneRef};
 pub use states::{Listed, States};

@@ -10,7 +10,7 @@ ghost use Rattle.landmark_zones.specs.Landmarks.{landmarks_of};
 ghost use Rattle.certificate.specs.CertificateParts.{certificate_with_lines, exchange_in, keeps_exchange_limits, keeps_item_limits};
 ghost use Rattle.certificate.specs.Evidence.{potential_of};
 
-use crate::evidence::Potential;
+use crate::evidence::WrittenPotentials;
 use crate::header::Header;
 use certificate_reader::{
     Basis, Claim, MAX_ATOMS, MAX_CONSTANTS, MAX_ROWS, MAX_STATE_LINES, MAX_SWAPS, Mark,
@@ -102,7 +102,7 @@ fn is_claim(claim: Claim) -> bool
 }
 
 /// Whether each value has a constant and a weight for each of this many atoms.
-pub(crate) fn are_values(values: &[Potential], atom_count: usize) -> bool
+pub(crate) fn are_values(values: &[WrittenPotentials], atom_count: usize) -> bool
     ensures { result ≡ list_all (are_potentials is_weight atom_count) (map potential_of values.now) }
 {
     for value in values {
@@ -114,7 +114,7 @@ pub(crate) fn are_values(values: &[Potential], atom_count: usize) -> bool
 }
 
 /// Whether this potential function has a weight for each of this many atoms, all in range.
-fn are_potentials(potential: &Potential, atom_count: usize) -> bool
+fn are_potentials(potential: &WrittenPotentials, atom_count: usize) -> bool
     ensures { result ≡ are_potentials is_weight atom_count (potential_of potential.now) }
 {
     is_weight(potential.constant)
@@ -123,7 +123,11 @@ fn are_potentials(potential: &Potential, atom_count: usize) -> bool
 }
 
 /// Whether this potential function may detect dead ends in a certificate of this version and with this many atoms.
-pub(crate) fn are_dead_ends(version: Version, potential: &Potential, atom_count: usize) -> bool
+pub(crate) fn are_dead_ends(
+    version: Version,
+    potential: &WrittenPotentials,
+    atom_count: usize,
+) -> bool
     ensures { result ≡ are_potentials (is_dead_end_weight (version_of version)) atom_count (potential_of potential.now) }
 {
     is_dead_end_weight(version, potential.constant)
@@ -181,7 +185,7 @@ fn is_mark(version: Version, mark: Mark) -> bool
     ensures { result ≡ is_mark (version_of version) (mark_of mark) }
 {
     match mark {
-        Mark::Open => true,
+        Mark::Expanded => true,
         Mark::Cut { by, rest } => is_basis(version, by) && is_number(rest),
         Mark::Dead { by } => version != Version::One && is_basis(version, by),
     }
@@ -197,7 +201,7 @@ fn is_basis(version: Version, basis: Basis) -> bool
     }
 }
 
-/// Whether, of this many landmark values, there are those that the lines rest on.
+/// Whether all landmark values that the lines rest on are among this many.
 fn have_bases(lines: &[StateLine], value_count: usize) -> bool
     ensures { result ≡ list_all (λ (l : certificates.StateLine). has_basis value_count l.mark) (map line_of lines.now) }
 {
@@ -209,12 +213,12 @@ fn have_bases(lines: &[StateLine], value_count: usize) -> bool
     true
 }
 
-/// Whether, of this many landmark values, there is the one that the state's role rests on, if any.
+/// Whether the landmark value that the state's role rests on, if any, is among this many.
 fn has_basis(mark: Mark, value_count: usize) -> bool
     ensures { result ≡ has_basis value_count (mark_of mark) }
 {
     match mark {
-        Mark::Open => true,
+        Mark::Expanded => true,
         Mark::Cut { by, .. } | Mark::Dead { by } => match by {
             Basis::OfAll => true,
             Basis::Landmark(number) => (number as usize) < value_count,

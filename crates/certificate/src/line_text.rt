@@ -9,7 +9,7 @@ ghost use Rattle.certificate_reader.specs.Lines.{claim_of, line_of, mark_of, ver
 ghost use Rattle.certificate_definitions.specs.CertificateText as line;
 ghost use Rattle.certificate_definitions.specs.CertificateText.{claims, last, line_text, mark_text, weights_text, whole_line};
 ghost use Rattle.certificate_definitions.specs.CertificateNames.{named_atom, weights_in};
-ghost use Rattle.certificate.specs.declared.evidence.Potential as code;
+ghost use Rattle.certificate.specs.declared.evidence.WrittenPotentials as code;
 ghost use Rattle.certificate.specs.Evidence.{evidence_of, constants_in, weights_at};
 ghost use Rattle.symmetries_definitions.specs.Exchanges.{objects_in};
 ghost use Rattle.symmetries.specs.ObjectPairs.{pairs_in};
@@ -111,7 +111,7 @@ pub(crate) fn add_atom(
     evidence: &Evidence,
     text: &mut Vec<u8>,
 ) -> Result<(), AllocError>
-    requires values { All (λ (p : code.Potential). place < length p.weights.items) evidence.now.values.items }
+    requires values { All (λ (p : code.WrittenPotentials). place < length p.weights.items) evidence.now.values.items }
     requires dead_ends { place < length evidence.now.dead_ends.weights.items }
     ensures { OnOk result (text.new.items ≡ text.old.items ++ atom_line (record { weights = weights_at (version_of version) (evidence_of evidence.now) place; atom = named_atom (task_of task.now) (atom_of atom.now) })) }
 {
@@ -131,7 +131,7 @@ fn add_weights_at(
     evidence: &Evidence,
     text: &mut Vec<u8>,
 ) -> Result<(), AllocError>
-    requires values { All (λ (p : code.Potential). place < length p.weights.items) evidence.now.values.items }
+    requires values { All (λ (p : code.WrittenPotentials). place < length p.weights.items) evidence.now.values.items }
     requires dead_ends { place < length evidence.now.dead_ends.weights.items }
     ensures { OnOk result (text.new.items ≡ text.old.items ++ weights_text (weights_at (version_of version) (evidence_of evidence.now) place)) }
 {
@@ -195,7 +195,7 @@ fn add_mark(mark: Mark, cost: u64, text: &mut Vec<u8>) -> Result<(), AllocError>
     ensures { OnOk result (text.new.items ≡ text.old.items ++ mark_text (mark_of mark) cost) }
 {
     match mark {
-        Mark::Open => add_number(b"open ", cost, text),
+        Mark::Expanded => add_number(b"open ", cost, text),
         Mark::Cut {
             by: Basis::OfAll,
             rest,

@@ -21,7 +21,7 @@ use std::alloc::Global;
 use table_rows::Table;
 use task::{ObjectId, Task};
 
-/// The size from which on the buffer is written out.
+/// The buffer is written out once it has this size.
 const PIECE: usize = 65_536;
 
 /// Writes the text of a certificate of the task, line by line: the version, the claim and the constants; a line for each exchange
@@ -226,7 +226,7 @@ fn write_states<W: Sink>(
     };
     let mut line = StateLine {
         cost: 0,
-        mark: Mark::Open,
+        mark: Mark::Expanded,
         atoms: Vec::new(alloc),
     };
     for place in 0..cert.line_count() {

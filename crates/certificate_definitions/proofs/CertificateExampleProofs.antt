@@ -16,14 +16,14 @@ use Rattle.model.specs.Meaning.{State, cost_of, atom_cmp, step, changes_of, meet
 use Rattle.symmetries_definitions.specs.Exchanges.{Exchange}
 use Rattle.symmetries_definitions.specs.SymmetryExamples.{swapping}
 use Rattle.model.specs.WellTyped.{is_atom}
-use Rattle.model.specs.Claims.{Claim, bound, Allows, opened, cut, dead, Line, IsListedWithin, IsClosed}
+use Rattle.model.specs.Claims.{Claim, bound, Allows, expanded, cut, dead, Line, IsListedWithin, IsClosed}
 use Rattle.model.specs.Claims as model
 use Rattle.certificate_definitions.specs.Evidence.{of_all, bare}
 use Rattle.model.specs.Fluents.{is_fluent}
 use Rattle.certificate_definitions.specs.Certificates.{two, StateLine, Certificate, state_of_line, lines_of, is_symmetry_for, AreAlikeFor, IsSupported, IsClosedFor}
 use Rattle.certificate_definitions.specs.CertificateRefusals.{IsWrongAt, unfair, unfair_goal, dead_unfair, dead_unfair_goal, not_dead}
 use Rattle.certificate_definitions.proofs.WithoutExchanges.{alike_itself, closed_wider}
-use Rattle.certificate_definitions.specs.CertificateExamples.{AreJudged, open_at, cut_at, dead_at, linked, tied, claims, weighs, zeros, token_reported, start_open}
+use Rattle.certificate_definitions.specs.CertificateExamples.{AreJudged, expanded_at, cut_at, dead_at, linked, tied, claims, weighs, zeros, token_reported, start_expanded}
 use Rattle.lower_bounds.specs.TableFunctions.{Row, Table}
 use Rattle.lower_bounds.specs.PotentialFunctions.{PotentialFunction, or_zero, value_of_state, is_dead_by, is_dead_state}
 use Rattle.lower_bounds.specs.FairPotentials.{IsFairAt, IsFairAtGoals, AreFair, nothing, AreDeadFair}
@@ -93,7 +93,7 @@ not_tied : contains start tied ≡ false
 not_tied = contains-from_list atoms_total (linked ∷ []) tied
 
 abbrev first : Line State
-first = line_of (open_at 0 [])
+first = line_of (expanded_at 0 [])
 
 abbrev second : Line State
 second = line_of (cut_at 1 0 (0 ∷ []))
@@ -194,8 +194,8 @@ cut_closed = record {
   listing_is_closed = closed_in_task tie_task (weighs (bound 1) (pos 1) (negsuc 0) (cut_at 0 1 [] ∷ [])) (record {
     initial_listed = (start_cut 1, (0, omega arith, refl), refl, omega arith);
     successors_listed = λ line a next at is_open leads.
-        the_one_line (λ (l : Line State). l.mark ≡ opened → IsListedWithin (λ s r. s ≡ r) (start_cut 1 ∷ []) next (l.cost + 1)) (start_cut 1) line at (λ not_cut. absurd (cc)) is_open;
-    open_goals_allowed = λ line at is_open goal. the_one_line (λ (l : Line State). l.mark ≡ opened → 1 ≤ l.cost) (start_cut 1) line at (λ not_cut. absurd (cc)) is_open;
+        the_one_line (λ (l : Line State). l.mark ≡ expanded → IsListedWithin (λ s r. s ≡ r) (start_cut 1 ∷ []) next (l.cost + 1)) (start_cut 1) line at (λ not_cut. absurd (cc)) is_open;
+    expanded_goals_allowed = λ line at is_open goal. the_one_line (λ (l : Line State). l.mark ≡ expanded → 1 ≤ l.cost) (start_cut 1) line at (λ not_cut. absurd (cc)) is_open;
     cuts_allowed = λ line rest at is_cut.
         the_one_line (λ (l : Line State). l.mark ≡ cut rest → 1 ≤ l.cost + rest) (start_cut 1) line at (λ is. let same : 1 ≡ rest = cc in omega (arith, same)) is_cut;
   });
@@ -265,8 +265,8 @@ dead_closed claim = record {
   listing_is_closed = closed_in_task token_task (token_reported two claim (pos 2) (minus 1)) (record {
     initial_listed = (dead_line, (0, omega arith, refl), refl, omega arith);
     successors_listed = λ line a next at is_open leads.
-        the_one_line (λ (l : Line State). l.mark ≡ opened → IsListedWithin (λ s r. s ≡ r) (dead_line ∷ []) next (l.cost + cost_of token_task a)) dead_line line at (λ is. absurd (cc)) is_open;
-    open_goals_allowed = λ line at is_open goal. the_one_line (λ (l : Line State). l.mark ≡ opened → Allows claim l.cost) dead_line line at (λ is. absurd (cc)) is_open;
+        the_one_line (λ (l : Line State). l.mark ≡ expanded → IsListedWithin (λ s r. s ≡ r) (dead_line ∷ []) next (l.cost + cost_of token_task a)) dead_line line at (λ is. absurd (cc)) is_open;
+    expanded_goals_allowed = λ line at is_open goal. the_one_line (λ (l : Line State). l.mark ≡ expanded → Allows claim l.cost) dead_line line at (λ is. absurd (cc)) is_open;
     cuts_allowed = λ line rest at is_cut. the_one_line (λ (l : Line State). l.mark ≡ cut rest → Allows claim (l.cost + rest)) dead_line line at (λ is. absurd (cc)) is_cut;
   });
   landmarks_are_over_atoms = refl;
@@ -316,20 +316,20 @@ are_judged = record {
     one_weight_an_atom = one_value 1 (zeros (tied ∷ [])) refl;
     one_dead_end_weight_an_atom = refl;
     tables_are_over_atoms = refl;
-    exchanges_are_symmetries = no_exchanges tie_task (claims (bound 1) (tied ∷ []) start_open);
+    exchanges_are_symmetries = no_exchanges tie_task (claims (bound 1) (tied ∷ []) start_expanded);
     are_fair = record { values = zero_is_fair; dead_ends = zero_is_dead_fair };
     rows_are_distinct = no_rows;
     atoms_are_fluent = All-cons (λ (a : Atom). IsTrue (is_atom tie_task a && is_fluent tie_task a.predicate)) tied [] refl (All-nil (λ (a : Atom). IsTrue (is_atom tie_task a && is_fluent tie_task a.predicate)));
     atoms_are_distinct = λ i j d before within. absurd (omega (arith, before, within));
     states_are_distinct = AllPairs-cons (λ (k l : Line State). k.state ≢ l.state) first (second ∷ []) (All-cons (λ (l : Line State). first.state ≢ l.state) second [] apart (All-nil (λ (l : Line State). first.state ≢ l.state)))
         (λ i j d before within. absurd (omega (arith, before, within)));
-    listing_is_closed = closed_in_task tie_task (claims (bound 1) (tied ∷ []) start_open) (record {
-      initial_listed = (line_of (open_at 0 []), (0, omega arith, refl), refl, omega arith);
+    listing_is_closed = closed_in_task tie_task (claims (bound 1) (tied ∷ []) start_expanded) (record {
+      initial_listed = (line_of (expanded_at 0 []), (0, omega arith, refl), refl, omega arith);
       successors_listed = λ line a next at is_open leads.
-          of_two (λ (l : Line State). l.mark ≡ opened → step tie_task l.state a ≡ Some next → IsListedWithin (λ s r. s ≡ r) (first ∷ second ∷ []) next (l.cost + 1)) first second line at
+          of_two (λ (l : Line State). l.mark ≡ expanded → step tie_task l.state a ≡ Some next → IsListedWithin (λ s r. s ≡ r) (first ∷ second ∷ []) next (l.cost + 1)) first second line at
           (λ _ leads. (second, (1, omega arith, refl), sym (only_instance a next leads), omega arith)) (λ not_cut _. absurd (cc)) is_open leads;
-      open_goals_allowed = λ line at is_open goal.
-          of_two (λ (l : Line State). l.mark ≡ opened → IsTrue (meets_goal tie_task l.state) → 1 ≤ l.cost) first second line at
+      expanded_goals_allowed = λ line at is_open goal.
+          of_two (λ (l : Line State). l.mark ≡ expanded → IsTrue (meets_goal tie_task l.state) → 1 ≤ l.cost) first second line at
           (λ _ met. absurd (true≢false (sym met ∙ not_tied))) (λ not_cut _. absurd (cc)) is_open goal;
       cuts_allowed = λ line rest at is_cut.
           of_two (λ (l : Line State). l.mark ≡ cut rest → 1 ≤ l.cost + rest) first second line at (λ none. absurd (cc)) (λ is. let same : 0 ≡ rest = cc in omega (arith, same)) is_cut;
@@ -337,16 +337,16 @@ are_judged = record {
     landmarks_are_over_atoms = refl;
     landmarks_are_fair = record { values = λ k h within. absurd (omega (arith, within)); dead_ends = λ k n within. absurd (omega (arith, within)) };
     lines_are_supported =
-        let P = IsSupportedLine tie_task (claims (bound 1) (tied ∷ []) start_open) in
-        All-cons P (open_at 0 []) (cut_at 1 0 (0 ∷ []) ∷ []) tt (All-cons P (cut_at 1 0 (0 ∷ [])) [] (omega arith) (All-nil P));
+        let P = IsSupportedLine tie_task (claims (bound 1) (tied ∷ []) start_expanded) in
+        All-cons P (expanded_at 0 []) (cut_at 1 0 (0 ∷ []) ∷ []) tt (All-cons P (cut_at 1 0 (0 ∷ [])) [] (omega arith) (All-nil P));
   };
   cut_claims_too_little = (cut_at 1 0 (0 ∷ []), of_all, 0, (1, refl, refl), refl, inr (λ h. absurd (omega (arith, h))));
-  open_goal = (line_of (open_at 1 (0 ∷ [])), (1, refl, refl), refl, contains-from_list atoms_total (tied ∷ linked ∷ []) tied, λ h. absurd (omega (arith, h)));
+  open_goal = (line_of (expanded_at 1 (0 ∷ [])), (1, refl, refl), refl, contains-from_list atoms_total (tied ∷ linked ∷ []) tied, λ h. absurd (omega (arith, h)));
   cut_by_its_bound = (cut_at 1 1 (0 ∷ []), of_all, 1, (1, refl, refl), refl, inl (let none = end_value in omega (arith, none)));
   cut_without_bound = (line_of (cut_at 1 0 (0 ∷ [])), 0, (1, refl, refl), refl, refl);
-  missing = (line_of (open_at 0 []), the_instance, after_it, ((0, refl, refl), refl, leads_on), λ listed. apart (one_line listed.0 listed.1 listed.2 ∙ sym same_end));
+  missing = (line_of (expanded_at 0 []), the_instance, after_it, ((0, refl, refl), refl, leads_on), λ listed. apart (one_line listed.0 listed.1 listed.2 ∙ sym same_end));
   dear_start = λ listed.
-      of_two (λ (l : Line State). l.cost ≤ 0 → ⊥) (line_of (open_at 1 [])) second listed.0 listed.1 (λ h. absurd (omega (arith, h))) (λ h. absurd (omega (arith, h))) listed.3;
+      of_two (λ (l : Line State). l.cost ≤ 0 → ⊥) (line_of (expanded_at 1 [])) second listed.0 listed.1 (λ h. absurd (omega (arith, h))) (λ h. absurd (omega (arith, h))) listed.3;
   cut_by_value = cut_closed;
   claims_above_value = (cut_at 0 1 [], of_all, 1, (0, refl, refl), refl, inr (λ h. absurd (omega (arith, h))));
   cut_above_value = (cut_at 0 2 [], of_all, 2, (0, refl, refl), refl, inl (let one = start_value in omega (arith, one)));
@@ -354,7 +354,7 @@ are_judged = record {
   left_at_goal = one_left;
   static_atom = (linked, (0, refl, refl), refl);
   atom_twice = inl (tied, 4, omega arith, (0, refl, refl), (1, refl, refl));
-  state_twice = inr (line_of (open_at 0 []), line_of (cut_at 0 0 []), 5, omega arith, (0, refl, refl), (1, refl, refl), refl);
+  state_twice = inr (line_of (expanded_at 0 []), line_of (cut_at 0 0 []), 5, omega arith, (0, refl, refl), (1, refl, refl), refl);
   numbers_rise = refl;
   weights_are_limited = refl;
   least_weight = refl;

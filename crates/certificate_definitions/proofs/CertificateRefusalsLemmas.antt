@@ -116,7 +116,7 @@ module _ (task : Task) (c : Certificate) (closed : IsClosedFor task c) where
   right_line repeated line (inr (earlier, l, before, lt, (j, reported_j, at_j), (k, reported_k, at_k), same)) =
       apart (λ (k l : Line State). k.state ≢ l.state) listed j k earlier l closed.states_are_distinct (omega arith) at_j at_k same
   right_line goal_open line (l, (place, reported, at), is_open, goal, denied) =
-      denied (closed.listing_is_closed.open_goals_allowed l (Contains-got listed place l at) is_open goal)
+      denied (closed.listing_is_closed.expanded_goals_allowed l (Contains-got listed place l at) is_open goal)
   right_line successor_missing line (l, i, next, ((place, reported, at), is_open, leads), missing) =
       let there = closed.listing_is_closed.successors_listed l i next (Contains-got listed place l at) is_open leads in
       missing (there.0, there.1, there.2)

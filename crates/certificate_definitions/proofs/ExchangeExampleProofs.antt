@@ -11,7 +11,7 @@ use Rattle.model.specs.Meaning.{State, atom_cmp, fits, step, changes_of, meets_g
 use Rattle.model.specs.WellTyped.{is_atom}
 use Rattle.model.specs.Fluents.{is_fluent}
 use Rattle.model.specs.NumberedAtoms.{numbered_atoms}
-use Rattle.model.specs.Claims.{Claim, bound, Allows, opened, cut, Line, IsListedWithin, IsClosed}
+use Rattle.model.specs.Claims.{Claim, bound, Allows, expanded, cut, Line, IsListedWithin, IsClosed}
 use Rattle.model.proofs.Atoms.{atoms_total, same_state}
 use Rattle.model.proofs.GroundingComputes.{numbered-is}
 use Rattle.model.proofs.InstancesLemmas.{is_instance-of_step, Contains-all_instances}
@@ -31,7 +31,7 @@ use Rattle.lower_bounds.specs.TableLaws.{without_tables}
 use Rattle.lower_bounds.proofs.WithoutTables.{potentials_are_table_functions}
 use Rattle.landmark_functions.specs.FairLandmarks.{IsDeadFair}
 use Rattle.certificate_definitions.specs.Certificates.{Certificate, StateLine, dead_by, landmark_function, lines_of, is_symmetry_for, AreAlikeFor, state_of_line, IsSupported, IsClosedFor}
-use Rattle.certificate_definitions.specs.CertificateExamples.{open_at, cut_at, zeros}
+use Rattle.certificate_definitions.specs.CertificateExamples.{expanded_at, cut_at, zeros}
 use Rattle.certificate_definitions.specs.ExchangeExamples.{lit, light, lamps, dark, second_lit, lamp_atoms, by_exchange, one_of_two, dearer_first, AreExchangesJudged}
 
 -- ---- states and steps
@@ -114,8 +114,8 @@ abbrev IsSupportedLine : Task → Certificate → StateLine → Type 0
 IsSupportedLine task c l = IsSupported task c (state_of_line task c l) l.mark
 
 record IsRight (task : Task) (c : Certificate) (l : Line State) : Type 0 where
-  successors : (a : Instance) (next : State) → l.mark ≡ opened → step task l.state a ≡ Some next → IsListedWithin (AreAlikeFor task c) (lines_of task c) next (l.cost + cost_of task a)
-  goal : l.mark ≡ opened → IsTrue (meets_goal task l.state) → Allows c.claim l.cost
+  successors : (a : Instance) (next : State) → l.mark ≡ expanded → step task l.state a ≡ Some next → IsListedWithin (AreAlikeFor task c) (lines_of task c) next (l.cost + cost_of task a)
+  goal : l.mark ≡ expanded → IsTrue (meets_goal task l.state) → Allows c.claim l.cost
   cuts : (rest : ℕ) → l.mark ≡ cut rest → Allows c.claim (l.cost + rest)
 
 closed_by : (task : Task) (c : Certificate) → IsListedWithin (AreAlikeFor task c) (lines_of task c) (system_of task).initial 0 → IsEach (IsRight task c) (lines_of task c)
@@ -125,7 +125,7 @@ closed_by task c initial right =
     record {
       initial_listed = initial;
       successors_listed = λ line a next listed is_open leads. (at line listed).successors a next is_open leads;
-      open_goals_allowed = λ line listed. (at line listed).goal;
+      expanded_goals_allowed = λ line listed. (at line listed).goal;
       cuts_allowed = λ line rest listed. (at line listed).cuts rest;
     }
 
@@ -141,7 +141,7 @@ cut_right task c s least cost claims enough = record {
 
 -- the dark state is open, at cost 0
 dark_right : (c : Certificate) → IsListedWithin (AreAlikeFor dark c) (lines_of dark c) (state (lit 0 ∷ [])) 1 → IsListedWithin (AreAlikeFor dark c) (lines_of dark c) (state (lit 1 ∷ [])) 1
-    → IsRight dark c (record { state = state []; cost = 0; mark = opened })
+    → IsRight dark c (record { state = state []; cost = 0; mark = expanded })
 dark_right c first second = record {
   successors = λ a next is_open leads. each_lit (λ s. IsListedWithin (AreAlikeFor dark c) (lines_of dark c) s 1) first second a next leads;
   goal = λ is_open met. absurd (true≢false (sym met ∙ dark_misses));
@@ -208,7 +208,7 @@ abbrev Differ : Line State → Line State → Type 0
 Differ k l = k.state ≢ l.state
 
 abbrev opened_dark : Line State
-opened_dark = record { state = state []; cost = 0; mark = opened }
+opened_dark = record { state = state []; cost = 0; mark = expanded }
 
 abbrev cut_lit : ℕ → ℕ → Line State
 cut_lit lamp cost = record { state = state (lit lamp ∷ []); cost = cost; mark = cut 0 }
@@ -300,4 +300,4 @@ are_exchanges_judged = record {
 }
   where
     both_at_2 : List StateLine
-    both_at_2 = open_at 0 [] ∷ cut_at 2 0 (0 ∷ []) ∷ cut_at 2 0 (1 ∷ []) ∷ []
+    both_at_2 = expanded_at 0 [] ∷ cut_at 2 0 (0 ∷ []) ∷ cut_at 2 0 (1 ∷ []) ∷ []

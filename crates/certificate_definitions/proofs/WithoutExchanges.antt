@@ -21,7 +21,7 @@ pub closed_wider : {S A : Type 0} (t : System S A) (alike wider : S → S → Ty
 closed_wider {S} t alike wider widens claim lines closed = record {
   initial_listed = listed t.initial 0 closed.initial_listed;
   successors_listed = λ line a next among is_open leads. listed next (line.cost + t.cost a) (closed.successors_listed line a next among is_open leads);
-  open_goals_allowed = closed.open_goals_allowed;
+  expanded_goals_allowed = closed.expanded_goals_allowed;
   cuts_allowed = closed.cuts_allowed;
 }
   where

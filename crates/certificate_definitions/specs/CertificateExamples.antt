@@ -4,7 +4,7 @@ use Rattle.std.specs.Prelude.{◌≡◌, ℕ, ℤ, pos, negsuc, true, false, Lis
 use Rattle.model.specs.Task.{Atom}
 use Rattle.model.specs.Examples.{ground, tie_task}
 use Rattle.model.specs.Claims.{Claim, bound, none}
-use Rattle.certificate_definitions.specs.Evidence.{of_all, opened, cut, dead}
+use Rattle.certificate_definitions.specs.Evidence.{of_all, expanded, cut, dead}
 use Rattle.model.specs.Fluents.{is_fluent, static_atoms}
 use Rattle.lower_bounds.specs.PotentialFunctions.{PotentialFunction}
 use Rattle.lower_bounds.specs.PotentialExamples.{token_task, token_atoms, potentials, minus}
@@ -14,8 +14,8 @@ use Rattle.certificate_definitions.specs.CertificateRefusals.{IsWrongAt, IsWrong
 use Rattle.symmetries_definitions.specs.Exchanges.{Exchange}
 use Rattle.symmetries_definitions.specs.SymmetryExamples.{swapping, gripper}
 
-abbrev pub open_at : ℕ → List ℕ → StateLine
-open_at cost atoms = record { cost = cost; mark = opened; atoms = atoms }
+abbrev pub expanded_at : ℕ → List ℕ → StateLine
+expanded_at cost atoms = record { cost = cost; mark = expanded; atoms = atoms }
 
 abbrev pub cut_at : ℕ → ℕ → List ℕ → StateLine
 cut_at cost rest atoms = record { cost = cost; mark = cut of_all rest; atoms = atoms }
@@ -48,8 +48,8 @@ abbrev pub weighs : Claim → (constant weight : ℤ) → List StateLine → Cer
 weighs claim constant weight lines = first_version claim (tied ∷ []) (potentials constant (weight ∷ [])) lines
 
 -- the initial state is open, and the state after the instance is a cut
-abbrev pub start_open : List StateLine
-start_open = open_at 0 [] ∷ cut_at 1 0 (0 ∷ []) ∷ []
+abbrev pub start_expanded : List StateLine
+start_expanded = expanded_at 0 [] ∷ cut_at 1 0 (0 ∷ []) ∷ []
 
 -- In the task `token`, whose token is at x or at y, the goal is that it is at both. The single line lists the initial state as a
 -- dead end: the token is missing at one of the two, and no step changes that. The arguments are the constant and the weight of
@@ -85,7 +85,7 @@ token_tables = record {
   dead_ends = zeros token_atoms;
   tables = table_over 0 ∷ table_over 1 ∷ [];
   landmarks = no_landmarks;
-  lines = open_at 0 (0 ∷ []) ∷ [];
+  lines = expanded_at 0 (0 ∷ []) ∷ [];
 }
 
 -- Version 3 with these exchanges: for the task `gripper`, whose objects 2 and 3 are balls, 4 and 5 grippers, 0 and 1 rooms, the
@@ -112,16 +112,16 @@ pub record AreJudged : Type 0 where
   pub tied_is_fluent : is_fluent tie_task 1 ≡ true
   pub static_at_start : static_atoms tie_task ≡ linked ∷ []
   -- No plan costs less than 1: a cut's bound covers everything that follows the state.
-  pub closed : IsClosedFor tie_task (claims (bound 1) (tied ∷ []) start_open)
+  pub closed : IsClosedFor tie_task (claims (bound 1) (tied ∷ []) start_expanded)
   -- The claim that none costs less than 2 is too strong, for a cut and for an open line.
-  pub cut_claims_too_little : IsWrongAt tie_task (claims (bound 2) (tied ∷ []) start_open) cut_weak 6
-  pub open_goal : IsWrongAt tie_task (claims (bound 2) (tied ∷ []) (open_at 0 [] ∷ open_at 1 (0 ∷ []) ∷ [])) goal_open 6
+  pub cut_claims_too_little : IsWrongAt tie_task (claims (bound 2) (tied ∷ []) start_expanded) cut_weak 6
+  pub open_goal : IsWrongAt tie_task (claims (bound 2) (tied ∷ []) (expanded_at 0 [] ∷ expanded_at 1 (0 ∷ []) ∷ [])) goal_open 6
   -- A cut's own bound is not trusted, and no cut is allowed under the claim that there is no plan.
-  pub cut_by_its_bound : IsWrongAt tie_task (claims (bound 2) (tied ∷ []) (open_at 0 [] ∷ cut_at 1 1 (0 ∷ []) ∷ [])) cut_weak 6
-  pub cut_without_bound : IsWrongAt tie_task (claims none (tied ∷ []) start_open) cut_not_allowed 6
+  pub cut_by_its_bound : IsWrongAt tie_task (claims (bound 2) (tied ∷ []) (expanded_at 0 [] ∷ cut_at 1 1 (0 ∷ []) ∷ [])) cut_weak 6
+  pub cut_without_bound : IsWrongAt tie_task (claims none (tied ∷ []) start_expanded) cut_not_allowed 6
   -- An open line's successors must be listed, and the initial state at cost 0.
-  pub missing : IsWrongAt tie_task (claims (bound 1) (tied ∷ []) (open_at 0 [] ∷ [])) successor_missing 5
-  pub dear_start : IsWrong tie_task (claims (bound 1) (tied ∷ []) (open_at 1 [] ∷ cut_at 1 0 (0 ∷ []) ∷ [])) None 1 no_initial
+  pub missing : IsWrongAt tie_task (claims (bound 1) (tied ∷ []) (expanded_at 0 [] ∷ [])) successor_missing 5
+  pub dear_start : IsWrong tie_task (claims (bound 1) (tied ∷ []) (expanded_at 1 [] ∷ cut_at 1 0 (0 ∷ []) ∷ [])) None 1 no_initial
   -- The values of a potential function are lower bounds of the remaining cost: if the weight of `tied` is the cost of the
   -- instance, the initial state alone, as a cut, shows that no plan costs less than 1. It does not show that none costs less than
   -- 2, nor allow a bound above its value.
@@ -132,10 +132,10 @@ pub record AreJudged : Type 0 where
   pub worth_more : IsWrongAt tie_task (weighs (bound 1) (pos 2) (negsuc 1) (cut_at 0 1 [] ∷ [])) unfair 0
   pub left_at_goal : IsWrongAt tie_task (weighs (bound 1) (pos 2) (negsuc 0) (cut_at 0 1 [] ∷ [])) unfair_goal 0
   -- Atoms are fluent and distinct; the numbers in a line ascend; there is a weight for each atom, within the limits.
-  pub static_atom : IsWrongAt tie_task (claims (bound 1) (linked ∷ tied ∷ []) start_open) not_fluent 4
-  pub atom_twice : IsWrongAt tie_task (claims (bound 1) (tied ∷ tied ∷ []) start_open) repeated 5
-  pub state_twice : IsWrongAt tie_task (claims (bound 1) (tied ∷ []) (open_at 0 [] ∷ cut_at 0 0 [] ∷ [])) repeated 6
-  pub numbers_rise : keeps_limits (claims (bound 1) (tied ∷ []) (open_at 0 (0 ∷ 0 ∷ []) ∷ [])) ≡ false
+  pub static_atom : IsWrongAt tie_task (claims (bound 1) (linked ∷ tied ∷ []) start_expanded) not_fluent 4
+  pub atom_twice : IsWrongAt tie_task (claims (bound 1) (tied ∷ tied ∷ []) start_expanded) repeated 5
+  pub state_twice : IsWrongAt tie_task (claims (bound 1) (tied ∷ []) (expanded_at 0 [] ∷ cut_at 0 0 [] ∷ [])) repeated 6
+  pub numbers_rise : keeps_limits (claims (bound 1) (tied ∷ []) (expanded_at 0 (0 ∷ 0 ∷ []) ∷ [])) ≡ false
   pub weights_are_limited : keeps_limits (weighs (bound 1) (pos 0) (pos 2147483648) []) ≡ false
   pub least_weight : keeps_limits (weighs (bound 1) (pos 2147483647) (negsuc 2147483646) []) ≡ true
   pub weight_missing : keeps_limits (first_version (bound 1) (tied ∷ []) (potentials (pos 0) []) []) ≡ false

@@ -8,7 +8,7 @@ use Rattle.model.specs.Limits.{max_numbered_atoms}
 use Rattle.model.specs.StaticallyFalse.{kept_instances}
 use Rattle.model.specs.NumberedAtoms.{numbered_atoms}
 use Rattle.model.specs.Grounding.{exceeded_limit}
-use Rattle.model.specs.Claims.{Claim, bound, none, Allows, opened, cut, Line, IsListedWithin}
+use Rattle.model.specs.Claims.{Claim, bound, none, Allows, expanded, cut, Line, IsListedWithin}
 use Rattle.lower_bounds.specs.PotentialFunctions.{PotentialFunction}
 use Rattle.lower_bounds.specs.FairPotentials.{IsFairAt, IsFairAtGoals}
 use Rattle.lower_bounds.specs.TableFunctions.{TableFunction, functions_of, dead_ends_of}
@@ -87,9 +87,9 @@ abbrev pub IsRepeatedState : Task → Certificate → ℕ → Type 0
 IsRepeatedState task c line =
     (earlier l : Line State) × (before : ℕ) × (before < line) × HasState task c before earlier × HasState task c line l × (earlier.state ≡ l.state)
 
--- this line lists an open state, from which this instance leads to that state
+-- this line lists an expanded state, from which this instance leads to that state
 abbrev pub LeadsFrom : Task → Certificate → ℕ → Line State → Instance → State → Type 0
-LeadsFrom task c line l i next = HasState task c line l × (l.mark ≡ opened) × ((system_of task).step l.state i ≡ Some next)
+LeadsFrom task c line l i next = HasState task c line l × (l.mark ≡ expanded) × ((system_of task).step l.state i ≡ Some next)
 
 -- ---- values that are not fair
 
@@ -141,12 +141,12 @@ IsWrongAt task c not_fluent line = (a : Atom) × HasAtom c line a × ((is_atom t
 IsWrongAt task c not_symmetry line = (e : Exchange) × HasExchange c line e × (is_symmetry_for task c e ≡ false)
 -- its atom, or its state, occurs in an earlier line
 IsWrongAt task c repeated line = IsRepeatedAtom c line ⊎ IsRepeatedState task c line
--- its open state satisfies the goal, at a cost that the claim does not allow
-IsWrongAt task c goal_open line = (l : Line State) × HasState task c line l × (l.mark ≡ opened) × IsTrue (meets_goal task l.state) × ¬ Allows c.claim l.cost
--- an instance leads from its open state to a state whose class is not listed
+-- its expanded state satisfies the goal, at a cost that the claim does not allow
+IsWrongAt task c goal_open line = (l : Line State) × HasState task c line l × (l.mark ≡ expanded) × IsTrue (meets_goal task l.state) × ¬ Allows c.claim l.cost
+-- an instance leads from its expanded state to a state whose class is not listed
 IsWrongAt task c successor_missing line =
     (l : Line State) × (i : Instance) × (next : State) × LeadsFrom task c line l i next × ¬ IsListed (AreAlikeFor task c) (lines_of task c) next
--- an instance leads from its open state to a state whose class is listed, but not at a cost as low as the open state's plus the
+-- an instance leads from its expanded state to a state whose class is listed, but not at a cost as low as the expanded state's plus the
 -- instance's
 IsWrongAt task c successor_dearer line =
     (l : Line State) × (i : Instance) × (next : State) × LeadsFrom task c line l i next × IsListed (AreAlikeFor task c) (lines_of task c) next

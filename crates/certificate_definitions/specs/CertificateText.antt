@@ -4,7 +4,7 @@ use Rattle.std.specs.Prelude.{◌≡◌, ◌≢◌, ℕ, ◌+◌, ◌<◌, ◌�
 use Rattle.std.specs.Fmt.{decimal}
 use Rattle.std.specs.List.{flat_map, list_all, list_any}
 use Rattle.model.specs.Claims.{Claim, bound, none}
-use Rattle.certificate_definitions.specs.Evidence.{of_all, landmark, LineMark, opened, cut, dead}
+use Rattle.certificate_definitions.specs.Evidence.{of_all, landmark, LineMark, expanded, cut, dead}
 use Rattle.landmark_functions.specs.LandmarkLines.{cut_by_text, dead_by_text}
 use Rattle.certificate_definitions.specs.Certificates.{Version, one, two, three, four, StateLine, has_basis, is_number, is_weight, is_claim, is_state_line, are_weights, has_exchanges}
 pub use Rattle.certificate_definitions.specs.Parts.{longest_line, after_blank, weights_text, numbers_text, Format, TableLine, scope, row, Part, tabled, landmark_line, part_text, is_part, PartCounts, no_parts, counts_after, may_follow, has_room, are_in_order}
@@ -56,7 +56,7 @@ version_number four = 4
 
 -- a state's role, the number of the landmark value that it rests on, if any, its cost, and for a cut the lower bound of the remaining cost
 abbrev pub mark_text : LineMark → ℕ → List ℕ
-mark_text opened cost = codes "open " ++ decimal cost
+mark_text expanded cost = codes "open " ++ decimal cost
 mark_text (cut of_all rest) cost = codes "cut " ++ decimal cost ++ after_blank (decimal rest)
 mark_text (cut (landmark number) rest) cost = cut_by_text number cost rest
 mark_text (dead of_all) cost = codes "dead " ++ decimal cost

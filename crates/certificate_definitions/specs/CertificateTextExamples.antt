@@ -11,7 +11,7 @@ use Rattle.certificate_definitions.specs.CertificateText.{WeightedAtom, scope, r
 use Rattle.certificate_definitions.specs.CertificateMachine.{CertificatePlace, in_body, ended, place_from, place_after}
 use Rattle.certificate_definitions.specs.CertificateNames.{parts_of, values_said, dead_ends_said, exchange_said, named_exchange}
 use Rattle.certificate_definitions.specs.CertificateChecking.{IsWrongAfter}
-use Rattle.certificate_definitions.specs.CertificateExamples.{open_at, linked, tied}
+use Rattle.certificate_definitions.specs.CertificateExamples.{expanded_at, linked, tied}
 use Rattle.symmetries_definitions.specs.SymmetryExamples.{gripper}
 
 abbrev pub weighs : List ℤ → (name : List ℕ) → WeightedAtom
@@ -33,7 +33,7 @@ abbrev pub table_lines_of_both : List TextLine
 table_lines_of_both = part (tabled (scope (0 ∷ 1 ∷ []))) ∷ row_line zeros [] ∷ row_line (minus 2 ∷ pos 0 ∷ pos 1 ∷ []) (0 ∷ 1 ∷ []) ∷ []
 
 abbrev pub last_lines : List TextLine
-last_lines = listed (open_at 0 []) ∷ last 1 ∷ []
+last_lines = listed (expanded_at 0 []) ∷ last 1 ∷ []
 
 -- a certificate with one table over both atoms, which has a row with these weights and atoms
 abbrev pub with_row : Version → List ℤ → List ℕ → Certificate
@@ -54,12 +54,12 @@ abbrev pub said_of : Version → (constants weights : List ℤ) → NamedCertifi
 said_of v constants weights = record { version = v; claim = bound 0; constants = constants; swaps = []; atoms = weighs weights (codes "p") ∷ []; parts = []; lines = [] }
 
 -- the state after these lines, in a text of this version with this many constants, after two atoms
-abbrev pub behind_atoms : Version → ℕ → List TextLine → Option CertificatePlace
-behind_atoms v weights = place_from (in_body (record { format = record { version = v; weights = weights; atoms = 2 }; swaps = 0; parts = no_parts; states = 0 }))
+abbrev pub after_atoms : Version → ℕ → List TextLine → Option CertificatePlace
+after_atoms v weights = place_from (in_body (record { format = record { version = v; weights = weights; atoms = 2 }; swaps = 0; parts = no_parts; states = 0 }))
 
 -- the state after these lines, in a text of this version, after its constants
-abbrev pub behind_constants : Version → List TextLine → Option CertificatePlace
-behind_constants v = place_from (in_body (record { format = record { version = v; weights = 2; atoms = 0 }; swaps = 0; parts = no_parts; states = 0 }))
+abbrev pub after_constants : Version → List TextLine → Option CertificatePlace
+after_constants v = place_from (in_body (record { format = record { version = v; weights = 2; atoms = 0 }; swaps = 0; parts = no_parts; states = 0 }))
 
 -- a zone with the first atom, a landmark value over the zone with this number, and a state that is not expanded by the value with this
 -- number: its cost is 3, and the bound 2
@@ -88,33 +88,33 @@ with_cut_by v number = record {
 
 pub record AreTextsJudged : Type 0 where
   -- Atoms come before tables, each table before its rows, and all of them before states.
-  pub whole : behind_atoms three 3 (table_lines_of_both ++ last_lines) ≡ Some ended
-  pub without_tables : behind_atoms three 3 (last_lines) ≡ Some ended
-  pub row_first : behind_atoms three 3 (row_line zeros [] ∷ []) ≡ None
-  pub atom_behind_a_table : behind_atoms three 3 (table_lines_of_both ++ atom (weighs zeros (codes "r")) ∷ []) ≡ None
-  pub row_behind_a_state : behind_atoms three 3 (table_lines_of_both ++ listed (open_at 0 []) ∷ row_line zeros (0 ∷ []) ∷ []) ≡ None
-  pub table_behind_a_state : behind_atoms three 3 (listed (open_at 0 []) ∷ part (tabled (scope (0 ∷ []))) ∷ []) ≡ None
+  pub whole : after_atoms three 3 (table_lines_of_both ++ last_lines) ≡ Some ended
+  pub without_tables : after_atoms three 3 (last_lines) ≡ Some ended
+  pub row_first : after_atoms three 3 (row_line zeros [] ∷ []) ≡ None
+  pub atom_behind_a_table : after_atoms three 3 (table_lines_of_both ++ atom (weighs zeros (codes "r")) ∷ []) ≡ None
+  pub row_behind_a_state : after_atoms three 3 (table_lines_of_both ++ listed (expanded_at 0 []) ∷ row_line zeros (0 ∷ []) ∷ []) ≡ None
+  pub table_behind_a_state : after_atoms three 3 (listed (expanded_at 0 []) ∷ part (tabled (scope (0 ∷ []))) ∷ []) ≡ None
   -- A scope has at least one atom, and its numbers ascend and are those of atoms; the same holds for a row, which has one weight
   -- for each constant.
-  pub empty_scope : behind_atoms three 3 (part (tabled (scope [])) ∷ []) ≡ None
-  pub numbers_rise : behind_atoms three 3 (part (tabled (scope (1 ∷ 0 ∷ []))) ∷ []) ≡ None
-  pub another_number : behind_atoms three 3 (part (tabled (scope (2 ∷ []))) ∷ []) ≡ None
-  pub weight_missing : behind_atoms three 3 (part (tabled (scope (0 ∷ []))) ∷ row_line (pos 0 ∷ pos 0 ∷ []) [] ∷ []) ≡ None
+  pub empty_scope : after_atoms three 3 (part (tabled (scope [])) ∷ []) ≡ None
+  pub numbers_rise : after_atoms three 3 (part (tabled (scope (1 ∷ 0 ∷ []))) ∷ []) ≡ None
+  pub another_number : after_atoms three 3 (part (tabled (scope (2 ∷ []))) ∷ []) ≡ None
+  pub weight_missing : after_atoms three 3 (part (tabled (scope (0 ∷ []))) ∷ row_line (pos 0 ∷ pos 0 ∷ []) [] ∷ []) ≡ None
   -- Version 3 has at least two constants, and version 2 exactly two; versions 1 and 2 have no tables.
   pub one_constant : place_after (version three ∷ claims (bound 2) ∷ constant (pos 2 ∷ []) ∷ []) ≡ None
   pub three_in_version_2 : place_after (version two ∷ claims (bound 2) ∷ constant zeros ∷ []) ≡ None
-  pub table_in_version_2 : behind_atoms two 2 (part (tabled (scope (0 ∷ []))) ∷ []) ≡ None
+  pub table_in_version_2 : after_atoms two 2 (part (tabled (scope (0 ∷ []))) ∷ []) ≡ None
   -- Exchanges come right after the constants.
-  pub exchanges : behind_constants three (swapped (codes "a" ∷ codes "b" ∷ []) ∷ swapped (codes "b" ∷ codes "c" ∷ codes "d" ∷ codes "a" ∷ []) ∷ last_lines) ≡ Some ended
-  pub exchange_behind_atoms : behind_atoms three 2 (swapped (codes "a" ∷ codes "b" ∷ []) ∷ []) ≡ None
-  pub exchange_behind_a_state : behind_constants three (listed (open_at 0 []) ∷ swapped (codes "a" ∷ codes "b" ∷ []) ∷ []) ≡ None
-  pub exchange_in_version_1 : behind_constants one (swapped (codes "a" ∷ codes "b" ∷ []) ∷ []) ≡ None
-  pub exchange_in_version_2 : behind_constants two (swapped (codes "a" ∷ codes "b" ∷ []) ∷ []) ≡ None
+  pub exchanges : after_constants three (swapped (codes "a" ∷ codes "b" ∷ []) ∷ swapped (codes "b" ∷ codes "c" ∷ codes "d" ∷ codes "a" ∷ []) ∷ last_lines) ≡ Some ended
+  pub exchange_behind_atoms : after_atoms three 2 (swapped (codes "a" ∷ codes "b" ∷ []) ∷ []) ≡ None
+  pub exchange_behind_a_state : after_constants three (listed (expanded_at 0 []) ∷ swapped (codes "a" ∷ codes "b" ∷ []) ∷ []) ≡ None
+  pub exchange_in_version_1 : after_constants one (swapped (codes "a" ∷ codes "b" ∷ []) ∷ []) ≡ None
+  pub exchange_in_version_2 : after_constants two (swapped (codes "a" ∷ codes "b" ∷ []) ∷ []) ≡ None
   -- The names of an exchange are at least two, even in number, and all different.
-  pub no_names : behind_constants three (swapped [] ∷ []) ≡ None
-  pub one_left_over : behind_constants three (swapped (codes "a" ∷ codes "b" ∷ codes "c" ∷ []) ∷ []) ≡ None
-  pub name_twice : behind_constants three (swapped (codes "a" ∷ codes "b" ∷ codes "c" ∷ codes "a" ∷ []) ∷ []) ≡ None
-  pub capital_letter : behind_constants three (swapped (codes "a" ∷ codes "B" ∷ []) ∷ []) ≡ None
+  pub no_names : after_constants three (swapped [] ∷ []) ≡ None
+  pub one_left_over : after_constants three (swapped (codes "a" ∷ codes "b" ∷ codes "c" ∷ []) ∷ []) ≡ None
+  pub name_twice : after_constants three (swapped (codes "a" ∷ codes "b" ∷ codes "c" ∷ codes "a" ∷ []) ∷ []) ≡ None
+  pub capital_letter : after_constants three (swapped (codes "a" ∷ codes "B" ∷ []) ∷ []) ≡ None
   -- An unknown name gives a number that is no object's.
   pub exchange_of_balls : exchange_said gripper (codes "ball2" ∷ codes "ball1" ∷ codes "left" ∷ codes "right" ∷ []) ≡ (3, 2) ∷ (4, 5) ∷ []
   pub exchange_of_none : exchange_said gripper (codes "ball1" ∷ codes "ball3" ∷ []) ≡ (2, 6) ∷ []
@@ -134,15 +134,15 @@ pub record AreTextsJudged : Type 0 where
   pub row_of_another_scope : IsWrongAfter tie_task (first_lines ++ part (tabled (scope (1 ∷ []))) ∷ part (tabled (scope (0 ∷ []))) ∷ []) (row_line zeros (1 ∷ [])) 40
   pub row_twice : IsWrongAfter tie_task (first_lines ++ table_lines_of_both) (row_line zeros (0 ∷ 1 ∷ [])) 44
   -- Version 4: zones come after tables and before landmark values, and a value's zones, as the value of a line, before it.
-  pub landmarks : behind_atoms four 3 (table_lines_of_both ++ zone_line ∷ marks_line 0 ∷ marks_line 0 ∷ listed (cut_by 1) ∷ last 1 ∷ []) ≡ Some ended
-  pub table_behind_a_zone : behind_atoms four 3 (zone_line ∷ part (tabled (scope (0 ∷ []))) ∷ []) ≡ None
-  pub row_behind_a_zone : behind_atoms four 3 (part (tabled (scope (0 ∷ []))) ∷ zone_line ∷ row_line zeros [] ∷ []) ≡ None
-  pub zone_behind_a_value : behind_atoms four 3 (zone_line ∷ marks_line 0 ∷ zone_line ∷ []) ≡ None
-  pub value_without_its_zone : behind_atoms four 3 (zone_line ∷ marks_line 1 ∷ []) ≡ None
-  pub atom_behind_a_zone : behind_atoms four 3 (zone_line ∷ atom (weighs zeros (codes "r")) ∷ []) ≡ None
-  pub cut_by_no_value : behind_atoms four 3 (zone_line ∷ marks_line 0 ∷ listed (cut_by 1) ∷ []) ≡ None
-  pub zone_in_version_3 : behind_atoms three 3 (zone_line ∷ []) ≡ None
-  pub cut_by_in_version_3 : behind_atoms three 3 (listed (cut_by 0) ∷ []) ≡ None
+  pub landmarks : after_atoms four 3 (table_lines_of_both ++ zone_line ∷ marks_line 0 ∷ marks_line 0 ∷ listed (cut_by 1) ∷ last 1 ∷ []) ≡ Some ended
+  pub table_behind_a_zone : after_atoms four 3 (zone_line ∷ part (tabled (scope (0 ∷ []))) ∷ []) ≡ None
+  pub row_behind_a_zone : after_atoms four 3 (part (tabled (scope (0 ∷ []))) ∷ zone_line ∷ row_line zeros [] ∷ []) ≡ None
+  pub zone_behind_a_value : after_atoms four 3 (zone_line ∷ marks_line 0 ∷ zone_line ∷ []) ≡ None
+  pub value_without_its_zone : after_atoms four 3 (zone_line ∷ marks_line 1 ∷ []) ≡ None
+  pub atom_behind_a_zone : after_atoms four 3 (zone_line ∷ atom (weighs zeros (codes "r")) ∷ []) ≡ None
+  pub cut_by_no_value : after_atoms four 3 (zone_line ∷ marks_line 0 ∷ listed (cut_by 1) ∷ []) ≡ None
+  pub zone_in_version_3 : after_atoms three 3 (zone_line ∷ []) ≡ None
+  pub cut_by_in_version_3 : after_atoms three 3 (listed (cut_by 0) ∷ []) ≡ None
   pub cut_by_of_version_4 : keeps_limits (with_cut_by four 0) ≡ true
   pub cut_by_of_another_value : keeps_limits (with_cut_by four 1) ≡ false
   pub cut_by_of_version_3 : keeps_limits (with_cut_by three 0) ≡ false

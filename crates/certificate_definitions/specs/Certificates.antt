@@ -14,7 +14,7 @@ use Rattle.lower_bounds.specs.TableFunctions as tables
 use Rattle.lower_bounds.specs.TableFunctions.{Row, Table, SeveralValues, functions_of, dead_ends_of, greatest_of_state, is_among}
 use Rattle.lower_bounds.specs.FairTables as fair_tables
 use Rattle.symmetries_definitions.specs.Exchanges.{Exchange}
-use Rattle.certificate_definitions.specs.Evidence.{Basis, of_all, landmark, LineMark, opened, cut, dead, bare}
+use Rattle.certificate_definitions.specs.Evidence.{Basis, of_all, landmark, LineMark, expanded, cut, dead, bare}
 use Rattle.landmark_functions.specs.LandmarkFunctions as landmarks
 use Rattle.landmark_functions.specs.LandmarkFunctions.{LandmarkFunction}
 use Rattle.landmark_functions.specs.LandmarkLines.{NumberedLandmarks, functions_of as landmark_functions, keep_limits, most_values}
@@ -92,7 +92,7 @@ is_basis version (landmark number) = has_landmarks version && nat_lt number most
 
 -- version 1 has no dead ends
 abbrev pub is_mark : Version → LineMark → Bool
-is_mark version opened = true
+is_mark version expanded = true
 is_mark version (cut basis rest) = is_basis version basis && is_number rest
 is_mark one (dead basis) = false
 is_mark two (dead basis) = is_basis two basis
@@ -101,7 +101,7 @@ is_mark four (dead basis) = is_basis four basis
 
 -- of this many landmark values, there is the one that the line rests on
 abbrev pub has_basis : ℕ → LineMark → Bool
-has_basis count opened = true
+has_basis count expanded = true
 has_basis count (cut of_all rest) = true
 has_basis count (cut (landmark number) rest) = nat_lt number count
 has_basis count (dead of_all) = true
@@ -244,7 +244,7 @@ is_dead_end_by task c (landmark number) = λ state. nat_le 1 (landmarks.value_of
 -- what the mark says of the state rests on its basis: what is told to be still to pay from a cut is at most the value of the state, and a
 -- dead end is shown to be one
 abbrev pub IsSupported : Task → Certificate → State → LineMark → Type 0
-IsSupported task c state opened = Unit {0}
+IsSupported task c state expanded = Unit {0}
 IsSupported task c state (cut basis rest) = rest ≤ value_by task c basis state
 IsSupported task c state (dead basis) = IsTrue (is_dead_end_by task c basis state)
 
@@ -258,7 +258,7 @@ pub record ArePotentialsFair (task : Task) (c : Certificate) : Type 0 where
 
 -- the landmark values that dead ends rest on
 abbrev pub is_dead_by_landmark : LineMark → Option ℕ
-is_dead_by_landmark opened = None
+is_dead_by_landmark expanded = None
 is_dead_by_landmark (cut basis rest) = None
 is_dead_by_landmark (dead of_all) = None
 is_dead_by_landmark (dead (landmark number)) = Some number

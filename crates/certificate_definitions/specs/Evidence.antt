@@ -11,7 +11,7 @@ pub data Basis : Type 0 where
 
 -- the role of a state in a certificate's listing, as `Mark`, with what it rests on
 pub data LineMark : Type 0 where
-  opened : LineMark
+  expanded : LineMark
   -- it is not expanded: by this basis the remaining cost is at least this
   cut : Basis → ℕ → LineMark
   -- by this basis no list of actions leads from it to the goal
@@ -19,6 +19,6 @@ pub data LineMark : Type 0 where
 
 -- the role alone
 abbrev pub bare : LineMark → claims.Mark
-bare opened = claims.opened
+bare expanded = claims.expanded
 bare (cut basis rest) = claims.cut rest
 bare (dead basis) = claims.dead

@@ -7,7 +7,7 @@ use Rattle.symmetries_definitions.specs.Exchanges.{Exchange}
 use Rattle.symmetries_definitions.specs.SymmetryExamples.{swapping}
 use Rattle.certificate_definitions.specs.Certificates.{three, StateLine, Certificate, IsClosedFor, no_landmarks}
 use Rattle.certificate_definitions.specs.CertificateRefusals.{IsWrongAt, IsWrong, no_initial, successor_missing, successor_dearer}
-use Rattle.certificate_definitions.specs.CertificateExamples.{open_at, cut_at, zeros}
+use Rattle.certificate_definitions.specs.CertificateExamples.{expanded_at, cut_at, zeros}
 
 -- (define (domain lamps) (:predicates (lit ?l)) (:action light :parameters (?l) :effect (lit ?l)))
 -- (define (problem two) (:domain lamps) (:objects l m) (:init) (:goal (forall (?l) (lit ?l))))
@@ -68,11 +68,11 @@ by_none = lamps_by []
 
 -- the state in which both are dark is open, and the state in which only the second lamp is lit is a cut
 abbrev pub one_of_two : List StateLine
-one_of_two = open_at 0 [] ∷ cut_at 1 0 (1 ∷ []) ∷ []
+one_of_two = expanded_at 0 [] ∷ cut_at 1 0 (1 ∷ []) ∷ []
 
 -- first the state with only the first lamp lit, at cost 2
 abbrev pub dearer_first : List StateLine
-dearer_first = open_at 0 [] ∷ cut_at 2 0 (0 ∷ []) ∷ cut_at 1 0 (1 ∷ []) ∷ []
+dearer_first = expanded_at 0 [] ∷ cut_at 2 0 (0 ∷ []) ∷ cut_at 1 0 (1 ∷ []) ∷ []
 
 pub record AreExchangesJudged : Type 0 where
   -- Of the two states in which one lamp is lit, either may be listed for both.
@@ -81,7 +81,7 @@ pub record AreExchangesJudged : Type 0 where
   -- Both may be listed; then the cheaper one counts, wherever it is.
   pub cheaper_counts : IsClosedFor dark (by_exchange (bound 1) dearer_first)
   pub dearer_alone : IsWrongAt dark (by_none (bound 1) dearer_first) successor_dearer 6
-  pub both_dearer : IsWrongAt dark (by_exchange (bound 1) (open_at 0 [] ∷ cut_at 2 0 (0 ∷ []) ∷ cut_at 2 0 (1 ∷ []) ∷ [])) successor_dearer 7
+  pub both_dearer : IsWrongAt dark (by_exchange (bound 1) (expanded_at 0 [] ∷ cut_at 2 0 (0 ∷ []) ∷ cut_at 2 0 (1 ∷ []) ∷ [])) successor_dearer 7
   -- The initial state need not be its own representative, nor need it be listed itself.
   pub start_listed : IsClosedFor second_lit (by_exchange (bound 0) (cut_at 0 0 (1 ∷ []) ∷ []))
   pub alike_the_start : IsClosedFor second_lit (by_exchange (bound 0) (cut_at 0 0 (0 ∷ []) ∷ []))

@@ -11,7 +11,7 @@ use Rattle.std.proofs.lemmas.Str.Parse.{tells_digits}
 use Rattle.model.specs.Words.{is_name, is_name_byte}
 use Rattle.model.specs.PlanWriting.{is_lower_name}
 use Rattle.model.specs.Claims.{bound, none}
-use Rattle.certificate_definitions.specs.Evidence.{of_all, landmark, LineMark, opened, cut, dead}
+use Rattle.certificate_definitions.specs.Evidence.{of_all, landmark, LineMark, expanded, cut, dead}
 use Rattle.landmark_functions.specs.LandmarkLines.{Share, zone, value, negated_text, number_text, share_text}
 use Rattle.landmark_functions.specs.LandmarkLines as landmarks
 use Rattle.certificate_definitions.specs.Certificates.{is_number, is_weight}
@@ -69,7 +69,7 @@ bytes_of (Some rest) = after_blank rest
 listed_splits : (cost : ℕ) (mark : LineMark) (atoms : List ℕ)
     → line_text (listed (record { cost = cost; mark = mark; atoms = atoms }))
     ≡ mark_head mark ++ bytes_of (line_rest (listed (record { cost = cost; mark = mark; atoms = atoms })))
-listed_splits cost opened atoms = refl
+listed_splits cost expanded atoms = refl
 listed_splits cost (cut of_all rest) atoms = refl
 listed_splits cost (dead of_all) atoms = refl
 listed_splits cost (cut (landmark number) rest) atoms = refl
@@ -158,7 +158,7 @@ pub line_splits : (line : TextLine) → line_text line ≡ with_rest (line_head 
 line_splits line = line_bytes line ∙ sym (with_bytes (line_head line) (line_rest line))
 
 mark_is_word : (mark : LineMark) → IsTrue (is_word (mark_head mark))
-mark_is_word opened = refl
+mark_is_word expanded = refl
 mark_is_word (cut of_all rest) = refl
 mark_is_word (dead of_all) = refl
 mark_is_word (cut (landmark number) rest) = refl

@@ -9,7 +9,7 @@ use Rattle.std.proofs.lemmas.Bool.{and_parts, eqb-true, leb-true, le-leb, lt-ltb
 use Rattle.std.proofs.lemmas.Bool.Decides.{nat_tests}
 use Rattle.std.proofs.lemmas.List.{append_cancel_left, append_cancel_right}
 use Rattle.model.specs.PlanWriting.{is_lower_name}
-use Rattle.certificate_definitions.specs.Evidence.{of_all, landmark, LineMark, opened, cut, dead}
+use Rattle.certificate_definitions.specs.Evidence.{of_all, landmark, LineMark, expanded, cut, dead}
 use Rattle.certificate_definitions.specs.Certificates.{Version, one, two, three, four, is_number, is_mark, is_weight, are_weights, has_exchanges, has_landmarks, rise}
 use Rattle.landmark_functions.specs.LandmarkLines.{zone, value, most_values}
 use Rattle.certificate_definitions.specs.CertificateText.{NamedAtom, WeightedAtom, scope, row, tabled, landmark_line, Part, Format, TextLine, version, claims, constant, swapped, atom, part, listed, last, after_blank, are_exchanged, is_weight_count, is_line, line_text, longest_line}
@@ -70,7 +70,7 @@ is_no_mark word other mark head = by_mark mark head
     one_each = or_false (is (codes "open")) (is (codes "cut")) two.0
 
     by_mark : (mark : LineMark) → mark_head mark ≡ word → ⊥
-    by_mark opened head = unlike word (codes "open") one_each.0 (sym head)
+    by_mark expanded head = unlike word (codes "open") one_each.0 (sym head)
     by_mark (cut of_all rest) head = unlike word (codes "cut") one_each.1 (sym head)
     by_mark (dead of_all) head = unlike word (codes "dead") two.1 (sym head)
     by_mark (cut (landmark number) rest) head = unlike word (codes "cut-by") three.1 (sym head)
@@ -105,8 +105,8 @@ is_dead_by word is no_open no_cut no_dead no_cut_by = sym (λ i. no_open i || no
 
 -- ---- marks by their first words
 
-pub marks_open : (mark : LineMark) → mark_head mark ≡ codes "open" → mark ≡ opened
-marks_open opened head = refl
+pub marks_open : (mark : LineMark) → mark_head mark ≡ codes "open" → mark ≡ expanded
+marks_open expanded head = refl
 marks_open (cut of_all least) head = absurd (unlike (codes "cut") (codes "open") refl head)
 marks_open (dead of_all) head = absurd (unlike (codes "dead") (codes "open") refl head)
 marks_open (cut (landmark number) least) head = absurd (unlike (codes "cut-by") (codes "open") refl head)
@@ -114,28 +114,28 @@ marks_open (dead (landmark number)) head = absurd (unlike (codes "dead-by") (cod
 
 pub marks_cut : (mark : LineMark) → mark_head mark ≡ codes "cut" → (least : ℕ) × (mark ≡ cut of_all least)
 marks_cut (cut of_all least) head = (least, refl)
-marks_cut opened head = absurd (unlike (codes "open") (codes "cut") refl head)
+marks_cut expanded head = absurd (unlike (codes "open") (codes "cut") refl head)
 marks_cut (dead of_all) head = absurd (unlike (codes "dead") (codes "cut") refl head)
 marks_cut (cut (landmark number) least) head = absurd (unlike (codes "cut-by") (codes "cut") refl head)
 marks_cut (dead (landmark number)) head = absurd (unlike (codes "dead-by") (codes "cut") refl head)
 
 pub marks_dead : (mark : LineMark) → mark_head mark ≡ codes "dead" → mark ≡ dead of_all
 marks_dead (dead of_all) head = refl
-marks_dead opened head = absurd (unlike (codes "open") (codes "dead") refl head)
+marks_dead expanded head = absurd (unlike (codes "open") (codes "dead") refl head)
 marks_dead (cut of_all least) head = absurd (unlike (codes "cut") (codes "dead") refl head)
 marks_dead (cut (landmark number) least) head = absurd (unlike (codes "cut-by") (codes "dead") refl head)
 marks_dead (dead (landmark number)) head = absurd (unlike (codes "dead-by") (codes "dead") refl head)
 
 pub marks_cut_by : (mark : LineMark) → mark_head mark ≡ codes "cut-by" → (number : ℕ) × (least : ℕ) × (mark ≡ cut (landmark number) least)
 marks_cut_by (cut (landmark number) least) head = (number, least, refl)
-marks_cut_by opened head = absurd (unlike (codes "open") (codes "cut-by") refl head)
+marks_cut_by expanded head = absurd (unlike (codes "open") (codes "cut-by") refl head)
 marks_cut_by (cut of_all least) head = absurd (unlike (codes "cut") (codes "cut-by") refl head)
 marks_cut_by (dead of_all) head = absurd (unlike (codes "dead") (codes "cut-by") refl head)
 marks_cut_by (dead (landmark number)) head = absurd (unlike (codes "dead-by") (codes "cut-by") refl head)
 
 pub marks_dead_by : (mark : LineMark) → mark_head mark ≡ codes "dead-by" → (number : ℕ) × (mark ≡ dead (landmark number))
 marks_dead_by (dead (landmark number)) head = (number, refl)
-marks_dead_by opened head = absurd (unlike (codes "open") (codes "dead-by") refl head)
+marks_dead_by expanded head = absurd (unlike (codes "open") (codes "dead-by") refl head)
 marks_dead_by (cut of_all least) head = absurd (unlike (codes "cut") (codes "dead-by") refl head)
 marks_dead_by (dead of_all) head = absurd (unlike (codes "dead") (codes "dead-by") refl head)
 marks_dead_by (cut (landmark number) least) head = absurd (unlike (codes "cut-by") (codes "dead-by") refl head)
@@ -159,14 +159,14 @@ module _ (word : List ℕ) (no_version : bytes_eq (codes "pddl-cert") word ≡ f
   only_listed never (listed l) read = never l.cost l.mark l.atoms read
   only_listed never (last n) read = unlike (codes "end") word no_end read.head
 
--- ---- open states and dead ends: a number, followed by numbers
+-- ---- expanded states and dead ends: a number, followed by numbers
 
 module _ (rest : List ℕ) (f : Format) where
   -- a state line that begins with this word
   abbrev IsState : List ℕ → ℕ → LineMark → List ℕ → Type 0
   IsState word cost mark atoms = IsReadAs word rest f (listed (record { cost = cost; mark = mark; atoms = atoms }))
 
-  pub open_is_read : (cost : ℕ) (atoms : List ℕ) → IsNumbered rest f.atoms cost atoms → IsState (codes "open") cost opened atoms
+  pub open_is_read : (cost : ℕ) (atoms : List ℕ) → IsNumbered rest f.atoms cost atoms → IsState (codes "open") cost expanded atoms
   open_is_read cost atoms is = record {
     head = refl;
     following = ap Some (sym (words_after decimal (decimal cost) atoms) ∙ sym is.splits);
@@ -176,7 +176,7 @@ module _ (rest : List ℕ) (f : Format) where
   pub open_parts : (cost : ℕ) (mark : LineMark) (atoms : List ℕ) → IsState (codes "open") cost mark atoms → IsNumbered rest f.atoms cost atoms
   open_parts cost mark atoms read = of_opened (subst (λ mark. IsState (codes "open") cost mark atoms) (marks_open mark read.head) read)
     where
-      of_opened : IsState (codes "open") cost opened atoms → IsNumbered rest f.atoms cost atoms
+      of_opened : IsState (codes "open") cost expanded atoms → IsNumbered rest f.atoms cost atoms
       of_opened read =
           let parts = and_parts (is_number cost && true) (rise f.atoms 0 atoms) read.within in
           record {

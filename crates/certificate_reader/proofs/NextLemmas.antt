@@ -91,8 +91,8 @@ module _ (place : CertificatePlace) (old waiting : List ℕ) (before after : Opt
   cut_short_reported nowhere short at_end = (grown.bytes, grown.consumed, at_end, reported)
     where
       reported : (lines : List TextLine) → place_after lines ≡ Some place → place ≢ ended → IsFaultAfter lines (old ++ grown.bytes) 42
-      reported lines leads goes_on =
+      reported lines leads may_continue =
           subst (λ bytes. IsFaultAfter lines bytes 42) grown.appended
-          (cut_short (not_whole lines place leads goes_on)
+          (cut_short (not_whole lines place leads may_continue)
           (subst (λ bytes. Contains bytes 10 → ⊥) (take_all (position_or_len is_end waiting) waiting (passes_nowhere is_end waiting nowhere)) (no_end_before waiting (position_or_len is_end waiting) (omega arith)))
           short)

@@ -6,7 +6,7 @@ use Rattle.std.specs.List.{list_all}
 use Rattle.std.proofs.lemmas.Bool.{and_parts}
 use Rattle.std.proofs.lemmas.List.{append_cancel_left}
 use Rattle.model.specs.Claims.{Claim, bound, none}
-use Rattle.certificate_definitions.specs.Evidence.{of_all, landmark, LineMark, opened, cut, dead}
+use Rattle.certificate_definitions.specs.Evidence.{of_all, landmark, LineMark, expanded, cut, dead}
 use Rattle.model.specs.PlanWriting.{is_lower_name}
 use Rattle.certificate_definitions.specs.Certificates.{Version, one, two, three, four, StateLine, is_claim, is_weight, are_weights, has_exchanges, has_landmarks, has_tables, rise}
 use Rattle.landmark_functions.specs.LandmarkLines.{zone, value, is_zone, is_value, most_zones}
@@ -63,9 +63,9 @@ module _ (f : Format) (few : f.atoms ≤ most_atoms) (rest : List ℕ) where
 
   -- a state line that begins with the word of the first one's mark
   one_state : (c d : ℕ) (k l : LineMark) (a b : List ℕ) → IsState (mark_head k) c k a → IsState (mark_head k) d l b → AreSame c d k l a b
-  one_state c d opened l a b h g =
-      let (costs, lists) = one_numbered rest f.atoms few c d a b (open_parts rest f c opened a h) (open_parts rest f d l b g) in
-      same_state c d opened l a b costs (sym (marks_open l g.head)) lists
+  one_state c d expanded l a b h g =
+      let (costs, lists) = one_numbered rest f.atoms few c d a b (open_parts rest f c expanded a h) (open_parts rest f d l b g) in
+      same_state c d expanded l a b costs (sym (marks_open l g.head)) lists
   one_state c d (dead of_all) l a b h g =
       let (costs, lists) = one_numbered rest f.atoms few c d a b (dead_parts rest f c (dead of_all) a h) (dead_parts rest f d l b g) in
       same_state c d (dead of_all) l a b costs (sym (marks_dead l g.head)) lists

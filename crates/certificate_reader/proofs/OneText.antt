@@ -13,7 +13,7 @@ use Rattle.std.proofs.lemmas.Str.Parse.{tells_digits}
 use Rattle.model.specs.Words.{is_name, is_name_byte}
 use Rattle.model.specs.PlanWriting.{is_lower_name}
 use Rattle.model.specs.Claims.{bound, none}
-use Rattle.certificate_definitions.specs.Evidence.{of_all, landmark, LineMark, opened, cut, dead}
+use Rattle.certificate_definitions.specs.Evidence.{of_all, landmark, LineMark, expanded, cut, dead}
 use Rattle.certificate_definitions.specs.Certificates.{Version, one, two, three, four, is_basis, is_mark, is_number, is_weight, are_weights, has_exchanges, has_landmarks, has_tables, rise}
 use Rattle.landmark_functions.specs.LandmarkLines.{Share, zone, value, is_zone, is_value, most_values, most_zones, negated_text, number_text, share_text}
 use Rattle.landmark_functions.specs.LandmarkLines as landmarks
@@ -107,7 +107,7 @@ state_in_one f few cost mark numbers is =
     both (mark_text mark cost) (flat_map (λ (number : ℕ). after_blank (decimal number)) numbers) (by_mark mark cost_is mark_is) (numbers_in_one f.atoms 0 numbers few rising)
   where
     by_mark : (mark : LineMark) → IsTrue (is_number cost) → IsTrue (is_mark f.version mark) → is_one_line (mark_text mark cost) ≡ true
-    by_mark opened cost_is mark_is = both (codes "open ") (decimal cost) refl (number_in_one cost cost_is)
+    by_mark expanded cost_is mark_is = both (codes "open ") (decimal cost) refl (number_in_one cost cost_is)
     by_mark (dead of_all) cost_is mark_is = both (codes "dead ") (decimal cost) refl (number_in_one cost cost_is)
     by_mark (cut of_all least) cost_is least_is =
         both (codes "cut " ++ decimal cost) (after_blank (decimal least)) (both (codes "cut ") (decimal cost) refl (number_in_one cost cost_is))

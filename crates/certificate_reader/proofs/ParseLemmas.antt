@@ -60,9 +60,9 @@ pub malformed : (word rest : List ℕ) (f : Format) → bytes_eq word (codes "pd
 malformed word rest f other never = (never, λ same n is reported. unlike word (codes "pddl-cert") other same)
 
 -- something follows
-pub goes_on : (following : Option (Bor (List ℕ))) → is_some following ≡ true → (bytes : List ℕ) × (text_in following ≡ Some bytes)
-goes_on None some = absurd (cc some)
-goes_on (Some bytes) some = (bytes.now, refl)
+pub may_continue : (following : Option (Bor (List ℕ))) → is_some following ≡ true → (bytes : List ℕ) × (text_in following ≡ Some bytes)
+may_continue None some = absurd (cc some)
+may_continue (Some bytes) some = (bytes.now, refl)
 
 -- ---- the line of an atom
 

@@ -153,16 +153,16 @@ trailing_reported before whole old bytes new grown some more =
 -- ---- what has been read
 
 pub come_unless_ended : (at : Stage) (bytes : List ℕ) → at ≢ stage.Ended → come_at (place_of at) bytes ≡ is_ready bytes
-come_unless_ended stage.Version bytes goes_on = refl
-come_unless_ended (stage.Claim v) bytes goes_on = refl
-come_unless_ended (stage.Constants v) bytes goes_on = refl
-come_unless_ended (stage.Body b) bytes goes_on = refl
-come_unless_ended stage.Ended bytes goes_on = absurd (goes_on refl)
+come_unless_ended stage.Version bytes may_continue = refl
+come_unless_ended (stage.Claim v) bytes may_continue = refl
+come_unless_ended (stage.Constants v) bytes may_continue = refl
+come_unless_ended (stage.Body b) bytes may_continue = refl
+come_unless_ended stage.Ended bytes may_continue = absurd (may_continue refl)
 
 pub prompt_unless_ended : (at : Stage) → at ≢ stage.Ended → (waited came : List ℕ) → IsPrompt is_ready waited came → IsPrompt (come_at (place_of at)) waited came
-prompt_unless_ended at goes_on waited came prompt = λ some.
+prompt_unless_ended at may_continue waited came prompt = λ some.
     let (earlier, piece, splits, short, nothing) = prompt some in
-    (earlier, piece, splits, short, come_unless_ended at (waited ++ earlier) goes_on ∙ nothing)
+    (earlier, piece, splits, short, come_unless_ended at (waited ++ earlier) may_continue ∙ nothing)
 
 -- ---- what is reported for a line
 

@@ -8,7 +8,7 @@ use Rattle.certificate_reader.specs.declared.line.Version.TheVariants.{One, Two,
 use Rattle.certificate_reader.specs.declared.line.Basis.{Basis}
 use Rattle.certificate_reader.specs.declared.line.Basis.TheVariants.{OfAll, Landmark}
 use Rattle.certificate_reader.specs.declared.line.Mark.{Mark}
-use Rattle.certificate_reader.specs.declared.line.Mark.TheVariants.{Open, Cut, Dead}
+use Rattle.certificate_reader.specs.declared.line.Mark.TheVariants.{Expanded, Cut, Dead}
 use Rattle.certificate_reader.specs.declared.line.StateLine.{StateLine}
 use Rattle.certificate_reader.specs.declared.line.NamedAtom.{NamedAtom}
 use Rattle.certificate_reader.specs.declared.line.CertLine.{CertLine}
@@ -34,7 +34,7 @@ basis_of OfAll = evidence.of_all
 basis_of (Landmark number) = evidence.landmark number
 
 abbrev pub mark_of : Mark → evidence.LineMark
-mark_of Open = evidence.opened
+mark_of Expanded = evidence.expanded
 mark_of (Cut by rest) = evidence.cut (basis_of by) rest
 mark_of (Dead by) = evidence.dead (basis_of by)
 

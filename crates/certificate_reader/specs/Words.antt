@@ -8,7 +8,7 @@ use Rattle.std.specs.Option.{option_map}
 use Rattle.std.specs.Str.{bytes_eq}
 use Rattle.model.specs.PlanWriting.{is_lower_name}
 use Rattle.model.specs.Claims.{Claim, bound, none}
-use Rattle.certificate_definitions.specs.Evidence.{of_all, landmark, LineMark, opened, cut, dead}
+use Rattle.certificate_definitions.specs.Evidence.{of_all, landmark, LineMark, expanded, cut, dead}
 use Rattle.certificate_definitions.specs.Certificates.{Version, has_landmarks, is_number, is_weight, rise}
 use Rattle.landmark_functions.specs.LandmarkLines.{most_values}
 pub use Rattle.certificate_reader.specs.PartWords.{with_rest, then_words, then_weights, numbers_then, then_numbers, then_negated, share_words, shares_then, part_head, is_part_word, part_rest, IsPartReadAs, may_be_share, IsShareFirst}
@@ -37,7 +37,7 @@ is_spelled (first ∷ rest) = not (first == 48) || (length rest == 0)
 
 -- the first word of a state line
 abbrev pub mark_head : LineMark → List ℕ
-mark_head opened = codes "open"
+mark_head expanded = codes "open"
 mark_head (cut of_all rest) = codes "cut"
 mark_head (dead of_all) = codes "dead"
 mark_head (cut (landmark number) rest) = codes "cut-by"
@@ -50,7 +50,7 @@ is_state_word word =
 
 -- and the rest of it, up to the numbers of atoms
 abbrev pub mark_rest : LineMark → ℕ → List ℕ
-mark_rest opened cost = decimal cost
+mark_rest expanded cost = decimal cost
 mark_rest (cut of_all rest) cost = decimal cost ++ after_blank (decimal rest)
 mark_rest (dead of_all) cost = decimal cost
 mark_rest (cut (landmark number) rest) cost = decimal number ++ after_blank (decimal cost ++ after_blank (decimal rest))

@@ -59,7 +59,7 @@ pub enum Basis {
 #[derive(Clone, Copy, Debug, PartialEq, Eq)]
 pub enum Mark {
     /// All its successors are listed too.
-    Open,
+    Expanded,
     /// It is not expanded: a lower bound takes the place of its successors.
     Cut {
         /// What the bound rests on.

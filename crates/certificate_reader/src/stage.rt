@@ -217,7 +217,7 @@ impl Body {
         ensures { result ≡ has_basis (counts_of self.parts).values (mark_of mark) }
     {
         match mark {
-            Mark::Open => true,
+            Mark::Expanded => true,
             Mark::Cut { by, .. } | Mark::Dead { by } => match by {
                 Basis::OfAll => true,
                 Basis::Landmark(value) => (value as usize) < self.parts.values,

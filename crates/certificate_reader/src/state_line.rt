@@ -53,7 +53,7 @@ pub(crate) fn parse_state(
     dead_by_line(alloc, rest, format)
 }
 
-/// Parses an open state from what follows `open`.
+/// Parses an expanded state from what follows `open`.
 fn open_line(alloc: Global, rest: &[u8], format: Format) -> Result<CertLine, NextFault>
     requires few { format.atoms ≤ most_atoms }
     ensures { IsParsedAfter (codes "open") rest.now (format_of format) result }
@@ -61,7 +61,7 @@ fn open_line(alloc: Global, rest: &[u8], format: Format) -> Result<CertLine, Nex
     match numbered(alloc, rest, format.atoms)? {
         Some((cost, atoms)) => Ok(CertLine::Listed(StateLine {
             cost,
-            mark: Mark::Open,
+            mark: Mark::Expanded,
             atoms,
         })),
         None => Err(NextFault::Text(TextFault::Form)),

@@ -12,6 +12,8 @@ are_read = record {
   states = (refl, refl);
   instances = (refl, refl);
   seconds = (refl, refl);
+  version_2 = (refl, refl);
+  version_3 = (refl, refl);
   in_json = (refl, refl);
   progress = (refl, refl);
   in_one_word = (refl, refl);
@@ -46,5 +48,8 @@ are_read = record {
   one_too_many = refl;
   no_second = refl;
   one_second_too_many = refl;
+  version_1 = refl;
+  version_5 = refl;
+  no_version_of_check = refl;
   no_number = refl;
 }

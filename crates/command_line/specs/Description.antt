@@ -6,6 +6,7 @@ use Rattle.clap.specs.Simple.{App, Shape, new_rule, new_shape}
 use Rattle.clap.specs.declared.builder.action.ArgAction.TheVariants.{SetTrue}
 use Rattle.clap.specs.declared.builder.value_parser.ValueParser.TheVariants.{Unsigned}
 use Rattle.command_line.specs.Limit.{most, most_seconds}
+use Rattle.command_line.specs.Versions.{first_version, last_version}
 
 -- a required file name
 abbrev pub file : Text → Rule
@@ -26,6 +27,10 @@ limit name = record (option name) { parser = Some (Unsigned 1 most); defaults = 
 -- the option whose value is the limit of seconds, without a default
 abbrev pub seconds : Rule
 seconds = record (option (codes "seconds")) { parser = Some (Unsigned 1 most_seconds) }
+
+-- the option whose value is the latest version that the certificate may have, by default the last
+abbrev pub cert_version : Rule
+cert_version = record (option (codes "cert-version")) { parser = Some (Unsigned first_version last_version); defaults = codes "4" ∷ [] }
 
 -- a flag, such as `--json`
 abbrev pub flag : Text → Rule
@@ -48,7 +53,7 @@ subcommand name rules = record (new_shape name) { rules = rules }
 abbrev pub solve : Shape
 solve = subcommand (codes "solve")
     (file (codes "DOMAIN") ∷ file (codes "PROBLEM") ∷ option (codes "plan") ∷ option (codes "cert")
-    ∷ limit (codes "states") ∷ limit (codes "instances") ∷ seconds ∷ json ∷ progress ∷ [])
+    ∷ limit (codes "states") ∷ limit (codes "instances") ∷ seconds ∷ cert_version ∷ json ∷ progress ∷ [])
 
 abbrev pub validate : Shape
 validate = subcommand (codes "validate")

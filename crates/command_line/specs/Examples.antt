@@ -16,7 +16,7 @@ words options = solve_words [] [] options
 
 -- no options
 abbrev pub plain : Asked
-plain = record { states = 1000000; instances = 1000000; seconds = None; plan = None; cert = None; json = false; progress = false }
+plain = record { states = 1000000; instances = 1000000; seconds = None; cert_version = 4; plan = None; cert = None; json = false; progress = false }
 
 -- the words ask for a plan for d and p, with these options
 abbrev pub AskToSolve : List Text → Asked → Type 0
@@ -33,6 +33,8 @@ pub record AreRead : Type 0 where
   pub states : AskToSolve (words (codes "--states" ∷ codes "5" ∷ [])) (record plain { states = 5 })
   pub instances : AskToSolve (words (codes "--instances" ∷ codes "5" ∷ [])) (record plain { instances = 5 })
   pub seconds : AskToSolve (words (codes "--seconds" ∷ codes "1000000" ∷ [])) (record plain { seconds = Some 1000000 })
+  pub version_2 : AskToSolve (words (codes "--cert-version" ∷ codes "2" ∷ [])) (record plain { cert_version = 2 })
+  pub version_3 : AskToSolve (words (codes "--cert-version=3" ∷ [])) (record plain { cert_version = 3 })
   pub in_json : AskToSolve (words (codes "--json" ∷ [])) (record plain { json = true })
   pub progress : AskToSolve (words (codes "--progress" ∷ [])) (record plain { progress = true })
   -- a value may be part of the option's word, and may then begin with a hyphen
@@ -79,4 +81,7 @@ pub record AreRead : Type 0 where
   pub one_too_many : AreRefused (words (codes "--instances=16777217" ∷ [])) (ValueValidation ∷ [])
   pub no_second : AreRefused (words (codes "--seconds" ∷ codes "0" ∷ [])) (ValueValidation ∷ [])
   pub one_second_too_many : AreRefused (words (codes "--seconds=1000001" ∷ [])) (ValueValidation ∷ [])
+  pub version_1 : AreRefused (words (codes "--cert-version" ∷ codes "1" ∷ [])) (ValueValidation ∷ [])
+  pub version_5 : AreRefused (words (codes "--cert-version=5" ∷ [])) (ValueValidation ∷ [])
+  pub no_version_of_check : AreRefused (codes "check" ∷ codes "d" ∷ codes "p" ∷ codes "c" ∷ codes "--cert-version" ∷ codes "2" ∷ []) (UnknownArgument ∷ [])
   pub no_number : AreRefused (words (codes "--states" ∷ codes "many" ∷ [])) (ValueValidation ∷ [])

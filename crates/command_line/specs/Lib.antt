@@ -1,4 +1,5 @@
 pub mod Limit
+pub mod Versions
 pub mod Description
 pub mod Described
 pub mod Orders

@@ -9,13 +9,15 @@ use Rattle.clap.specs.Faults.{fault_of}
 use Rattle.clap.specs.ValueTests.{is_unsigned_in}
 use Rattle.command_line.specs.Description.{optplan}
 use Rattle.command_line.specs.Limit.{most}
+use Rattle.command_line.specs.Versions.{version_with}
 
--- the options of `solve`: the limits of states, of instances and, if there is one, of seconds, the files to write the plan and the
--- certificate to, if any, whether the answer is printed as JSON, and whether the progress of the search is reported
+-- the options of `solve`: the limits of states, of instances and, if there is one, of seconds, the latest version that the certificate
+-- may have, the files to write the plan and the certificate to, if any, whether the answer is printed as JSON, and whether the progress of the search is reported
 pub record Asked : Type 0 where
   pub states : ℕ
   pub instances : ℕ
   pub seconds : Option ℕ
+  pub cert_version : ℕ
   pub plan : Option Text
   pub cert : Option Text
   pub json : Bool
@@ -56,6 +58,10 @@ limit_in name rows = option_and_then limit_of (first_of name rows)
 abbrev pub seconds_in : List Row → Option (Option ℕ)
 seconds_in rows = option_map_or (λ text. option_map Some (limit_of text)) (first_of (codes "seconds") rows) (Some None)
 
+-- the latest version that the certificate may have
+abbrev pub cert_version_in : List Row → Option ℕ
+cert_version_in rows = option_and_then version_with (limit_in (codes "cert-version") rows)
+
 -- the flag is given: `clap` then gives it the value `true`, and otherwise `false`
 abbrev pub is_given : Text → List Row → Bool
 is_given name rows = option_map_or (λ value. bytes_eq value (codes "true")) (first_of name rows) false
@@ -77,10 +83,12 @@ solve_in rows = do
   states ← limit_in (codes "states") rows
   instances ← limit_in (codes "instances") rows
   seconds ← seconds_in rows
+  cert_version ← cert_version_in rows
   Some (to_solve domain problem (record {
     states = states;
     instances = instances;
     seconds = seconds;
+    cert_version = cert_version;
     plan = first_of (codes "plan") rows;
     cert = first_of (codes "cert") rows;
     json = is_given (codes "json") rows;

@@ -4,6 +4,7 @@ use Rattle.std.specs.Borrow.{Bor}
 use Rattle.std.specs.Option.{option_map}
 use Rattle.clap.specs.Walk.{Text}
 use Rattle.command_line.specs.Orders.{Wanted, to_solve, to_validate, to_check, to_explain}
+use Rattle.command_line.specs.Versions.{number_of}
 use Rattle.command_line.specs.declared.max_count.MaxCount.{MaxCount}
 use Rattle.command_line.specs.declared.order.Order.{Order}
 use Rattle.command_line.specs.declared.order.Order.TheVariants.{Solve, Validate, Check, Explain}
@@ -24,8 +25,17 @@ texts = map (λ (word : Bor Text). word.now)
 
 -- the order
 abbrev pub wanted_of : Order → Wanted
-wanted_of (Solve domain problem plan cert states instances seconds json progress) =
-    to_solve domain.now problem.now (record { states = states.number; instances = instances.number; seconds = number_in seconds; plan = text_in plan; cert = text_in cert; json = json; progress = progress })
+wanted_of (Solve domain problem plan cert states instances seconds cert_version json progress) =
+    to_solve domain.now problem.now (record {
+      states = states.number;
+      instances = instances.number;
+      seconds = number_in seconds;
+      cert_version = number_of cert_version;
+      plan = text_in plan;
+      cert = text_in cert;
+      json = json;
+      progress = progress;
+    })
 wanted_of (Validate domain problem plan json) = to_validate domain.now problem.now plan.now json
 wanted_of (Check domain problem cert plan instances json progress) =
     to_check domain.now problem.now cert.now (record { instances = instances.number; plan = text_in plan; json = json; progress = progress })

@@ -6,6 +6,7 @@ ghost use Rattle.command_line.specs.Described.{AddsShape, HasRule, HaveRules, Ha
 ghost use Rattle.command_line.specs.Description as description;
 ghost use Rattle.command_line.specs.Description.{optplan, subcommand};
 
+use crate::cert_version::{MAX_VERSION, MIN_VERSION};
 use crate::max_count::{MAX_LIMIT, MAX_SECONDS};
 use clap::builder::ValueParser;
 use clap::{Arg, ArgAction, Command};
@@ -15,13 +16,14 @@ const ABOUT: &str =
     "A cost-optimal planner, plan validator and certificate checker for classical PDDL.";
 
 const USAGE: &str =
-    "optplan solve DOMAIN PROBLEM [--plan FILE] [--cert FILE] [--states N] [--instances N] [--seconds N] [--json] [--progress]
+    "optplan solve DOMAIN PROBLEM [--plan FILE] [--cert FILE] [--states N] [--instances N] [--seconds N] [--cert-version N] [--json] [--progress]
        optplan validate DOMAIN PROBLEM PLAN [--json]
        optplan check DOMAIN PROBLEM CERT [--plan FILE] [--instances N] [--json] [--progress]
        optplan explain DOMAIN PROBLEM [PLAN] [--trace] [--instances N] [--json]";
 
 const PROGRAM_HELP: &str =
     "N is a number from 1 to 16777216; the default is 1000000. Of --seconds it is at most 1000000; by default the time is not limited.
+Of --cert-version it is 2, 3 or 4.
 
 Example:
   optplan solve domain.pddl problem.pddl --plan plan.txt --cert cert.txt
@@ -115,6 +117,7 @@ fn add_solve<'a>(alloc: Global, commands: &mut Vec<Command<'a>>) -> Result<(), A
         limit(alloc, "states", "List at most N states, 1 to 16777216",),
         limit(alloc, "instances", INSTANCES_HELP),
         seconds(alloc),
+        cert_version(alloc),
         json(alloc),
         progress(alloc, "Say on the standard error how far the search is"),
     ]?;
@@ -268,6 +271,20 @@ fn seconds<'a>(alloc: Global) -> Arg<'a>
         "Stop after N seconds, 1 to 1000000, with the bound by then",
     )
     .value_parser(ValueParser::unsigned(1, MAX_SECONDS))
+}
+
+/// The option for the latest version of the certificate.
+fn cert_version<'a>(alloc: Global) -> Arg<'a>
+    ensures { HasRule result description.cert_version }
+{
+    option(
+        alloc,
+        "cert-version",
+        "N",
+        "Let the certificate have version N at most, 2 to 4; 2 may take far longer",
+    )
+    .value_parser(ValueParser::unsigned(MIN_VERSION, MAX_VERSION))
+    .default_value("4")
 }
 
 /// The option for the trace of a plan.

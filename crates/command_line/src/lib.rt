@@ -1,6 +1,7 @@
 //! Reads the command line.
 #![tactic(auto)]
 
+mod cert_version;
 mod description;
 mod fault;
 mod max_count;
@@ -8,6 +9,7 @@ mod order;
 mod plain;
 mod reading;
 
+pub use cert_version::CertVersion;
 pub use fault::WordsFault;
 pub use max_count::{MAX_LIMIT, MaxCount};
 pub use order::Order;

@@ -1,4 +1,5 @@
 //! What the program is asked to do.
+use crate::cert_version::CertVersion;
 use crate::max_count::MaxCount;
 
 /// What the program is asked to do.
@@ -20,6 +21,8 @@ pub enum Order<'a> {
         instances: MaxCount,
         /// The maximum number of seconds that the search may take, at most 1,000,000; if none is given, the time is not limited.
         seconds: Option<MaxCount>,
+        /// The latest version that the certificate may have.
+        cert_version: CertVersion,
         /// Whether the answer is printed as JSON.
         json: bool,
         /// Whether the progress of the search is reported.

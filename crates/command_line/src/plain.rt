@@ -35,7 +35,12 @@ fn is_misleading(line: &str) -> bool {
 /// Adds the line in plain words, with LF.
 fn add_plain(line: &str, text: &mut String) -> Result<(), AllocError> {
     if let Some(before) = line.strip_suffix("invalid digit found in string") {
-        return write!(text, "{before}expected a whole number, such as 1000000\n");
+        let example = if before.contains("--cert-version") {
+            "2"
+        } else {
+            "1000000"
+        };
+        return write!(text, "{before}expected a whole number, such as {example}\n");
     }
     if let Some(before) = line.strip_suffix("number too large to fit in target type") {
         return write!(text, "{before}the number is too large\n");

@@ -4,9 +4,11 @@ ghost use Rattle.clap.specs.Matches.{found_of};
 ghost use Rattle.clap.specs.Simple.{subcommand_rows_of};
 ghost use Rattle.clap.specs.Walk.{first_of, rows_of};
 ghost use Rattle.command_line.specs.Examples.{AreRead};
-ghost use Rattle.command_line.specs.Orders.{Asks, IsCommand, check_in, explain_in, is_given, limit_in, limit_of, seconds_in, solve_in, trace_in, validate_in, wanted_in};
+ghost use Rattle.command_line.specs.Orders.{Asks, IsCommand, cert_version_in, check_in, explain_in, is_given, limit_in, limit_of, seconds_in, solve_in, trace_in, validate_in, wanted_in};
+ghost use Rattle.command_line.specs.Versions.{number_of};
 ghost use Rattle.command_line.specs.View.{IsOfWords, number_in, text_in, texts, wanted_of};
 
+use crate::cert_version::CertVersion;
 use crate::description::program;
 use crate::fault::WordsFault;
 use crate::max_count::MaxCount;
@@ -18,7 +20,7 @@ use std::alloc::{AllocError, Global};
 /// The order given by the words after the program's name.
 ///
 /// ```text
-/// optplan solve DOMAIN PROBLEM [--plan FILE] [--cert FILE] [--states N] [--instances N] [--seconds N] [--json] [--progress]
+/// optplan solve DOMAIN PROBLEM [--plan FILE] [--cert FILE] [--states N] [--instances N] [--seconds N] [--cert-version N] [--json] [--progress]
 /// optplan validate DOMAIN PROBLEM PLAN [--json]
 /// optplan check DOMAIN PROBLEM CERT [--plan FILE] [--instances N] [--json] [--progress]
 /// optplan explain DOMAIN PROBLEM [PLAN] [--trace] [--instances N] [--json]
@@ -26,8 +28,9 @@ use std::alloc::{AllocError, Global};
 ///
 /// Options may come in any order, each at most once, before, between and after the files, as `--states 5` or `--states=5`. A word
 /// after `--` is a file name, even if it begins with a hyphen. A number is from 1 to 16,777,216, in decimal digits after an
-/// optional plus; the default is 1,000,000. Seconds are at most 1,000,000, and not limited by default. A trace needs a plan. Words
-/// that ask for help or the version are not an order: the fault's text is what they ask for.
+/// optional plus; the default is 1,000,000. Seconds are at most 1,000,000, and not limited by default. Versions of certificates are from
+/// 2 to 4, by default 4. A trace needs a plan. Words that ask for help or the version are not an order: the fault's text is what they
+/// ask for.
 pub fn read_words<'a>(alloc: Global, words: &'a [&str]) -> Result<Order<'a>, WordsFault>
     ensures asks { IfOk result (λ order. Asks (texts words.entry.now) (wanted_of order)) }
     ensures refused { IfErr result (λ fault. IsOfWords fault → IsCommand (texts words.entry.now) → ⊥) }
@@ -82,6 +85,7 @@ fn solve_in<'a>(matches: &ArgMatches<'a>) -> Option<Order<'a>>
     let states = limit_in(matches, "states")?;
     let instances = limit_in(matches, "instances")?;
     let seconds = seconds_in(matches)?;
+    let cert_version = cert_version_in(matches)?;
     Some(Order::Solve {
         domain,
         problem,
@@ -90,6 +94,7 @@ fn solve_in<'a>(matches: &ArgMatches<'a>) -> Option<Order<'a>>
         states,
         instances,
         seconds,
+        cert_version,
         json: is_given(matches, "json"),
         progress: is_given(matches, "progress"),
     })
@@ -181,6 +186,13 @@ fn seconds_in(matches: &ArgMatches<'_>) -> Option<Option<MaxCount>>
         Some(text) => Some(Some(limit_of(text)?)),
         None => Some(None),
     }
+}
+
+/// The latest version that the certificate may have.
+fn cert_version_in(matches: &ArgMatches<'_>) -> Option<CertVersion>
+    ensures { option_map number_of result ≡ cert_version_in (rows_of (found_of matches.now)) }
+{
+    CertVersion::new(limit_in(matches, "cert-version")?.number())
 }
 
 /// The limit that a text denotes.

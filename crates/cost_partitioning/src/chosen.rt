@@ -11,7 +11,7 @@ use crate::orders::Order;
 use crate::partitioner::Partitioner;
 use crate::rests::{left_by, potentials_of_rest, score};
 use crate::states::Sampled;
-use abstractions::RowGraph;
+use abstractions::Abstraction;
 use faults::NoMemory;
 use potentials::Potentials;
 use potentials_drafted::ProgramInput;
@@ -53,8 +53,8 @@ struct CandidateValue {
 
 /// The search for orders, the candidates, and the greatest value of each state: by all parts, and by tables alone.
 #[derive(Drop)]
-struct CandidateValues<'a> {
-    partitioner: Partitioner<'a>,
+struct CandidateValues<'a, A> {
+    partitioner: Partitioner<'a, A>,
     all: Vec<CandidateValue>,
     most: Vec<i64>,
     most_by_tables: Vec<i64>,
@@ -64,16 +64,16 @@ struct CandidateValues<'a> {
 
 /// The inputs of the choice.
 #[derive(Drop)]
-pub(crate) struct Choosing<'a> {
+pub(crate) struct Choosing<'a, A> {
     pub(crate) alloc: Global,
-    pub(crate) graphs: &'a [RowGraph],
+    pub(crate) abstractions: &'a [A],
     pub(crate) costs: &'a Costs,
     pub(crate) sampled: Sampled<'a>,
     pub(crate) potentials: &'a Potentials,
     pub(crate) effort: Effort,
 }
 
-impl Choosing<'_> {
+impl<A: Abstraction> Choosing<'_, A> {
     /// The values: the potentials alone, and others that raise the value of some state.
     pub(crate) fn values(&self, input: &mut ProgramInput) -> Result<Vec<PartitionedValue>, NoMemory>
         ensures { IfOk result (λ values. slice_get (map potentials_in_value values.items) 0 ≡ Some (potentials_of self.now.potentials.now)) }
@@ -89,32 +89,58 @@ impl Choosing<'_> {
 
     /// The candidates: by an order for the initial state, and by orders for other states.
     fn candidates(&self, input: &mut ProgramInput) -> Result<Vec<CandidateValue>, NoMemory> {
-        let states = self.sampled.rows.len();
-        let mut candidates = CandidateValues {
-            partitioner: Partitioner::new(self.alloc, self.graphs, self.costs, self.sampled.rows)?,
+        let mut candidates = self.no_candidates()?;
+        self.add_first(input, &mut candidates)?;
+        self.add_others(input, &mut candidates)?;
+        let CandidateValues { all, .. } = candidates;
+        Ok(all)
+    }
+
+    /// No candidates: each state has the value 0.
+    fn no_candidates(&self) -> Result<CandidateValues<'_, A>, NoMemory> {
+        let states = self.sampled.abstract_states;
+        let most = vec![in self.alloc; 0; states.len()]?;
+        let most_by_tables = vec![in self.alloc; 0; states.len()]?;
+        Ok(CandidateValues {
+            partitioner: Partitioner::new(self.alloc, self.abstractions, self.costs, states)?,
             all: Vec::new(self.alloc),
-            most: vec![in self.alloc; 0; states]?,
-            most_by_tables: vec![in self.alloc; 0; states]?,
+            most,
+            most_by_tables,
             rests: 0,
-        };
+        })
+    }
+
+    /// Adds the candidates by an order for the initial state.
+    fn add_first(
+        &self,
+        input: &mut ProgramInput,
+        candidates: &mut CandidateValues<'_, A>,
+    ) -> Result<(), NoMemory> {
         candidates.partitioner.allow(MAX_WORK_OF_PRUNING);
         let order = candidates.partitioner.best_order()?;
         candidates.partitioner.allow(self.part_of(MAX_WORK));
         let order = candidates.partitioner.improved(order, TRIALS)?;
-        self.add(input, &order, &mut candidates)?;
-        self.add_after_potentials(input, &order, &mut candidates)?;
+        self.add(input, &order, candidates)?;
+        self.add_after_potentials(input, &order, candidates)
+    }
+
+    /// Adds the candidates by orders for the other states.
+    fn add_others(
+        &self,
+        input: &mut ProgramInput,
+        candidates: &mut CandidateValues<'_, A>,
+    ) -> Result<(), NoMemory> {
         candidates
             .partitioner
             .allow(self.part_of(MAX_WORK_OF_STATES));
-        for state in 1..states {
+        for state in 1..self.sampled.abstract_states.len() {
             if candidates.partitioner.is_done() {
                 break;
             }
             let order = candidates.partitioner.order_for(state, TRIALS_OF_STATE)?;
-            self.add(input, &order, &mut candidates)?;
+            self.add(input, &order, candidates)?;
         }
-        let CandidateValues { all, .. } = candidates;
-        Ok(all)
+        Ok(())
     }
 
     /// Adds the partition by this order, with potentials for the remaining costs, if its tables alone raise the value of some
@@ -123,7 +149,7 @@ impl Choosing<'_> {
         &self,
         input: &mut ProgramInput,
         order: &Order,
-        candidates: &mut CandidateValues<'_>,
+        candidates: &mut CandidateValues<'_, A>,
     ) -> Result<(), NoMemory> {
         let partition = candidates.partitioner.divide(order)?;
         let given = candidates.partitioner.values(&partition)?;
@@ -150,13 +176,13 @@ impl Choosing<'_> {
         &self,
         input: &mut ProgramInput,
         order: &Order,
-        candidates: &mut CandidateValues<'_>,
+        candidates: &mut CandidateValues<'_, A>,
     ) -> Result<(), NoMemory> {
         let Some(potentials) = potentials_of_rest(self.alloc, input, self.costs)? else {
             return Ok(());
         };
         let left = left_by(self.alloc, input, self.costs, potentials.weights())?;
-        let partition = CostPartition::new(self.alloc, self.graphs, order, &left)?;
+        let partition = CostPartition::new(self.alloc, self.abstractions, order, &left)?;
         self.push(
             PartitionedValue {
                 partition: Some(partition),
@@ -170,7 +196,7 @@ impl Choosing<'_> {
     fn push(
         &self,
         value: PartitionedValue,
-        candidates: &mut CandidateValues<'_>,
+        candidates: &mut CandidateValues<'_, A>,
     ) -> Result<(), NoMemory> {
         let given = self.given(&value)?;
         if raise(&mut candidates.most, &given) {
@@ -181,10 +207,10 @@ impl Choosing<'_> {
 
     /// The value in each state, at least 0.
     fn given(&self, value: &PartitionedValue) -> Result<Vec<i64>, NoMemory> {
-        let mut given = Vec::with_capacity(self.alloc, self.sampled.rows.len())?;
-        for (rows, atoms) in self.sampled.rows.iter().zip(self.sampled.atoms) {
+        let mut given = Vec::with_capacity(self.alloc, self.sampled.abstract_states.len())?;
+        for (numbers, atoms) in self.sampled.abstract_states.iter().zip(self.sampled.atoms) {
             let by_tables = match &value.partition {
-                Some(partition) => partition.value(rows).unwrap_or(0),
+                Some(partition) => partition.value(numbers).unwrap_or(0),
                 None => 0,
             };
             let sum = by_tables.saturating_add(score(&value.potentials, atoms));
@@ -207,20 +233,26 @@ impl Choosing<'_> {
         let mut most = self.given(&alone)?;
         values.push(alone)?;
         for _ in 1..MAX_VALUES {
-            let Some(place) = best(&candidates, &most) else {
+            let Some(value) = next_value(&mut candidates, &mut most) else {
                 return Ok(values);
             };
-            if place >= candidates.len() {
-                return Ok(values);
-            }
-            let CandidateValue { value, given } = candidates.swap_remove(place);
-            for (before, value) in most.iter_mut().zip(&given) {
-                *before = (*before).max(*value);
-            }
             values.push(value)?;
         }
         Ok(values)
     }
+}
+
+/// Removes the candidate by which the states gain most, and raises their values to those by it. `None` if none gains.
+fn next_value(candidates: &mut Vec<CandidateValue>, most: &mut [i64]) -> Option<PartitionedValue> {
+    let place = best(candidates, most)?;
+    if place >= candidates.len() {
+        return None;
+    }
+    let CandidateValue { value, given } = candidates.swap_remove(place);
+    for (before, value) in most.iter_mut().zip(&given) {
+        *before = (*before).max(*value);
+    }
+    Some(value)
 }
 
 /// Raises each number to the one at its index, if that is greater. Returns whether any was raised.

@@ -4,7 +4,7 @@ use crate::costs::Costs;
 use crate::draft::Effort;
 use crate::goal_distances::{distance_of, distances};
 use crate::links::Links;
-use abstractions::{Reaching, RowGraph, Shutters, VariableTask, place_of};
+use abstractions::{Abstraction, Reaching, RowGraph, Shutters, VariableTask, place_of};
 use faults::NoMemory;
 use grounding::Ground;
 use potentials::instance_count;
@@ -93,23 +93,33 @@ impl Collecting<'_, '_> {
             }
         }
         let links = Links::new(self.alloc, self.ground, self.task.variables)?;
+        let mut level = self.first_level()?;
+        for _ in 1..MAX_VARIABLES {
+            let candidates = self.add_level(level)?;
+            level = self.grown(&links, &candidates)?;
+        }
+        self.add_level(level)?;
+        Ok(())
+    }
+
+    /// The single variables that the goal asks of.
+    fn first_level(&self) -> Result<Vec<Vec<u32>>, NoMemory> {
         let mut level: Vec<Vec<u32>> = Vec::new(self.alloc);
         for variable in 0..self.task.variables.count() {
             if self.task.goals.ask_of(variable) {
                 level.push(vec![in self.alloc; variable]?)?;
             }
         }
-        for size in 1..=MAX_VARIABLES {
-            let candidates = self.candidates(level)?;
-            for candidate in &candidates {
-                self.add(&candidate.variables)?;
-            }
-            level = Vec::new(self.alloc);
-            if size < MAX_VARIABLES {
-                level = self.grown(&links, &candidates)?;
-            }
+        Ok(level)
+    }
+
+    /// Adds the tables over these sets of variables, smaller ones first. Returns the sets that are not too large.
+    fn add_level(&mut self, level: Vec<Vec<u32>>) -> Result<Vec<CandidateTable>, NoMemory> {
+        let candidates = self.candidates(level)?;
+        for candidate in &candidates {
+            self.add(&candidate.variables)?;
         }
-        Ok(())
+        Ok(candidates)
     }
 
     /// The sets of variables that are not too large, those with the fewest combinations first.
@@ -201,7 +211,7 @@ impl Collecting<'_, '_> {
     fn push(&mut self, graph: RowGraph, is_for: Use) -> Result<(), NoMemory> {
         self.room = self
             .room
-            .saturating_add(graph.row_count())
+            .saturating_add(graph.state_count())
             .saturating_add(graph.arc_count() / 8);
         self.collected.graphs.push(graph)?;
         self.collected.uses.push(is_for)?;
@@ -224,8 +234,8 @@ impl Collecting<'_, '_> {
     fn gives(&self, graph: &RowGraph) -> Result<bool, NoMemory> {
         let distances = distances(self.alloc, graph, &self.costs)?;
         Ok(
-            self.states.iter().any(|values| match graph.row_of(values) {
-                Some(row) => distance_of(&distances, row) > 0,
+            self.states.iter().any(|values| match graph.state_of(values) {
+                Some(state) => distance_of(&distances, state) > 0,
                 None => false,
             }),
         )

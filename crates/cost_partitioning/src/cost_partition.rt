@@ -1,21 +1,21 @@
-//! Cost partitions over tables.
+//! Cost partitions over abstractions.
 use crate::costs::Costs;
-use crate::goal_distances::{NO_WAY, distance_of, distances, take};
+use crate::goal_distances::{NO_WAY, distance_of, distances, take_saturated};
 use crate::orders::Order;
-use abstractions::RowGraph;
+use abstractions::Abstraction;
 use faults::NoMemory;
 use std::alloc::Global;
 
-/// A table's part of a partition: the value of each of its rows.
+/// An abstraction's part of a partition: the value of each of its abstract states.
 #[derive(Drop)]
 pub(crate) struct Part {
     /// The index of the table.
     pub(crate) table: usize,
-    /// The goal distance of each row under the table's share of the costs.
+    /// The goal distance of each abstract state under the costs that were left for it.
     pub(crate) distances: Vec<i64>,
 }
 
-/// A cost partition over tables.
+/// A saturated cost partition over abstractions.
 #[derive(Drop)]
 pub(crate) struct CostPartition {
     /// The parts, in the order of the tables. Tables in which all distances are 0 are left out.
@@ -25,10 +25,10 @@ pub(crate) struct CostPartition {
 }
 
 impl CostPartition {
-    /// The partition in which the tables take their saturated costs in this order.
-    pub(crate) fn new(
+    /// The partition in which the abstractions take their saturated costs in this order.
+    pub(crate) fn new<A: Abstraction>(
         alloc: Global,
-        graphs: &[RowGraph],
+        abstractions: &[A],
         order: &Order,
         costs: &Costs,
     ) -> Result<CostPartition, NoMemory> {
@@ -37,10 +37,10 @@ impl CostPartition {
             left: costs.copied(alloc)?,
         };
         for table in order.tables() {
-            if let Some(graph) = graphs.get(*table) {
-                let distances = distances(alloc, graph, &partition.left)?;
+            if let Some(abstraction) = abstractions.get(*table) {
+                let distances = distances(alloc, abstraction, &partition.left)?;
                 if distances.iter().any(|distance| *distance != 0) {
-                    take(alloc, graph, &distances, &mut partition.left)?;
+                    take_saturated(alloc, abstraction, &distances, &mut partition.left)?;
                     partition.parts.push(Part {
                         table: *table,
                         distances,

@@ -1,5 +1,5 @@
 //! Remaining costs of instances.
-use abstractions::{RowClass, RowGraph, place_of};
+use abstractions::{Abstraction, InstanceClass, place_of};
 use faults::NoMemory;
 use std::alloc::Global;
 
@@ -37,9 +37,13 @@ impl Costs {
     }
 
     /// The least remaining cost of the class's instances; `None` if all are shut out.
-    pub(crate) fn of_class(&self, graph: &RowGraph, class: &RowClass) -> Option<i64> {
+    pub(crate) fn of_class<A: Abstraction>(
+        &self,
+        abstraction: &A,
+        class: &InstanceClass,
+    ) -> Option<i64> {
         let mut least: Option<i64> = None;
-        for instance in graph.instances_of(class) {
+        for instance in abstraction.instances_of(class) {
             if let Some(left) = self.of(*instance) {
                 least = match least {
                     Some(before) => Some(before.min(left)),
@@ -59,10 +63,10 @@ impl Costs {
         }
     }
 
-    /// Takes this share from the cost of the instance.
-    pub(crate) fn take(&mut self, instance: u32, share: i64) {
+    /// Subtracts this from the cost of the instance.
+    pub(crate) fn take(&mut self, instance: u32, cost: i64) {
         if let Some(Some(left)) = self.left.get_mut(place_of(instance)) {
-            *left = left.saturating_sub(share);
+            *left = left.saturating_sub(cost);
         }
     }
 }

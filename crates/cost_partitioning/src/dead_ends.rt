@@ -1,6 +1,6 @@
 //! Sampled states that tables show to be dead ends.
 use crate::goal_distances::NO_WAY;
-use crate::partitioner::StateRows;
+use crate::partitioner::AbstractStates;
 use abstractions::place_of;
 use faults::NoMemory;
 use std::alloc::Global;
@@ -8,13 +8,16 @@ use std::alloc::Global;
 /// Sampled states, and which of them are shown to be dead ends.
 #[derive(Drop)]
 pub(crate) struct DeadEnds<'a> {
-    states: &'a [StateRows],
+    states: &'a [AbstractStates],
     are_shown: Vec<bool>,
 }
 
 impl<'a> DeadEnds<'a> {
     /// The states, of which none is shown.
-    pub(crate) fn new(alloc: Global, states: &'a [StateRows]) -> Result<DeadEnds<'a>, NoMemory> {
+    pub(crate) fn new(
+        alloc: Global,
+        states: &'a [AbstractStates],
+    ) -> Result<DeadEnds<'a>, NoMemory> {
         Ok(DeadEnds {
             states,
             are_shown: vec![in alloc; false; states.len()]?,
@@ -24,9 +27,9 @@ impl<'a> DeadEnds<'a> {
     /// Records what the table at this index shows by these goal distances. Returns whether that is more than before.
     pub(crate) fn show(&mut self, table: usize, distances: &[i64]) -> bool {
         let mut shows_more = false;
-        for (rows, is_shown) in self.states.iter().zip(self.are_shown.iter_mut()) {
-            let row = rows.get(table);
-            if !*is_shown && is_dead(distances, row) {
+        for (numbers, is_shown) in self.states.iter().zip(self.are_shown.iter_mut()) {
+            let number = numbers.get(table);
+            if !*is_shown && is_dead(distances, number) {
                 *is_shown = true;
                 shows_more = true;
             }
@@ -35,12 +38,12 @@ impl<'a> DeadEnds<'a> {
     }
 }
 
-/// Whether no way leads to the goal from this row, if there is one.
-fn is_dead(distances: &[i64], row: Option<&u32>) -> bool {
-    let Some(row) = row else {
+/// Whether no path leads to the goal from the abstract state with this number, if there is one.
+fn is_dead(distances: &[i64], number: Option<&u32>) -> bool {
+    let Some(number) = number else {
         return false;
     };
-    match distances.get(place_of(*row)) {
+    match distances.get(place_of(*number)) {
         Some(distance) => *distance == NO_WAY,
         None => false,
     }

@@ -8,7 +8,7 @@ use crate::collected::{Collected, Collecting, costs_of};
 use crate::costs::Costs;
 use crate::dead_ends::DeadEnds;
 use crate::goal_distances::distances;
-use crate::states::{Sampled, first_of, rows_of_all, samples, values_of_all};
+use crate::states::{Sampled, abstract_states_of_all, first_of, samples, values_of_all};
 use crate::written::{Writing, part_of, weight_of_dead};
 use abstractions::{
     GoalValues, Reaching, RowLimits, Shutters, Steps, VariableTask, Variables, found_groups,
@@ -134,25 +134,32 @@ impl Subject<'_, '_> {
     {
         let atoms = samples(self.alloc, input.states(), self.wanted.states)?;
         let values = values_of_all(self.alloc, self.variables, &atoms)?;
-        let starts = samples(self.alloc, first_of(input.states()), self.wanted.starts)?;
-        let starts = values_of_all(self.alloc, self.variables, &starts)?;
-        let Some(steps) = Steps::new(self.alloc, self.ground, self.variables)? else {
+        let Some(known) = self.known(input, &values)? else {
             return Ok(None);
         };
-        let known = self.known(&steps, &starts, &values)?;
-        drop(steps);
-        let rows = rows_of_all(self.alloc, &known.collected.graphs, &values)?;
+        let numbers = abstract_states_of_all(self.alloc, &known.collected.graphs, &values)?;
         let sampled = Sampled {
             atoms: &atoms,
-            rows: &rows,
+            abstract_states: &numbers,
         };
         let draft = self.draft_by(&known, sampled, input)?;
         Ok(draft)
     }
 
     /// Tables over the variables, and the costs of the instances that they do not shut out, for the values of variables in the
-    /// start states and in the sampled states.
-    fn known(
+    /// sampled states. `None` if the task is too large.
+    fn known(&self, input: &ProgramInput, states: &[Vec<u32>]) -> Result<Option<Known>, NoMemory> {
+        let starts = samples(self.alloc, first_of(input.states()), self.wanted.starts)?;
+        let starts = values_of_all(self.alloc, self.variables, &starts)?;
+        let Some(steps) = Steps::new(self.alloc, self.ground, self.variables)? else {
+            return Ok(None);
+        };
+        let known = self.known_by(&steps, &starts, states)?;
+        Ok(Some(known))
+    }
+
+    /// The same by these effects of the instances, and for the values of variables in the start states too.
+    fn known_by(
         &self,
         steps: &Steps,
         starts: &[Vec<u32>],
@@ -206,7 +213,7 @@ impl Subject<'_, '_> {
         let wanted = self.wanted;
         let choosing = Choosing {
             alloc: self.alloc,
-            graphs: &known.collected.graphs,
+            abstractions: &known.collected.graphs,
             costs: &known.costs,
             sampled,
             potentials: wanted.potentials,
@@ -237,7 +244,7 @@ impl Subject<'_, '_> {
             values,
             weight_of_dead: weight_of_dead(self.wanted.dead_ends),
         };
-        let mut dead_ends = DeadEnds::new(self.alloc, sampled.rows)?;
+        let mut dead_ends = DeadEnds::new(self.alloc, sampled.abstract_states)?;
         let mut tables = Vec::new(self.alloc);
         for (place, graph) in known.collected.graphs.iter().enumerate() {
             let reach = distances(self.alloc, graph, &known.costs)?;

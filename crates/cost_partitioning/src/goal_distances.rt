@@ -1,15 +1,15 @@
-//! Goal distances of rows, and the saturated costs that they need.
+//! Goal distances of abstract states, and the saturated costs that they need.
 use crate::costs::Costs;
-use abstractions::{RowGraph, place_of};
+use abstractions::{Abstraction, place_of};
 use faults::NoMemory;
 use std::alloc::Global;
 use std::cmp::Reverse;
 use std::collections::BinaryHeap;
 
-/// The distance of a row without a path to the goal.
+/// The distance of an abstract state without a path to the goal.
 pub(crate) const NO_WAY: i64 = i64::MAX;
 
-/// Dijkstra's algorithm: the distances so far, and the rows to go on from, by distance.
+/// Dijkstra's algorithm: the distances so far, and the abstract states to expand, by distance.
 #[derive(Drop)]
 struct Dijkstra {
     /// The remaining cost of each class.
@@ -18,24 +18,24 @@ struct Dijkstra {
     waiting: BinaryHeap<Reverse<(i64, u32)>>,
 }
 
-/// The goal distance of each row under the remaining costs, by Dijkstra's algorithm backwards from the goal.
-pub(crate) fn distances(
+/// The goal distance of each abstract state under the remaining costs, by Dijkstra's algorithm backwards from the goal.
+pub(crate) fn distances<A: Abstraction>(
     alloc: Global,
-    graph: &RowGraph,
+    abstraction: &A,
     costs: &Costs,
 ) -> Result<Vec<i64>, NoMemory> {
     let mut dijkstra = Dijkstra {
-        costs: class_costs(alloc, graph, costs)?,
-        distances: vec![in alloc; NO_WAY; graph.row_count()]?,
+        costs: class_costs(alloc, abstraction, costs)?,
+        distances: vec![in alloc; NO_WAY; abstraction.state_count()]?,
         waiting: BinaryHeap::new(alloc),
     };
-    dijkstra.begin(graph)?;
+    dijkstra.begin(abstraction)?;
     for _ in 0..u64::MAX {
-        let Some(Reverse((distance, row))) = dijkstra.waiting.pop() else {
+        let Some(Reverse((distance, state))) = dijkstra.waiting.pop() else {
             break;
         };
-        if distance_of(&dijkstra.distances, row) == distance {
-            dijkstra.relax(graph, row, distance)?;
+        if distance_of(&dijkstra.distances, state) == distance {
+            dijkstra.relax(abstraction, state, distance)?;
         }
     }
     let Dijkstra { distances, .. } = dijkstra;
@@ -43,22 +43,27 @@ pub(crate) fn distances(
 }
 
 impl Dijkstra {
-    /// Begins at the rows that the goal allows.
-    fn begin(&mut self, graph: &RowGraph) -> Result<(), NoMemory> {
+    /// Begins at the abstract states that the goal allows.
+    fn begin<A: Abstraction>(&mut self, abstraction: &A) -> Result<(), NoMemory> {
         for (place, distance) in self.distances.iter_mut().enumerate() {
-            if let Ok(row) = u32::try_from(place) {
-                if graph.is_goal(row) {
+            if let Ok(state) = u32::try_from(place) {
+                if abstraction.is_goal(state) {
                     *distance = 0;
-                    self.waiting.push(Reverse((0, row)))?;
+                    self.waiting.push(Reverse((0, state)))?;
                 }
             }
         }
         Ok(())
     }
 
-    /// Relaxes the arcs that lead to this row, which has this goal distance.
-    fn relax(&mut self, graph: &RowGraph, row: u32, distance: i64) -> Result<(), NoMemory> {
-        for arc in graph.arcs_to(row) {
+    /// Relaxes the arcs that lead to this abstract state, which has this goal distance.
+    fn relax<A: Abstraction>(
+        &mut self,
+        abstraction: &A,
+        state: u32,
+        distance: i64,
+    ) -> Result<(), NoMemory> {
+        for arc in abstraction.arcs_to(state) {
             if let Some(Some(cost)) = self.costs.get(place_of(arc.class)) {
                 let next = distance.saturating_add(*cost);
                 if let Some(before) = self.distances.get_mut(place_of(arc.from)) {
@@ -73,41 +78,41 @@ impl Dijkstra {
     }
 }
 
-/// The distance of the row with this number.
-pub(crate) fn distance_of(distances: &[i64], row: u32) -> i64 {
-    match distances.get(place_of(row)) {
+/// The distance of the abstract state with this number.
+pub(crate) fn distance_of(distances: &[i64], state: u32) -> i64 {
+    match distances.get(place_of(state)) {
         Some(distance) => *distance,
         None => NO_WAY,
     }
 }
 
 /// The remaining cost of each class; `None` if all its instances are shut out.
-fn class_costs(
+fn class_costs<A: Abstraction>(
     alloc: Global,
-    graph: &RowGraph,
+    abstraction: &A,
     costs: &Costs,
 ) -> Result<Vec<Option<i64>>, NoMemory> {
-    let mut found = Vec::with_capacity(alloc, graph.classes().len())?;
-    for class in graph.classes() {
-        found.push(costs.of_class(graph, class))?;
+    let mut found = Vec::with_capacity(alloc, abstraction.classes().len())?;
+    for class in abstraction.classes() {
+        found.push(costs.of_class(abstraction, class))?;
     }
     Ok(found)
 }
 
 /// Subtracts the saturated costs from the costs: for each class the greatest decrease of the distance along its arcs. It may be
 /// negative, in which case the cost grows.
-pub(crate) fn take(
+pub(crate) fn take_saturated<A: Abstraction>(
     alloc: Global,
-    graph: &RowGraph,
+    abstraction: &A,
     distances: &[i64],
     costs: &mut Costs,
 ) -> Result<(), NoMemory> {
-    let shares = shares(alloc, graph, distances)?;
-    for (class, share) in graph.classes().iter().zip(&shares) {
-        if let Some(share) = share {
-            if *share != 0 {
-                for instance in graph.instances_of(class) {
-                    costs.take(*instance, *share);
+    let saturated = saturated_costs(alloc, abstraction, distances)?;
+    for (class, cost) in abstraction.classes().iter().zip(&saturated) {
+        if let Some(cost) = cost {
+            if *cost != 0 {
+                for instance in abstraction.instances_of(class) {
+                    costs.take(*instance, *cost);
                 }
             }
         }
@@ -116,19 +121,19 @@ pub(crate) fn take(
 }
 
 /// The sum of the saturated costs, without the instances that are shut out.
-pub(crate) fn taken(
+pub(crate) fn saturated_sum<A: Abstraction>(
     alloc: Global,
-    graph: &RowGraph,
+    abstraction: &A,
     distances: &[i64],
     costs: &Costs,
 ) -> Result<i64, NoMemory> {
-    let shares = shares(alloc, graph, distances)?;
+    let saturated = saturated_costs(alloc, abstraction, distances)?;
     let mut sum = 0i64;
-    for (class, share) in graph.classes().iter().zip(&shares) {
-        let share = share.unwrap_or(0).max(0);
-        for instance in graph.instances_of(class) {
+    for (class, cost) in abstraction.classes().iter().zip(&saturated) {
+        let cost = cost.unwrap_or(0).max(0);
+        for instance in abstraction.instances_of(class) {
             if costs.of(*instance).is_some() {
-                sum = sum.saturating_add(share);
+                sum = sum.saturating_add(cost);
             }
         }
     }
@@ -136,29 +141,29 @@ pub(crate) fn taken(
 }
 
 /// The saturated cost of each class; `None` if it has no effect.
-pub(crate) fn shares(
+pub(crate) fn saturated_costs<A: Abstraction>(
     alloc: Global,
-    graph: &RowGraph,
+    abstraction: &A,
     distances: &[i64],
 ) -> Result<Vec<Option<i64>>, NoMemory> {
-    let mut shares = Vec::with_capacity(alloc, graph.classes().len())?;
-    for class in graph.classes() {
-        shares.push(if class.stays { Some(0) } else { None })?;
+    let mut saturated = Vec::with_capacity(alloc, abstraction.classes().len())?;
+    for class in abstraction.classes() {
+        saturated.push(if class.has_loop { Some(0) } else { None })?;
     }
-    let mut row = 0u32;
+    let mut state = 0u32;
     for to in distances {
-        for arc in graph.arcs_to(row) {
+        for arc in abstraction.arcs_to(state) {
             if let Some(lost) = lost(distance_of(distances, arc.from), *to) {
-                raise(&mut shares, arc.class, lost);
+                raise(&mut saturated, arc.class, lost);
             }
         }
-        row = row.saturating_add(1);
+        state = state.saturating_add(1);
     }
-    Ok(shares)
+    Ok(saturated)
 }
 
-/// The decrease from one distance to another; `None` if only one of the rows has no path to the goal. Two rows without one count
-/// as equal.
+/// The decrease from one distance to another; `None` if only one of the abstract states has no path to the goal. Two
+/// without one count as equal.
 fn lost(from: i64, to: i64) -> Option<i64> {
     match (from == NO_WAY, to == NO_WAY) {
         (false, false) => Some(from.saturating_sub(to)),
@@ -168,10 +173,10 @@ fn lost(from: i64, to: i64) -> Option<i64> {
     }
 }
 
-/// Raises the share of the class to at least this.
-fn raise(shares: &mut [Option<i64>], class: u32, lost: i64) {
-    if let Some(share) = shares.get_mut(place_of(class)) {
-        *share = match *share {
+/// Raises the saturated cost of the class to at least this.
+fn raise(saturated: &mut [Option<i64>], class: u32, lost: i64) {
+    if let Some(cost) = saturated.get_mut(place_of(class)) {
+        *cost = match *cost {
             Some(before) => Some(before.max(lost)),
             None => Some(lost),
         };

@@ -10,12 +10,12 @@ pub(crate) struct Order {
     tables: Vec<usize>,
 }
 
-/// The worth of a table for a state: the value that it gives, and the cost that it takes for that.
+/// The worth of a table for a state: the value that it gives, and the sum of its saturated costs.
 #[derive(Clone, Copy, Debug)]
 pub(crate) struct Worth {
     pub(crate) table: usize,
-    pub(crate) given: i64,
-    pub(crate) taken: i64,
+    pub(crate) value: i64,
+    pub(crate) saturated: i64,
 }
 
 impl Order {
@@ -29,24 +29,24 @@ impl Order {
         &self.tables
     }
 
-    /// The tables by value per taken cost, the best first; among equals, the one with the greater value first.
+    /// The tables by value per stolen cost, the best first; among equals, the one with the greater value first.
     pub(crate) fn by_worth(alloc: Global, mut worths: Vec<Worth>) -> Result<Order, NoMemory> {
         worths.sort_unstable_by(|one, other| {
             other
                 .ratio()
                 .cmp(&one.ratio())
-                .then_with(|| other.given.cmp(&one.given))
+                .then_with(|| other.value.cmp(&one.value))
                 .then_with(|| one.table.cmp(&other.table))
         });
         Order::of(alloc, &worths)
     }
 
     /// The tables by value, the best first.
-    pub(crate) fn by_given(alloc: Global, mut worths: Vec<Worth>) -> Result<Order, NoMemory> {
+    pub(crate) fn by_value(alloc: Global, mut worths: Vec<Worth>) -> Result<Order, NoMemory> {
         worths.sort_unstable_by(|one, other| {
             other
-                .given
-                .cmp(&one.given)
+                .value
+                .cmp(&one.value)
                 .then_with(|| one.table.cmp(&other.table))
         });
         Order::of(alloc, &worths)
@@ -88,8 +88,8 @@ impl Order {
 }
 
 impl Worth {
-    /// The value times 1000, divided by the taken cost plus one.
+    /// The value times 1000, divided by the sum of the saturated costs plus one.
     fn ratio(self) -> i64 {
-        self.given.saturating_mul(1000).saturating_add(1) / self.taken.max(0).saturating_add(1)
+        self.value.saturating_mul(1000).saturating_add(1) / self.saturated.max(0).saturating_add(1)
     }
 }

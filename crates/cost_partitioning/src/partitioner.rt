@@ -1,32 +1,32 @@
 //! The search for orders that give states great values.
 use crate::cost_partition::CostPartition;
 use crate::costs::Costs;
-use crate::goal_distances::{NO_WAY, distance_of, distances, taken};
+use crate::goal_distances::{NO_WAY, distance_of, distances, saturated_sum};
 use crate::orders::{Order, Worth};
-use abstractions::RowGraph;
+use abstractions::Abstraction;
 use faults::NoMemory;
-use potentials_drafted::Chance;
+use potentials_drafted::RandomGenerator;
 use std::alloc::Global;
 
 /// The part, in thousandths, of the states' sum of values that is left without tables that add little.
 const NEARLY_ALL: i64 = 998;
 
-/// The rows of a state, by table index.
-pub(crate) type StateRows = Vec<u32>;
+/// The numbers of a state's abstract states, by table index.
+pub(crate) type AbstractStates = Vec<u32>;
 
 /// The search for orders: tables, costs of instances, and the states whose values are to be raised.
 #[derive(Drop)]
-pub(crate) struct Partitioner<'a> {
+pub(crate) struct Partitioner<'a, A> {
     alloc: Global,
-    graphs: &'a [RowGraph],
+    abstractions: &'a [A],
     costs: &'a Costs,
     /// The first is the initial state.
-    states: &'a [StateRows],
+    states: &'a [AbstractStates],
     /// For each table, the value of each state if it comes first in the order.
     alone: Vec<Vec<i64>>,
-    /// The saturated costs of each table in that case.
-    taken: Vec<i64>,
-    chance: Chance,
+    /// The sum of the saturated costs of each table in that case.
+    saturated: Vec<i64>,
+    random: RandomGenerator,
     /// Work counter (arcs, rows and instances), and its limit, after which no order is modified any more.
     work: u64,
     max_work: u64,
@@ -54,46 +54,46 @@ impl Merit {
     }
 }
 
-impl<'a> Partitioner<'a> {
+impl<'a, A: Abstraction> Partitioner<'a, A> {
     /// A search for these tables, costs and states.
     pub(crate) fn new(
         alloc: Global,
-        graphs: &'a [RowGraph],
+        abstractions: &'a [A],
         costs: &'a Costs,
-        states: &'a [StateRows],
-    ) -> Result<Partitioner<'a>, NoMemory> {
+        states: &'a [AbstractStates],
+    ) -> Result<Partitioner<'a, A>, NoMemory> {
         let mut partitioner = Partitioner {
             alloc,
-            graphs,
+            abstractions,
             costs,
             states,
             alone: Vec::new(alloc),
-            taken: Vec::new(alloc),
-            chance: Chance::new(),
+            saturated: Vec::new(alloc),
+            random: RandomGenerator::new(),
             work: 0,
             max_work: 0,
         };
-        for (table, graph) in graphs.iter().enumerate() {
-            partitioner.add(table, graph)?;
+        for (table, abstraction) in abstractions.iter().enumerate() {
+            partitioner.add(table, abstraction)?;
         }
         Ok(partitioner)
     }
 
     /// Records the values and the saturated costs of the table if it comes first.
-    fn add(&mut self, table: usize, graph: &RowGraph) -> Result<(), NoMemory> {
+    fn add(&mut self, table: usize, abstraction: &A) -> Result<(), NoMemory> {
         let alloc = self.alloc;
-        let distances = distances(alloc, graph, self.costs)?;
+        let distances = distances(alloc, abstraction, self.costs)?;
         let mut given = Vec::with_capacity(alloc, self.states.len())?;
-        for rows in self.states {
-            given.push(match rows.get(table) {
-                Some(row) => or_nothing(distance_of(&distances, *row)),
+        for state in self.states {
+            given.push(match state.get(table) {
+                Some(number) => or_nothing(distance_of(&distances, *number)),
                 None => 0,
             })?;
         }
-        self.taken
-            .push(taken(alloc, graph, &distances, self.costs)?)?;
+        self.saturated
+            .push(saturated_sum(alloc, abstraction, &distances, self.costs)?)?;
         self.alone.push(given)?;
-        self.count(graph);
+        self.count(abstraction);
         Ok(())
     }
 
@@ -107,27 +107,23 @@ impl<'a> Partitioner<'a> {
         self.work > self.max_work
     }
 
-    /// Counts the table's arcs, rows and instances as work.
-    fn count(&mut self, graph: &RowGraph) {
-        let looks = graph
-            .arc_count()
-            .saturating_add(graph.row_count())
-            .saturating_add(graph.instance_count());
-        self.work = self.work.saturating_add(looks as u64);
+    /// Counts a pass over the abstraction as work.
+    fn count(&mut self, abstraction: &A) {
+        self.work = self.work.saturating_add(abstraction.size() as u64);
     }
 
     /// The worth of each table for the state at this index, for the tables with a positive value in some state.
     fn worths(&self, state: usize) -> Result<Vec<Worth>, NoMemory> {
         let mut worths = Vec::new(self.alloc);
-        for (table, (given, taken)) in self.alone.iter().zip(&self.taken).enumerate() {
+        for (table, (given, saturated)) in self.alone.iter().zip(&self.saturated).enumerate() {
             if given.iter().any(|value| *value > 0) {
                 worths.push(Worth {
                     table,
-                    given: match given.get(state) {
+                    value: match given.get(state) {
                         Some(value) => *value,
                         None => 0,
                     },
-                    taken: *taken,
+                    saturated: *saturated,
                 })?;
             }
         }
@@ -142,11 +138,11 @@ impl<'a> Partitioner<'a> {
     /// The partition by this order.
     pub(crate) fn divide(&mut self, order: &Order) -> Result<CostPartition, NoMemory> {
         for table in order.tables() {
-            if let Some(graph) = self.graphs.get(*table) {
-                self.count(graph);
+            if let Some(abstraction) = self.abstractions.get(*table) {
+                self.count(abstraction);
             }
         }
-        CostPartition::new(self.alloc, self.graphs, order, self.costs)
+        CostPartition::new(self.alloc, self.abstractions, order, self.costs)
     }
 
     /// The value of each state by the partition; 0 if the state is a known dead end.
@@ -162,7 +158,7 @@ impl<'a> Partitioner<'a> {
     /// two orders, without tables that add little.
     pub(crate) fn best_order(&mut self) -> Result<Order, NoMemory> {
         let mut best = self.ranked(self.greedy(0)?, 0)?;
-        let other = Order::by_given(self.alloc, self.worths(0)?)?;
+        let other = Order::by_value(self.alloc, self.worths(0)?)?;
         let other = self.ranked(other, 0)?;
         if other.merit > best.merit {
             best = other;
@@ -230,8 +226,8 @@ impl<'a> Partitioner<'a> {
             if self.is_done() {
                 break;
             }
-            let from = self.chance.below(best.order.tables().len());
-            let to = self.chance.below(best.order.tables().len());
+            let from = self.random.below(best.order.tables().len());
+            let to = self.random.below(best.order.tables().len());
             if from != to {
                 let moved = best.order.moved(self.alloc, from, to)?;
                 let moved = self.ranked(moved, state)?;

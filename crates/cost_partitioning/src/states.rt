@@ -1,14 +1,14 @@
 //! States whose values are to be raised.
-use crate::partitioner::StateRows;
-use abstractions::{RowGraph, Variables, place_of};
+use crate::partitioner::AbstractStates;
+use abstractions::{Abstraction, Variables, place_of};
 use faults::NoMemory;
 use std::alloc::Global;
 
-/// Sampled states, the initial state first: their true atoms, and their rows by table index.
+/// Sampled states, the initial state first: their true atoms, and their abstract states by table index.
 #[derive(Clone, Copy)]
 pub(crate) struct Sampled<'a> {
     pub(crate) atoms: &'a [Vec<u32>],
-    pub(crate) rows: &'a [StateRows],
+    pub(crate) abstract_states: &'a [AbstractStates],
 }
 
 /// The values of all variables in each of the states, which are given by their true atoms.
@@ -32,19 +32,19 @@ pub(crate) fn values_of_all(
     Ok(all)
 }
 
-/// The rows of each of the states, by table index.
-pub(crate) fn rows_of_all(
+/// The abstract states of each of the states, by table index.
+pub(crate) fn abstract_states_of_all<A: Abstraction>(
     alloc: Global,
-    graphs: &[RowGraph],
+    abstractions: &[A],
     states: &[Vec<u32>],
-) -> Result<Vec<StateRows>, NoMemory> {
+) -> Result<Vec<AbstractStates>, NoMemory> {
     let mut all = Vec::new(alloc);
     for values in states {
-        let mut rows = Vec::with_capacity(alloc, graphs.len())?;
-        for graph in graphs {
-            rows.push(graph.row_of(values).unwrap_or(u32::MAX))?;
+        let mut numbers = Vec::with_capacity(alloc, abstractions.len())?;
+        for abstraction in abstractions {
+            numbers.push(abstraction.state_of(values).unwrap_or(u32::MAX))?;
         }
-        all.push(rows)?;
+        all.push(numbers)?;
     }
     Ok(all)
 }

@@ -25,10 +25,10 @@ AppendsBeginning before after bytes = (front rest : List ℕ) × (bytes ≡ fron
 
 -- Bytes were written to a sink: known bytes grow by all of these; or by a prefix of them, and the sink counted a failure, or may
 -- run out of memory.
-abbrev pub IsWritten : (wants_memory : Bool) → (failures failures_after : ℕ) → (before after : Option (List ℕ)) → List ℕ → Type 0
-IsWritten wants_memory failures failures_after before after bytes =
+abbrev pub IsWritten : (may_lack_memory : Bool) → (failures failures_after : ℕ) → (before after : Option (List ℕ)) → List ℕ → Type 0
+IsWritten may_lack_memory failures failures_after before after bytes =
     AppendsBeginning before after bytes
-    × (Appends before after bytes ⊎ ((failures_after ≡ one_more failures) ⊎ IsTrue wants_memory))
+    × (Appends before after bytes ⊎ ((failures_after ≡ one_more failures) ⊎ IsTrue may_lack_memory))
 
 -- what is known stays known
 abbrev pub IsKept : Option (List ℕ) → Option (List ℕ) → Type 0

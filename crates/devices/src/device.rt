@@ -93,7 +93,7 @@ pub trait Sink {
     ghost write_count: { Self → ℕ → Option ℕ } = { λ _ _. None };
 
     /// Whether a write may fail for want of memory.
-    ghost wants_memory: { Bool } = { true };
+    ghost may_lack_memory: { Bool } = { true };
 
     /// The name of the file that it writes, if that is known.
     ghost name: { Self → List ℕ } = { λ _. [] };
@@ -105,7 +105,7 @@ pub trait Sink {
         ensures progress { 0 < length piece.now → IfOk result (λ count. 0 < count) }
         ensures takes { IfOk result (λ count. IfSome (write_count self.old (length piece.now)) (λ reported. count ≡ reported)) }
         ensures bytes { WriteAppends (taken self.old) (taken self.new) result piece.now }
-        ensures memory { result ≡ Err IoFault.NoMemory → IsTrue wants_memory }
+        ensures memory { result ≡ Err IoFault.NoMemory → IsTrue may_lack_memory }
         ensures failures { CountsDevice (failures self.old) (failures self.new) result }
         ensures name { name self.new ≡ name self.old };
 }
@@ -115,7 +115,7 @@ pub fn write_all<S: Sink>(sink: &mut S, bytes: &[u8]) -> Result<(), IoFault>
     ensures ok { OnOk result (Appends (S.taken sink.old) (S.taken sink.new) bytes.now) }
     ensures beginning { AppendsBeginning (S.taken sink.old) (S.taken sink.new) bytes.now }
     ensures failures { CountsDevice (S.failures sink.old) (S.failures sink.new) result }
-    ensures memory { result ≡ Err IoFault.NoMemory → IsTrue S.wants_memory }
+    ensures memory { result ≡ Err IoFault.NoMemory → IsTrue S.may_lack_memory }
     ensures name { S.name sink.new ≡ S.name sink.old }
 {
     let mut rest = bytes;

@@ -5,7 +5,7 @@ use crate::device::{IoFault, Sink, write_all};
 
 /// Writes a line, as far as the sink takes it.
 pub fn say_line<E: Sink>(err: &mut E, line: &[u8])
-    ensures { IsWritten E.wants_memory (E.failures err.old) (E.failures err.new) (E.taken err.old) (E.taken err.new) line.now }
+    ensures { IsWritten E.may_lack_memory (E.failures err.old) (E.failures err.new) (E.taken err.old) (E.taken err.new) line.now }
 {
     let _ = write_all(err, line);
 }

@@ -89,7 +89,7 @@ impl<W: Write> Sink for Device<W> {
 
     ghost taken = { λ device. W.contents device.inner };
 
-    ghost wants_memory = { false };
+    ghost may_lack_memory = { false };
 
     fn write(&mut self, piece: &[u8]) -> Result<usize, IoFault> {
         match self.inner.write(piece) {

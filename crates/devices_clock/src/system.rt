@@ -21,7 +21,7 @@ impl<'a, R: rt::Clock> SystemClock<'a, R> {
 }
 
 impl<R: rt::Clock> Clock for SystemClock<'_, R> {
-    /// A clock that cannot be read shows the greatest number: so a limit of time is over, and not without end.
+    /// A clock that cannot be read shows the greatest number, so that a limit of time is over instead of never being reached.
     fn seconds(&self) -> u64 {
         let Some(start) = self.start else {
             return u64::MAX;

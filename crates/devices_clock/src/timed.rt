@@ -20,7 +20,7 @@ impl<S: Sink, C> Sink for Timed<S, C> {
 
     ghost write_count = { λ timed. S.write_count timed.sink };
 
-    ghost wants_memory = { S.wants_memory };
+    ghost may_lack_memory = { S.may_lack_memory };
 
     ghost name = { λ timed. S.name timed.sink };
 

@@ -11,9 +11,9 @@ use Rattle.explain_hints.specs.declared.texts.File.{File}
 use Rattle.explain_hints.specs.declared.texts.File.TheVariants.{Domain, Problem}
 use Rattle.explain_hints.specs.declared.texts.NamedTexts.{NamedTexts}
 use Rattle.explain_hints.specs.ReportedBytes.{reported_in}
-use Rattle.explain_hints.specs.declared.refusal.FileRefusal.{FileRefusal}
+use Rattle.explain_hints.specs.Refusals.{FileRefusal}
 use Rattle.explain_faults.specs.Explained.{AreWhole}
-use Rattle.explain_faults.specs.Expected.{AreTold, AreToldIn, MayFollow, MayOccur, words_before}
+use Rattle.explain_faults.specs.Expected.{AreTold, AreReportedIn, MayFollow, MayOccur, words_before}
 
 module _ (file : TaskFile) (text : List ℕ) (offset : ℕ) (words items before : List Word) (reads : ReadsAs text (map word_of words)) (same : items ≡ words) (are : before ≡ words_before offset items) where
   occur : before ≡ words_before offset words
@@ -24,30 +24,30 @@ module _ (file : TaskFile) (text : List ℕ) (offset : ℕ) (words items before 
   may_occur (Err e) follow = tt
 
   pub are_told : {E : Type 0} (reported : List ℕ) (r : Result (Vec Word) E) → IfOk r (λ told. AreTold file before reported told.items)
-      → IfOk r (λ wanted. AreToldIn file text offset reported wanted.items)
+      → IfOk r (λ wanted. AreReportedIn file text offset reported wanted.items)
   are_told reported (Ok found) told = record { words = words; reads = reads; are_told = subst (λ b. AreTold file b reported found.items) occur told }
   are_told reported (Err e) told = tt
 
 -- what is reported at a place of a text is reported for its file
 module _ {E : Type 0} (texts : NamedTexts) (fault : FileRefusal) (reported : List ℕ) (same : reported ≡ reported_in (text_in texts fault.file) fault.span.start fault.span.end) where
   pub whole_in_domain : (r : Result (Vec Word) E) → fault.file ≡ Domain
-      → (Reads (text_in texts Domain) → IfOk r (λ wanted. AreToldIn domain_file (text_in texts Domain) fault.span.start reported wanted.items))
+      → (Reads (text_in texts Domain) → IfOk r (λ wanted. AreReportedIn domain_file (text_in texts Domain) fault.span.start reported wanted.items))
       → IfOk r (λ wanted. AreWhole texts fault wanted.items)
   whole_in_domain (Ok wanted) is told =
       let bytes : reported ≡ reported_in (text_in texts Domain) fault.span.start fault.span.end =
       same ∙ ap (λ (f : File). reported_in (text_in texts f) fault.span.start fault.span.end) is in (
-        λ here reads. subst (λ (b : List ℕ). AreToldIn domain_file (text_in texts Domain) fault.span.start b wanted.items) bytes (told reads),
+        λ here reads. subst (λ (b : List ℕ). AreReportedIn domain_file (text_in texts Domain) fault.span.start b wanted.items) bytes (told reads),
         λ other. absurd (let both : Domain ≡ Problem = sym is ∙ other in cc),
       )
   whole_in_domain (Err e) is told = tt
 
   pub whole_in_problem : (r : Result (Vec Word) E) → fault.file ≡ Problem
-      → (Reads (text_in texts Problem) → IfOk r (λ wanted. AreToldIn problem_file (text_in texts Problem) fault.span.start reported wanted.items))
+      → (Reads (text_in texts Problem) → IfOk r (λ wanted. AreReportedIn problem_file (text_in texts Problem) fault.span.start reported wanted.items))
       → IfOk r (λ wanted. AreWhole texts fault wanted.items)
   whole_in_problem (Ok wanted) is told =
       let bytes : reported ≡ reported_in (text_in texts Problem) fault.span.start fault.span.end =
       same ∙ ap (λ (f : File). reported_in (text_in texts f) fault.span.start fault.span.end) is in (
         λ other. absurd (let both : Problem ≡ Domain = sym is ∙ other in cc),
-        λ here reads. subst (λ (b : List ℕ). AreToldIn problem_file (text_in texts Problem) fault.span.start b wanted.items) bytes (told reads),
+        λ here reads. subst (λ (b : List ℕ). AreReportedIn problem_file (text_in texts Problem) fault.span.start b wanted.items) bytes (told reads),
       )
   whole_in_problem (Err e) is told = tt

@@ -44,7 +44,7 @@ pub record AreTold (file : TaskFile) (before : List code.Word) (reported : List 
   pub are_told : (told ≡ all) ⊎ (IsOfKeyword reported × AreSome all told × (told ≡ [] → ⊥))
 
 -- the same, after the words of a text that begin before an offset
-pub record AreToldIn (file : TaskFile) (text : List ℕ) (offset : ℕ) (reported : List ℕ) (told : List code.Word) : Type 0 where
+pub record AreReportedIn (file : TaskFile) (text : List ℕ) (offset : ℕ) (reported : List ℕ) (told : List code.Word) : Type 0 where
   pub words : List code.Word
   pub reads : ReadsAs text (map word_of words)
   pub are_told : AreTold file (words_before offset words) reported told

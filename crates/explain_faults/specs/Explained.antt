@@ -13,9 +13,9 @@ use Rattle.explain_hints.specs.Places.{IsLineAt, IsPlace, lines_ended}
 use Rattle.explain_hints.specs.declared.texts.File.TheVariants.{Domain, Problem, Plan}
 use Rattle.explain_hints.specs.declared.texts.NamedTexts.{NamedTexts}
 use Rattle.explain_hints.specs.ReportedBytes.{reported_in}
-use Rattle.explain_hints.specs.declared.refusal.FileRefusal.{FileRefusal}
+use Rattle.explain_hints.specs.Refusals.{FileRefusal}
 use Rattle.explain_faults.specs.declared.explanation.FaultExplanation.{FaultExplanation}
-use Rattle.explain_faults.specs.Expected.{MayOccur, AreToldIn}
+use Rattle.explain_faults.specs.Expected.{MayOccur, AreReportedIn}
 use Rattle.tokens.specs.declared.word.Word.{Word}
 use Rattle.model.specs.Words.{Reads}
 use Rattle.model.specs.Trees.{domain_file, problem_file}
@@ -66,9 +66,9 @@ IsOfWords code = (code ≡ BadForm) ⊎ (code ≡ UnknownSection) ⊎ (code ≡ 
 abbrev pub AreWhole : NamedTexts → FileRefusal → List Word → Type 0
 AreWhole texts fault wanted =
     (fault.file ≡ Domain → Reads (text_in texts Domain)
-    → AreToldIn domain_file (text_in texts Domain) fault.span.start (reported_in (text_in texts Domain) fault.span.start fault.span.end) wanted)
+    → AreReportedIn domain_file (text_in texts Domain) fault.span.start (reported_in (text_in texts Domain) fault.span.start fault.span.end) wanted)
     × (fault.file ≡ Problem → Reads (text_in texts Problem)
-    → AreToldIn problem_file (text_in texts Problem) fault.span.start (reported_in (text_in texts Problem) fault.span.start fault.span.end) wanted)
+    → AreReportedIn problem_file (text_in texts Problem) fault.span.start (reported_in (text_in texts Problem) fault.span.start fault.span.end) wanted)
 
 -- the explanation is of this fault, the place is that of the first byte of its span, and the reported words are exactly those
 -- that may occur there

@@ -1,3 +1,4 @@
 pub mod Expected
 pub mod Explained
 pub mod Wrong
+pub mod SameMistake

@@ -2,18 +2,18 @@
 ghost use Rattle.std.specs.Prelude.{IfOk, IsTrue};
 ghost use Rattle.explain_faults.specs.Explained.{AreWanted, AreWhole, IsExplained, IsOfWords};
 
+use crate::sentences::{Remarks, remarks_on};
 use crate::wanted::{RefusedBytes, words_at};
 use crate::wrong::{WrongPlace, wrong_place};
 use explain_hints::{
-    File, FileRefusal, Help, Hint, LineColumn, NamedTexts, help_with, hint_of, place_of,
-    reported_bytes,
+    Context, CutTexts, File, FileRefusal, LineColumn, NamedTexts, place_of, reported_bytes,
 };
 use faults::{Code, NoMemory};
 use pddl_tree::TaskFile;
 use std::alloc::Global;
 use tokens::Word;
 
-/// A fault, its place, and the help for it.
+/// A fault, its place, and what helps.
 #[derive(Drop)]
 pub struct FaultExplanation<'a> {
     /// The fault, as given.
@@ -23,38 +23,35 @@ pub struct FaultExplanation<'a> {
     /// The words that may occur in place of a refused one, one for each kind: one name stands for all names, one variable for all
     /// variables, one number for all numbers. For a keyword, only the similar ones if there are any.
     pub wanted: Vec<Word<'a>>,
-    /// Other help.
-    pub help: Help<'a>,
+    /// What is wrong, and what to do.
+    pub(crate) remarks: Remarks,
     /// Where the text goes wrong before the fault, if its parentheses are unbalanced.
     pub wrong: Option<WrongPlace>,
-    /// The common mistake behind it, if there is one.
-    pub hint: Option<Hint<'a>>,
 }
 
-/// Explains a fault of these texts. The caller is responsible for it being the first fault; for a fault that these texts do not
-/// have, the help is whatever the words around its span allow.
+/// Explains a fault of these texts, given their pieces. The caller is responsible for it being the first fault; for a fault that
+/// these texts do not have, the help is whatever the words around its span allow.
 ///
 /// # Errors
 /// An allocation failed.
 pub fn explain_fault<'a>(
     alloc: Global,
     texts: &NamedTexts<'a>,
+    pieces: &CutTexts<'a>,
     fault: FileRefusal,
 ) -> Result<FaultExplanation<'a>, NoMemory>
     ensures { IfOk result (IsExplained texts.now fault) }
 {
     let place = place_of(texts.text(fault.file), fault.span.start);
     let wanted = wanted_words(alloc, texts, fault)?;
-    let help = help_with(alloc, texts, fault)?;
-    let wrong = wrong_place(alloc, texts, fault)?;
-    let hint = hint_of(alloc, texts, fault)?;
+    let wrong = wrong_place(alloc, texts, pieces, fault)?;
+    let remarks = remarks_on(alloc, Context::of(alloc, texts, pieces, fault), &wanted)?;
     Ok(FaultExplanation {
         fault,
         place,
         wanted,
-        help,
+        remarks,
         wrong,
-        hint,
     })
 }
 

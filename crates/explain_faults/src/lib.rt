@@ -3,14 +3,13 @@
 
 mod explanation;
 mod report;
+mod same_mistake;
 mod sentences;
-mod shown;
 mod wanted;
+mod words;
 mod wrong;
 
-pub use explain_hints::{
-    CostFault, Counts, EarlyEnd, File, FileOffset, FileRefusal, FormMistake, Help, Hint, Limit,
-    LineColumn, Named, NamedText, NamedTexts, Others, Part, RunMistake, Types,
-};
+pub use explain_hints::{CutTexts, File, FileRefusal, LineColumn, NamedText, NamedTexts};
 pub use explanation::{FaultExplanation, explain_fault};
+pub use same_mistake::are_of_one_mistake;
 pub use wrong::{Nesting, WrongPlace};

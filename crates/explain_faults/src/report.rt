@@ -35,12 +35,10 @@ impl FaultExplanation<'_> {
     fn first_line(&self, alloc: Global, texts: &NamedTexts<'_>) -> Result<String, NoMemory>
         ensures { IfOk result (λ line. IsHeading (name_in texts.now self.now.fault.file) (text_in texts.now self.now.fault.file) self.now.fault.span.start self.now.place self.now.fault.code (string_bytes line)) }
     {
-        let mut sentence = String::new(alloc);
-        self.add_message(alloc, texts, &mut sentence)?;
         let line = FirstLine {
             name: texts.name(self.fault.file),
             place: self.place,
-            message: message_in(sentence.as_str()),
+            message: message_in(self.remarks.sentence.as_str()),
             code: self.fault.code,
             remark: remark_on(texts.text(self.fault.file), self.fault.span.start),
         };
@@ -50,16 +48,8 @@ impl FaultExplanation<'_> {
     /// The lines after the first one.
     fn lines_after(&self, alloc: Global, texts: &NamedTexts<'_>) -> Result<String, NoMemory> {
         let mut out = marked(alloc, texts.text(self.fault.file), self.fault.span)?;
-        let asides = self.asides(alloc, texts)?;
-        for (index, aside) in asides.as_slice().iter().enumerate() {
-            out.push_str(if index == 0 { "" } else { " " })?;
-            out.push_str(aside.as_str())?;
-        }
-        if !asides.is_empty() {
-            out.push_str("\n")?;
-        }
-        let wrong = self.wrong_lines(alloc, texts)?;
-        out.push_str(wrong.as_str())?;
+        self.remarks.add_asides(&mut out)?;
+        self.add_wrong_lines(alloc, texts, &mut out)?;
         Ok(out)
     }
 }

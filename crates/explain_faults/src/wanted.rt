@@ -2,7 +2,7 @@
 ghost use Rattle.std.specs.Prelude.{◌≡◌, All, IfOk, position};
 ghost use Rattle.model.specs.Words.{Reads};
 ghost use Rattle.pddl_tree_parts.specs.Tree.{file_of};
-ghost use Rattle.explain_faults.specs.Expected.{AreSome, AreTold, AreToldIn, MayFollow, MayOccur, begins_from, words_before};
+ghost use Rattle.explain_faults.specs.Expected.{AreSome, AreTold, AreReportedIn, MayFollow, MayOccur, begins_from, words_before};
 
 use explain_hints::is_near;
 use explain_words::expected;
@@ -32,7 +32,7 @@ pub(crate) fn words_at<'a>(
     refused: RefusedBytes<'_>,
 ) -> Result<Vec<Word<'a>>, NoMemory>
     ensures occur { IfOk result (λ wanted. MayOccur (file_of file) text.now refused.entry.offset wanted.items) }
-    ensures told { Reads text.now → IfOk result (λ wanted. AreToldIn (file_of file) text.now refused.entry.offset refused.entry.bytes.now wanted.items) }
+    ensures told { Reads text.now → IfOk result (λ wanted. AreReportedIn (file_of file) text.now refused.entry.offset refused.entry.bytes.now wanted.items) }
 {
     let words = match scan(alloc, text) {
         Ok(words) => words,

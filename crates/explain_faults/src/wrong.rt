@@ -9,11 +9,11 @@ ghost use Rattle.model.specs.Refusals.{IsRefused};
 ghost use Rattle.pddl_tree_parts.specs.Tree.{file_of};
 ghost use Rattle.explain_faults.specs.Wrong.{GoesWrong, GoesWrongAt, IsRefusedIn};
 
-use explain_hints::{File, FileRefusal, NamedTexts, Piece, Shape, index_at, opening_of, pieces};
+use explain_hints::{CutTexts, File, FileRefusal, NamedTexts, index_at, opening_of};
 use faults::{Code, Fault, NoMemory, Refused, Span, TextRefusal};
 use pddl_tree::{TaskFile, domain, problem};
 use std::alloc::Global;
-use tokens::{Word, scan};
+use tokens::{Lexeme, Shape, Word, scan};
 
 /// A line feed, which ends any comment, and as many `)` as lists may be open.
 const CLOSING: &[u8] = b"\n))))))))))))))))))))))))))))))))))))))))))))))))))))))))))))))))";
@@ -49,45 +49,46 @@ pub struct WrongPlace {
 pub(crate) fn wrong_place(
     alloc: Global,
     texts: &NamedTexts<'_>,
+    pieces: &CutTexts<'_>,
     fault: FileRefusal,
 ) -> Result<Option<WrongPlace>, NoMemory>
     ensures { IfOk result (λ found. IfSome found (λ place. GoesWrongAt texts.now fault.file place.refusal)) }
 {
-    let is_of_lists = matches!(fault.code, Code::Unbalanced | Code::Trailing);
-    let (domain, problem) = (texts.domain.text, texts.problem.text);
-    match fault.file {
-        File::Domain if is_of_lists => in_text(alloc, TaskFile::Domain, domain, fault.span),
-        File::Problem if is_of_lists => in_text(alloc, TaskFile::Problem, problem, fault.span),
-        _ => Ok(None),
-    }
-}
-
-/// The same for a text and the place of its fault.
-fn in_text(
-    alloc: Global,
-    file: TaskFile,
-    text: &[u8],
-    fault: Span,
-) -> Result<Option<WrongPlace>, NoMemory>
-    ensures { IfOk result (λ found. IfSome found (λ place. GoesWrong (file_of file) text.now place.refusal)) }
-{
-    let pieces = pieces(alloc, text)?;
-    let cut = cut_at(text, fault, open_lists(&pieces));
-    let found = wrong_in(alloc, file, text, cut)?;
+    let pieces = pieces.of_file(fault.file);
+    let found = wrong_word(alloc, texts, fault, open_lists(pieces))?;
     match found {
-        Some(refusal) => Ok(Some(placed(&pieces, refusal, fault))),
+        Some(refusal) => Ok(Some(placed(pieces, refusal, fault.span))),
         None => Ok(None),
     }
 }
 
+/// The first unexpected word before a fault of parentheses, given the number of lists open at the end of its file.
+fn wrong_word(
+    alloc: Global,
+    texts: &NamedTexts<'_>,
+    fault: FileRefusal,
+    lists: usize,
+) -> Result<Option<TextRefusal>, NoMemory>
+    ensures { IfOk result (λ found. IfSome found (GoesWrongAt texts.now fault.file)) }
+{
+    let is_of_lists = matches!(fault.code, Code::Unbalanced | Code::Trailing);
+    let text = texts.text(fault.file);
+    let cut = cut_at(text, fault.span, lists);
+    match fault.file {
+        File::Domain if is_of_lists => wrong_in(alloc, TaskFile::Domain, text, cut),
+        File::Problem if is_of_lists => wrong_in(alloc, TaskFile::Problem, text, cut),
+        _ => Ok(None),
+    }
+}
+
 /// The number of lists open at the end of a text whose parentheses match otherwise.
-fn open_lists(pieces: &[Piece<'_>]) -> usize {
+fn open_lists(pieces: &[Lexeme<'_>]) -> usize {
     let mut count: usize = 0;
     for piece in pieces {
-        match piece.shape {
+        match piece.shape() {
             Shape::Open => count = count.saturating_add(1),
             Shape::Close => count = count.saturating_sub(1),
-            Shape::Run => {}
+            Shape::Run | Shape::Stray => {}
         }
     }
     count
@@ -203,7 +204,7 @@ fn refusal_in(fault: Fault) -> Result<Option<TextRefusal>, NoMemory>
 }
 
 /// An unexpected word, with its place within the lists of the text. An empty span means that lists are open.
-fn placed(pieces: &[Piece<'_>], refusal: TextRefusal, fault: Span) -> WrongPlace
+fn placed(pieces: &[Lexeme<'_>], refusal: TextRefusal, fault: Span) -> WrongPlace
     ensures { result.refusal ≡ refusal }
 {
     let Some(at) = index_at(pieces, refusal.span.start) else {
@@ -216,65 +217,54 @@ fn placed(pieces: &[Piece<'_>], refusal: TextRefusal, fault: Span) -> WrongPlace
     let first = first_shown(pieces, at);
     let are_open = fault.start == fault.end;
     let nesting = match refusal.code {
-        Code::BadForm if are_open => inside(pieces, first),
+        Code::BadForm if are_open => opening_offset(pieces, first).map(Nesting::Inside),
         Code::BadForm => after(pieces, first),
-        Code::MissingSection if !are_open => closes(pieces, at),
-        _ => Nesting::Elsewhere,
+        Code::MissingSection if !are_open => opening_offset(pieces, at).map(Nesting::Closes),
+        _ => None,
     };
     WrongPlace {
         refusal,
         shown: shown_from(pieces, first),
-        nesting,
+        nesting: nesting.unwrap_or(Nesting::Elsewhere),
     }
 }
 
 /// The index of the `(` right before the piece with this index, or its own index if there is none.
-fn first_shown(pieces: &[Piece<'_>], at: usize) -> usize {
+fn first_shown(pieces: &[Lexeme<'_>], at: usize) -> usize {
     let before = at.saturating_sub(1);
     match pieces.get(before) {
-        Some(piece) if piece.shape == Shape::Open => before,
+        Some(piece) if piece.shape() == Shape::Open => before,
         _ => at,
     }
 }
 
 /// The span of the piece with this index, with the head of the list that it begins.
-fn shown_from(pieces: &[Piece<'_>], first: usize) -> Span {
+fn shown_from(pieces: &[Lexeme<'_>], first: usize) -> Span {
     let Some(piece) = pieces.get(first) else {
         return Span { start: 0, end: 0 };
     };
     match pieces.get(first.saturating_add(1)) {
-        Some(head) if piece.shape == Shape::Open && head.shape == Shape::Run => Span {
-            start: piece.span.start,
-            end: head.span.end,
+        Some(head) if piece.shape() == Shape::Open && head.shape() == Shape::Run => Span {
+            start: piece.span().start,
+            end: head.span().end,
         },
-        _ => piece.span,
+        _ => piece.span(),
     }
 }
 
-/// The list that contains the piece with this index.
-fn inside(pieces: &[Piece<'_>], at: usize) -> Nesting {
-    match opening_of(pieces, at).and_then(|open| pieces.get(open)) {
-        Some(open) => Nesting::Inside(open.span.start),
-        None => Nesting::Elsewhere,
-    }
+/// Where the innermost list around the piece with this index opens.
+fn opening_offset(pieces: &[Lexeme<'_>], at: usize) -> Option<usize> {
+    let open = pieces.get(opening_of(pieces, at)?)?;
+    Some(open.span().start)
 }
 
 /// The list that ends right before the piece with this index.
-fn after(pieces: &[Piece<'_>], at: usize) -> Nesting {
+fn after(pieces: &[Lexeme<'_>], at: usize) -> Option<Nesting> {
     let before = at.saturating_sub(1);
-    let open = opening_of(pieces, before).and_then(|open| pieces.get(open));
-    match (open, pieces.get(before)) {
-        (Some(open), Some(close)) if close.shape == Shape::Close => {
-            Nesting::After(open.span.start, close.span.start)
-        }
-        _ => Nesting::Elsewhere,
+    let close = pieces.get(before)?;
+    if close.shape() != Shape::Close {
+        return None;
     }
-}
-
-/// The list that the piece with this index closes.
-fn closes(pieces: &[Piece<'_>], at: usize) -> Nesting {
-    match opening_of(pieces, at).and_then(|open| pieces.get(open)) {
-        Some(open) => Nesting::Closes(open.span.start),
-        None => Nesting::Elsewhere,
-    }
+    let open = opening_offset(pieces, before)?;
+    Some(Nesting::After(open, close.span().start))
 }

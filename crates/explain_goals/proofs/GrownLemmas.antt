@@ -11,7 +11,7 @@ use Rattle.model.specs.Meaning.{initial_state}
 use Rattle.model.specs.StaticallyFalse.{kept_instances}
 use Rattle.model.specs.Grounding.{bits_of_state}
 use Rattle.model.specs.NumberedLiterals.{NumberedLiteral, literals_of_number}
-use Rattle.model.specs.ConditionalChanges.{ConditionalChange, conditional_of_number, number_wants_unnumbered}
+use Rattle.model.specs.ConditionalChanges.{ConditionalChange, conditional_of_number, number_requires_unnumbered}
 use Rattle.model.proofs.Tests.{passes_weaker}
 use Rattle.explain_goals.specs.Settled.{has, IsWithin, allows, allows_all, may_hold, may_add, may_apply, is_there, is_made, AreMade, AreSettledBelow, is_settled, IsLeastSettled, lacking, IsGrown, IsGrownTo}
 
@@ -130,8 +130,8 @@ module _ (s other : List Bool) (within : IsWithin s other) where
 
   added-within : (c : ConditionalChange) → may_add s c ≡ true → may_add other c ≡ true
   added-within c so =
-      let parts = and_parts c.change.value (may_hold s c.wants_unnumbered c.condition) so in
-      and_from c.change.value (may_hold other c.wants_unnumbered c.condition) parts.0 (held-within c.wants_unnumbered c.condition parts.1)
+      let parts = and_parts c.change.value (may_hold s c.requires_unnumbered c.condition) so in
+      and_from c.change.value (may_hold other c.requires_unnumbered c.condition) parts.0 (held-within c.requires_unnumbered c.condition parts.1)
 
 -- a change whose condition needs only atoms of the set, and an instance
 pub change-grown : (c : ConditionalChange) (s new : List Bool) (added : Bool) → may_add s c ≡ true → IsGrown (λ some. is_there some c.change.atom ≡ true) s new added
@@ -149,7 +149,7 @@ instance-grown t atoms number changes s new added are may grown =
     (λ other wide within settled.
     ap (list_all (is_made other)) are
     ∙ sym (ap (λ b. not b || list_all (is_made other) (conditional_of_number t atoms number))
-    (held-within s other within (number_wants_unnumbered t atoms number) (literals_of_number t atoms number) may)) ∙ settled)
+    (held-within s other within (number_requires_unnumbered t atoms number) (literals_of_number t atoms number) may)) ∙ settled)
 
 -- ---- the first of several
 

@@ -1,4 +1,5 @@
 pub mod Invariants
+pub mod AddedLemmas
 pub mod GrownLemmas
 pub mod SettledLemmas
 pub mod NeedLemmas

@@ -15,7 +15,7 @@ use Rattle.model.specs.SureLiterals.{Literal, is_true, is_false, are_same, are_d
 use Rattle.model.specs.StaticallyFalse.{kept_instances, counting_changes, is_unconditional}
 use Rattle.model.specs.NumberedAtoms.{occurs_in, numbered_atoms, number_of, touched_by, atom_of_literal}
 use Rattle.model.specs.NumberedLiterals.{NumberedLiteral, NumberedChange, numbered_ground_literal, numbered_literal, numbered_literals, literals_of_instance}
-use Rattle.model.specs.ConditionalChanges.{ConditionalChange, conditional_change, conditional_of_instance, conditional_of_number, instance_wants_unnumbered, is_unnumbered, wants_unnumbered}
+use Rattle.model.specs.ConditionalChanges.{ConditionalChange, conditional_change, conditional_of_instance, conditional_of_number, instance_requires_unnumbered, is_unnumbered, requires_unnumbered}
 use Rattle.model.proofs.ListLemmas.{Contains-here, Contains-there, Contains-place, Contains-map, Contains-filter_map}
 use Rattle.model.proofs.Tests.{passes_got}
 use Rattle.model.proofs.NumberingLemmas.{occurs_in-Contains, Contains-occurs_in, occurs_in-got, occurs_in-flat_map, number_of-got, got-number_of}
@@ -43,7 +43,7 @@ module _ (t : Task) (i : Instance) (c : Change) (a : Atom) (by : Adds t i c a) w
   added-conditional = record {
     change = record { atom = added-number.0; value = true; is_unconditional = is_unconditional c };
     condition = numbered_literals t (numbered_atoms t []) c.condition c.binding;
-    wants_unnumbered = wants_unnumbered t (numbered_atoms t []) c.condition c.binding;
+    requires_unnumbered = requires_unnumbered t (numbered_atoms t []) c.condition c.binding;
   }
 
   is-added-conditional : conditional_change t (numbered_atoms t []) c ≡ Some added-conditional
@@ -53,7 +53,7 @@ module _ (t : Task) (i : Instance) (c : Change) (a : Atom) (by : Adds t i c a) w
       ap (λ l. conditional_of l (numbered_ground_literal (numbered_atoms t []) l)) by.is ∙ ap (conditional_of (adds a)) number
     where
       conditional_of : GroundLiteral → Option NumberedLiteral → Option ConditionalChange
-      conditional_of l o = option_map (λ (k : NumberedChange). record { change = k; condition = numbered_literals t (numbered_atoms t []) c.condition c.binding; wants_unnumbered = wants_unnumbered t (numbered_atoms t []) c.condition c.binding })
+      conditional_of l o = option_map (λ (k : NumberedChange). record { change = k; condition = numbered_literals t (numbered_atoms t []) c.condition c.binding; requires_unnumbered = requires_unnumbered t (numbered_atoms t []) c.condition c.binding })
           (option_map (λ (m : NumberedLiteral). record { atom = m.atom; value = m.value; is_unconditional = is_unconditional c }) o)
 
   pub added-among : Contains (conditional_of_instance t (numbered_atoms t []) i) added-conditional
@@ -157,8 +157,8 @@ module _ (t : Task) (set : List Bool) where
             | Some s ↦ refl
           ]
 
-      wants-are : instance_wants_unnumbered t atoms i ≡ list_any (is_unnumbered t atoms) (sure_of_instance t i)
-      wants-are = elim (slice_get t.schemas i.schema) as (λ o. option_map_or (λ (s : Schema). wants_unnumbered t atoms s.precondition i.objects) o false
+      wants-are : instance_requires_unnumbered t atoms i ≡ list_any (is_unnumbered t atoms) (sure_of_instance t i)
+      wants-are = elim (slice_get t.schemas i.schema) as (λ o. option_map_or (λ (s : Schema). requires_unnumbered t atoms s.precondition i.objects) o false
           ≡ list_any (is_unnumbered t atoms) (option_map_or (λ (s : Schema). sure t s.precondition i.objects) o [])) [
             | None ↦ refl
             | Some s ↦ refl
@@ -170,7 +170,7 @@ module _ (t : Task) (set : List Bool) where
       applies : may_apply t atoms set place.0 ≡ true
       applies =
           (λ j. may_hold set
-          ((ap (λ o. option_map_or (instance_wants_unnumbered t atoms) o false) place.1 ∙ wants-are ∙ wants_none (sure_of_instance t i) of_precondition) j)
+          ((ap (λ o. option_map_or (instance_requires_unnumbered t atoms) o false) place.1 ∙ wants-are ∙ wants_none (sure_of_instance t i) of_precondition) j)
           ((ap (λ o. option_map_or (literals_of_instance t atoms) o []) place.1 ∙ literals-are) j))
           ∙ allowed (sure_of_instance t i) of_precondition
 

@@ -6,3 +6,4 @@ pub mod Notes
 pub mod Chains
 pub mod Needed
 pub mod Contradictions
+pub mod AddedLines

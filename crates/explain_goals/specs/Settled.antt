@@ -8,7 +8,7 @@ use Rattle.model.specs.Meaning.{initial_state}
 use Rattle.model.specs.StaticallyFalse.{kept_instances}
 use Rattle.model.specs.NumberedAtoms.{number_of}
 use Rattle.model.specs.NumberedLiterals.{NumberedLiteral, literals_of_number}
-use Rattle.model.specs.ConditionalChanges.{ConditionalChange, conditional_of_number, number_wants_unnumbered}
+use Rattle.model.specs.ConditionalChanges.{ConditionalChange, conditional_of_number, number_requires_unnumbered}
 use Rattle.model.specs.Grounding.{bits_of_state}
 
 -- the set has the atom with this number
@@ -28,11 +28,11 @@ allows_all set literals = list_all (allows set) literals
 
 -- these literals require only atoms of the set, and no other one wants an unnumbered atom
 abbrev pub may_hold : List Bool → Bool → List NumberedLiteral → Bool
-may_hold set wants_unnumbered literals = not wants_unnumbered && allows_all set literals
+may_hold set requires_unnumbered literals = not requires_unnumbered && allows_all set literals
 
 -- the change adds its atom, and its condition needs only atoms of the set
 abbrev pub may_add : List Bool → ConditionalChange → Bool
-may_add set c = c.change.value && may_hold set c.wants_unnumbered c.condition
+may_add set c = c.change.value && may_hold set c.requires_unnumbered c.condition
 
 -- the set has the number, or it is of no atom
 abbrev pub is_there : List Bool → ℕ → Bool
@@ -47,7 +47,7 @@ AreMade changes set = list_all (is_made set) changes ≡ true
 
 -- the precondition of the instance with this number needs only atoms of the set
 abbrev pub may_apply : Task → List Atom → List Bool → ℕ → Bool
-may_apply t atoms set number = may_hold set (number_wants_unnumbered t atoms number) (literals_of_number t atoms number)
+may_apply t atoms set number = may_hold set (number_requires_unnumbered t atoms number) (literals_of_number t atoms number)
 
 -- the instance adds no atom beyond the set
 abbrev pub is_settled : Task → List Atom → List Bool → ℕ → Bool

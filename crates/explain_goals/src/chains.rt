@@ -44,7 +44,7 @@ impl Relaxation<'_, '_> {
         Ok(links)
     }
 
-    /// Adds a link of what the last link needs, unless that is told.
+    /// Adds a link of what the last link needs, unless earlier links have all of it.
     fn extend(&self, alloc: Global, links: &mut Vec<State>) -> Result<Extended, NoMemory>
         requires initial { state_of self.now.initial.now ≡ initial_state (task_in self.now.ground.now) }
         requires numbered { atoms_in self.now.ground.now ≡ numbered_atoms (task_in self.now.ground.now) [] }
@@ -61,7 +61,7 @@ impl Relaxation<'_, '_> {
         let Some(needed) = self.needs(alloc, last)? else {
             return Ok(Extended::Ended);
         };
-        if are_told(&needed, links) {
+        if are_in_links(&needed, links) {
             return Ok(Extended::Ended);
         }
         links.push(needed)?;
@@ -79,7 +79,7 @@ pub(crate) fn alone(alloc: Global, atom: &Atom) -> Result<State, NoMemory>
 }
 
 /// Whether there are atoms, and each is in one of the links.
-fn are_told(atoms: &State, links: &[State]) -> bool {
+fn are_in_links(atoms: &State, links: &[State]) -> bool {
     for atom in atoms.atoms() {
         if !links.iter().any(|link| link.contains(atom)) {
             return false;

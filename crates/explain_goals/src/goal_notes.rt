@@ -21,7 +21,7 @@ use formulas::{Atom, Binding, Literal, State, sure};
 use grounding::Ground;
 use std::alloc::Global;
 
-/// The maximum number of atoms that are told.
+/// The maximum number of atoms that are reported.
 pub const MOST_TOLD: usize = 10;
 
 /// The maximum number that are searched for: one more shows that there are more.

@@ -36,7 +36,7 @@ pub(crate) enum Needs {
 
 impl Relaxation<'_, '_> {
     /// Atoms that may not become true, such that each change that adds one of `added` needs one of them; `None` if they are not
-    /// told.
+    /// reported.
     pub(crate) fn needs(&self, alloc: Global, added: &State) -> Result<Option<State>, NoMemory>
         requires initial { state_of self.now.initial.now ≡ initial_state (task_in self.now.ground.now) }
         requires numbered { atoms_in self.now.ground.now ≡ numbered_atoms (task_in self.now.ground.now) [] }

@@ -1,4 +1,8 @@
 //! Notes on a goal as lines of text, each without LF.
+ghost use Rattle.std.specs.Prelude.{map, OnOk};
+ghost use Rattle.std.specs.String.{string_bytes};
+ghost use Rattle.explain_goals.specs.AddedLines.{AddsLines};
+
 use crate::goal_notes::{GoalNotes, MOST_TOLD, Unreachable};
 use explain_tasks::add_bytes;
 use faults::NoMemory;
@@ -10,7 +14,7 @@ use task::{ObjectId, PredicateId, Task};
 const MOST_NAMED: usize = 3;
 
 impl GoalNotes {
-    /// Adds a line for each atom of the goal that is never true, unless it is among those that are told already, and one for an atom
+    /// Adds a line for each atom of the goal that is never true, unless it is among those already reported, and one for an atom
     /// that the goal requires to be true and to be false.
     ///
     /// # Errors
@@ -26,19 +30,62 @@ impl GoalNotes {
         task: &Task,
         told: &[Atom],
         lines: &mut Vec<String>,
-    ) -> Result<(), NoMemory> {
+    ) -> Result<(), NoMemory>
+        ensures { OnOk result (AddsLines (map string_bytes lines.old.items) (map string_bytes lines.new.items)) }
+    {
         let before = lines.len();
-        for one in self.unreachable.iter().take(MOST_TOLD) {
-            if !is_among(&one.atom, told) {
-                add_unreachable(alloc, task, one, lines)?;
-            }
+        'notes: for one in self.unreachable.iter().take(MOST_TOLD) {
+            add_if_untold(alloc, task, Untold { one, told }, lines)?;
         }
-        if self.unreachable.len() > MOST_TOLD && lines.len() > before {
-            let line = "The goal asks for more atoms that can never become true.";
-            lines.push(String::from_str(alloc, line)?)?;
+        let are_all = self.unreachable.len() <= MOST_TOLD || lines.len() <= before;
+        if are_all {
+            return add_contradictory(alloc, task, &self.contradictory, lines);
         }
+        add_text(
+            alloc,
+            "The goal asks for more atoms that can never become true.",
+            lines,
+        )?;
         add_contradictory(alloc, task, &self.contradictory, lines)
     }
+}
+
+/// A note on an atom that is never true, and the atoms that are told already.
+#[derive(Clone, Copy)]
+struct Untold<'a> {
+    one: &'a Unreachable,
+    told: &'a [Atom],
+}
+
+/// Adds the line of the note, unless its atom is told already.
+fn add_if_untold(
+    alloc: Global,
+    task: &Task,
+    note: Untold<'_>,
+    lines: &mut Vec<String>,
+) -> Result<(), NoMemory>
+    ensures { OnOk result (AddsLines (map string_bytes lines.old.items) (map string_bytes lines.new.items)) }
+{
+    if is_among(&note.one.atom, note.told) {
+        Ok(())
+    } else {
+        add_unreachable(alloc, task, note.one, lines)
+    }
+}
+
+/// Adds the line.
+fn add_text(alloc: Global, line: &str, lines: &mut Vec<String>) -> Result<(), NoMemory>
+    ensures { OnOk result (AddsLines (map string_bytes lines.old.items) (map string_bytes lines.new.items)) }
+{
+    add_line(String::from_str(alloc, line)?, lines)
+}
+
+/// Adds the line.
+fn add_line(line: String, lines: &mut Vec<String>) -> Result<(), NoMemory>
+    ensures { OnOk result (AddsLines (map string_bytes lines.old.items) (map string_bytes lines.new.items)) }
+{
+    lines.push(line)?;
+    Ok(())
 }
 
 /// Adds the line for an atom that the goal requires to be true and to be false.
@@ -47,14 +94,21 @@ fn add_contradictory(
     task: &Task,
     atom: &Option<Atom>,
     lines: &mut Vec<String>,
-) -> Result<(), NoMemory> {
-    if let Some(atom) = atom {
-        let mut line = String::from_str(alloc, "The goal asks for ")?;
-        add_pattern(task, &Pattern::of(alloc, atom)?, &mut line)?;
-        line.push_str(" and for its opposite, so it can never be met.")?;
-        lines.push(line)?;
+) -> Result<(), NoMemory>
+    ensures { OnOk result (AddsLines (map string_bytes lines.old.items) (map string_bytes lines.new.items)) }
+{
+    match atom {
+        Some(atom) => add_line(contradictory_line(alloc, task, atom)?, lines),
+        None => Ok(()),
     }
-    Ok(())
+}
+
+/// The line for an atom that the goal requires to be true and to be false.
+fn contradictory_line(alloc: Global, task: &Task, atom: &Atom) -> Result<String, NoMemory> {
+    let mut line = String::from_str(alloc, "The goal asks for ")?;
+    add_pattern(task, &Pattern::of(alloc, atom)?, &mut line)?;
+    line.push_str(" and for its opposite, so it can never be met.")?;
+    Ok(line)
 }
 
 /// Whether the atom is among these.
@@ -68,18 +122,28 @@ fn add_unreachable(
     task: &Task,
     one: &Unreachable,
     lines: &mut Vec<String>,
-) -> Result<(), NoMemory> {
-    let needed = match one.chain.as_slice().split_first() {
-        Some((_, needed)) => needed,
-        None => return Ok(()),
-    };
+) -> Result<(), NoMemory>
+    ensures { OnOk result (AddsLines (map string_bytes lines.old.items) (map string_bytes lines.new.items)) }
+{
+    match one.chain.as_slice().split_first() {
+        Some((_, needed)) => add_line(unreachable_line(alloc, task, one, needed)?, lines),
+        None => Ok(()),
+    }
+}
+
+/// The line for an atom that is never true and needs this.
+fn unreachable_line(
+    alloc: Global,
+    task: &Task,
+    one: &Unreachable,
+    needed: &[State],
+) -> Result<String, NoMemory> {
     let mut line = String::from_str(alloc, "The goal asks for ")?;
     add_pattern(task, &Pattern::of(alloc, &one.atom)?, &mut line)?;
     line.push_str(", which can never become true")?;
     add_needed(alloc, task, needed, &mut line)?;
     line.push_str(".")?;
-    lines.push(line)?;
-    Ok(())
+    Ok(line)
 }
 
 /// Adds what is needed, link by link, and how the last one ends.

@@ -102,7 +102,7 @@ fn add(number: u32, set: &mut Packed) -> bool
 fn may_add(change: &CountingChange<'_>, set: &Packed) -> bool
     ensures { result ≡ defined.may_add (bits_of set.now) (conditional_of change.now) }
 {
-    change.value && !change.wants_unnumbered() && allows_all(set, change.condition())
+    change.value && !change.requires_unnumbered() && allows_all(set, change.condition())
 }
 
 /// Whether the precondition of the instance needs only atoms of the set.
@@ -110,7 +110,7 @@ fn may_apply(ground: &Ground<'_>, number: u32, set: &Packed) -> bool
     requires { number < length (kept_instances (task_in ground.now)) }
     ensures { result ≡ defined.may_apply (task_in ground.now) (atoms_in ground.now) (bits_of set.now) number }
 {
-    !ground.wants_unnumbered(number) && allows_all(set, ground.literals(number))
+    !ground.requires_unnumbered(number) && allows_all(set, ground.literals(number))
 }
 
 /// Whether the set has the atoms that the literals require.

@@ -1,3 +1,4 @@
 pub mod Files
 pub mod Places
 pub mod ReportedBytes
+pub mod Refusals

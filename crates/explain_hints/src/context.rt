@@ -1,162 +1,231 @@
-//! A refused file in pieces, the pieces of the other files, and the names known at the fault.
-use crate::declarations::{TypedName, declared_after_head, in_scope, section};
-use crate::help::{FileOffset, Help};
-use crate::lists::{head_of, index_at, list_from, opening_of};
-use crate::piece::{Piece, pieces};
+//! A fault among the pieces of the texts, and what is declared there.
+use crate::declarations::{Declarations, TypedName, action_name, in_scope, parameters, section};
+use crate::lists::{Items, head_of, index_at, is_among, item_at, opening_of, pieces};
 use crate::refusal::{FileRefusal, reported_bytes};
 use crate::texts::{File, NamedTexts};
-use faults::NoMemory;
-use std::alloc::Global;
+use faults::{Code, NoMemory};
+use std::alloc::{AllocError, Global};
+use tokens::Lexeme;
 
-/// A fault with the pieces of all texts.
+/// The pieces of the texts of a task and a plan.
 #[derive(Drop)]
-pub(crate) struct Context<'a> {
-    /// The fault.
-    pub(crate) fault: FileRefusal,
-    /// The bytes that the fault is reported for.
-    pub(crate) word: &'a [u8],
-    /// The pieces of the domain file.
-    pub(crate) domain: Vec<Piece<'a>>,
-    /// The pieces of the problem file.
-    pub(crate) problem: Vec<Piece<'a>>,
-    /// The pieces of the plan file.
-    pub(crate) plan: Vec<Piece<'a>>,
+pub struct CutTexts<'a> {
+    domain: Vec<Lexeme<'a>>,
+    problem: Vec<Lexeme<'a>>,
+    plan: Vec<Lexeme<'a>>,
 }
 
-impl<'a> Context<'a> {
-    /// Cuts the texts into pieces, for this fault.
-    pub(crate) fn of(
-        alloc: Global,
-        texts: &NamedTexts<'a>,
-        fault: FileRefusal,
-    ) -> Result<Context<'a>, NoMemory> {
-        let domain = pieces(alloc, texts.domain.text)?;
-        let problem = pieces(alloc, texts.problem.text)?;
-        let plan = pieces(alloc, texts.plan.text)?;
-        Ok(Context {
-            fault,
-            word: reported_bytes(texts, fault),
-            domain,
-            problem,
-            plan,
-        })
-    }
-
-    /// The pieces of the file at fault.
-    pub(crate) fn here(&self) -> &[Piece<'a>] {
-        match self.fault.file {
-            File::Domain => self.domain.as_slice(),
-            File::Problem => self.problem.as_slice(),
-            File::Plan => self.plan.as_slice(),
+impl<'a> CutTexts<'a> {
+    /// The pieces that help with a fault of this code, and with others of its phase; none if none help.
+    ///
+    /// # Errors
+    /// An allocation failed.
+    pub fn of(alloc: Global, texts: &NamedTexts<'a>, code: Code) -> Result<CutTexts<'a>, NoMemory> {
+        if is_of_lists(code) {
+            Ok(CutTexts {
+                domain: pieces(alloc, texts.domain.text)?,
+                problem: pieces(alloc, texts.problem.text)?,
+                plan: pieces(alloc, texts.plan.text)?,
+            })
+        } else {
+            Ok(CutTexts {
+                domain: Vec::new(alloc),
+                problem: Vec::new(alloc),
+                plan: Vec::new(alloc),
+            })
         }
     }
 
+    /// The pieces of a file.
+    pub fn of_file(&self, file: File) -> &[Lexeme<'a>] {
+        match file {
+            File::Domain => &self.domain,
+            File::Problem => &self.problem,
+            File::Plan => &self.plan,
+        }
+    }
+}
+
+/// Whether what helps with a fault of this code, and with others of its phase, is found in the lists of the texts.
+fn is_of_lists(code: Code) -> bool {
+    match code {
+        Code::BadByte | Code::BadWord | Code::TooDeep | Code::TooLong => false,
+        Code::UnknownSection | Code::UnknownRequirement | Code::NumberTooLarge => false,
+        Code::TimedStep => false,
+        _ => true,
+    }
+}
+
+/// A fault among the pieces of the texts.
+#[derive(Clone, Copy)]
+pub struct Context<'w, 'a> {
+    /// Supplies memory.
+    pub(crate) alloc: Global,
+    /// The texts.
+    pub(crate) texts: &'w NamedTexts<'a>,
+    /// Their pieces.
+    pieces: &'w CutTexts<'a>,
+    /// The fault.
+    pub(crate) fault: FileRefusal,
+    /// The bytes that it is reported for.
+    pub word: &'a [u8],
+}
+
+impl<'w, 'a> Context<'w, 'a> {
+    /// The fault of these texts, given their pieces.
+    pub fn of(
+        alloc: Global,
+        texts: &'w NamedTexts<'a>,
+        pieces: &'w CutTexts<'a>,
+        fault: FileRefusal,
+    ) -> Context<'w, 'a> {
+        Context {
+            alloc,
+            texts,
+            pieces,
+            fault,
+            word: reported_bytes(texts, fault),
+        }
+    }
+
+    /// The pieces of the file at fault.
+    pub(crate) fn here(self) -> &'w [Lexeme<'a>] {
+        self.pieces.of_file(self.fault.file)
+    }
+
+    /// The pieces of the domain.
+    pub(crate) fn domain(self) -> &'w [Lexeme<'a>] {
+        self.pieces.of_file(File::Domain)
+    }
+
     /// The index of the piece that the fault is reported for.
-    pub(crate) fn at(&self) -> Option<usize> {
+    pub(crate) fn at(self) -> Option<usize> {
         index_at(self.here(), self.fault.span.start)
     }
 
     /// The index of the `(` of the list that contains this piece.
-    pub(crate) fn open(&self) -> Option<usize> {
-        match self.at() {
-            Some(at) => opening_of(self.here(), at),
-            None => None,
-        }
+    pub(crate) fn open(self) -> Option<usize> {
+        opening_of(self.here(), self.at()?)
     }
 
     /// The list that contains this piece, with its parentheses; empty if it is in none.
-    pub(crate) fn list(&self) -> &[Piece<'a>] {
-        match self.open() {
-            Some(open) => list_from(self.here(), open),
-            None => &[],
-        }
+    pub(crate) fn list(self) -> &'w [Lexeme<'a>] {
+        list_at(self.here(), self.open())
+    }
+
+    /// The list around that one; empty if there is none.
+    pub(crate) fn outer(self) -> &'w [Lexeme<'a>] {
+        list_at(self.here(), self.outer_open())
+    }
+
+    /// The list around the outer one; empty if there is none.
+    pub(crate) fn outermost(self) -> &'w [Lexeme<'a>] {
+        let open = match self.outer_open() {
+            Some(open) => opening_of(self.here(), open),
+            None => None,
+        };
+        list_at(self.here(), open)
+    }
+
+    /// The index of the `(` of the outer list.
+    fn outer_open(self) -> Option<usize> {
+        opening_of(self.here(), self.open()?)
     }
 
     /// Whether the piece is a variable.
-    pub(crate) fn is_variable(&self) -> bool {
+    pub(crate) fn is_variable(self) -> bool {
         self.word.starts_with(b"?")
     }
 
-    /// Where a piece of the file at fault begins.
-    pub(crate) fn offset_of(&self, piece: &Piece<'a>) -> FileOffset {
-        FileOffset {
-            file: self.fault.file,
-            offset: piece.span.start,
+    /// Whether a piece of the file at fault is the reported word, before the fault.
+    pub(crate) fn is_earlier(self, piece: &Lexeme<'a>) -> bool {
+        piece.is(self.word) && piece.span().start < self.fault.span.start
+    }
+
+    /// Whether the piece comes first in its list.
+    pub(crate) fn is_head(self) -> bool {
+        match (self.at(), self.open()) {
+            (Some(at), Some(open)) => open.saturating_add(1) == at,
+            _ => false,
         }
     }
 
-    /// Help that points to the same thing at this piece of the faulty file, if there is one.
-    pub(crate) fn earlier(&self, piece: Option<&Piece<'a>>) -> Help<'a> {
-        match piece {
-            Some(piece) => Help::Earlier(self.offset_of(piece)),
-            None => Help::Plain,
+    /// The domain's section with this keyword.
+    pub(crate) fn section(self, keyword: &[u8]) -> &'w [Lexeme<'a>] {
+        section(self.domain(), keyword)
+    }
+
+    /// The domain's constants.
+    pub(crate) fn constants(self) -> Declarations<'w, 'a> {
+        Declarations::after_head(self.section(b":constants"))
+    }
+
+    /// The objects of the problem.
+    pub(crate) fn objects(self) -> Declarations<'w, 'a> {
+        let problem = self.pieces.of_file(File::Problem);
+        Declarations::after_head(section(problem, b":objects"))
+    }
+
+    /// The object of this name that the file at fault may name: a constant, or outside the domain an object of the problem.
+    pub(crate) fn object(self, name: &[u8]) -> Option<TypedName<'w, 'a>> {
+        match self.constants().named(name) {
+            None if self.fault.file != File::Domain => self.objects().named(name),
+            found => found,
         }
     }
 
-    /// The declarations in the domain's section with this keyword, such as `:types`.
-    pub(crate) fn declared(
-        &self,
-        alloc: Global,
-        keyword: &[u8],
-    ) -> Result<Vec<TypedName<'_, 'a>>, NoMemory> {
-        let list = section(alloc, self.domain.as_slice(), keyword)?;
-        declared_after_head(alloc, list)
-    }
-
-    /// The objects that a file may name: the domain's constants, and in the problem and the plan the problem's objects too.
-    pub(crate) fn objects(
-        &self,
-        alloc: Global,
-        file: File,
-    ) -> Result<Vec<TypedName<'_, 'a>>, NoMemory> {
-        let mut found = self.declared(alloc, b":constants")?;
-        if file != File::Domain {
-            let objects = section(alloc, self.problem.as_slice(), b":objects")?;
-            let more = declared_after_head(alloc, objects)?;
-            found.extend_from_slice(more.as_slice())?;
-        }
-        Ok(found)
-    }
-
-    /// The candidates for the piece: variables in scope if it is a variable, objects otherwise.
-    pub(crate) fn terms(&self, alloc: Global) -> Result<Vec<TypedName<'_, 'a>>, NoMemory> {
+    /// The variables in scope at the piece, those of the innermost list first.
+    pub(crate) fn variables(self) -> Result<Vec<TypedName<'w, 'a>>, AllocError> {
         match self.at() {
-            Some(at) if self.is_variable() => in_scope(alloc, self.here(), at),
-            _ => self.objects(alloc, self.fault.file),
+            Some(at) => in_scope(self.alloc, self.here(), at),
+            None => Ok(Vec::new(self.alloc)),
         }
     }
 
-    /// Whether the list whose `(` has this index is a function of objects: it follows `(total-cost)` in an increase, or the `=`
-    /// of a value in `:init`.
-    pub(crate) fn is_function(&self, open: usize) -> bool {
-        let here = self.here();
-        match opening_of(here, open) {
-            Some(outer) => {
-                let head = head_of(list_from(here, outer));
-                head.eq_ignore_ascii_case(b"increase") || head.eq_ignore_ascii_case(b"=")
+    /// Whether the list that contains the piece is a function of objects: it follows `(total-cost)` in an increase, or the `=` of
+    /// a value in `:init`.
+    pub(crate) fn is_function(self) -> bool {
+        is_among(head_of(self.outer()), &[b"increase", b"="])
+    }
+
+    /// The domain's section that declares the head of the list.
+    pub(crate) fn heads_declared(self) -> &'w [Lexeme<'a>] {
+        self.section(if self.is_function() {
+            b":functions"
+        } else {
+            b":predicates"
+        })
+    }
+
+    /// The parameters in the declaration that the list of the fault, an atom or a step, refers to, if there is one.
+    pub(crate) fn parameters(self) -> Option<Declarations<'w, 'a>> {
+        let name = head_of(self.list());
+        if self.fault.file == File::Plan {
+            return Some(parameters(action_named(self.domain(), name)?));
+        }
+        for declaration in Items::of(self.heads_declared()) {
+            if head_of(declaration).eq_ignore_ascii_case(name) {
+                return Some(Declarations::after_head(declaration));
             }
-            None => false,
+        }
+        None
+    }
+}
+
+/// The list whose `(` has this index; empty without one.
+fn list_at<'w, 'a>(pieces: &'w [Lexeme<'a>], open: Option<usize>) -> &'w [Lexeme<'a>] {
+    match open {
+        Some(open) => item_at(pieces, open),
+        None => &pieces[..0],
+    }
+}
+
+/// The action of a domain with this name.
+fn action_named<'w, 'a>(domain: &'w [Lexeme<'a>], name: &[u8]) -> Option<&'w [Lexeme<'a>]> {
+    for item in Items::of(domain) {
+        if action_name(item).is_some_and(|piece| piece.is(name)) {
+            return Some(item);
         }
     }
-}
-
-/// The declared names.
-pub(crate) fn names_of<'a>(
-    alloc: Global,
-    declared: &[TypedName<'_, 'a>],
-) -> Result<Vec<Piece<'a>>, NoMemory> {
-    let mut found = Vec::new(alloc);
-    for one in declared {
-        found.push(one.name)?;
-    }
-    Ok(found)
-}
-
-/// The bytes of the pieces.
-pub(crate) fn bytes_of<'a>(alloc: Global, pieces: &[Piece<'a>]) -> Result<Vec<&'a [u8]>, NoMemory> {
-    let mut found: Vec<&'a [u8]> = Vec::new(alloc);
-    for piece in pieces {
-        found.push(piece.text)?;
-    }
-    Ok(found)
+    None
 }

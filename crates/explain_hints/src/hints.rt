@@ -1,86 +1,119 @@
 //! Hints for common mistakes: a file's encoding, the wrong file, and how to rewrite constructs that other planners accept.
 use crate::context::Context;
 use crate::hint::Hint;
+use crate::lists::is_among;
 use crate::of_characters::of_character;
-use crate::of_forms::of_list;
-use crate::of_left_out::of_left_out;
-use crate::of_runs::of_run;
-use crate::piece::{Piece, Shape, pieces};
-use crate::refusal::{FileRefusal, reported_bytes};
-use crate::texts::{File, NamedTexts};
-use faults::{Code, NoMemory};
-use std::alloc::Global;
+use crate::of_runs::{is_comment_elsewhere, of_run};
+use crate::texts::File;
+use faults::Code;
+use tokens::{Lexeme, Shape};
 
-/// The common mistake that explains a fault, if there is one.
-///
-/// # Errors
-/// An allocation failed.
-pub fn hint_of<'a>(
-    alloc: Global,
-    texts: &NamedTexts<'a>,
-    fault: FileRefusal,
-) -> Result<Option<Hint<'a>>, NoMemory> {
-    match fault.code {
-        Code::BadByte => Ok(of_character(texts.text(fault.file), fault.span.start)),
-        Code::BadWord => Ok(of_run(reported_bytes(texts, fault))),
-        Code::BadForm => {
-            let context = Context::of(alloc, texts, fault)?;
-            Ok(of_form(texts.text(fault.file), &context))
+impl<'a> Context<'_, 'a> {
+    /// The common mistake that explains the fault, if there is one.
+    pub fn hint(self) -> Option<Hint<'a>> {
+        match self.fault.code {
+            Code::BadByte => self.of_character(),
+            Code::BadWord => of_run(self.word),
+            Code::BadForm => self.of_unexpected(),
+            Code::LeftOut => self.of_left_out(),
+            Code::Unbalanced | Code::Trailing if self.begins_with_list() => self.of_beginning(),
+            Code::UnknownRequirement => Some(Hint::advice(
+                "If the file does not use it, leave it out.",
+            )),
+            Code::TimedStep => Some(of_other_plan()),
+            Code::PlanForm => self.of_plan(),
+            _ => None,
         }
-        Code::LeftOut => {
-            let context = Context::of(alloc, texts, fault)?;
-            Ok(of_left_out(&context))
-        }
-        Code::Unbalanced | Code::Trailing => {
-            let pieces = pieces(alloc, texts.text(fault.file))?;
-            Ok(of_lists(&pieces, fault.file))
-        }
-        Code::UnknownRequirement => Ok(Some(Hint::Requirement)),
-        Code::TimedStep => Ok(Some(Hint::OtherPlan)),
-        Code::PlanForm => {
-            let context = Context::of(alloc, texts, fault)?;
-            Ok(of_plan(texts.plan.text, &context))
-        }
-        _ => Ok(None),
     }
-}
 
-/// What an unexpected word may mean.
-fn of_form<'a>(text: &[u8], context: &Context<'a>) -> Option<Hint<'a>> {
-    let here = context.here();
-    if here.is_empty() {
-        return Some(if text.is_empty() {
-            Hint::Empty
+    /// The sentence about the tool that can rewrite the construct, which files of competitions have and the language does not.
+    pub fn rewriter(self) -> Option<&'static str> {
+        if !self.is_rewritable() {
+            None
+        } else if self.word.eq_ignore_ascii_case(b":derived") {
+            Some("`tools/ipc-files` can rewrite this, unless it is recursive.")
         } else {
-            Hint::NoWords
-        });
+            Some("`tools/ipc-files` can rewrite this.")
+        }
     }
-    let at = context.at()?;
-    match at {
-        0..=3 => of_beginning(here, context.fault.file),
-        _ => of_list(context, at).map(Hint::Form),
-    }
-}
 
-/// Which file a text really is, if it does not begin like this file: by its first words, `(define (domain` or `(define (problem`.
-fn of_beginning<'a>(here: &[Piece<'a>], file: File) -> Option<Hint<'a>> {
-    match kind_of(here) {
-        Some(kind) if kind != file => Some(Hint::Swapped(kind)),
-        Some(_) => None,
-        None => Some(Hint::NoDefine),
+    /// Whether `tools/ipc-files` has another form for the construct.
+    fn is_rewritable(self) -> bool {
+        match self.fault.code {
+            Code::NegativeInit | Code::Shadowed | Code::UnknownRequirement => true,
+            Code::BadWord => is_name_elsewhere(self.word),
+            Code::LeftOut => is_among(self.word, &REWRITABLE),
+            Code::MissingSection => self.is_action_incomplete(),
+            Code::Duplicate => self.is_built_in(),
+            _ => false,
+        }
     }
-}
 
-/// The same for a text with unbalanced parentheses that begins with a list.
-fn of_lists<'a>(here: &[Piece<'a>], file: File) -> Option<Hint<'a>> {
-    match here {
-        [first, _, _, _, ..] if first.shape == Shape::Open => of_beginning(here, file),
-        _ => None,
+    /// What a byte means that is not printable ASCII.
+    fn of_character(self) -> Option<Hint<'a>> {
+        of_character(self.texts.text(self.fault.file), self.fault.span.start)
+    }
+
+    /// What an unexpected word may mean.
+    fn of_unexpected(self) -> Option<Hint<'a>> {
+        if self.here().is_empty() {
+            return Some(Hint::text(if self.texts.text(self.fault.file).is_empty() {
+                "the file is empty"
+            } else {
+                "the file has only blanks and comments"
+            }));
+        }
+        match self.at()? {
+            0..=3 => self.of_beginning(),
+            at => self.of_form(at),
+        }
+    }
+
+    /// Whether the file at fault begins with a list of at least four pieces.
+    fn begins_with_list(self) -> bool {
+        match self.here() {
+            [first, _, _, _, ..] => first.shape() == Shape::Open,
+            _ => false,
+        }
+    }
+
+    /// Which file the text is, if it does not begin like this one: by its first words, `(define (domain` or `(define (problem`.
+    fn of_beginning(self) -> Option<Hint<'a>> {
+        match kind_of(self.here()) {
+            Some(kind) if kind != self.fault.file => Some(of_swapped(kind)),
+            Some(_) => None,
+            None => Some(Hint::advice(
+                "A domain begins with `(define (domain NAME)`, a problem with `(define (problem NAME)`.",
+            )),
+        }
+    }
+
+    /// What a text is that is not a plan.
+    fn of_plan(self) -> Option<Hint<'a>> {
+        let is_ascii = self.word.iter().all(|byte| byte.is_ascii());
+        if !is_ascii {
+            return self.of_character();
+        }
+        if self.texts.text(File::Plan).starts_with(b"pddl-cert ") {
+            return Some(Hint::advised(
+                "this is a certificate, not a plan",
+                "`optplan check` reads certificates.",
+            ));
+        }
+        if let Some(kind) = kind_of(self.here()) {
+            return Some(of_swapped(kind));
+        }
+        let piece = self.here().get(self.at()?)?;
+        if piece.shape() == Shape::Run && self.open().is_none() {
+            Some(of_other_plan())
+        } else {
+            None
+        }
     }
 }
 
 /// The file that a text is, if it begins like one.
-fn kind_of(here: &[Piece<'_>]) -> Option<File> {
+fn kind_of(here: &[Lexeme<'_>]) -> Option<File> {
     match here {
         [_, define, _, kind, ..] if define.is(b"define") && kind.is(b"domain") => {
             Some(File::Domain)
@@ -92,23 +125,29 @@ fn kind_of(here: &[Piece<'_>]) -> Option<File> {
     }
 }
 
-/// What a text is that is not a plan.
-fn of_plan<'a>(text: &[u8], context: &Context<'a>) -> Option<Hint<'a>> {
-    let is_ascii = context.word.iter().all(|byte| byte.is_ascii());
-    if !is_ascii {
-        return of_character(text, context.fault.span.start);
-    }
-    if text.starts_with(b"pddl-cert ") {
-        return Some(Hint::Certificate);
-    }
-    if let Some(kind) = kind_of(context.here()) {
-        return Some(Hint::Swapped(kind));
-    }
-    let piece = context.at().and_then(|at| context.here().get(at));
-    let is_run = piece.is_some_and(|piece| piece.shape == Shape::Run);
-    if is_run && context.open().is_none() {
-        Some(Hint::OtherPlan)
-    } else {
-        None
-    }
+/// The hint for a text that is meant for this file.
+fn of_swapped<'a>(kind: File) -> Hint<'a> {
+    Hint::text(match kind {
+        File::Domain => "this is a domain: are the files swapped?",
+        File::Problem => "this is a problem: are the files swapped?",
+        File::Plan => "this is a plan: are the files swapped?",
+    })
+}
+
+/// The hint for a plan as other planners write it.
+fn of_other_plan<'a>() -> Hint<'a> {
+    Hint::advice("`tools/plan-of` rewrites plans of other planners.")
+}
+
+/// Words that are left out and for whose constructs `tools/ipc-files` has another form.
+static REWRITABLE: [&[u8]; 5] = [b":derived", b":length", b"total-time", b"forall", b"when"];
+
+/// Whether a run that is not a word here is a name or a number in other planners' files: it contains `#` or `.`, or begins with a
+/// digit or an underscore, and begins no comment.
+fn is_name_elsewhere(word: &[u8]) -> bool {
+    let is_number_first = word
+        .first()
+        .is_some_and(|byte| byte.is_ascii_digit() || *byte == b'_');
+    let is_marked = word.contains(&b'#') || word.contains(&b'.');
+    is_number_first || (is_marked && !is_comment_elsewhere(word))
 }

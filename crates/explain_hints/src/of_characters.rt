@@ -1,18 +1,22 @@
 //! Hints for bytes that are not printable ASCII.
-use crate::hint::Hint;
+use crate::hint::{Hint, Sentence};
 use std::str;
 
 /// What the byte at this place of a text means that is not printable ASCII: the encoding of the file, or a character.
 pub(crate) fn of_character<'a>(text: &[u8], at: usize) -> Option<Hint<'a>> {
     if is_utf16(text, at) {
-        Some(Hint::Utf16)
+        Some(Hint::advised("the file is in UTF-16", "Save it as ASCII or UTF-8."))
     } else if at == 0 && text.starts_with(b"\xef\xbb\xbf") {
-        Some(Hint::ByteOrderMark)
+        Some(Hint::advised(
+            "the file begins with a byte order mark",
+            "Save it as ASCII, or as UTF-8 without the mark.",
+        ))
     } else {
-        match character_at(text, at) {
-            Some(character) => Some(Hint::Character(character)),
-            None => None,
-        }
+        let character = character_at(text, at)?;
+        Some(Hint {
+            message: Some(Sentence::Character(character)),
+            advice: advice_on(character),
+        })
     }
 }
 
@@ -34,5 +38,14 @@ fn character_at(text: &[u8], at: usize) -> Option<char> {
     match str::from_utf8(bytes) {
         Ok(shown) => shown.chars().next(),
         Err(_) => None,
+    }
+}
+
+/// What to write in place of a character beyond ASCII.
+fn advice_on(character: char) -> Option<&'static str> {
+    match character {
+        '\u{2010}'..='\u{2015}' | '\u{2212}' => Some("Write `-`."),
+        '\u{a0}' | '\u{2000}'..='\u{200a}' | '\u{202f}' => Some("Write a plain blank."),
+        _ => None,
     }
 }

@@ -1,60 +1,76 @@
 //! Hints for parts of PDDL that are left out.
 use crate::context::Context;
-use crate::hint::{Hint, Part};
-use crate::lists::{head_of, list_from, opening_of};
+use crate::hint::{Hint, Sentence};
+use crate::lists::{head_of, is_among};
 use crate::near::is_near;
 
-/// Which part of PDDL a word belongs to.
-pub(crate) fn of_left_out<'a>(context: &Context<'a>) -> Option<Hint<'a>> {
-    part_of(context).map(Hint::Unsupported)
-}
+impl<'a> Context<'_, 'a> {
+    /// Which part of PDDL the reported word belongs to, and a way round.
+    pub(crate) fn of_left_out(self) -> Option<Hint<'a>> {
+        let word = self.word;
+        let is = |name: &[u8]| word.eq_ignore_ascii_case(name);
+        if is_among(word, &[b":durative-action", b":duration", b":condition"]) {
+            Some(Hint::advised(
+                "durations (PDDL 2.1) are not supported",
+                "If steps need not overlap, use `:action` with `(increase (total-cost) 10)` for a duration of 10.",
+            ))
+        } else if is_among(word, &[b":derived", b":axiom"]) {
+            Some(Hint::text("derived predicates (PDDL 2.2) are not supported"))
+        } else if is(b":constraints") {
+            Some(Hint::text("constraints on trajectories (PDDL 3) are not supported"))
+        } else if is(b"preference") {
+            Some(Hint::advised(
+                "preferences (PDDL 3) are not supported",
+                "For each, add an action that gives it up, with its penalty as the cost.",
+            ))
+        } else if is(b"maximize") {
+            Some(Hint::advised(
+                "nothing can be maximized; the only metric is `minimize (total-cost)`",
+                "Minimize what is lost: for each gain, add an action that gives it up, with its worth as the cost.",
+            ))
+        } else if is(b"when") {
+            Some(Hint::advised(
+                "a `when` cannot contain another one",
+                "Join the conditions: `(when (and ..) ..)`.",
+            ))
+        } else if is(b"forall") {
+            Some(Hint::advised(
+                "a `when` cannot contain a `forall`",
+                "Put the `forall` around the `when`.",
+            ))
+        } else {
+            self.of_numbers()
+        }
+    }
 
-fn part_of<'a>(context: &Context<'a>) -> Option<Part<'a>> {
-    let word = context.word;
-    let is = |name: &[u8]| word.eq_ignore_ascii_case(name);
-    if is(b":durative-action") || is(b":duration") || is(b":condition") {
-        Some(Part::Durations)
-    } else if is(b":derived") || is(b":axiom") {
-        Some(Part::Derived)
-    } else if is(b":constraints") {
-        Some(Part::Constraints)
-    } else if is(b"preference") {
-        Some(Part::Preferences)
-    } else if is(b"maximize") {
-        Some(Part::Maximize)
-    } else if is(b"when") {
-        Some(Part::WhenInWhen)
-    } else if is(b"forall") {
-        Some(Part::ForallInWhen)
-    } else {
-        numeric_part(context)
+    /// The same for a word about numbers.
+    fn of_numbers(self) -> Option<Hint<'a>> {
+        let word = self.word;
+        if is_among(word, &[b"assign", b"decrease", b"scale-up", b"scale-down"]) {
+            let text = " is not supported: only the total cost changes, by `increase`";
+            return Some(Hint {
+                message: Some(Sentence::After(word, text)),
+                advice: Some(
+                    "If a number has few values, declare an object for each, and a predicate for the one that holds.",
+                ),
+            });
+        }
+        let head = head_of(self.outer());
+        let is_metric = head.eq_ignore_ascii_case(b":metric");
+        if !is_metric && !head.eq_ignore_ascii_case(b"increase") {
+            None
+        } else if is_near(word, b"total-cost") {
+            Some(Hint::text("did you mean `total-cost`?"))
+        } else if is_metric {
+            Some(Hint::advised(
+                "only `(total-cost)` can be minimized",
+                "Rename the function, or leave out the metric: each step then costs 1.",
+            ))
+        } else {
+            Some(Hint::advised(
+                "only `(total-cost)` can be increased",
+                "Other numbers never change: leave the effect out.",
+            ))
+        }
     }
 }
-
-/// The part of PDDL that a word about numbers belongs to.
-fn numeric_part<'a>(context: &Context<'a>) -> Option<Part<'a>> {
-    let word = context.word;
-    let is_effect = NUMERIC_EFFECTS
-        .iter()
-        .any(|name| word.eq_ignore_ascii_case(name));
-    if is_effect {
-        return Some(Part::NumericEffect(word));
-    }
-    let here = context.here();
-    let outer = opening_of(here, context.open()?)?;
-    let head = head_of(list_from(here, outer));
-    let is_metric = head.eq_ignore_ascii_case(b":metric");
-    let is_increase = head.eq_ignore_ascii_case(b"increase");
-    if !is_metric && !is_increase {
-        None
-    } else if is_near(word, b"total-cost") {
-        Some(Part::NearTotalCost)
-    } else if is_metric {
-        Some(Part::OtherMetric)
-    } else {
-        Some(Part::OtherIncrease)
-    }
-}
-
-/// The numeric effects that are left out.
-static NUMERIC_EFFECTS: [&[u8]; 4] = [b"assign", b"decrease", b"scale-up", b"scale-down"];

@@ -1,40 +1,48 @@
 //! Hints for runs of bytes that are no words.
-use crate::hint::{Hint, RunMistake};
+use crate::hint::{Hint, Sentence};
+
+/// What is said of sums, products and differences.
+pub(crate) const ARITHMETIC: &str =
+    "a cost is a number or a function of objects; sums and products are not supported";
 
 /// What a run that is no word may mean.
 pub(crate) fn of_run<'a>(run: &'a [u8]) -> Option<Hint<'a>> {
-    mistake_in(run).map(Hint::Run)
-}
-
-fn mistake_in<'a>(run: &'a [u8]) -> Option<RunMistake<'a>> {
     if is_comment_elsewhere(run) {
-        return Some(RunMistake::Comment);
+        return Some(Hint::text("a comment begins with `;`"));
     }
-    match run {
-        b"<" | b">" | b"<=" | b">=" => Some(RunMistake::Comparison),
-        b"+" | b"*" | b"/" => Some(RunMistake::Arithmetic),
-        b"?" => Some(RunMistake::LoneQuestionMark),
-        _ if is_number_elsewhere(run) => Some(RunMistake::Fraction),
-        _ if run.starts_with(b"!") => Some(RunMistake::Negation),
-        _ if run.contains(&b',') => Some(RunMistake::Comma),
-        _ if run.contains(&b'"') || run.contains(&b'\'') => Some(RunMistake::Quotes),
-        _ => mistake_in_name(run),
-    }
+    let text = match run {
+        b"<" | b">" | b"<=" | b">=" => "numeric conditions are not supported",
+        b"+" | b"*" | b"/" => ARITHMETIC,
+        b"?" => "no blank may follow the `?` of a variable",
+        _ if is_number_elsewhere(run) => "a cost is a whole number of 0 or more",
+        _ if run.starts_with(b"!") => "a negation is written `(not ..)`, without `!`",
+        _ if run.contains(&b',') => "words are separated by blanks, not by commas",
+        _ if run.contains(&b'"') || run.contains(&b'\'') => {
+            "names are written without quotation marks"
+        }
+        _ => return of_name(run),
+    };
+    Some(Hint::text(text))
 }
 
 /// What is wrong with a run that may be meant as a name or a variable.
-fn mistake_in_name<'a>(run: &'a [u8]) -> Option<RunMistake<'a>> {
+fn of_name<'a>(run: &'a [u8]) -> Option<Hint<'a>> {
     let name = match run {
         [b'?' | b':', rest @ ..] => rest,
         _ => run,
     };
     if name.contains(&b'?') {
-        return Some(RunMistake::LateQuestionMark);
+        return Some(Hint::text("a variable begins with `?`, as in `?x`"));
     }
     match name {
-        [b'-', rest @ ..] if is_name(rest) => Some(RunMistake::Hyphen(rest)),
-        [b'0'..=b'9' | b'_', ..] => Some(RunMistake::Beginning),
-        [first, ..] if first.is_ascii_alphabetic() => Some(RunMistake::Letters),
+        [b'-', rest @ ..] if is_name(rest) => Some(Hint::of(Sentence::Before(
+            "a blank is missing after the `-` before ",
+            rest,
+        ))),
+        [b'0'..=b'9' | b'_', ..] => Some(Hint::text("a name begins with a letter")),
+        [first, ..] if first.is_ascii_alphabetic() => Some(Hint::text(
+            "a name may contain only letters, digits, `-` and `_`",
+        )),
         _ => None,
     }
 }
@@ -46,7 +54,7 @@ pub(crate) fn is_name(run: &[u8]) -> bool {
 }
 
 /// Whether a run of bytes begins a comment of other languages, `//` or `/*`, or consists of `#` only.
-pub fn is_comment_elsewhere(run: &[u8]) -> bool {
+pub(crate) fn is_comment_elsewhere(run: &[u8]) -> bool {
     let begins = run.starts_with(b"//") || run.starts_with(b"/*");
     begins || run.iter().all(|byte| *byte == b'#')
 }

@@ -1,168 +1,101 @@
-//! Help for wrong numbers and types of arguments (codes 18, 19, 33, 34), limits, costs, and the domain's name.
-use crate::context::{Context, bytes_of};
-use crate::declarations::{
-    TypedName, declaration_of, declared_after_head, declared_as, parameters, section,
-};
-use crate::help::{CostFault, Counts, Help, Limit, Named, Types};
-use crate::lists::{children, head_of, heads, list_from, opening_of};
-use crate::of_names::{action_name, unknown_term};
-use crate::piece::Piece;
-use crate::texts::File;
-use faults::NoMemory;
-use std::alloc::Global;
+//! Sentences about wrong numbers and types of arguments (codes 18, 19, 33, 34), limits, costs, and the domain's name.
+use crate::context::Context;
+use crate::declarations::TypedName;
+use crate::lists::{Items, head, head_of, is_among};
+use crate::of_names::OBJECT;
+use crate::shown::{Name, Types};
+use std::alloc::AllocError;
 
-/// The parameters in the declaration that the faulty atom or step, whose `(` has this index, refers to. None if there is no such
-/// declaration.
-fn arguments<'w, 'a>(
-    alloc: Global,
-    context: &'w Context<'a>,
-    open: usize,
-) -> Result<Option<Vec<TypedName<'w, 'a>>>, NoMemory> {
-    let name = head_of(context.list());
-    if context.fault.file == File::Plan {
-        return match action_named(alloc, context, name)? {
-            Some(action) => Ok(Some(parameters(alloc, action)?)),
-            None => Ok(None),
+/// What is said of a cost without a declaration.
+pub(crate) const UNDECLARED_COST: &str = "`:functions` does not declare `total-cost`.";
+
+impl<'w, 'a> Context<'w, 'a> {
+    /// Says how many arguments are required, and how many are there.
+    pub(crate) fn add_counts(self, out: &mut String) -> Result<(), AllocError> {
+        let given = self.list().len().saturating_sub(3);
+        let Some(parameters) = self.parameters() else {
+            return Ok(());
         };
+        let wanted = parameters.count();
+        let ending = if wanted == 1 { "" } else { "s" };
+        let name = Name(self.word);
+        write!(out, "{name} takes {wanted} argument{ending}, not {given}.")
     }
-    let keyword = if context.is_function(open) {
-        b":functions".as_slice()
-    } else {
-        b":predicates".as_slice()
-    };
-    let list = section(alloc, context.domain.as_slice(), keyword)?;
-    let declarations = children(alloc, list)?;
-    match declaration_of(declarations.as_slice(), name) {
-        Some(declaration) => Ok(Some(declared_after_head(alloc, declaration)?)),
-        None => Ok(None),
-    }
-}
 
-/// The action with this name.
-fn action_named<'w, 'a>(
-    alloc: Global,
-    context: &'w Context<'a>,
-    name: &[u8],
-) -> Result<Option<&'w [Piece<'a>]>, NoMemory> {
-    let lists = children(alloc, context.domain.as_slice())?;
-    for list in lists.as_slice() {
-        if action_name(list).is_some_and(|piece| piece.is(name)) {
-            return Ok(Some(*list));
+    /// Says which types a term has, and which its place requires.
+    pub(crate) fn add_types(self, out: &mut String) -> Result<(), AllocError> {
+        let (Some(at), Some(open)) = (self.at(), self.open()) else {
+            return Ok(());
+        };
+        let variables = self.variables()?;
+        let Some(term) = self.term_among(&variables) else {
+            return self.add_unknown_term(OBJECT, out);
+        };
+        let index = at.saturating_sub(open).saturating_sub(2);
+        let Some(mut parameters) = self.parameters() else {
+            return Ok(());
+        };
+        let Some(wanted) = parameters.nth(index) else {
+            return Ok(());
+        };
+        let (given, wanted) = (Types(term.types), Types(wanted.types));
+        let (name, user) = (Name(self.word), Name(head_of(self.list())));
+        write!(
+            out,
+            "{name} has type {given}, but {user} requires {wanted}."
+        )
+    }
+
+    /// The declaration of the reported term, given the variables in scope.
+    fn term_among(self, variables: &[TypedName<'w, 'a>]) -> Option<TypedName<'w, 'a>> {
+        if !self.is_variable() {
+            return self.object(self.word);
+        }
+        variables.iter().find(|one| one.name.is(self.word)).copied()
+    }
+
+    /// The limit that is exceeded.
+    pub(crate) fn passed_limit(self) -> &'static str {
+        let head = head_of(self.list());
+        if head.eq_ignore_ascii_case(b":types") {
+            "a domain may declare at most 4095 types."
+        } else if head.starts_with(b":") {
+            "a task may have at most 65535 constants and objects."
+        } else if is_among(head_of(self.outer()), &[b":predicates", b":functions"]) {
+            "a predicate or a function may have at most 8 arguments."
+        } else {
+            "at most 16 variables may be in scope at once."
         }
     }
-    Ok(None)
-}
 
-/// The required and the given number of arguments.
-pub(crate) fn counts<'a>(alloc: Global, context: &Context<'a>) -> Result<Help<'a>, NoMemory> {
-    let Some(open) = context.open() else {
-        return Ok(Help::Plain);
-    };
-    let given = context.list().len().saturating_sub(3);
-    match arguments(alloc, context, open)? {
-        Some(declared) => {
-            let wanted = declared.len();
-            Ok(Help::Counts(Counts { wanted, given }))
-        }
-        None => Ok(Help::Plain),
+    /// Says what is wrong with a total cost, by the reported word.
+    pub(crate) fn add_cost_fault(self, out: &mut String) -> Result<(), AllocError> {
+        out.push_str(if !self.is_cost_declared() {
+            UNDECLARED_COST
+        } else if self.word.eq_ignore_ascii_case(b"increase") {
+            "the action already increases the total cost."
+        } else if self.word == b"=".as_slice() {
+            "the total cost already has an initial value."
+        } else {
+            "the total cost must start at 0."
+        })
     }
-}
 
-/// The types of a term and the types that its place requires.
-pub(crate) fn types<'a>(alloc: Global, context: &Context<'a>) -> Result<Help<'a>, NoMemory> {
-    let Some(at) = context.at() else {
-        return Ok(Help::Plain);
-    };
-    let Some(open) = context.open() else {
-        return Ok(Help::Plain);
-    };
-    let terms = context.terms(alloc)?;
-    let Some(term) = declared_as(terms.as_slice(), context.word) else {
-        return unknown_term(alloc, context, Named::Object);
-    };
-    let arguments = arguments(alloc, context, open)?;
-    let index = at.saturating_sub(open).saturating_sub(2);
-    match arguments.and_then(|all| all.get(index).copied()) {
-        Some(wanted) => types_of(alloc, head_of(context.list()), term, wanted),
-        None => Ok(Help::Plain),
-    }
-}
-
-fn types_of<'a>(
-    alloc: Global,
-    user: &'a [u8],
-    term: TypedName<'_, 'a>,
-    wanted: TypedName<'_, 'a>,
-) -> Result<Help<'a>, NoMemory> {
-    let given = type_names(alloc, term.types)?;
-    let wanted = type_names(alloc, wanted.types)?;
-    Ok(Help::Types(Types {
-        user,
-        given,
-        wanted,
-    }))
-}
-
-/// The names of the types; `object` if there is none.
-fn type_names<'a>(alloc: Global, types: &[Piece<'a>]) -> Result<Vec<&'a [u8]>, NoMemory> {
-    let mut found = bytes_of(alloc, types)?;
-    if found.is_empty() {
-        let root: &'a [u8] = b"object";
-        found.push(root)?;
-    }
-    Ok(found)
-}
-
-/// The limit that is exceeded.
-pub(crate) fn passed_limit<'a>(context: &Context<'a>) -> Help<'a> {
-    let here = context.here();
-    let Some(open) = context.open() else {
-        return Help::Plain;
-    };
-    let head = head_of(context.list());
-    let outer = match opening_of(here, open) {
-        Some(outer) => head_of(list_from(here, outer)),
-        None => b"",
-    };
-    Help::Limit(if head.eq_ignore_ascii_case(b":types") {
-        Limit::Types
-    } else if head.starts_with(b":") {
-        Limit::Objects
-    } else if outer.eq_ignore_ascii_case(b":predicates")
-        || outer.eq_ignore_ascii_case(b":functions")
-    {
-        Limit::Arguments
-    } else {
-        Limit::Variables
-    })
-}
-
-/// What is wrong with a total cost, by the reported word.
-pub(crate) fn cost_fault<'a>(alloc: Global, context: &Context<'a>) -> Result<Help<'a>, NoMemory> {
-    let list = section(alloc, context.domain.as_slice(), b":functions")?;
-    let functions = heads(alloc, list)?;
-    let is_declared = functions.iter().any(|head| head.is(b"total-cost"));
-    let word = context.word;
-    Ok(Help::Cost(if !is_declared {
-        CostFault::Undeclared
-    } else if word.eq_ignore_ascii_case(b"increase") {
-        CostFault::IncreasedTwice
-    } else if word == b"=".as_slice() {
-        CostFault::BeginsTwice
-    } else {
-        CostFault::NotZero
-    }))
-}
-
-/// The domain's name.
-pub(crate) fn domain_name<'a>(alloc: Global, context: &Context<'a>) -> Result<Help<'a>, NoMemory> {
-    let nodes = children(alloc, context.domain.as_slice())?;
-    for node in nodes.as_slice() {
-        if head_of(node).eq_ignore_ascii_case(b"domain") {
-            if let Some(name) = node.get(2) {
-                return Ok(Help::Domain(name.text));
+    /// Whether the domain declares a total cost.
+    fn is_cost_declared(self) -> bool {
+        for item in Items::of(self.section(b":functions")) {
+            if head(item).is_some_and(|head| head.is(b"total-cost")) {
+                return true;
             }
         }
+        false
     }
-    Ok(Help::Plain)
+
+    /// Says the domain's name.
+    pub(crate) fn add_domain_name(self, out: &mut String) -> Result<(), AllocError> {
+        match self.section(b"domain").get(2) {
+            Some(name) => write!(out, "the domain is called {}.", Name(name.text())),
+            None => Ok(()),
+        }
+    }
 }

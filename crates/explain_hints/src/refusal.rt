@@ -4,18 +4,10 @@ ghost use Rattle.explain_hints.specs.Files.{text_in};
 ghost use Rattle.explain_hints.specs.ReportedBytes.{reported_in};
 
 use crate::texts::{File, NamedTexts};
-use faults::{Code, Span};
+use faults::RefusalIn;
 
 /// The refusal of a file: its code and its place.
-#[derive(Clone, Copy, Debug, PartialEq, Eq)]
-pub struct FileRefusal {
-    /// The file that the place is in.
-    pub file: File,
-    /// What is wrong.
-    pub code: Code,
-    /// Where it is.
-    pub span: Span,
-}
+pub type FileRefusal = RefusalIn<File>;
 
 /// The bytes that a fault is reported for, clipped to the text.
 pub fn reported_bytes<'a>(texts: &NamedTexts<'a>, fault: FileRefusal) -> &'a [u8]

@@ -7,7 +7,7 @@ use Rattle.task.specs.declared.schemas.Formula.{Formula}
 use Rattle.task.specs.declared.schemas.Formula as formula
 use Rattle.task.specs.TaskParts.{formula_of}
 use Rattle.explain_plans.specs.FalseParts.{Part}
-use Rattle.explain_plans.specs.FormulaText.{Scope, formula_text, parts_text, scope_behind}
+use Rattle.explain_plans.specs.FormulaText.{Scope, formula_text, parts_text, scope_after}
 use Rattle.explain_plans.specs.Histories.{History}
 use Rattle.explain_plans.specs.VariableNames.{formulas}
 use Rattle.explain_plans.proofs.FormulaLists.{conjunction, disjunction, next_left}
@@ -40,11 +40,11 @@ module _ (t : Task) (scope : Scope) (parts : List Formula) (i : ℕ) (text whole
     (left : text ++ parts_text t scope (formulas (map formula_of (drop i parts))) ≡ whole) where
   -- one more part is added
   pub part_added : (part : Formula) → i < length parts → part ≡ get_or parts i part → (middle last : List ℕ) → middle ≡ text ++ codes " "
-      → last ≡ middle ++ formula_text t scope (formula_of part) → (next : Scope) → next ≡ scope_behind scope (formula_of part)
+      → last ≡ middle ++ formula_text t scope (formula_of part) → (next : Scope) → next ≡ scope_after scope (formula_of part)
       → last ++ parts_text t next (formulas (map formula_of (drop (i + 1) parts))) ≡ whole
   part_added part lt at middle last blank added next is =
       let one = formula_text t scope (formula_of part) in
-      let others = parts_text t (scope_behind scope (formula_of part)) (formulas (map formula_of (drop (i + 1) parts))) in
+      let others = parts_text t (scope_after scope (formula_of part)) (formulas (map formula_of (drop (i + 1) parts))) in
       ap (λ s. last ++ parts_text t s (formulas (map formula_of (drop (i + 1) parts)))) is
       ∙ ap (λ l. l ++ others) (two_added text (codes " ") one middle last blank added)
       ∙ append_assoc text (codes " " ++ one) others

@@ -17,19 +17,19 @@ use Rattle.validator.proofs.VerdictRuns.{occurs, run_more}
 
 module _ {S A : Type 0} (t : System S A) where
   -- if a list runs, each of its actions is applicable in turn
-  pub goes_on : (s now last : S) (plan : List A) (i : ℕ) (a : A) → slice_get plan i ≡ Some a → run t s (take i plan) ≡ Some now → run t s plan ≡ Some last
+  pub may_continue : (s now last : S) (plan : List A) (i : ℕ) (a : A) → slice_get plan i ≡ Some a → run t s (take i plan) ≡ Some now → run t s plan ≡ Some last
       → (next : S) × (t.step now a ≡ Some next)
-  goes_on s now last [] i a here so whole = absurd (none-some a here)
-  goes_on s now last (x ∷ plan) zero a here so whole =
+  may_continue s now last [] i a here so whole = absurd (none-some a here)
+  may_continue s now last (x ∷ plan) zero a here so whole =
       elim (t.step s x) as (λ o. t.step s x ≡ o → (next : S) × (t.step now a ≡ Some next)) [
         | None ↦ λ e. absurd (none-some last (sym (ap (option_and_then (λ n. run t n plan)) e) ∙ whole))
         | Some n ↦ λ e. (n, (λ j. t.step (sym (same_Some s now so) j) (sym (same_Some x a here) j)) ∙ e)
       ] refl
-  goes_on s now last (x ∷ plan) (suc i) a here so whole =
+  may_continue s now last (x ∷ plan) (suc i) a here so whole =
       elim (t.step s x) as (λ o. t.step s x ≡ o → (next : S) × (t.step now a ≡ Some next)) [
         | None ↦ λ e. absurd (none-some last (sym (ap (option_and_then (λ n. run t n plan)) e) ∙ whole))
         | Some n ↦ λ e.
-            goes_on n now last plan i a here (sym (ap (option_and_then (λ m. run t m (take i plan))) e) ∙ so)
+            may_continue n now last plan i a here (sym (ap (option_and_then (λ m. run t m (take i plan))) e) ∙ so)
             (sym (ap (option_and_then (λ m. run t m plan)) e) ∙ whole)
       ] refl
 
@@ -47,7 +47,7 @@ module _ (t : task.Task) (steps : List Instance) (i : ℕ) (item : Instance) (lt
     -- it is applicable, and one more step has run
     pub is_applicable : DoRun t (map instance_of steps) → IsSome o
     is_applicable whole =
-        let next = goes_on (system_of t) (initial_state t) now whole.0 (map instance_of steps) i (instance_of item) here runs whole.1 in
+        let next = may_continue (system_of t) (initial_state t) now whole.0 (map instance_of steps) i (instance_of item) here runs whole.1 in
         was_some o next.0 (is ∙ next.1)
       where
         was_some : (p : Option State) (s : meaning.State) → option_map state_of p ≡ Some s → IsSome p

@@ -35,8 +35,8 @@ abbrev pub with_next : Scope → Scope
 with_next scope = record { objects = scope.objects; names = scope.names ++ next_name scope ∷ []; coming = drop 1 scope.coming }
 
 -- the scope after a formula, whose quantified variables have used up their names
-abbrev pub scope_behind : Scope → Formula → Scope
-scope_behind scope formula = record { objects = scope.objects; names = scope.names; coming = behind formula scope.coming }
+abbrev pub scope_after : Scope → Formula → Scope
+scope_after scope formula = record { objects = scope.objects; names = scope.names; coming = behind formula scope.coming }
 
 -- ---- terms, types and formulas
 
@@ -72,7 +72,7 @@ abbrev mutual
   formula_text task scope (or parts) = codes "(or" ++ (parts_text task scope parts ++ codes ")")
   formula_text task scope (not part) = codes "(not " ++ (formula_text task scope part ++ codes ")")
   formula_text task scope (imply premise conclusion) =
-      codes "(imply " ++ (formula_text task scope premise ++ (codes " " ++ (formula_text task (scope_behind scope premise) conclusion ++ codes ")")))
+      codes "(imply " ++ (formula_text task scope premise ++ (codes " " ++ (formula_text task (scope_after scope premise) conclusion ++ codes ")")))
   formula_text task scope (exists types part) =
       codes "(exists (" ++ (variable_declared task scope types ++ (formula_text task (with_next scope) part ++ codes ")"))
   formula_text task scope (forall types part) =
@@ -81,4 +81,4 @@ abbrev mutual
   -- a blank and each formula
   pub parts_text : Task → Scope → Formulas → List ℕ
   parts_text task scope no_formula = []
-  parts_text task scope (more_formulas first rest) = codes " " ++ (formula_text task scope first ++ parts_text task (scope_behind scope first) rest)
+  parts_text task scope (more_formulas first rest) = codes " " ++ (formula_text task scope first ++ parts_text task (scope_after scope first) rest)

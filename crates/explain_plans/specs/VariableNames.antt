@@ -17,16 +17,16 @@ abbrev mutual
   pub behind : Formula → List Name → List Name
   behind (atom a) names = names
   behind (equal left right) names = names
-  behind (and parts) names = behind_all parts names
-  behind (or parts) names = behind_all parts names
+  behind (and parts) names = after_all_lines parts names
+  behind (or parts) names = after_all_lines parts names
   behind (not part) names = behind part names
   behind (imply premise conclusion) names = behind conclusion (behind premise names)
   behind (exists types part) names = behind part (drop 1 names)
   behind (forall types part) names = behind part (drop 1 names)
 
-  pub behind_all : Formulas → List Name → List Name
-  behind_all no_formula names = names
-  behind_all (more_formulas first rest) names = behind_all rest (behind first names)
+  pub after_all_lines : Formulas → List Name → List Name
+  after_all_lines no_formula names = names
+  after_all_lines (more_formulas first rest) names = after_all_lines rest (behind first names)
 
 -- formulas from a list
 abbrev pub formulas : List Formula → Formulas

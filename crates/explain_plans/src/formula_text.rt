@@ -8,7 +8,7 @@ ghost use Rattle.std.specs.String.{string_bytes};
 ghost use Rattle.task.specs.Task.{task_of};
 ghost use Rattle.task.specs.TaskParts.{formula_of, lifted_atom_of, object_of, term_of, type_of, union_of};
 ghost use Rattle.task.specs.NumberedNames.{type_name};
-ghost use Rattle.explain_plans.specs.FormulaText.{atom_text, formula_text, next_name, parts_text, scope_at, scope_behind, term_text, union_text, variable_declared, variable_text, with_next};
+ghost use Rattle.explain_plans.specs.FormulaText.{atom_text, formula_text, next_name, parts_text, scope_at, scope_after, term_text, union_text, variable_declared, variable_text, with_next};
 ghost use Rattle.explain_plans.specs.NamesView.{names_in};
 ghost use Rattle.explain_plans.specs.ScopeView.{scope_of};
 ghost use Rattle.explain_plans.specs.VariableNames.{formulas};
@@ -43,7 +43,7 @@ impl<'a> Scope<'a> {
 
     /// The scope after the formula, whose quantified variables have used up their names.
     fn behind(self, formula: &Formula) -> Scope<'a>
-        ensures { scope_of result ≡ scope_behind (scope_of self.entry) (formula_of formula.now) }
+        ensures { scope_of result ≡ scope_after (scope_of self.entry) (formula_of formula.now) }
     {
         Scope {
             objects: self.objects,

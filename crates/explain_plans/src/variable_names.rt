@@ -2,7 +2,7 @@
 ghost use Rattle.std.specs.Prelude.{◌≡◌, drop, map};
 ghost use Rattle.task.specs.TaskParts.{formula_of};
 ghost use Rattle.explain_plans.specs.NamesView.{names_in, names_of};
-ghost use Rattle.explain_plans.specs.VariableNames.{behind, behind_all, formulas, names_of_action};
+ghost use Rattle.explain_plans.specs.VariableNames.{behind, after_all_lines, formulas, names_of_action};
 
 use task::{Formula, SchemaId};
 
@@ -34,8 +34,8 @@ pub(crate) fn names_behind<'n, 'a>(formula: &Formula, names: &'n [&'a [u8]]) -> 
 {
     match formula {
         Formula::Atom(_) | Formula::Equal(_, _) => names,
-        Formula::And(parts) => names_behind_each(parts, names),
-        Formula::Or(parts) => names_behind_each(parts, names),
+        Formula::And(parts) => names_after_each(parts, names),
+        Formula::Or(parts) => names_after_each(parts, names),
         Formula::Not(part) => names_behind(part, names),
         Formula::Imply(premise, conclusion) => {
             names_behind(conclusion, names_behind(premise, names))
@@ -48,8 +48,8 @@ pub(crate) fn names_behind<'n, 'a>(formula: &Formula, names: &'n [&'a [u8]]) -> 
 
 /// The same for each of the formulas.
 #[cycle(behind)]
-fn names_behind_each<'n, 'a>(parts: &[Formula], names: &'n [&'a [u8]]) -> &'n [&'a [u8]]
-    ensures { names_in result.now ≡ behind_all (formulas (map formula_of parts.now)) (names_in names.now) }
+fn names_after_each<'n, 'a>(parts: &[Formula], names: &'n [&'a [u8]]) -> &'n [&'a [u8]]
+    ensures { names_in result.now ≡ after_all_lines (formulas (map formula_of parts.now)) (names_in names.now) }
 {
     let mut left = names;
     for part in parts {

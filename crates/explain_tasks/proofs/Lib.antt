@@ -5,3 +5,4 @@ pub mod CountLemmas
 pub mod LackingLemmas
 pub mod AddedLemmas
 pub mod FormsLemmas
+pub mod NoteLemmas

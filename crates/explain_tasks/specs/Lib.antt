@@ -3,5 +3,7 @@ pub mod Unused
 pub mod Costs
 pub mod Goals
 pub mod Notes
+pub mod NoteLines
+pub mod KindNames
 pub mod Forms
 pub mod Summary

@@ -1,8 +1,20 @@
 //! Notes as lines of text, each without LF.
+ghost use Rattle.std.specs.Prelude.{◌≡◌, ◌++◌, ◌∷◌, [], codes, map, IfOk, OnOk, take};
+ghost use Rattle.std.specs.Fmt.{decimal};
+ghost use Rattle.std.specs.List.{flat_map};
+ghost use Rattle.std.specs.Str.Lossy.{utf8_lossy};
+ghost use Rattle.std.specs.String.{string_bytes};
+ghost use Rattle.task.specs.Task.{task_of};
+ghost use Rattle.task.specs.TaskParts.{atom_of, increase_of, lifted_atom_of, object_of};
+ghost use Rattle.formulas.specs.State.{instance_of};
+ghost use Rattle.explain_tasks.specs.KindNames.{name_by};
+ghost use Rattle.explain_tasks.specs.NoteLines as note;
+ghost use Rattle.explain_tasks.specs.NoteLines.{line_if};
+
 use crate::ground_notes::{GroundNotes, MOST_TOLD};
 use crate::notes::TaskNotes;
 use faults::NoMemory;
-use formulas::{Atom, Binding, Instance, named_by};
+use formulas::{Atom, Instance, named_by};
 use std::alloc::Global;
 use task::{Increase, LiftedAtom, ObjectId, PredicateId, SchemaId, Task};
 
@@ -24,17 +36,11 @@ impl TaskNotes {
         alloc: Global,
         task: &Task,
         lines: &mut Vec<String>,
-    ) -> Result<(), NoMemory> {
-        if self.ignores_costs {
-            let line =
-                "Actions increase the total cost, but the problem has no `:metric`, so each step costs 1.";
-            lines.push(String::from_str(alloc, line)?)?;
-        }
-        if self.lacks_costs {
-            let line =
-                "The problem has a `:metric`, but no action increases the total cost, so every plan costs 0.";
-            lines.push(String::from_str(alloc, line)?)?;
-        }
+    ) -> Result<(), NoMemory>
+        ensures { OnOk result (map string_bytes lines.new.items ≡ map string_bytes lines.old.items ++ note.task_lines (task_of task.now) self.now) }
+    {
+        self.add_ignored_costs(alloc, lines)?;
+        self.add_lacking_costs(alloc, lines)?;
         let unasked = NameList {
             opening: "Predicates that no precondition, no condition and no goal asks for: ",
             kind: Kind::Predicate,
@@ -47,6 +53,34 @@ impl TaskNotes {
             numbers: &self.unnamed_objects,
         };
         unnamed.add(alloc, task, lines)
+    }
+
+    /// Adds the line about costs that are not minimized, if there are such.
+    fn add_ignored_costs(&self, alloc: Global, lines: &mut Vec<String>) -> Result<(), NoMemory>
+        ensures { OnOk result (map string_bytes lines.new.items ≡ map string_bytes lines.old.items
+            ++ line_if self.now.ignores_costs (codes "Actions increase the total cost, but the problem has no `:metric`, so each step costs 1.")) }
+    {
+        if self.ignores_costs {
+            let line =
+                "Actions increase the total cost, but the problem has no `:metric`, so each step costs 1.";
+            add_text(alloc, line, lines)
+        } else {
+            Ok(())
+        }
+    }
+
+    /// Adds the line about costs that are minimized though there are none, if it is so.
+    fn add_lacking_costs(&self, alloc: Global, lines: &mut Vec<String>) -> Result<(), NoMemory>
+        ensures { OnOk result (map string_bytes lines.new.items ≡ map string_bytes lines.old.items
+            ++ line_if self.now.lacks_costs (codes "The problem has a `:metric`, but no action increases the total cost, so every plan costs 0.")) }
+    {
+        if self.lacks_costs {
+            let line =
+                "The problem has a `:metric`, but no action increases the total cost, so every plan costs 0.";
+            add_text(alloc, line, lines)
+        } else {
+            Ok(())
+        }
     }
 }
 
@@ -67,7 +101,9 @@ impl GroundNotes {
         alloc: Global,
         task: &Task,
         lines: &mut Vec<String>,
-    ) -> Result<(), NoMemory> {
+    ) -> Result<(), NoMemory>
+        ensures { OnOk result (map string_bytes lines.new.items ≡ map string_bytes lines.old.items ++ note.ground_lines (task_of task.now) self.now) }
+    {
         add_lacking(alloc, task, &self.lacking, lines)?;
         self.add_passed_over(alloc, task, lines)?;
         add_missing_goals(alloc, task, &self.missing_goals, lines)?;
@@ -85,16 +121,49 @@ impl GroundNotes {
         alloc: Global,
         task: &Task,
         lines: &mut Vec<String>,
-    ) -> Result<(), NoMemory> {
+    ) -> Result<(), NoMemory>
+        ensures { OnOk result (map string_bytes lines.new.items ≡ map string_bytes lines.old.items ++ map (note.passed_line (task_of task.now) self.now.most) self.now.passed_over.items) }
+    {
         for number in &self.passed_over {
-            let mut line = String::from_str(alloc, "Whether costs of `")?;
-            add_name(task, Kind::Action, *number, &mut line)?;
-            line.push_str("` have no value was not looked at, as it has more than ")?;
-            let most = self.most;
-            write!(line, "{most} instances.")?;
-            lines.push(line)?;
+            self.add_passed(alloc, task, *number, lines)?;
         }
         Ok(())
+    }
+
+    /// Adds the line for an action whose instances were not checked.
+    fn add_passed(
+        &self,
+        alloc: Global,
+        task: &Task,
+        number: usize,
+        lines: &mut Vec<String>,
+    ) -> Result<(), NoMemory>
+        ensures { OnOk result (map string_bytes lines.new.items ≡ map string_bytes lines.old.items ++ note.passed_line (task_of task.now) self.now.most number ∷ []) }
+    {
+        let ending = ending_of(alloc, self.most)?;
+        let mut line = Vec::from_slice(alloc, b"Whether costs of `")?;
+        line.extend_from_slice(task.name_of_schema(SchemaId(number)))?;
+        line.extend_from_slice(b"` have no value was not looked at, as it has more than ")?;
+        line.extend_from_slice(ending.as_bytes())?;
+        add_line(alloc, line.as_slice(), lines)
+    }
+}
+
+/// How the line for an action ends whose instances were not checked.
+fn ending_of(alloc: Global, most: u32) -> Result<String, NoMemory>
+    ensures { IfOk result (λ text. string_bytes text ≡ decimal most ++ codes " instances.") }
+{
+    Ok(format!(in alloc; "{most} instances.")?)
+}
+
+/// The notes of a kind that are told: the first few.
+fn told<T>(notes: &[T]) -> &[T]
+    ensures { result.now ≡ take 10 notes.now }
+{
+    if notes.len() > MOST_TOLD {
+        &notes[..MOST_TOLD]
+    } else {
+        notes
     }
 }
 
@@ -104,13 +173,29 @@ fn add_lacking(
     task: &Task,
     lacking: &[Instance],
     lines: &mut Vec<String>,
-) -> Result<(), NoMemory> {
-    for instance in lacking.iter().take(MOST_TOLD) {
-        add_lacking_line(alloc, task, instance, lines)?;
-    }
+) -> Result<(), NoMemory>
+    ensures { OnOk result (map string_bytes lines.new.items ≡ map string_bytes lines.old.items ++ note.lacking_lines (task_of task.now) (map instance_of lacking.now)) }
+{
+    add_lacking_lines(alloc, task, told(lacking), lines)?;
     if lacking.len() > MOST_TOLD {
         let line = "More values that actions increase the total cost by are missing.";
-        lines.push(String::from_str(alloc, line)?)?;
+        add_text(alloc, line, lines)
+    } else {
+        Ok(())
+    }
+}
+
+/// Adds the line for each of these instances.
+fn add_lacking_lines(
+    alloc: Global,
+    task: &Task,
+    lacking: &[Instance],
+    lines: &mut Vec<String>,
+) -> Result<(), NoMemory>
+    ensures { OnOk result (map string_bytes lines.new.items ≡ map string_bytes lines.old.items ++ flat_map (note.lacking_line (task_of task.now)) (map instance_of lacking.now)) }
+{
+    for instance in lacking {
+        add_lacking_line(alloc, task, instance, lines)?;
     }
     Ok(())
 }
@@ -121,19 +206,36 @@ fn add_lacking_line(
     task: &Task,
     instance: &Instance,
     lines: &mut Vec<String>,
-) -> Result<(), NoMemory> {
-    let Some(schema) = task.schema(instance.schema) else {
-        return Ok(());
-    };
-    if let Increase::Function(function) = &schema.increase {
-        let mut line = String::new(alloc);
-        add_function(task, function, &instance.objects, &mut line)?;
-        line.push_str(" has no value, so ")?;
-        let name = task.name_of_schema(instance.schema);
-        add_form(task, name, instance.objects.as_slice(), &mut line)?;
-        line.push_str(" can never be applied.")?;
-        lines.push(line)?;
+) -> Result<(), NoMemory>
+    ensures { OnOk result (map string_bytes lines.new.items ≡ map string_bytes lines.old.items ++ note.lacking_line (task_of task.now) (instance_of instance.now)) }
+{
+    let mut line = Vec::new(alloc);
+    match task.schema(instance.schema) {
+        Some(schema) => match &schema.increase {
+            Increase::Function(function) => {
+                add_lacking_value(task, instance, function, &mut line)?;
+                add_line(alloc, line.as_slice(), lines)
+            }
+            Increase::Number(_) => Ok(()),
+        },
+        None => Ok(()),
     }
+}
+
+/// Adds the value of this function that the instance lacks, and the instance.
+fn add_lacking_value(
+    task: &Task,
+    instance: &Instance,
+    function: &LiftedAtom,
+    line: &mut Vec<u8>,
+) -> Result<(), NoMemory>
+    ensures { OnOk result (line.new.items ≡ line.old.items ++ note.lacking_value (task_of task.now) (instance_of instance.now) (lifted_atom_of function.now)) }
+{
+    let name = task.name_of_schema(instance.schema);
+    add_function(task, function, instance, line)?;
+    line.extend_from_slice(b" has no value, so ")?;
+    add_form(task, name, instance.objects.as_slice(), line)?;
+    line.extend_from_slice(b" can never be applied.")?;
     Ok(())
 }
 
@@ -143,19 +245,47 @@ fn add_missing_goals(
     task: &Task,
     atoms: &[Atom],
     lines: &mut Vec<String>,
-) -> Result<(), NoMemory> {
-    for atom in atoms.iter().take(MOST_TOLD) {
-        let mut line = String::from_str(alloc, "The goal asks for ")?;
-        let name = task.name_of_predicate(atom.predicate);
-        add_form(task, name, atom.objects.as_slice(), &mut line)?;
-        line.push_str(", which is false at the start, and which no action can make true.")?;
-        lines.push(line)?;
-    }
+) -> Result<(), NoMemory>
+    ensures { OnOk result (map string_bytes lines.new.items ≡ map string_bytes lines.old.items ++ note.missing_lines (task_of task.now) (map atom_of atoms.now)) }
+{
+    add_missing_lines(alloc, task, told(atoms), lines)?;
     if atoms.len() > MOST_TOLD {
         let line = "The goal asks for more atoms that are never true.";
-        lines.push(String::from_str(alloc, line)?)?;
+        add_text(alloc, line, lines)
+    } else {
+        Ok(())
+    }
+}
+
+/// Adds the line for each of these atoms.
+fn add_missing_lines(
+    alloc: Global,
+    task: &Task,
+    atoms: &[Atom],
+    lines: &mut Vec<String>,
+) -> Result<(), NoMemory>
+    ensures { OnOk result (map string_bytes lines.new.items ≡ map string_bytes lines.old.items ++ flat_map (note.missing_line (task_of task.now)) (map atom_of atoms.now)) }
+{
+    for atom in atoms {
+        add_missing_line(alloc, task, atom, lines)?;
     }
     Ok(())
+}
+
+/// Adds the line for an atom of the goal that is never true.
+fn add_missing_line(
+    alloc: Global,
+    task: &Task,
+    atom: &Atom,
+    lines: &mut Vec<String>,
+) -> Result<(), NoMemory>
+    ensures { OnOk result (map string_bytes lines.new.items ≡ map string_bytes lines.old.items ++ note.missing_line (task_of task.now) (atom_of atom.now)) }
+{
+    let mut line = Vec::from_slice(alloc, b"The goal asks for ")?;
+    let name = task.name_of_predicate(atom.predicate);
+    add_form(task, name, atom.objects.as_slice(), &mut line)?;
+    line.extend_from_slice(b", which is false at the start, and which no action can make true.")?;
+    add_line(alloc, line.as_slice(), lines)
 }
 
 /// A kind of named entity.
@@ -177,52 +307,88 @@ struct NameList<'n> {
 
 impl NameList<'_> {
     /// Adds a line with the names, if there are any: the first few, and how many more there are.
-    fn add(&self, alloc: Global, task: &Task, lines: &mut Vec<String>) -> Result<(), NoMemory> {
-        let Some((first, rest)) = self.numbers.split_first() else {
-            return Ok(());
-        };
-        let mut line = String::from_str(alloc, self.opening)?;
-        add_name(task, self.kind, *first, &mut line)?;
-        for number in rest.iter().take(MOST_TOLD - 1) {
-            line.push_str(", ")?;
-            add_name(task, self.kind, *number, &mut line)?;
+    fn add(&self, alloc: Global, task: &Task, lines: &mut Vec<String>) -> Result<(), NoMemory>
+        ensures { OnOk result (map string_bytes lines.new.items ≡ map string_bytes lines.old.items ++ note.names_line self.now.opening.now (name_by (task_of task.now) self.now.kind) self.now.numbers.now) }
+    {
+        match self.numbers.split_first() {
+            Some((first, rest)) => {
+                let mut line = Vec::from_slice(alloc, self.opening.as_bytes())?;
+                line.extend_from_slice(name_of(task, self.kind, *first))?;
+                add_names(task, self.kind, first_of_rest(rest), &mut line)?;
+                add_others(alloc, self.numbers.len(), &mut line)?;
+                line.extend_from_slice(b".")?;
+                add_line(alloc, line.as_slice(), lines)
+            }
+            None => Ok(()),
         }
-        let others = self.numbers.len().saturating_sub(MOST_TOLD);
-        if others > 0 {
-            write!(line, " and {others} more")?;
-        }
-        line.push_str(".")?;
-        lines.push(line)?;
+    }
+}
+
+/// The numbers whose names are told behind the first.
+fn first_of_rest(rest: &[usize]) -> &[usize]
+    ensures { result.now ≡ take 9 rest.now }
+{
+    if rest.len() > MOST_TOLD - 1 {
+        &rest[..MOST_TOLD - 1]
+    } else {
+        rest
+    }
+}
+
+/// Adds these names, with a comma before each.
+fn add_names(task: &Task, kind: Kind, numbers: &[usize], line: &mut Vec<u8>) -> Result<(), NoMemory>
+    ensures { OnOk result (line.new.items ≡ line.old.items ++ flat_map (note.next_text (name_by (task_of task.now) kind)) numbers.now) }
+{
+    for number in numbers {
+        line.extend_from_slice(b", ")?;
+        line.extend_from_slice(name_of(task, kind, *number))?;
+    }
+    Ok(())
+}
+
+/// Adds how many names are left out of this number.
+fn add_others(alloc: Global, count: usize, line: &mut Vec<u8>) -> Result<(), NoMemory>
+    ensures { OnOk result (line.new.items ≡ line.old.items ++ note.others_text count) }
+{
+    if count > MOST_TOLD {
+        let others = count - MOST_TOLD;
+        let text = format!(in alloc; " and {others} more")?;
+        line.extend_from_slice(text.as_bytes())?;
+        Ok(())
+    } else {
         Ok(())
     }
 }
 
-/// Adds the name for this number.
-fn add_name(task: &Task, kind: Kind, number: usize, line: &mut String) -> Result<(), NoMemory> {
-    let name = match kind {
+/// The name for this number.
+fn name_of(task: &Task, kind: Kind, number: usize) -> &[u8]
+    ensures { result.now ≡ name_by (task_of task.now) kind number }
+{
+    match kind {
         Kind::Predicate => task.name_of_predicate(PredicateId(number)),
         Kind::Object => match u32::try_from(number) {
             Ok(number) => task.name_of_object(ObjectId(number)),
             Err(_) => b"",
         },
         Kind::Action => task.name_of_schema(SchemaId(number)),
-    };
-    add_bytes(name, line)
+    }
 }
 
-/// Adds the function of the objects that its terms denote.
+/// Adds the function of the objects that its terms denote for this instance.
 fn add_function(
     task: &Task,
     function: &LiftedAtom,
-    binding: &Binding,
-    line: &mut String,
-) -> Result<(), NoMemory> {
-    line.push_str("(")?;
-    add_bytes(task.name_of_function(function.predicate), line)?;
+    instance: &Instance,
+    line: &mut Vec<u8>,
+) -> Result<(), NoMemory>
+    ensures { OnOk result (line.new.items ≡ line.old.items ++ note.function_text (task_of task.now) (instance_of instance.now) (lifted_atom_of function.now)) }
+{
+    line.extend_from_slice(b"(")?;
+    line.extend_from_slice(task.name_of_function(function.predicate))?;
     for term in &function.terms {
-        add_object(task, named_by(term, binding), line)?;
+        task.add_name(named_by(term, &instance.objects), line)?;
     }
-    line.push_str(")")?;
+    line.extend_from_slice(b")")?;
     Ok(())
 }
 
@@ -231,21 +397,31 @@ fn add_form(
     task: &Task,
     name: &[u8],
     objects: &[ObjectId],
-    line: &mut String,
-) -> Result<(), NoMemory> {
-    line.push_str("(")?;
-    add_bytes(name, line)?;
-    for object in objects {
-        add_object(task, *object, line)?;
-    }
-    line.push_str(")")?;
+    line: &mut Vec<u8>,
+) -> Result<(), NoMemory>
+    ensures { OnOk result (line.new.items ≡ line.old.items ++ note.form_text (task_of task.now) name.now (map object_of objects.now)) }
+{
+    line.extend_from_slice(b"(")?;
+    line.extend_from_slice(name)?;
+    task.add_names(objects, line)?;
+    line.extend_from_slice(b")")?;
     Ok(())
 }
 
-/// Adds a blank and the object's name.
-fn add_object(task: &Task, object: ObjectId, line: &mut String) -> Result<(), NoMemory> {
-    line.push_str(" ")?;
-    add_bytes(task.name_of_object(object), line)
+/// Adds the line.
+fn add_text(alloc: Global, line: &str, lines: &mut Vec<String>) -> Result<(), NoMemory>
+    ensures { OnOk result (map string_bytes lines.new.items ≡ map string_bytes lines.old.items ++ line.now ∷ []) }
+{
+    lines.push(String::from_str(alloc, line)?)?;
+    Ok(())
+}
+
+/// Adds the line. Its bytes are ASCII, as those of names are.
+fn add_line(alloc: Global, line: &[u8], lines: &mut Vec<String>) -> Result<(), NoMemory>
+    ensures { OnOk result (map string_bytes lines.new.items ≡ map string_bytes lines.old.items ++ utf8_lossy line.now ∷ []) }
+{
+    lines.push(String::from_utf8_lossy(alloc, line)?)?;
+    Ok(())
 }
 
 /// Adds bytes, which are all ASCII, as names are.

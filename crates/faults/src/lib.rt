@@ -5,4 +5,4 @@ mod code;
 mod refused;
 
 pub use code::Code;
-pub use refused::{Fault, NoMemory, Refused, Span, TextRefusal};
+pub use refused::{Fault, NoMemory, RefusalIn, Refused, Span, TextRefusal};

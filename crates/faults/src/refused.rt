@@ -21,6 +21,17 @@ pub struct TextRefusal {
     pub span: Span,
 }
 
+/// The refusal of one of several texts: which one, the code and the place.
+#[derive(Clone, Copy, Debug, PartialEq, Eq)]
+pub struct RefusalIn<F> {
+    /// The file that the place is in.
+    pub file: F,
+    /// What is wrong.
+    pub code: Code,
+    /// Where it is.
+    pub span: Span,
+}
+
 /// An allocation failed. This says nothing about the text.
 #[derive(Clone, Copy, Debug, PartialEq, Eq, Error)]
 #[error("out of memory")]

@@ -2,7 +2,7 @@
 use Rattle.std.proofs.Common.{◌≡◌, ℕ, ◌<◌, ◌≤◌, ◌-◌, Bool, true, List, [], ◌∷◌, ◌++◌, get_or, length, map, Option, Some, None, IfSome, refl, ap, sym, ◌∙◌, subst, arith}
 use Rattle.std.proofs.lemmas.Option.{slice_get_within}
 use Rattle.std.specs.Prelude.{All, Result, Ok, Err, IfOk, IsSomeAnd}
-use Rattle.std.specs.Option.{option_map}
+use Rattle.std.specs.Option.{option_map, option_map_or}
 use Rattle.std.specs.Str.Lossy.{utf8_lossy}
 use Rattle.std.specs.String.{string_bytes}
 use Rattle.faults.specs.declared.code.Code.{Code}
@@ -15,9 +15,12 @@ use Rattle.explain_hints.specs.declared.texts.NamedTexts.{NamedTexts}
 use Rattle.validator.specs.Verdict.{verdict_of}
 use Rattle.validator.specs.declared.verdict.Verdict.{Verdict}
 use Rattle.validator.specs.declared.verdict.Verdict.TheVariants.{NotApplicable}
-use Rattle.file_answers.specs.ExplanationLines.{Files, Named, IsLocated, IsSaidOf, IsStepLocated, IsSubjectLocated, SaySubject, IsPlanSaid, IsStepAt, IsToldIn, SayFurther, SayPlanAs, SayVerdict, file_in, files_of, named_of}
-use Rattle.file_answers.specs.Explanations.{IsFaultExplained, IsLocatedIf, IsOfFault, IsPlanTold, IsStepFound, IsStepOf, IsTaskExplained, IsTrueOf, IsVerdictExplained, files_in, in_texts, text_in}
+use Rattle.file_answers.specs.ExplanationLines.{Files, Named, IsLocated, IsSaidOf, IsStepLocated, IsSubjectLocated, SaySubject, IsPlanSaid, IsStepAt, IsReportedIn, IsWhole, SayFurther, SayPlanAs, SayVerdict, bytes_of, file_in, files_of, named_of}
+use Rattle.file_answers.specs.Explanations.{IsFaultExplained, IsLocatedIf, IsOfFault, IsPlanReported, IsStepFound, IsStepOf, IsTaskExplained, IsTrueOf, IsVerdictExplained, files_in, in_texts, text_in}
 use Rattle.file_answers.specs.Files.{reported_in}
+use Rattle.file_answers.specs.Notes.{AreNoted, AreNotedOf}
+use Rattle.explain_faults.specs.SameMistake.{Texts}
+use Rattle.file_answers.specs.Complete.{IsComplete}
 use Rattle.file_answers.specs.FurtherFaults.{IsToldOf}
 use Rattle.file_answers.specs.declared.explanation.FurtherFault.{FurtherFault}
 use Rattle.explain_hints.specs.Files.{name_in}
@@ -26,6 +29,7 @@ use Rattle.file_answers.specs.Inputs.{IsInputFault}
 use Rattle.file_answers.specs.declared.explanation.Explanation.{Explanation}
 use Rattle.file_answers.specs.declared.explanation.Location.{Location}
 use Rattle.file_answers.specs.declared.explanation.Subject.{Subject}
+use Rattle.file_answers.specs.declared.explanation.Subject.TheVariants.{Fault, Plan, Task}
 use Rattle.file_answers.specs.declared.files.FileFault.{FileFault}
 use Rattle.file_answers.specs.declared.files.FileFault.TheVariants as refused
 use Rattle.model.specs.Task as model
@@ -48,14 +52,14 @@ abbrev pub AreAmong : Files → NamedTexts → Type 0
 AreAmong files texts = (file : File) → IfSome (file_in files file) (λ named. named ≡ in_texts texts file)
 
 -- no further fault is reported
-none_told : (files : Files) (further : List FurtherFault) → further ≡ [] → All (IsToldIn files) further
-none_told files further none = subst (All (IsToldIn files)) (sym none) (λ k f below. absurd (omega (arith, below)))
+none_told : (files : Files) (further : List FurtherFault) → further ≡ [] → All (IsReportedIn files) further
+none_told files further none = subst (All (IsReportedIn files)) (sym none) (λ k f below. absurd (omega (arith, below)))
 
 -- ---- a fault
 
-module _ (traced : Bool) (texts : NamedTexts) (files : Files) (among : AreAmong files texts) where
+module _ (traced : Bool) (texts : NamedTexts) (files : Files) (among : AreAmong files texts) (same : bytes_in texts ≡ bytes_of files) where
   -- a fault reported for the texts is reported for the files
-  told_in : (f : FurtherFault) → IsToldOf texts.domain.text.now texts.problem.text.now (name_in texts f.fault.file) (bytes_in texts f.fault.file) f → IsToldIn files f
+  told_in : (f : FurtherFault) → IsToldOf texts.domain.text.now texts.problem.text.now (name_in texts f.fault.file) (bytes_in texts f.fault.file) f → IsReportedIn files f
   told_in f told = by_file (file_in files f.fault.file) (among f.fault.file)
     where
       of_files : (named : Named) → named ≡ in_texts texts f.fault.file → IsToldOf files.domain.text files.problem.text named.name named.text f
@@ -86,6 +90,8 @@ module _ (traced : Bool) (texts : NamedTexts) (files : Files) (among : AreAmong 
           (bytes_in texts file, text_of (file_in files file) (among file), is.says);
       further = λ k f below. told_in (get_or e.further.items k f) (is.further k f below);
       further_lines = subst (λ (s : Subject). SayFurther s e.further.items (string_bytes e.text)) (sym is.subject) is.says_further;
+      whole = subst (λ (s : Subject). IsWhole files s e.further.items) (sym is.subject)
+          (subst (λ (text_of : Texts). IsComplete text_of (record { file = file; code = code; span = span }) e.further.items) same is.complete);
     }
 
   of_fault_said : (fault : FileFault) (e : Explanation) → IsOfFault texts fault e → IsSaidOf traced files e
@@ -107,11 +113,35 @@ module _ (domain problem : List ℕ) (plan : Option (List ℕ)) (most : ℕ) (te
   refused_explained fault (Ok e) reported is = fault_true fault e reported is
   refused_explained fault (Err failed) reported is = tt
 
+-- the bytes of the files with these texts are theirs
+bytes_each : (texts : NamedTexts) (file : File) → bytes_in texts file ≡ bytes_of (files_in texts) file
+bytes_each texts kind.Domain = refl
+bytes_each texts kind.Problem = refl
+bytes_each texts kind.Plan = refl
+
+pub bytes_all : (texts : NamedTexts) → bytes_in texts ≡ bytes_of (files_in texts)
+bytes_all texts = λ i. λ file. bytes_each texts file i
+
 -- each text is among them
 pub all_among : (texts : NamedTexts) → AreAmong (files_in texts) texts
 all_among texts kind.Domain = refl
 all_among texts kind.Problem = refl
 all_among texts kind.Plan = refl
+
+-- the bytes of the given files are those of the texts made from them, where the text of a plan that is not given is empty
+module _ (texts : NamedTexts) (domain problem : NamedText) (plan : Option NamedText) (same_domain : texts.domain ≡ domain) (same_problem : texts.problem ≡ problem)
+    (same_plan : texts.plan.text.now ≡ option_map_or (λ (named : NamedText). named.text.now) plan []) where
+  given_plan : (o : Option NamedText) → option_map_or (λ (named : NamedText). named.text.now) o [] ≡ option_map_or (λ (named : Named). named.text) (option_map named_of o) []
+  given_plan None = refl
+  given_plan (Some named) = refl
+
+  given_each : (file : File) → bytes_in texts file ≡ bytes_of (files_of domain problem plan) file
+  given_each kind.Domain = ap (λ (named : NamedText). named.text.now) same_domain
+  given_each kind.Problem = ap (λ (named : NamedText). named.text.now) same_problem
+  given_each kind.Plan = same_plan ∙ given_plan plan
+
+  pub given_bytes : bytes_in texts ≡ bytes_of (files_of domain problem plan)
+  given_bytes = λ i. λ file. given_each file i
 
 -- the given files are among the texts made from them
 module _ (texts : NamedTexts) (domain problem : NamedText) (same_domain : texts.domain ≡ domain) (same_problem : texts.problem ≡ problem) where
@@ -202,13 +232,13 @@ step_located file runs.goal_missed found at is located = tt
 module _ (task : model.Task) (names : VariableNames) (steps : List model.Instance) where
   -- what is reported of the subject is true if the subject is
   pub explained_told : (traced : Bool) (file : Named) (explained : PlanExplanation) → IsVerdict (system_of task) steps (plans.verdict_of explained)
-      → IsExplained task names steps explained → (r : Result Explanation NoMemory) → IfOk r (IsPlanTold task steps traced file explained)
+      → IsExplained task names steps explained → (r : Result Explanation NoMemory) → IfOk r (IsPlanReported task steps traced file explained)
       → IfOk r (IsVerdictExplained task names steps traced file)
   explained_told traced file explained is_true is_explained (Ok e) told = (explained, is_true, is_explained, told)
   explained_told traced file explained is_true is_explained (Err failed) told = tt
 
   module _ (traced : Bool) (texts : NamedTexts) (is : IsNamedTask texts.domain.text.now texts.problem.text.now task names) (is_plan : IsPlanText task texts.plan.text.now steps) where
-    plan_said : (explained : PlanExplanation) (e : Explanation) → IsExplained task names steps explained → (told : IsPlanTold task steps traced (named_of texts.plan) explained e)
+    plan_said : (explained : PlanExplanation) (e : Explanation) → IsExplained task names steps explained → (told : IsPlanReported task steps traced (named_of texts.plan) explained e)
         → IsPlanSaid traced (files_in texts) texts.plan.text.now (verdict_of told.code) e.location (string_bytes e.text)
     plan_said explained e is_explained told = record {
       task = task;
@@ -228,6 +258,7 @@ module _ (task : model.Task) (names : VariableNames) (steps : List model.Instanc
           (plan_said explained e is_explained told);
       further = none_told (files_in texts) e.further.items told.no_further;
       further_lines = subst (λ (s : Subject). SayFurther s e.further.items (string_bytes e.text)) (sym told.subject) told.no_further;
+      whole = subst (λ (s : Subject). IsWhole (files_in texts) s e.further.items) (sym told.subject) tt;
     }
 
     pub steps_said : (r : Result Explanation NoMemory) → IfOk r (IsVerdictExplained task names steps traced (named_of texts.plan)) → IfOk r (IsSaidOf traced (files_in texts))
@@ -258,6 +289,7 @@ module _ (task : model.Task) (most : ℕ) where
     lines = subst (λ (s : Subject). SaySubject traced files s e.location (map string_bytes e.notes.items) (string_bytes e.text)) (sym is.subject) is.says;
     further = none_told files e.further.items is.no_further;
     further_lines = subst (λ (s : Subject). SayFurther s e.further.items (string_bytes e.text)) (sym is.subject) is.no_further;
+    whole = subst (λ (s : Subject). IsWhole files s e.further.items) (sym is.subject) tt;
   }
 
   pub task_said : (traced : Bool) (files : Files) (r : Result Explanation NoMemory) → IfOk r (IsTaskExplained task most) → IfOk r (IsSaidOf traced files)
@@ -273,3 +305,15 @@ module _ (task : model.Task) (most : ℕ) where
         → IfOk r (IsTaskExplained task most) → IfOk r (λ e. IsTrueOf domain problem plan most e.subject)
     task_explained plan none (Ok e) is = subst (λ (plan : Option (List ℕ)). IsTrueOf domain problem plan most e.subject) (sym none) (summary_true e is)
     task_explained plan none (Err failed) is = tt
+
+-- ---- notes
+
+-- with a plan nothing is noted
+pub noted_with_plan : (domain problem text : List ℕ) (most : ℕ) (s : Subject) → IsTrueOf domain problem (Some text) most s → (notes : List (List ℕ)) → AreNotedOf domain problem most s notes
+noted_with_plan domain problem text most (Fault file code span) is notes = tt
+noted_with_plan domain problem text most (Plan verdict) is notes = tt
+noted_with_plan domain problem text most (Task holds grounded) is notes = absurd is
+
+pub noted_of_task : (domain problem : List ℕ) (most : ℕ) (task : model.Task) → IsTaskOf domain problem task → (e : Explanation) → IsTaskExplained task most e → AreNoted domain problem most e
+noted_of_task domain problem most task is_task e is =
+    subst (λ (s : Subject). AreNotedOf domain problem most s (map string_bytes e.notes.items)) (sym is.subject) (task, is_task, is.noted)

@@ -24,6 +24,7 @@ use Rattle.tokens.proofs.Order.{read_is_reported_nothing}
 use Rattle.faults.specs.declared.refused.Refused.TheVariants.{At, NoMemory}
 use Rattle.typing.specs.Task.{TaskFault, ReportsFault, refusal_of}
 use Rattle.file_answers.specs.declared.files.FileFault as file
+use Rattle.file_answers.specs.Complete.{AreUnread}
 use Rattle.file_answers.specs.Files.{reported_in, reported_of_pair}
 use Rattle.file_answers.specs.Inputs.{IsInputFault}
 use Rattle.plan_file.proofs.PlanSteps.{no_fault_of_plan}
@@ -61,11 +62,11 @@ text_not_refused kind text words fault reads whole (of_tree others other refused
     whole_not_refused kind others fault (subst (λ ws. IsWhole kind (tokens_of ws)) (one_reading_lem text words others reads other) whole) refused
 
 -- A text is at most one domain, and at most one problem.
-domain_of_text : (text : List ℕ) (d e : Domain) → IsDomainText text d → IsDomainText text e → d ≡ e
+pub domain_of_text : (text : List ℕ) (d e : Domain) → IsDomainText text d → IsDomainText text e → d ≡ e
 domain_of_text text d e h g =
     one_domain (tokens_of g.words) d e (subst (λ ws. IsDomain (tokens_of ws) d) (one_reading_lem text h.words g.words h.reads g.reads) h.tree) g.tree
 
-problem_of_text : (text : List ℕ) (p q : Problem) → IsProblemText text p → IsProblemText text q → p ≡ q
+pub problem_of_text : (text : List ℕ) (p q : Problem) → IsProblemText text p → IsProblemText text q → p ≡ q
 problem_of_text text p q h g =
     one_problem (tokens_of g.words) p q (subst (λ ws. IsProblem (tokens_of ws) p) (one_reading_lem text h.words g.words h.reads g.reads) h.tree) g.tree
 
@@ -115,6 +116,15 @@ module _ (domain problem : List ℕ) where
   pub pair_reported : (d : Domain) (p : Problem) → IsDomainText domain d → IsProblemText problem p → (fault : TaskFault) → ReportsFault d p fault → IfSome (reported_of_pair fault) (IsTaskFault domain problem)
   pair_reported d p d_reads p_reads (At r) least = in_the_pair d p (refusal_of r) d_reads p_reads least (record { file = refl; fault = refl })
   pair_reported d p d_reads p_reads NoMemory h = tt
+
+  -- a text that is refused has no tree
+  pub no_domain : (o : Option Fault) → IfSome o (IsTextFault domain_file domain) → IfSome (option_map (λ (f : Fault). let t : FileFault = record { file = of_task domain_file; fault = f } in t) o) (λ _. AreUnread domain problem)
+  no_domain None h = tt
+  no_domain (Some fault) h = λ d p d_reads p_reads. text_not_refused domain_file domain d_reads.words fault d_reads.reads (tree.domain_tree d, d_reads.tree) h
+
+  pub no_problem : (o : Option Fault) → IfSome o (IsTextFault problem_file problem) → IfSome (option_map (λ (f : Fault). let t : FileFault = record { file = of_task problem_file; fault = f } in t) o) (λ _. AreUnread domain problem)
+  no_problem None h = tt
+  no_problem (Some fault) h = λ d p d_reads p_reads. text_not_refused problem_file problem p_reads.words fault p_reads.reads (tree.problem_tree p, p_reads.tree) h
 
   pub plan_reported : (plan : List ℕ) (task : Task) → IsTaskOf domain problem task → (o : Option Fault) → IfSome o (IsPlanFault task plan) → IfSome (option_map (λ (f : Fault). let t : FileFault = record { file = the_plan; fault = f } in t) o) (IsFileFault domain problem plan)
   plan_reported plan task is None h = tt

@@ -8,7 +8,7 @@ use Rattle.std.specs.Prelude.{nat_le}
 use Rattle.std.specs.String.{string_bytes}
 use Rattle.explain_hints.specs.Files.{name_in, text_in}
 use Rattle.explain_hints.specs.declared.place.LineColumn.{LineColumn}
-use Rattle.explain_hints.specs.declared.refusal.FileRefusal.{FileRefusal}
+use Rattle.explain_hints.specs.Refusals.{FileRefusal}
 use Rattle.explain_hints.specs.declared.texts.NamedTexts.{NamedTexts}
 use Rattle.explain_faults.specs.Explained.{BeginsWith, IsHeading}
 use Rattle.file_answers.specs.ExplanationLines.{place_in}

@@ -1,4 +1,5 @@
 pub mod CheckedLemmas
+mod CompleteLemmas
 mod ExplanationLemmas
 mod FurtherLemmas
 pub mod FilesRead

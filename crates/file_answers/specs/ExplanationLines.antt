@@ -1,7 +1,7 @@
 -- What the lines of an explanation say about its subject, and what its location is.
 use Rattle.std.specs.Prelude.{◌≡◌, ℕ, ◌-◌, Bool, true, false, List, [], ◌++◌, codes, flat_map, map, unwrap_or, All, Option, Some, IfSome, IsSomeAnd}
 use Rattle.std.specs.Fmt.{decimal}
-use Rattle.std.specs.Option.{option_map}
+use Rattle.std.specs.Option.{option_map, option_map_or}
 use Rattle.std.specs.Str.Lossy.{utf8_lossy}
 use Rattle.std.specs.String.{string_bytes}
 use Rattle.faults.specs.declared.code.Code.{Code}
@@ -23,6 +23,8 @@ use Rattle.explain_plans.specs.declared.explanations.PlanExplanation.TheVariants
 use Rattle.grounding_instances.specs.declared.fault.GroundLimit.TheVariants as limit
 use Rattle.validator.specs.Verdict.{verdict_of}
 use Rattle.file_answers.specs.declared.explanation.Explanation.{Explanation}
+use Rattle.explain_faults.specs.SameMistake.{Texts}
+use Rattle.file_answers.specs.Complete.{IsComplete}
 use Rattle.file_answers.specs.FurtherFaults.{EndsWith, IsToldOf, further_text}
 use Rattle.file_answers.specs.declared.explanation.FurtherFault.{FurtherFault}
 use Rattle.file_answers.specs.declared.explanation.Location.{Location}
@@ -154,8 +156,8 @@ SaySubject traced files (Plan verdict) at notes lines = IfSome files.plan (λ na
 SaySubject traced files (Task holds grounded) at notes lines = lines ≡ summary_text holds ++ (grounded_line grounded ++ on_lines notes)
 
 -- a further fault is one of the domain and the problem, and its lines state it
-abbrev pub IsToldIn : Files → FurtherFault → Type 0
-IsToldIn files f = IfSome (file_in files f.fault.file) (λ named. IsToldOf files.domain.text files.problem.text named.name named.text f)
+abbrev pub IsReportedIn : Files → FurtherFault → Type 0
+IsReportedIn files f = IfSome (file_in files f.fault.file) (λ named. IsToldOf files.domain.text files.problem.text named.name named.text f)
 
 -- the lines of a fault end with those of the further faults; there are none for a subject that is not a fault
 abbrev pub SayFurther : Subject → List FurtherFault → (lines : List ℕ) → Type 0
@@ -163,9 +165,20 @@ SayFurther (Fault file code span) further lines = EndsWith lines (further_text f
 SayFurther (Plan verdict) further lines = further ≡ []
 SayFurther (Task holds grounded) further lines = further ≡ []
 
--- The location is that of the subject, and the lines state it. The further faults are faults of the files.
+-- the bytes of a file; of a plan that is not given, none
+abbrev pub bytes_of : Files → Texts
+bytes_of files file = option_map_or (λ (named : Named). named.text) (file_in files file) []
+
+-- no fault of the files is left out
+abbrev pub IsWhole : Files → Subject → List FurtherFault → Type 0
+IsWhole files (Fault file code span) further = IsComplete (bytes_of files) (record { file = file; code = code; span = span }) further
+IsWhole files (Plan verdict) further = Unit {0}
+IsWhole files (Task holds grounded) further = Unit {0}
+
+-- The location is that of the subject, and the lines state it. The further faults are faults of the files, and none is left out.
 pub record IsSaidOf (traced : Bool) (files : Files) (e : Explanation) : Type 0 where
   pub located : IsSubjectLocated files e.subject e.location
   pub lines : SaySubject traced files e.subject e.location (map string_bytes e.notes.items) (string_bytes e.text)
-  pub further : All (IsToldIn files) e.further.items
+  pub further : All (IsReportedIn files) e.further.items
   pub further_lines : SayFurther e.subject e.further.items (string_bytes e.text)
+  pub whole : IsWhole files e.subject e.further.items

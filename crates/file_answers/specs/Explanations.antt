@@ -20,8 +20,10 @@ use Rattle.validator.specs.Verdict.{verdict_of}
 use Rattle.validator.specs.declared.verdict.Verdict.{Verdict}
 use Rattle.file_answers.specs.ExplanationLines.{Files, Named, BeginAt, IsLocated, IsStepAt, IsStepLocated, SayPlanAs, files_of, grounded_line, on_lines}
 use Rattle.file_answers.specs.Files.{fault_at}
+use Rattle.file_answers.specs.Complete.{IsComplete}
 use Rattle.file_answers.specs.FurtherFaults.{AreFurther, EndsWith, further_text}
 use Rattle.file_answers.specs.Inputs.{IsInputFault}
+use Rattle.file_answers.specs.Notes.{AreAllReported}
 use Rattle.file_answers.specs.declared.explanation.Explanation.{Explanation}
 use Rattle.file_answers.specs.declared.explanation.Grounded.{Grounded}
 use Rattle.file_answers.specs.declared.explanation.Grounded.TheVariants.{Within, Beyond}
@@ -89,6 +91,7 @@ pub record IsFaultExplained (texts : NamedTexts) (file : File) (code : Code) (sp
   pub says : IfSome e.location (λ at. BeginAt (bytes_in texts file) code span at (string_bytes e.text))
   pub further : AreFurther texts e.further.items
   pub says_further : EndsWith (string_bytes e.text) (further_text e.further.items)
+  pub complete : IsComplete (bytes_in texts) (record { file = file; code = code; span = span }) e.further.items
 
 -- running out of memory is not explained
 abbrev pub IsOfFault : NamedTexts → FileFault → Explanation → Type 0
@@ -96,7 +99,7 @@ IsOfFault texts (refused.At file code span) e = IsFaultExplained texts file code
 IsOfFault texts refused.NoMemory e = ⊥
 
 -- for these steps of the task the subject is the verdict, with the place of the inapplicable step, and the lines state it
-pub record IsPlanTold (task : model.Task) (steps : List model.Instance) (traced : Bool) (file : Named) (explained : PlanExplanation) (e : Explanation) : Type 0 where
+pub record IsPlanReported (task : model.Task) (steps : List model.Instance) (traced : Bool) (file : Named) (explained : PlanExplanation) (e : Explanation) : Type 0 where
   pub code : Verdict
   pub subject : e.subject ≡ Plan code
   pub same : verdict_of code ≡ plans.verdict_of explained
@@ -108,7 +111,7 @@ pub record IsPlanTold (task : model.Task) (steps : List model.Instance) (traced 
 abbrev pub IsVerdictExplained : model.Task → VariableNames → List model.Instance → (traced : Bool) → (file : Named) → Explanation → Type 0
 IsVerdictExplained task names steps traced file e =
     (explained : PlanExplanation) × IsVerdict (system_of task) steps (plans.verdict_of explained) × IsExplained task names steps explained
-    × IsPlanTold task steps traced file explained e
+    × IsPlanReported task steps traced file explained e
 
 -- the inapplicable step is one of the text
 abbrev pub IsStepOf : (text : List ℕ) → runs.Verdict → Type 0
@@ -127,11 +130,12 @@ abbrev pub IsLocatedIf : Named → Option Span → Option Location → Type 0
 IsLocatedIf file None at = Unit {0}
 IsLocatedIf file (Some span) at = IsSomeAnd at (IsLocated file span)
 
--- the subject is the summary of the task and the outcome of grounding
+-- the subject is the summary of the task and the outcome of grounding, and the notes are those on the task
 pub record IsTaskExplained (task : model.Task) (most : ℕ) (e : Explanation) : Type 0 where
   pub holds : Summary
   pub grounded : Grounded
   pub subject : e.subject ≡ Task holds grounded
   pub is_held : IsHeld task most holds grounded
+  pub noted : AreAllReported task most grounded (map string_bytes e.notes.items)
   pub says : string_bytes e.text ≡ summary_text holds ++ (grounded_line grounded ++ on_lines (map string_bytes e.notes.items))
   pub no_further : e.further.items ≡ []

@@ -2,7 +2,7 @@
 use Rattle.std.specs.Prelude.{◌≡◌, ℕ, nat_le, List, [], ◌++◌, All, codes, length, flat_map, if◌then◌else◌}
 use Rattle.std.specs.String.{string_bytes}
 use Rattle.explain_faults.specs.Explained.{BeginsWith, IsHeading}
-use Rattle.explain_hints.specs.declared.refusal.FileRefusal.{FileRefusal}
+use Rattle.explain_hints.specs.Refusals.{FileRefusal}
 use Rattle.explain_hints.specs.Files.{name_in, text_in}
 use Rattle.typing.specs.Listed.{IsFaultOf}
 use Rattle.explain_hints.specs.Places.{IsPlace}

@@ -1,5 +1,6 @@
 pub mod Checked
 pub mod ExplanationLines
+pub mod Notes
 pub mod Explanations
 pub mod Files
 pub mod Inputs
@@ -7,3 +8,4 @@ pub mod QuantifiedNames
 pub mod FurtherFaults
 pub mod SaidOf
 pub mod StepLines
+pub mod Complete

@@ -5,9 +5,9 @@ use Rattle.model.specs.Task.{Task}
 use Rattle.model.specs.Files.{IsTaskOf}
 use Rattle.solver.specs.Said.{IsTrueLine}
 
--- the texts are a task, and the line is true of it
-abbrev pub IsTrueLineOf : (domain problem : List ℕ) → List ℕ → Type 0
-IsTrueLineOf domain problem line = (task : Task) × IsTaskOf domain problem task × IsTrueLine task line
+-- the texts are a task, and the line is true of it, within these limits
+abbrev pub IsTrueLineOf : (domain problem : List ℕ) → (seconds : Option ℕ) → (states instances : ℕ) → List ℕ → Type 0
+IsTrueLineOf domain problem seconds states instances line = (task : Task) × IsTaskOf domain problem task × IsTrueLine task seconds states instances line
 
 -- the same for a certificate whose text is known to this extent
 abbrev pub IsCheckLineOf : (domain problem : List ℕ) → (known : Option (List ℕ)) → List ℕ → Type 0

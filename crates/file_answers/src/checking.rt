@@ -101,7 +101,7 @@ pub fn check_files_and_say<R: Source, E: Sink>(
         → IsGiven task (text_in inputs.entry.plan) steps → IfErr result (λ fault. reported_in fault ≡ None) }
 
     // Every progress line is true of the task of the two texts.
-    ensures said { AreSaid (IsCheckLineOf inputs.entry.task.domain.now inputs.entry.task.problem.now (R.remaining (source_of cert.old))) E.wants_memory (stream (E.failures err.old) (E.taken err.old)) (stream (E.failures err.new) (E.taken err.new)) }
+    ensures said { AreSaid (IsCheckLineOf inputs.entry.task.domain.now inputs.entry.task.problem.now (R.remaining (source_of cert.old))) E.may_lack_memory (stream (E.failures err.old) (E.taken err.old)) (stream (E.failures err.new) (E.taken err.new)) }
 {
     let task = task_of_files(alloc, inputs.task.domain, inputs.task.problem)?;
     Checker { alloc, inputs }.check_task(task, cert, err)
@@ -131,7 +131,7 @@ impl Checker<'_> {
             → IfErr result (λ fault. IfSome (reported_in fault) (IsInputFault domain problem (text_in self.entry.inputs.plan))) }
         ensures unread { IsErr result → cert.new ≡ cert.old }
         ensures said { (domain problem : List ℕ) → IsTaskOf domain problem (task_of task)
-            → AreSaid (IsCheckLineOf domain problem (R.remaining (source_of cert.old))) E.wants_memory (stream (E.failures err.old) (E.taken err.old)) (stream (E.failures err.new) (E.taken err.new)) }
+            → AreSaid (IsCheckLineOf domain problem (R.remaining (source_of cert.old))) E.may_lack_memory (stream (E.failures err.old) (E.taken err.old)) (stream (E.failures err.new) (E.taken err.new)) }
     {
         match self.answer_on(&task, cert, err) {
             Ok(answer) => Ok(Checked { task, answer }),
@@ -152,7 +152,7 @@ impl Checker<'_> {
         ensures refused { (domain problem : List ℕ) → IsTaskOf domain problem (task_of task.now)
             → IfErr result (λ fault. IfSome (reported_in fault) (IsInputFault domain problem (text_in self.entry.inputs.plan))) }
         ensures unread { IsErr result → cert.new ≡ cert.old }
-        ensures said { AreSaid (IsCheckLine (task_of task.now) (R.remaining (source_of cert.old))) E.wants_memory (stream (E.failures err.old) (E.taken err.old)) (stream (E.failures err.new) (E.taken err.new)) }
+        ensures said { AreSaid (IsCheckLine (task_of task.now) (R.remaining (source_of cert.old))) E.may_lack_memory (stream (E.failures err.old) (E.taken err.old)) (stream (E.failures err.new) (E.taken err.new)) }
     {
         let (alloc, most) = (self.alloc, self.inputs.max_instances);
         let Some(text) = self.inputs.plan else {

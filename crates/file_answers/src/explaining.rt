@@ -1,7 +1,10 @@
 //! From the bytes of files to their explanation.
-ghost use Rattle.std.specs.Prelude.{◌≡◌, IfOk, IfSome};
+ghost use Rattle.std.specs.Prelude.{◌≡◌, [], IfOk, IfSome};
+ghost use Rattle.std.specs.Option.{option_map_or};
+ghost use Rattle.explain_hints.specs.declared.texts.NamedText.{NamedText};
 ghost use Rattle.file_answers.specs.ExplanationLines.{IsSaidOf, files_of};
 ghost use Rattle.file_answers.specs.Explanations.{IsTrueOf, text_in};
+ghost use Rattle.file_answers.specs.Notes.{AreNoted};
 ghost use Rattle.file_answers.specs.StepLines.{is_traced};
 
 mod further;
@@ -61,6 +64,8 @@ pub fn explain_files(
     options: ExplainOptions,
 ) -> Result<Explanation, NoMemory>
     ensures subject { IfOk result (λ e. IsTrueOf files.entry.domain.text.now files.entry.problem.text.now (text_in files.entry.plan) options.max_instances e.subject) }
+    // The notes on a task are all that are found, in order, up to the numbers that are told.
+    ensures noted { IfOk result (AreNoted files.entry.domain.text.now files.entry.problem.text.now options.max_instances) }
     // The lines give the explanation, and the location is that of the fault or the step.
     ensures said { IfOk result (IsSaidOf (is_traced options.steps) (files_of files.entry.domain files.entry.problem files.entry.plan)) }
 {
@@ -80,6 +85,7 @@ fn texts_of<'a>(files: ExplainedFiles<'a>) -> NamedTexts<'a>
     ensures domain { result.domain ≡ files.entry.domain }
     ensures problem { result.problem ≡ files.entry.problem }
     ensures plan { IfSome files.entry.plan (λ named. result.plan ≡ named) }
+    ensures text { result.plan.text.now ≡ option_map_or (λ (named : NamedText). named.text.now) files.entry.plan [] }
 {
     let nothing = NamedText {
         name: "",

@@ -6,6 +6,7 @@ ghost use Rattle.pddl_tree_parts.specs.Tree.{domain_of, problem_of};
 ghost use Rattle.task.specs.Task.{task_of};
 ghost use Rattle.formulas.specs.State.{plan_of};
 ghost use Rattle.file_answers.specs.Files.{reported_in};
+ghost use Rattle.file_answers.specs.Complete.{AreListedOf, AreUnread};
 ghost use Rattle.file_answers.specs.FurtherFaults.{IsFaultOfTexts};
 ghost use Rattle.typing.specs.Task.{refusal_of};
 ghost use Rattle.explain_plans.specs.NamesView.{names_of};
@@ -20,7 +21,7 @@ ghost use Rattle.model.specs.PlanText.{IsPlanText};
 use crate::quantifiers::variable_names;
 use explain_hints::File;
 use explain_plans::VariableNames;
-use faults::{Code, Fault, NoMemory, Refused, Span, TextRefusal};
+use faults::{Code, Fault, NoMemory, RefusalIn, Refused, Span, TextRefusal};
 use formulas::Plan;
 use plan_file::read_plan;
 use std::alloc::Global;
@@ -71,7 +72,7 @@ impl From<TaskFault> for FileFault {
 
     fn from(fault: TaskFault) -> FileFault {
         match fault {
-            Refused::At(TaskRefusal { file, code, span }) => {
+            Refused::At(RefusalIn { file, code, span }) => {
                 let file = match file {
                     TaskFile::Domain => File::Domain,
                     TaskFile::Problem => File::Problem,
@@ -147,7 +148,8 @@ pub(crate) fn faults_of_files(
     domain: &[u8],
     problem: &[u8],
 ) -> Result<Vec<TaskRefusal>, NoMemory>
-    ensures { IfOk result (λ found. All (λ r. IsFaultOfTexts domain.now problem.now (refusal_of r)) found.items) }
+    ensures each { IfOk result (λ found. All (λ r. IsFaultOfTexts domain.now problem.now (refusal_of r)) found.items) }
+    ensures all { IfOk result (λ found. AreListedOf domain.now problem.now found.items) }
 {
     match trees_of_files(alloc, domain, problem) {
         Ok(trees) => listed_faults(alloc, &trees.domain, &trees.problem),
@@ -172,6 +174,7 @@ fn trees_of_files<'a>(
     ensures domain { IfOk result (λ trees. IsDomainText domain.now (domain_of trees.domain)) }
     ensures problem { IfOk result (λ trees. IsProblemText problem.now (problem_of trees.problem)) }
     ensures refused { IfErr result (λ fault. IfSome (reported_in fault) (IsTaskFault domain.now problem.now)) }
+    ensures unread { IfErr result (λ fault. IfSome (reported_in fault) (λ _. AreUnread domain.now problem.now)) }
 {
     let domain = match read_domain(alloc, domain) {
         Ok(domain) => domain,

@@ -3,7 +3,8 @@ ghost use Rattle.std.specs.Prelude.{◌≡◌, ℕ, List, IfOk, IfErr, IfSome, I
 ghost use Rattle.task.specs.Task.{task_of};
 ghost use Rattle.devices.specs.Progress.{GoesOn};
 ghost use Rattle.solver.specs.Said.{HasEnded};
-ghost use Rattle.solver.specs.Solver.{IsTrueAnswer};
+ghost use Rattle.solver.specs.Solver.{HasVersionUpTo, IsTrueAnswer};
+ghost use Rattle.solver.specs.Versions.{number_of};
 ghost use Rattle.file_answers.specs.SaidOf.{IsTrueLineOf};
 ghost use Rattle.file_answers.specs.Files.{reported_in};
 ghost use Rattle.model.specs.Task as model;
@@ -48,6 +49,8 @@ pub fn solve_files(alloc: Global, files: TaskFiles<'_>, limits: Limits) -> Resul
     // The task is that of the two texts, and the answer is correct for it.
     ensures task { IfOk result (λ s. IsTaskOf files.entry.domain.now files.entry.problem.now (task_of s.task)) }
     ensures answer { IfOk result (λ s. IsTrueAnswer (task_of s.task) limits.seconds limits.states limits.instances s.answer) }
+    // The certificate is of at most the version that is asked for.
+    ensures version { IfOk result (λ s. HasVersionUpTo (number_of limits.version) s.answer) }
     ensures names { IfOk result (λ s. IsTrue (has_names (task_of s.task))) }
     ensures refused { IfErr result (λ fault. IfSome (reported_in fault) (IsTaskFault files.entry.domain.now files.entry.problem.now)) }
 
@@ -68,13 +71,14 @@ pub fn solve_files_and_say<E: Sink + Clock>(
 ) -> Result<Solved, FileFault>
     ensures task { IfOk result (λ s. IsTaskOf files.entry.domain.now files.entry.problem.now (task_of s.task)) }
     ensures answer { IfOk result (λ s. IsTrueAnswer (task_of s.task) limits.seconds limits.states limits.instances s.answer) }
+    ensures version { IfOk result (λ s. HasVersionUpTo (number_of limits.version) s.answer) }
     ensures names { IfOk result (λ s. IsTrue (has_names (task_of s.task))) }
     ensures refused { IfErr result (λ fault. IfSome (reported_in fault) (IsTaskFault files.entry.domain.now files.entry.problem.now)) }
     ensures taken { (task : model.Task) → IsTaskOf files.entry.domain.now files.entry.problem.now task → IfErr result (λ fault. reported_in fault ≡ None) }
 
     // Every progress line is true of the task of the two texts.
-    ensures said { GoesOn (IsTrueLineOf files.entry.domain.now files.entry.problem.now) E.wants_memory (E.failures err.old) (E.taken err.old) (E.failures err.new) (E.taken err.new) }
-    ensures ended { IfOk result (λ s. HasEnded E.wants_memory (E.failures err.new) (E.taken err.new) s.answer) }
+    ensures said { GoesOn (IsTrueLineOf files.entry.domain.now files.entry.problem.now limits.seconds limits.states limits.instances) E.may_lack_memory (E.failures err.old) (E.taken err.old) (E.failures err.new) (E.taken err.new) }
+    ensures ended { IfOk result (λ s. HasEnded E.may_lack_memory (E.failures err.new) (E.taken err.new) s.answer) }
 {
     let task = task_of_files(alloc, files.domain, files.problem)?;
     solve_task(alloc, task, limits, err)
@@ -90,10 +94,11 @@ fn solve_task<E: Sink + Clock>(
     requires { IsTrue (has_names (task_of task)) }
     ensures task { (domain problem : List ℕ) → IsTaskOf domain problem (task_of task) → IfOk result (λ s. IsTaskOf domain problem (task_of s.task)) }
     ensures answer { IfOk result (λ s. IsTrueAnswer (task_of s.task) limits.seconds limits.states limits.instances s.answer) }
+    ensures version { IfOk result (λ s. HasVersionUpTo (number_of limits.version) s.answer) }
     ensures memory { IfErr result (λ fault. reported_in fault ≡ None) }
     ensures said { (domain problem : List ℕ) → IsTaskOf domain problem (task_of task)
-        → GoesOn (IsTrueLineOf domain problem) E.wants_memory (E.failures err.old) (E.taken err.old) (E.failures err.new) (E.taken err.new) }
-    ensures ended { IfOk result (λ s. HasEnded E.wants_memory (E.failures err.new) (E.taken err.new) s.answer) }
+        → GoesOn (IsTrueLineOf domain problem limits.seconds limits.states limits.instances) E.may_lack_memory (E.failures err.old) (E.taken err.old) (E.failures err.new) (E.taken err.new) }
+    ensures ended { IfOk result (λ s. HasEnded E.may_lack_memory (E.failures err.new) (E.taken err.new) s.answer) }
 {
     match solve_and_say(alloc, &task, limits, err) {
         Ok(answer) => Ok(Solved { task, answer }),

@@ -21,7 +21,8 @@ pub fn is_atom(task: &Task, atom: &Atom) -> bool
     are_of(task, &predicate.arguments, atom.objects.as_slice())
 }
 
-/// Whether the atom is well-typed and some action of the task adds or deletes atoms of its predicate.
+/// Whether the atom is well-typed and some action of the task adds or deletes atoms of its predicate. It looks at all actions: a
+/// caller with many atoms makes the table `FluentPredicates` once.
 pub fn is_fluent(task: &Task, atom: &Atom) -> bool
     ensures { result ≡ (well_typed.is_atom (task_of task.now) (atom_of atom.now) && defined.is_fluent (task_of task.now) (atom_of atom.now).predicate) }
 {

@@ -14,7 +14,7 @@ use std::alloc::Global;
 pub(crate) struct States {
     width: u32,
     stride: usize,
-    /// The number of states, which the words do not tell if a state has none.
+    /// The number of states. The words do not determine it if a state has none.
     count: usize,
     words: Vec<u64>,
     ghost rows: { AreRowsOf width stride count words.items } by { Prim.hlevel props },

@@ -12,7 +12,7 @@ use Rattle.model.specs.SureLiterals.{sure}
 use Rattle.model.specs.StaticallyFalse.{kept_instances, counting_changes, is_empty_and, is_unconditional, is_statically_false}
 use Rattle.model.specs.NumberedAtoms.{occurs_in, are_distinct}
 use Rattle.model.specs.NumberedLiterals.{NumberedLiteral, NumberedChange, numbered_literal, numbered_literals, numbered_ground_literal}
-use Rattle.model.specs.ConditionalChanges.{ConditionalChange, is_unnumbered, wants_unnumbered, instance_wants_unnumbered, number_wants_unnumbered, conditional_change, conditional_of_instance, conditional_of_number}
+use Rattle.model.specs.ConditionalChanges.{ConditionalChange, is_unnumbered, requires_unnumbered, instance_requires_unnumbered, number_requires_unnumbered, conditional_change, conditional_of_instance, conditional_of_number}
 use Rattle.grounding.specs.declared.condition.Condition.{Condition}
 use Rattle.grounding.specs.declared.changes.CountingChange.{CountingChange}
 use Rattle.grounding.specs.declared.changes.ChangeCondition.{ChangeCondition}
@@ -52,11 +52,11 @@ module _ (t : Task) (atoms : List Atom) where
   literals_by g = numbered_literals t atoms g.formula g.binding
 
   abbrev wants_by : Guard → Bool
-  wants_by g = wants_unnumbered t atoms g.formula g.binding
+  wants_by g = requires_unnumbered t atoms g.formula g.binding
 
   -- the change with the literals of its guard
   abbrev guarded : NumberedChange → Option Guard → ConditionalChange
-  guarded k guard = record { change = k; condition = option_map_or literals_by guard []; wants_unnumbered = option_map_or wants_by guard false }
+  guarded k guard = record { change = k; condition = option_map_or literals_by guard []; requires_unnumbered = option_map_or wants_by guard false }
 
   abbrev conditional_of_effect : NumberedEffect → ConditionalChange
   conditional_of_effect e = guarded (change_of_effect e) e.guard
@@ -64,13 +64,13 @@ module _ (t : Task) (atoms : List Atom) where
   -- ---- in the model's terms
 
   guarded-is : (c : Change) (k : NumberedChange) → guarded k (guard_of c)
-      ≡ record { change = k; condition = numbered_literals t atoms c.condition c.binding; wants_unnumbered = wants_unnumbered t atoms c.condition c.binding }
+      ≡ record { change = k; condition = numbered_literals t atoms c.condition c.binding; requires_unnumbered = requires_unnumbered t atoms c.condition c.binding }
   guarded-is c k =
       elim (is_unconditional c) as (λ b. is_unconditional c ≡ b → guarded k (if b then None else Some (record { formula = c.condition; binding = c.binding }))
-      ≡ record { change = k; condition = numbered_literals t atoms c.condition c.binding; wants_unnumbered = wants_unnumbered t atoms c.condition c.binding }) [
+      ≡ record { change = k; condition = numbered_literals t atoms c.condition c.binding; requires_unnumbered = requires_unnumbered t atoms c.condition c.binding }) [
         | true ↦ λ is.
             let none = none_sure t c.condition c.binding is in
-            (λ j. record { change = k; condition = filter_map (numbered_literal atoms) (sym none j); wants_unnumbered = list_any (is_unnumbered t atoms) (sym none j) })
+            (λ j. record { change = k; condition = filter_map (numbered_literal atoms) (sym none j); requires_unnumbered = list_any (is_unnumbered t atoms) (sym none j) })
         | false ↦ λ _. refl
       ] refl
 
@@ -78,7 +78,7 @@ module _ (t : Task) (atoms : List Atom) where
   effect-conditional c =
       elim (numbered_ground_literal atoms c.literal) as (λ o.
       option_map conditional_of_effect (option_map (λ (l : NumberedLiteral). record { atom = l.atom; value = l.value; guard = guard_of c }) o)
-      ≡ option_map (λ (k : NumberedChange). record { change = k; condition = numbered_literals t atoms c.condition c.binding; wants_unnumbered = wants_unnumbered t atoms c.condition c.binding })
+      ≡ option_map (λ (k : NumberedChange). record { change = k; condition = numbered_literals t atoms c.condition c.binding; requires_unnumbered = requires_unnumbered t atoms c.condition c.binding })
       (option_map (λ (l : NumberedLiteral). record { atom = l.atom; value = l.value; is_unconditional = is_unconditional c }) o)) [
         | None ↦ refl
         | Some l ↦ ap (λ (b : Bool). Some (guarded (changed l b) (guard_of c))) (guard_of-none c) ∙ ap Some (guarded-is c (changed l (is_unconditional c)))
@@ -100,15 +100,15 @@ module _ (t : Task) (atoms : List Atom) where
         → record {
           change = k;
           condition = option_map_or (λ (under : Box ChangeCondition). literals_in under.value.condition) o [];
-          wants_unnumbered = option_map_or (λ (under : Box ChangeCondition). not (may_hold_in under.value.condition)) o false;
+          requires_unnumbered = option_map_or (λ (under : Box ChangeCondition). not (may_hold_in under.value.condition)) o false;
         } ≡ guarded k (guard_in o)
     asked-by None compiled not_false k = refl
     asked-by (Some under) compiled not_false k =
         let g = guard_of_condition under in
         let is = compiled under refl in
-        let wants : not (may_hold_in under.value.condition) ≡ wants_unnumbered t atoms g.formula g.binding =
+        let wants : not (may_hold_in under.value.condition) ≡ requires_unnumbered t atoms g.formula g.binding =
         ap not is.may ∙ formula-may t atoms distinct fluent g.formula g.binding (not_false g refl) in
-        (λ j. record { change = k; condition = is.literals j; wants_unnumbered = wants j })
+        (λ j. record { change = k; condition = is.literals j; requires_unnumbered = wants j })
 
     -- all of an instance
     conditional-is : (i : Instance) (changes : Vec CountingChange) → AreChangesOf t atoms i changes
@@ -117,7 +117,7 @@ module _ (t : Task) (atoms : List Atom) where
         ap (λ (n : NumberedChange). record {
           change = n;
           condition = option_map_or (λ (under : Box ChangeCondition). literals_in under.value.condition) c.condition [];
-          wants_unnumbered = option_map_or (λ (under : Box ChangeCondition). not (may_hold_in under.value.condition)) c.condition false;
+          requires_unnumbered = option_map_or (λ (under : Box ChangeCondition). not (may_hold_in under.value.condition)) c.condition false;
         }) (counting-effect c)
         ∙ asked-by c.condition (are.compiled k c at) (guard-counts t atoms i changes are k c at) (change_of_effect (effect_in c))
 
@@ -133,11 +133,11 @@ module _ (t : Task) (atoms : List Atom) where
     -- ---- and of a precondition
 
     abbrev wants_in : Instance → Schema → Bool
-    wants_in i s = wants_unnumbered t atoms s.precondition i.objects
+    wants_in i s = requires_unnumbered t atoms s.precondition i.objects
 
     pub wants-of : (number : ℕ) (i : Instance) → slice_get (kept_instances t) number ≡ Some i → (c : Condition) → IsPrecondition t atoms i c
-        → not (may_hold_in c) ≡ number_wants_unnumbered t atoms number
+        → not (may_hold_in c) ≡ number_requires_unnumbered t atoms number
     wants-of number i named c is =
         let s = schema-of t i (kept-is_instance t number i named) in
         ap not (is s.0 s.1).may ∙ formula-may t atoms distinct fluent s.0.precondition i.objects (kept-not_false t number i named s.0 s.1)
-        ∙ sym (ap (λ o. option_map_or (instance_wants_unnumbered t atoms) o false) named ∙ ap (λ o. option_map_or (wants_in i) o false) s.1)
+        ∙ sym (ap (λ o. option_map_or (instance_requires_unnumbered t atoms) o false) named ∙ ap (λ o. option_map_or (wants_in i) o false) s.1)

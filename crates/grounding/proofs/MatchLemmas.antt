@@ -22,7 +22,7 @@ use Rattle.grounding.specs.Conditions.{literals_in, decided_by, can_of, can_hold
 use Rattle.grounding.specs.Ground.{task_in, atoms_in}
 use Rattle.grounding.specs.MatchNodes.{met, left_out, found, numbers_in, literals_at, agrees_at, AgreesWith, IsMet, IsTree, IsTreeOf}
 use Rattle.grounding.specs.MatchTree.{row_in, nodes_of, numbers_of, filed_in, AreRows, AreMatched}
-use Rattle.grounding.specs.WatchLists.{times, filed_below, row_of, filed, IsWantedBy, AreWatched}
+use Rattle.grounding.specs.WatchLists.{times, filed_below, row_of, filed, IsRequiredBy, AreWatched}
 use Rattle.grounding.proofs.FiledNumbers.{times-is, times-filter, sorted-same, numbers-rise, filed-fewer, filter-none, filter-append, length-filter_le}
 use Rattle.grounding.proofs.GroundLemmas.{named, schema-of, condition-at}
 use Rattle.grounding.proofs.StepLemmas.{kept-is_instance, step-named, applies}
@@ -75,7 +75,7 @@ matched width conditions lists tree are rows unwatched = record {
   few = omega (arith, length_permutation (filed lists) (filed_in tree) moved, are.few);
   each = λ n. times-is n (filed lists) (filed_in tree) moved ∙ are.each n;
   rows = λ a below. (rows.trees a below).tree;
-  wanted = λ a below. All-permutation (IsWantedBy conditions a) (row_of lists a) (numbers_of tree a) ((rows.trees a below).same) (are.rows a);
+  wanted = λ a below. All-permutation (IsRequiredBy conditions a) (row_of lists a) (numbers_of tree a) ((rows.trees a below).same) (are.rows a);
   unwatched = unwatched.tree;
   unwatched_within = All-permutation (λ n. n < length conditions) lists.unwatched.items (numbers_in tree.unwatched.items) unwatched.same are.unwatched;
 }
@@ -168,7 +168,7 @@ module _ (g : Ground) (bits : List Bool) (long : length bits ≡ length (atoms_i
       decided n within c.0 c.1 false (not_held c.0.beyond (agrees_at g.conditions.items bits n) may)
 
   -- nor is one that wants an atom that is false
-  not_passed : (a n : ℕ) → get_or bits a false ≡ false → IsWantedBy g.conditions.items a n → passes n ≡ false
+  not_passed : (a n : ℕ) → get_or bits a false ≡ false → IsRequiredBy g.conditions.items a n → passes n ≡ false
   not_passed a n off wanted =
       let c = item-at g.conditions.items n wanted.0 in
       not_met n wanted.0 (ap (λ o. list_all (agrees bits) (option_map_or literals_in o [])) c.1 ∙ wanted.1 c.0 c.1 bits off)

@@ -11,7 +11,7 @@ use Rattle.model.specs.Fluents.{is_fluent}
 use Rattle.model.specs.SureLiterals.{Literal, is_true, is_false, are_same, are_different, literal_holds, sure}
 use Rattle.model.specs.StaticallyFalse.{is_fixed, is_statically_false, kept_instances}
 use Rattle.model.specs.NumberedAtoms.{occurs_in, number_of, are_distinct}
-use Rattle.model.specs.ConditionalChanges.{is_unnumbered, wants_unnumbered}
+use Rattle.model.specs.ConditionalChanges.{is_unnumbered, requires_unnumbered}
 use Rattle.model.proofs.ListLemmas.{Contains-got}
 use Rattle.model.proofs.NumberingLemmas.{occurs_in-got, got-number_of}
 use Rattle.model.proofs.StaticallyFalseLemmas.{kept-Contains}
@@ -76,7 +76,7 @@ module _ (t : Task) (atoms : List Atom) (distinct : are_distinct atoms ≡ true)
       both_may (may_hold t atoms l) (is_unnumbered t atoms l) (is_closed l) (list_any is_closed ls) (list_all (may_hold t atoms) ls) (list_any (is_unnumbered t atoms) ls)
       not_false (literal-may l) (literals-may ls)
 
-  pub formula-may : (f : Formula) (binding : List ℕ) → is_statically_false t f binding ≡ false → not (list_all (may_hold t atoms) (sure t f binding)) ≡ wants_unnumbered t atoms f binding
+  pub formula-may : (f : Formula) (binding : List ℕ) → is_statically_false t f binding ≡ false → not (list_all (may_hold t atoms) (sure t f binding)) ≡ requires_unnumbered t atoms f binding
   formula-may f binding not_false = literals-may (sure t f binding) not_false
 
 -- the precondition of a kept instance is not statically false

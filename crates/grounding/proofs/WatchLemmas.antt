@@ -16,7 +16,7 @@ use Rattle.grounding.specs.Conditions.{literals_in, can_hold_at}
 use Rattle.grounding.specs.InPlace.{AreInPlace}
 use Rattle.grounding.specs.Preconditions.{IsPrecondition}
 use Rattle.grounding.specs.Watched.{IsWanted, IsWatchable, IsEither}
-use Rattle.grounding.specs.WatchLists.{times, filed_below, row_of, filed, is_in_row, with_unwatched, IsFiled, IsWantedBy, AreWatched}
+use Rattle.grounding.specs.WatchLists.{times, filed_below, row_of, filed, is_in_row, with_unwatched, IsFiled, IsRequiredBy, AreWatched}
 use Rattle.grounding.proofs.Conditions.{literals-within}
 use Rattle.grounding.proofs.FiledNumbers.{times-append, filed-more, filed-alike, filter-append, range-more}
 use Rattle.grounding.proofs.GroundLemmas.{schema-of}
@@ -73,7 +73,7 @@ module _ (width : ℕ) (conditions : List Condition) where
     wide = wide;
     few = omega (arith, ap length none);
     each = λ n. ap (times n) none;
-    rows = λ a. subst (All (IsWantedBy conditions a)) (sym (rows a)) (All-nil (IsWantedBy conditions a));
+    rows = λ a. subst (All (IsRequiredBy conditions a)) (sym (rows a)) (All-nil (IsRequiredBy conditions a));
     unwatched = subst (All (λ n. n < length conditions)) (sym unwatched) (All-nil (λ n. n < length conditions));
   }
     where
@@ -109,20 +109,20 @@ module _ (width : ℕ) (conditions : List Condition) where
     each = λ n.
         let one : times n (filter may (number ∷ [])) ≡ times n (number ∷ []) = ap (λ b. times n (cond b (number ∷ []) [])) may_hold in
         omega (arith, sized (times n) refl (times-append n) number watched old new is below, so.each n, may-more number n, one);
-    rows = λ a. subst (All (IsWantedBy conditions a)) (sym (is.rows a)) (row a watched watchable);
+    rows = λ a. subst (All (IsRequiredBy conditions a)) (sym (is.rows a)) (row a watched watchable);
     unwatched = subst (All (λ n. n < length conditions)) (sym is.unwatched) (others watched);
   }
     where
       below : IfSome watched (λ a. a < length old.rows.items)
       below = subst (λ w. IfSome watched (λ a. a < w)) (sym so.wide) (watchable-below width (literals_in c) watched watchable)
 
-      wants : (a : ℕ) → IsWanted (literals_in c) a → IsWantedBy conditions a number
+      wants : (a : ℕ) → IsWanted (literals_in c) a → IsRequiredBy conditions a number
       wants a wanted = (within, λ d there. let same : c ≡ d = cc in subst (λ e. IsWanted (literals_in e) a) same wanted)
 
-      row : (a : ℕ) (watched : Option ℕ) → IfSome watched (IsWatchable width (literals_in c)) → All (IsWantedBy conditions a) (if is_in_row watched a then row_of old a ++ number ∷ [] else row_of old a)
+      row : (a : ℕ) (watched : Option ℕ) → IfSome watched (IsWatchable width (literals_in c)) → All (IsRequiredBy conditions a) (if is_in_row watched a then row_of old a ++ number ∷ [] else row_of old a)
       row a None is = so.rows a
-      row a (Some b) is = elim (a == b) as (λ t. a == b ≡ t → All (IsWantedBy conditions a) (if t then row_of old a ++ number ∷ [] else row_of old a)) [
-        | true ↦ λ same. All-push (IsWantedBy conditions a) (row_of old a) number (so.rows a) (wants a (subst (IsWanted (literals_in c)) (sym (eqb-true a b same)) is.1))
+      row a (Some b) is = elim (a == b) as (λ t. a == b ≡ t → All (IsRequiredBy conditions a) (if t then row_of old a ++ number ∷ [] else row_of old a)) [
+        | true ↦ λ same. All-push (IsRequiredBy conditions a) (row_of old a) number (so.rows a) (wants a (subst (IsWanted (literals_in c)) (sym (eqb-true a b same)) is.1))
         | false ↦ λ _. so.rows a
       ] refl
 

@@ -21,7 +21,7 @@ abbrev pub conditional_of : CountingChange → ConditionalChange
 conditional_of c = record {
   change = counting_of c;
   condition = option_map_or (λ (under : Box ChangeCondition). literals_in under.value.condition) c.condition [];
-  wants_unnumbered = option_map_or (λ (under : Box ChangeCondition). not (may_hold_in under.value.condition)) c.condition false;
+  requires_unnumbered = option_map_or (λ (under : Box ChangeCondition). not (may_hold_in under.value.condition)) c.condition false;
 }
 
 abbrev pub guard_of_condition : Box ChangeCondition → Guard

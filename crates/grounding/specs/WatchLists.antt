@@ -47,13 +47,13 @@ pub record IsFiled (number : ℕ) (watched : Option ℕ) (old new : WatchLists) 
   pub unwatched : new.unwatched.items ≡ with_unwatched watched number old.unwatched.items
 
 -- the number is of one of these conditions, which needs the atom
-abbrev pub IsWantedBy : List Condition → ℕ → ℕ → Type 0
-IsWantedBy conditions a n = (n < length conditions) × ((c : Condition) → slice_get conditions n ≡ Some c → IsWanted (literals_in c) a)
+abbrev pub IsRequiredBy : List Condition → ℕ → ℕ → Type 0
+IsRequiredBy conditions a n = (n < length conditions) × ((c : Condition) → slice_get conditions n ≡ Some c → IsWanted (literals_in c) a)
 
 -- Each of the first `count` conditions that may hold has its number in one list, once, and needs the atom of that list.
 pub record AreWatched (width : ℕ) (conditions : List Condition) (count : ℕ) (w : WatchLists) : Type 0 where
   pub wide : length w.rows.items ≡ width
   pub few : length (filed w) ≤ count
   pub each : (n : ℕ) → times n (filed w) ≡ times n (filter (can_hold_at conditions) (range_with_len 0 count))
-  pub rows : (a : ℕ) → All (IsWantedBy conditions a) (row_of w a)
+  pub rows : (a : ℕ) → All (IsRequiredBy conditions a) (row_of w a)
   pub unwatched : All (λ n. n < length conditions) w.unwatched.items

@@ -54,8 +54,8 @@ impl CountingChange<'_> {
     }
 
     /// Whether another sure literal of its condition needs a fluent atom without a number. Such a change is never made.
-    pub fn wants_unnumbered(&self) -> bool
-        ensures { result ≡ (conditional_of self.now).wants_unnumbered }
+    pub fn requires_unnumbered(&self) -> bool
+        ensures { result ≡ (conditional_of self.now).requires_unnumbered }
     {
         match &self.condition {
             Some(under) => !under.condition.may_hold(),

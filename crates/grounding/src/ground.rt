@@ -52,7 +52,7 @@ impl<'t> Ground<'t> {
     ghost use Rattle.model.specs.StaticallyFalse.{kept_instances};
     ghost use Rattle.model.specs.NumberedAtoms as numbered;
     ghost use Rattle.model.specs.NumberedLiterals.{literals_of_number, literals_of_goal, counting_of_number};
-    ghost use Rattle.model.specs.ConditionalChanges.{conditional_of_number, number_wants_unnumbered};
+    ghost use Rattle.model.specs.ConditionalChanges.{conditional_of_number, number_requires_unnumbered};
     ghost use Rattle.model.specs.Grounding.{ground_system};
     ghost use Rattle.grounding_instances.specs.Numbers.{numbered_of};
     ghost use Rattle.grounding_instances.specs.KeptChanges.{AreKept};
@@ -177,9 +177,9 @@ impl<'t> Ground<'t> {
 
     /// Whether another sure literal of the instance's precondition needs a fluent atom without a number. Such an instance is
     /// applicable in no state.
-    pub fn wants_unnumbered(&self, number: u32) -> bool
+    pub fn requires_unnumbered(&self, number: u32) -> bool
         requires { number < length (kept_instances (task_in self.now)) }
-        ensures { result ≡ number_wants_unnumbered (task_in self.now) (atoms_in self.now) number }
+        ensures { result ≡ number_requires_unnumbered (task_in self.now) (atoms_in self.now) number }
     {
         !self.conditions[number as usize].may_hold()
     }

@@ -56,7 +56,8 @@ impl Ground<'_> {
         holds_in(&self.goal, &self.numbering, goal, &Binding::new(), state)
     }
 
-    /// The numbers of the applicable instances, in ascending order.
+    /// The numbers of the applicable instances, in ascending order, as a list of their own. A search calls `list_applicable`, which
+    /// reuses one list.
     pub fn applicable(&self, alloc: Global, state: &Packed) -> Result<Vec<u32>, NoMemory>
         requires { length (bits_of state.now) ≡ length (atoms_in self.now) }
         ensures { IfOk result (λ found. found.items ≡ applicable_numbers (task_in self.now) (atoms_in self.now) (bits_of state.now)) }
@@ -167,7 +168,8 @@ impl Ground<'_> {
         }
     }
 
-    /// The successor of the state by the instance with this number.
+    /// The successor of the state by the instance with this number, as a state of its own. A search calls `step_into`, which reuses
+    /// one state.
     pub fn successor(&self, alloc: Global, number: u32, state: &Packed) -> Result<Packed, NoMemory>
         requires width { length (bits_of state.now) ≡ length (atoms_in self.now) }
         requires applicable { IsTrue (is_some (ground_step (task_in self.now) (atoms_in self.now) (bits_of state.now) number)) }

@@ -125,7 +125,7 @@ module _ (literals : List NumberedLiteral) (changes : List ConditionalChange) (b
       any-weaker (λ (c : ConditionalChange). is_open (scope_of z) trues c && (c.change.atom == n && beq c.change.is_unconditional unconditional && beq c.change.value v)) breaks
       (λ c both.
       let parts = and_parts (is_open (scope_of z) trues c) (c.change.atom == n && beq c.change.is_unconditional unconditional && beq c.change.value v) both in
-      let opens = and_parts (not c.wants_unnumbered) (agrees c.condition (scope_of z) trues) parts.0 in
+      let opens = and_parts (not c.requires_unnumbered) (agrees c.condition (scope_of z) trues) parts.0 in
       let makes_it = and_parts (c.change.atom == n && beq c.change.is_unconditional unconditional) (beq c.change.value v) parts.1 in
       let atom_is = eqb-true c.change.atom n (and_parts (c.change.atom == n) (beq c.change.is_unconditional unconditional) makes_it.0).0 in
       let value_is = beq-same c.change.value v makes_it.1 in
@@ -133,7 +133,7 @@ module _ (literals : List NumberedLiteral) (changes : List ConditionalChange) (b
       (and_from (is_in z (record { atom = c.change.atom; value = c.change.value })) (c.change.value || not (makes (changes_in changes) true true c.change.atom))
       ((λ i. is_in z (record { atom = atom_is i; value = value_is i })) ∙ is)
       ((λ i. value_is i || not (makes (changes_in changes) true true (atom_is i))) ∙ counts))
-      (and_from (not (has_any z c.condition)) (not c.wants_unnumbered)
+      (and_from (not (has_any z c.condition)) (not c.requires_unnumbered)
       (ap not (has-none bits z c.condition whole (agreeing-holds bits (scope_of z) c.condition opens.1))) opens.0)) changes
       (any-filter (λ (k : NumberedChange). k.atom == n && beq k.is_unconditional unconditional && beq k.value v) (λ (c : ConditionalChange). c.change) (is_open (scope_of z) trues) changes made)
 

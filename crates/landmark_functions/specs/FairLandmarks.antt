@@ -22,7 +22,7 @@ makes_one changes zone c = is_in zone (record { atom = c.atom; value = c.value }
 
 -- the change may take effect where the zone is whole: its condition has no literal of it, and requires no atom without a number
 abbrev pub may_take_effect : Zone → ConditionalChange → Bool
-may_take_effect zone c = not (has_any zone c.condition) && not c.wants_unnumbered
+may_take_effect zone c = not (has_any zone c.condition) && not c.requires_unnumbered
 
 -- An instance with these literals and changes may break the zone: a change that may take effect makes one of its literals true. If
 -- a literal of the precondition is one of its literals, it is not whole where the instance is applicable.

@@ -63,7 +63,7 @@ fn may_take_effect(zone: ZoneRef<'_>, change: &CountingChange<'_>) -> bool
     requires { IsSorted (zone_in zone) }
     ensures { result ≡ fair.may_take_effect (zone_in zone.entry) (conditional_of change.now) }
 {
-    !has_any(zone, change.condition()) && !change.wants_unnumbered()
+    !has_any(zone, change.condition()) && !change.requires_unnumbered()
 }
 
 /// Whether one of the changes adds the atom unconditionally.

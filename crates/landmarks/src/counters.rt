@@ -75,7 +75,7 @@ impl Counters {
         self.clock = 0;
     }
 
-    /// Goes on to the next zone.
+    /// Continues with the next zone.
     pub(crate) fn tick(&mut self)
         requires { self.old.clock < 4294967295 }
         ensures clock { self.new.clock ≡ self.old.clock + 1 }

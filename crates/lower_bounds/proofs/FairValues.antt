@@ -20,7 +20,7 @@ use Rattle.lower_bounds.specs.PotentialLaws.{AreNumberable}
 use Rattle.lower_bounds.proofs.PotentialFalls.{score-falls, score-ends}
 use Rattle.lower_bounds.proofs.Repacked.{repacked, repacked-bit, repacked-score}
 use Rattle.lower_bounds.specs.TableFunctions.{Table, TableFunction, is_among, projection, row_of, row_in, has_rows, given_by, value}
-use Rattle.lower_bounds.specs.FairTables.{is_shut_out, wants_unnumbered, is_asked, changes_in, IsFairAt, conditional_of_instance, AreFairAt}
+use Rattle.lower_bounds.specs.FairTables.{is_shut_out, requires_unnumbered, is_asked, changes_in, IsFairAt, conditional_of_instance, AreFairAt}
 use Rattle.lower_bounds.specs.TableLaws.{are_over, IsOver, IsOfAtoms, TablesAreFairValues}
 use Rattle.lower_bounds.proofs.TableLists.{all-at, all-among, over-alike}
 use Rattle.lower_bounds.proofs.TableRows.{projection-alike, not-shut_out}
@@ -42,7 +42,7 @@ module _ (task : Task) (atoms : List Atom) (tables : List Table) (numberable : A
 
   pub asked : (s next : State) (i : Instance) → IsOfAtoms task atoms s → step task s i ≡ Some next → has_rows tables (bits_of_state atoms s) ≡ true → is_asked task atoms tables i ≡ true
   asked s next i here leads has =
-      neither (option_map_or (λ (schema : Schema). wants_unnumbered task atoms schema.precondition i.objects) (slice_get task.schemas i.schema) false) (is_shut_out (literals_of_instance task atoms i) tables)
+      neither (option_map_or (λ (schema : Schema). requires_unnumbered task atoms schema.precondition i.objects) (slice_get task.schemas i.schema) false) (is_shut_out (literals_of_instance task atoms i) tables)
       (instance-wants_none task atoms numberable.distinct s next i here.statics leads here.numbered)
       (not-shut_out (bits_of_state atoms s) (literals_of_instance task atoms i) tables has (λ t at. (steps-in s next i here leads t at).literals_hold))
     where

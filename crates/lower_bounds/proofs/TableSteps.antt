@@ -24,7 +24,7 @@ use Rattle.lower_bounds.proofs.PotentialFalls.{bit}
 use Rattle.lower_bounds.proofs.Passing.{all-any}
 use Rattle.lower_bounds.proofs.PotentialSteps.{made_by, comes, formula-says, instance-says, makes-made, made-makes, step-is_pair, step-untouched}
 use Rattle.lower_bounds.specs.TableFunctions.{is_among, projection}
-use Rattle.lower_bounds.specs.FairTables.{agrees, ConditionalChange, is_open, changes_in, open_changes, is_unnumbered, wants_unnumbered, conditional_change, conditional_of_instance}
+use Rattle.lower_bounds.specs.FairTables.{agrees, ConditionalChange, is_open, changes_in, open_changes, is_unnumbered, requires_unnumbered, conditional_change, conditional_of_instance}
 use Rattle.lower_bounds.proofs.TableLists.{any-at}
 use Rattle.lower_bounds.proofs.TableRows.{HoldWithin, same-itself, projection-agrees}
 use Rattle.lower_bounds.proofs.TableFalls.{IsStepWithin}
@@ -52,7 +52,7 @@ says-at literals l at =
 
 module _ (task : Task) (atoms : List Atom) where
   abbrev conditioned : Change → NumberedChange → ConditionalChange
-  conditioned c k = record { change = k; condition = numbered_literals task atoms c.condition c.binding; wants_unnumbered = wants_unnumbered task atoms c.condition c.binding }
+  conditioned c k = record { change = k; condition = numbered_literals task atoms c.condition c.binding; requires_unnumbered = requires_unnumbered task atoms c.condition c.binding }
 
   -- the changes with their conditions are those without, extended
   pub all_changes-are : (changes : List Change) → changes_in (filter_map (conditional_change task atoms) changes) ≡ filter_map (numbered_change atoms) changes
@@ -66,7 +66,7 @@ module _ (task : Task) (atoms : List Atom) where
 
   -- nothing contradicts the condition, if these atoms of the scope are true
   abbrev may_hold : List ℕ → List ℕ → Change → Bool
-  may_hold scope trues c = not (wants_unnumbered task atoms c.condition c.binding) && agrees (numbered_literals task atoms c.condition c.binding) scope trues
+  may_hold scope trues c = not (requires_unnumbered task atoms c.condition c.binding) && agrees (numbered_literals task atoms c.condition c.binding) scope trues
 
   open_changes-are : (scope trues : List ℕ) (changes : List Change)
       → open_changes (filter_map (conditional_change task atoms) changes) scope trues ≡ filter_map (numbered_change atoms) (filter (may_hold scope trues) changes)
@@ -91,9 +91,9 @@ module _ (task : Task) (atoms : List Atom) where
       taken k some false others conditional rest = rest
 
   -- if a formula holds in a state of numbered atoms, it requires no atom without a number
-  pub wants-none : (s : State) → HasNumberedFluents task atoms s → (f : Formula) (binding : List ℕ) → holds task f binding s ≡ true → wants_unnumbered task atoms f binding ≡ false
+  pub wants-none : (s : State) → HasNumberedFluents task atoms s → (f : Formula) (binding : List ℕ) → holds task f binding s ≡ true → requires_unnumbered task atoms f binding ≡ false
   wants-none s numbered f binding holding =
-      false_from_ne_true (wants_unnumbered task atoms f binding) (λ wants.
+      false_from_ne_true (requires_unnumbered task atoms f binding) (λ wants.
       let it = all-any (literal_holds s) (is_unnumbered task atoms) (sure task f binding) (sure_literals_hold task f binding s holding) wants in
       never it.0 it.1 it.2)
     where
@@ -160,10 +160,10 @@ module _ (task : Task) (atoms : List Atom) where
       untouched-bits n below none = bit-is s n below ∙ step-untouched atoms distinct n (atom_at n) (at n below) task s next i statics leads none ∙ sym (bit-is next n below)
 
       -- its precondition requires no atom without a number
-      pub instance-wants_none : HasNumberedFluents task atoms s → option_map_or (λ (schema : Schema). wants_unnumbered task atoms schema.precondition i.objects) (slice_get task.schemas i.schema) false ≡ false
+      pub instance-wants_none : HasNumberedFluents task atoms s → option_map_or (λ (schema : Schema). requires_unnumbered task atoms schema.precondition i.objects) (slice_get task.schemas i.schema) false ≡ false
       instance-wants_none numbered_fluents =
           elim (slice_get task.schemas i.schema) as (λ o. slice_get task.schemas i.schema ≡ o
-          → option_map_or (λ (schema : Schema). wants_unnumbered task atoms schema.precondition i.objects) o false ≡ false) [
+          → option_map_or (λ (schema : Schema). requires_unnumbered task atoms schema.precondition i.objects) o false ≡ false) [
             | None ↦ λ _. refl
             | Some schema ↦ λ named. wants-none s numbered_fluents schema.precondition i.objects
                 (held (fits task schema i.objects) (has_amount task schema i.objects) (holds task schema.precondition i.objects s) (after_changes task s (changes_of task schema.effect i.objects)) (sym (ap (option_and_then by) named) ∙ leads))
@@ -189,7 +189,7 @@ module _ (task : Task) (atoms : List Atom) where
 
         fails : (c : Change) → ok c ≡ false → holds task c.condition c.binding s ≡ false
         fails c closed = false_from_ne_true (holds task c.condition c.binding s) (λ holding.
-            true≢false (sym (and_from (not (wants_unnumbered task atoms c.condition c.binding)) (agrees (numbered_literals task atoms c.condition c.binding) scope (projection bits scope))
+            true≢false (sym (and_from (not (requires_unnumbered task atoms c.condition c.binding)) (agrees (numbered_literals task atoms c.condition c.binding) scope (projection bits scope))
             (ap not (wants-none s numbered_fluents c.condition c.binding holding))
             (projection-agrees bits scope (numbered_literals task atoms c.condition c.binding) (formula-within scope below s c.condition c.binding holding))) ∙ closed))
 

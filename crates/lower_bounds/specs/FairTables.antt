@@ -9,7 +9,7 @@ use Rattle.model.specs.Task.{Atom, Task, Instance}
 use Rattle.model.specs.Meaning.{cost_of}
 use Rattle.model.specs.StaticallyFalse.{kept_instances}
 use Rattle.model.specs.NumberedLiterals.{NumberedLiteral, NumberedChange, literals_of_instance, literals_of_goal}
-pub use Rattle.model.specs.ConditionalChanges.{is_unnumbered, wants_unnumbered, instance_wants_unnumbered, ConditionalChange, changes_in, conditional_change, conditional_of_instance}
+pub use Rattle.model.specs.ConditionalChanges.{is_unnumbered, requires_unnumbered, instance_requires_unnumbered, ConditionalChange, changes_in, conditional_change, conditional_of_instance}
 use Rattle.lower_bounds.specs.FairPotentials.{touches, may_become, greatest, loses_at_most, goal_gives_at_most, nothing}
 use Rattle.lower_bounds.specs.TableFunctions.{Row, Table, is_among, row_of, TableFunction, weight_at, sum_over, SeveralValues, functions_of, dead_ends_of}
 
@@ -31,7 +31,7 @@ is_shut_out literals tables = list_any (λ (t : Table). not (list_any (λ (r : R
 
 -- if these atoms of the scope are true, nothing contradicts the condition, so the change may take effect
 abbrev pub is_open : List ℕ → List ℕ → ConditionalChange → Bool
-is_open scope atoms c = not c.wants_unnumbered && agrees c.condition scope atoms
+is_open scope atoms c = not c.requires_unnumbered && agrees c.condition scope atoms
 
 abbrev pub open_changes : List ConditionalChange → List ℕ → List ℕ → List NumberedChange
 open_changes changes scope atoms = changes_in (filter (is_open scope atoms) changes)
@@ -103,7 +103,7 @@ pub record IsFairAtGoals (task : Task) (atoms : List Atom) (h : TableFunction) :
 -- An instance is shut out if its precondition requires an atom without a number, or its sure literals are shut out: it is not
 -- applicable in any state that has a row in every table.
 abbrev pub is_instance_shut_out : Task → List Atom → List Table → Instance → Bool
-is_instance_shut_out task atoms tables i = instance_wants_unnumbered task atoms i || is_shut_out (literals_of_instance task atoms i) tables
+is_instance_shut_out task atoms tables i = instance_requires_unnumbered task atoms i || is_shut_out (literals_of_instance task atoms i) tables
 
 -- the other instances must be fair
 abbrev pub is_asked : Task → List Atom → List Table → Instance → Bool

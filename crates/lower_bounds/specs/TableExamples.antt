@@ -24,13 +24,13 @@ is_false number = numbered.value number false
 
 -- an unconditional change, one under a `when` with these literals, and one under a `when` that requires an atom without a number
 abbrev pub becomes : ℕ → Bool → ConditionalChange
-becomes number to = record { change = numbered.becomes number to true; condition = []; wants_unnumbered = false }
+becomes number to = record { change = numbered.becomes number to true; condition = []; requires_unnumbered = false }
 
 abbrev pub becomes_when : List NumberedLiteral → ℕ → Bool → ConditionalChange
-becomes_when condition number to = record { change = numbered.becomes number to false; condition = condition; wants_unnumbered = false }
+becomes_when condition number to = record { change = numbered.becomes number to false; condition = condition; requires_unnumbered = false }
 
 abbrev pub becomes_never : ℕ → Bool → ConditionalChange
-becomes_never number to = record { change = numbered.becomes number to false; condition = []; wants_unnumbered = true }
+becomes_never number to = record { change = numbered.becomes number to false; condition = []; requires_unnumbered = true }
 
 -- the value without weights of atoms, with this constant
 abbrev pub only_tables : ℤ → List Table → TableFunction

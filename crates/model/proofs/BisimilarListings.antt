@@ -3,7 +3,7 @@
 use Rattle.std.proofs.Common.{◌≡◌, ◌∙◌, ℕ, ◌+◌, ◌≤◌, List, map, Bool, refl, sym, ap, subst, arith}
 use Rattle.std.specs.Prelude.{true, IsTrue}
 use Rattle.model.specs.Runs.{System, IsReachable}
-use Rattle.model.specs.Claims.{Claim, Allows, opened, Line, IsListedWithin, IsClosed, IsLowerBound, AreDeadEnds}
+use Rattle.model.specs.Claims.{Claim, Allows, expanded, Line, IsListedWithin, IsClosed, IsLowerBound, AreDeadEnds}
 use Rattle.model.specs.Bisimulation.{IsBisimulation, IsBisimulationEquivalence}
 use Rattle.model.proofs.ListLemmas.{Contains-map, map-Contains}
 use Rattle.model.proofs.BisimulationLemmas.{reachable_forth, run_forth, same_cost}
@@ -42,17 +42,17 @@ module _ {S A T B : Type 0} (t : System S A) (u : System T B) (view : S → T) (
       successors_listed = λ line' b next' among is_open leads.
           let from = map-Contains line_of lines line' among in
           let line = from.0 in
-          let was_open : line.mark ≡ opened = ap (λ (l : Line T). l.mark) from.2 ∙ is_open in
+          let was_open : line.mark ≡ expanded = ap (λ (l : Line T). l.mark) from.2 ∙ is_open in
           let other = both.back line.state line'.state b next' (ap (λ (l : Line T). l.state) from.2) leads in
           let there = closed.successors_listed line other.0 other.1 from.1 was_open other.3 in
           let same : line.cost + t.cost other.0 ≡ line'.cost + u.cost b = omega (arith, ap (λ (l : Line T). l.cost) from.2, both.costs other.0 b other.2) in
           listed lines other.1 next' (line'.cost + u.cost b) other.4 (subst (λ cost. IsListedWithin alike lines other.1 cost) same there);
-      open_goals_allowed = λ line' among is_open goal.
+      expanded_goals_allowed = λ line' among is_open goal.
           let from = map-Contains line_of lines line' among in
           let line = from.0 in
-          let was_open : line.mark ≡ opened = ap (λ (l : Line T). l.mark) from.2 ∙ is_open in
+          let was_open : line.mark ≡ expanded = ap (λ (l : Line T). l.mark) from.2 ∙ is_open in
           let met : t.meets_goal line.state ≡ true = both.goals line.state line'.state (ap (λ (l : Line T). l.state) from.2) ∙ goal in
-          subst (Allows claim) (ap (λ (l : Line T). l.cost) from.2) (closed.open_goals_allowed line from.1 was_open met);
+          subst (Allows claim) (ap (λ (l : Line T). l.cost) from.2) (closed.expanded_goals_allowed line from.1 was_open met);
       cuts_allowed = λ line' rest among is_cut.
           let from = map-Contains line_of lines line' among in
           let line = from.0 in

@@ -8,7 +8,7 @@ use Rattle.std.proofs.lemmas.List.Sums.{sum_by-cons}
 use Rattle.std.proofs.lemmas.Option.{same_Some}
 use Rattle.model.specs.Runs.{System, run, cost_of_all, IsReachable}
 use Rattle.model.specs.Bisimulation.{IsBisimulation, IsBisimulationEquivalence, ReachesGoalsOf, ReachGoalsAlike}
-use Rattle.model.specs.Claims.{Claim, bound, none, Allows, ClaimHolds, opened, cut, dead, Line, AreTrue, IsClosed, ClosedListingsClaim}
+use Rattle.model.specs.Claims.{Claim, bound, none, Allows, ClaimHolds, expanded, cut, dead, Line, AreTrue, IsClosed, ClosedListingsClaim}
 use Rattle.model.proofs.BisimulationLemmas.{run_forth, same_cost}
 
 Allows-≤ : (claim : Claim) (m n : ℕ) → Allows claim m → m ≤ n → Allows claim n
@@ -89,25 +89,25 @@ module _ {S A : Type 0} (t : System S A) (alike : S → S → Type 0) (within : 
   at_dead plan line end listed marked runs goal =
       absurd (false≢true (sym (are_true.dead_ends line end plan listed marked runs) ∙ goal))
 
-  at_open_goal : (line : Line S) (end : S) → Contains lines line → line.mark ≡ opened → run t line.state [] ≡ Some end → IsTrue (t.meets_goal end)
+  at_open_goal : (line : Line S) (end : S) → Contains lines line → line.mark ≡ expanded → run t line.state [] ≡ Some end → IsTrue (t.meets_goal end)
       → Allows claim (line.cost + cost_of_all t [])
   at_open_goal line end listed is_open runs goal =
       let same : end ≡ line.state = cc in
-      Allows-≤ claim line.cost (line.cost + cost_of_all t []) (closed.open_goals_allowed line listed is_open (subst (λ (s : S). IsTrue (t.meets_goal s)) same goal)) (omega arith)
+      Allows-≤ claim line.cost (line.cost + cost_of_all t []) (closed.expanded_goals_allowed line listed is_open (subst (λ (s : S). IsTrue (t.meets_goal s)) same goal)) (omega arith)
 
   -- a list that leads from a listed state to a goal state has a cost that the claim allows, counted from the line's cost
   from_line : (n : ℕ) (plan : List A) (line : Line S) (end : S) → length plan ≡ n → Contains lines line → run t line.state plan ≡ Some end → IsTrue (t.meets_goal end)
       → Allows claim (line.cost + cost_of_all t plan)
   from_line n [] line end long listed runs goal =
       elim line.mark as (λ m. line.mark ≡ m → Allows claim (line.cost + cost_of_all t [])) [
-        | opened ↦ λ is_open. at_open_goal line end listed is_open runs goal
+        | expanded ↦ λ is_open. at_open_goal line end listed is_open runs goal
         | cut rest ↦ λ is_cut. at_cut [] line end rest listed is_cut runs goal
         | dead ↦ λ marked. at_dead [] line end listed marked runs goal
       ] refl
   from_line zero (a ∷ plan) line end long listed runs goal = absurd (cc)
   from_line (suc n) (a ∷ plan) line end long listed runs goal =
       elim line.mark as (λ m. line.mark ≡ m → Allows claim (line.cost + cost_of_all t (a ∷ plan))) [
-        | opened ↦ λ is_open.
+        | expanded ↦ λ is_open.
             elim (t.step line.state a) as (λ o. t.step line.state a ≡ o → option_and_then (λ next. run t next plan) o ≡ Some end → Allows claim (line.cost + cost_of_all t (a ∷ plan))) [
               | None ↦ λ _ none_runs. absurd (cc)
               | Some next ↦ λ leads runs_on.

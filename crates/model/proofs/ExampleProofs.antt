@@ -122,11 +122,11 @@ goes_free : (has_metric : Bool) (s : State) → step (priced has_metric) s (inst
 goes_free has_metric s = leads (priced has_metric) s (instance 1 []) go refl refl refl
 
 -- so two of them lead to the goal
-goes_on : (has_metric : Bool) (a b : Instance)
+may_continue : (has_metric : Bool) (a b : Instance)
     → step (priced has_metric) (state_after (priced has_metric) go_task.init []) a ≡ Some (state_after (priced has_metric) go_task.init (once_of has_metric))
     → step (priced has_metric) (state_after (priced has_metric) go_task.init (once_of has_metric)) b ≡ Some (state_after (priced has_metric) go_task.init (twice_of has_metric))
     → Solves (system_of (priced has_metric)) (a ∷ b ∷ [])
-goes_on has_metric a b first second =
+may_continue has_metric a b first second =
     let t : Task = priced has_metric in (
       state_after t go_task.init (twice_of has_metric),
       two (system_of t) (state_after t go_task.init []) (state_after t go_task.init (once_of has_metric)) (state_after t go_task.init (twice_of has_metric)) a b first second,
@@ -282,9 +282,9 @@ worked_examples = record {
   without_an_increase = refl;
   an_increase_without_the_metric = refl;
   none_without_the_metric = refl;
-  sum_of_costs = (goes_on true (instance 0 []) (instance 0 []) (goes true _) (goes true _), refl);
-  sum_with_none = (goes_on true (instance 0 []) (instance 1 []) (goes true _) (goes_free true _), refl);
-  count_of_steps = (goes_on false (instance 0 []) (instance 1 []) (goes false _) (goes_free false _), refl);
+  sum_of_costs = (may_continue true (instance 0 []) (instance 0 []) (goes true _) (goes true _), refl);
+  sum_with_none = (may_continue true (instance 0 []) (instance 1 []) (goes true _) (goes_free true _), refl);
+  count_of_steps = (may_continue false (instance 0 []) (instance 1 []) (goes false _) (goes_free false _), refl);
   by_its_objects = refl;
   by_their_order = refl;
   by_a_value_of_zero = refl;

@@ -10,8 +10,8 @@ use Rattle.model.proofs.GrammarBegins.{fewer}
 use Rattle.model.proofs.Places.{Places, at_one, comes_before, comes_after, places}
 
 -- a prefix of a file has no unexpected word
-goes_on : (file : TaskFile) (all before after : List Word) (word : Word) → all ≡ before ++ word ∷ after → Begins file (tokens_of all) → Begins file (tokens_of before ++ token_of word ∷ [])
-goes_on file all before after word split begins =
+may_continue : (file : TaskFile) (all before after : List Word) (word : Word) → all ≡ before ++ word ∷ after → Begins file (tokens_of all) → Begins file (tokens_of before ++ token_of word ∷ [])
+may_continue file all before after word split begins =
     let tokens : tokens_of all ≡ (tokens_of before ++ token_of word ∷ []) ++ tokens_of after =
     ap tokens_of split ∙ map-append token_of before (word ∷ after) ∙ sym (append_assoc (tokens_of before) (token_of word ∷ []) (tokens_of after)) in
     fewer file (tokens_of before ++ token_of word ∷ []) (tokens_of after) (subst (Begins file) tokens begins)
@@ -30,15 +30,15 @@ one_refusal file words f g (at_word b r w split begins dead line span) (at_word 
     by_places (at_one p q) =
         let numbers : f.code ≡ g.code = one_number file (tokens_of b) (token_of w) f.code g.code line (subst (λ y. IsReportedOf file (tokens_of y) (token_of w) g.code) (sym p) (subst (λ y. IsReportedOf file (tokens_of c) (token_of y) g.code) (sym q) rule)) in
         same_fault f g numbers (span ∙ ap (λ y. record { start = y.start; end = end_of y }) q ∙ sym place)
-    by_places (comes_before rest p) = absurd (dead (goes_on file c b rest w p begin))
-    by_places (comes_after rest p) = absurd (die (goes_on file b c rest x p begins))
-one_refusal file words f g (at_word b r w split begins dead line span) (at_end all whole code place) = absurd (dead (goes_on file words b r w split all))
-one_refusal file words f g (at_end all whole code place) (at_word c s x other begin die rule span) = absurd (die (goes_on file words c s x other all))
+    by_places (comes_before rest p) = absurd (dead (may_continue file c b rest w p begin))
+    by_places (comes_after rest p) = absurd (die (may_continue file b c rest x p begins))
+one_refusal file words f g (at_word b r w split begins dead line span) (at_end all whole code place) = absurd (dead (may_continue file words b r w split all))
+one_refusal file words f g (at_end all whole code place) (at_word c s x other begin die rule span) = absurd (die (may_continue file words c s x other all))
 one_refusal file words f g (at_end all whole code span) (at_end other none number place) = same_fault f g (code ∙ sym number) (span ∙ sym place)
 
 -- words that are a whole file are not refused
 pub whole_not_refused : (file : TaskFile) (words : List Word) (fault : Fault) → IsWhole file (tokens_of words) → IsRefused file words fault → ⊥
 whole_not_refused file words fault whole (at_word b r w split begins dead line span) =
     let begun : Begins file (tokens_of words) = ([], subst (IsWhole file) (sym (append-nil (tokens_of words))) whole) in
-    dead (goes_on file words b r w split begun)
+    dead (may_continue file words b r w split begun)
 whole_not_refused file words fault whole (at_end begins no_file code span) = no_file whole

@@ -209,8 +209,8 @@ one_first_fault task b c r s w x m n f g e mean meant wrong bad = by_places (pla
     by_places (comes_after rest p) = absurd (all_mean task b c rest x m g mean p bad)
 
 -- a prefix of a plan text has no unexpected word
-goes_on : (all before after : List Placed) (word : Placed) → all ≡ before ++ word ∷ after → BeginsSteps all → BeginsSteps (before ++ word ∷ [])
-goes_on all before after word split (more, steps, are) =
+may_continue : (all before after : List Placed) (word : Placed) → all ≡ before ++ word ∷ after → BeginsSteps all → BeginsSteps (before ++ word ∷ [])
+may_continue all before after word split (more, steps, are) =
     let shorter : all ++ more ≡ (before ++ word ∷ []) ++ (after ++ more) =
     ap (λ ws. ws ++ more) (split ∙ sym (append_assoc before (word ∷ []) after)) ∙ append_assoc (before ++ word ∷ []) after more in
     (after ++ more, steps, subst (λ ws. AreSteps ws steps) shorter are)
@@ -264,13 +264,13 @@ module _ (text : List ℕ) (one_cut : (a b : List Part) → AreParts text a → 
       by_places (at_one p q) =
           same_fault a b (one_number_of_word earlier other a.code b.code (subst (λ w. IsNumberOfWord earlier w a.code) q (subst (λ ws. IsNumberOfWord ws word a.code) p code)) number)
           (same_span a.span b.span (start ∙ ap (λ (w : Placed). w.start) q ∙ sym from) (end ∙ ap (λ (w : Placed). w.start + size w.part) q ∙ sym to))
-      by_places (comes_before rest p) = absurd (dead (goes_on earlier before rest word p begin))
-      by_places (comes_after rest p) = absurd (die (goes_on before earlier rest other p begins))
+      by_places (comes_before rest p) = absurd (dead (may_continue earlier before rest word p begin))
+      by_places (comes_after rest p) = absurd (die (may_continue before earlier rest other p begins))
   one_form_fault a b (refused short parts cut before after word split begins dead code start end) (open_at_end brief others cuts begin none number from to) =
-      absurd (dead (goes_on (placed_from 0 others) before after word (ap (placed_from 0) (one_cut others parts cuts cut) ∙ split) begin))
+      absurd (dead (may_continue (placed_from 0 others) before after word (ap (placed_from 0) (one_cut others parts cuts cut) ∙ split) begin))
   one_form_fault a b (open_at_end short parts cut begins none code start end) (too_long over number from to) = absurd (omega arith)
   one_form_fault a b (open_at_end short parts cut begins none code start end) (refused brief others cuts earlier later other is begin die number from to) =
-      absurd (die (goes_on (placed_from 0 parts) earlier later other (ap (placed_from 0) (one_cut parts others cut cuts) ∙ is) begins))
+      absurd (die (may_continue (placed_from 0 parts) earlier later other (ap (placed_from 0) (one_cut parts others cut cuts) ∙ is) begins))
   one_form_fault a b (open_at_end short parts cut begins none code start end) (open_at_end brief others cuts begin never number from to) =
       same_fault a b (code ∙ sym number) (same_span a.span b.span (start ∙ sym from) (end ∙ sym to))
 

@@ -263,13 +263,13 @@ record StopsAt (end : ℕ) (words : List Placed) (place : PlanPlace) (fault : Fa
   after : List Placed
   word : Placed
   in_order : words ≡ before ++ word ∷ after
-  goes_on : GoesOn end before place
+  may_continue : GoesOn end before place
   dead : (more : List Placed) → outcome end (before ++ word ∷ more) place ≡ refuses fault
   number : StopsWith end before place word fault.code
   span_is : fault.span ≡ span_at word
 
 record IsOpen (end : ℕ) (words : List Placed) (place : PlanPlace) (fault : Fault) : Type 0 where
-  goes_on : GoesOn end words place
+  may_continue : GoesOn end words place
   fault_is : fault ≡ open_at end
 
 rest_refused : (step : Step) (fault : Fault) (o : Outcome) → with_step step o ≡ refuses fault → o ≡ refuses fault
@@ -304,14 +304,14 @@ module _ (end : ℕ) (word : Placed) (place next : PlanPlace) (give : Outcome �
     after = s.after;
     word = s.word;
     in_order = ap (λ ws. word ∷ ws) s.in_order;
-    goes_on = more_goes_on s.before s.goes_on;
+    may_continue = more_goes_on s.before s.may_continue;
     dead = λ more. on (s.before ++ s.word ∷ more) ∙ ap give (s.dead more) ∙ kept fault;
     number = more_with s.before s.word fault.code s.number;
     span_is = s.span_is;
   }
 
   more_open : (words : List Placed) (fault : Fault) → IsOpen end words next fault → IsOpen end (word ∷ words) place fault
-  more_open words fault o = record { goes_on = more_goes_on words o.goes_on; fault_is = o.fault_is }
+  more_open words fault o = record { may_continue = more_goes_on words o.may_continue; fault_is = o.fault_is }
 
   more_found : (words : List Placed) (fault : Fault) → StopsAt end words next fault ⊎ IsOpen end words next fault → StopsAt end (word ∷ words) place fault ⊎ IsOpen end (word ∷ words) place fault
   more_found words fault (inl s) = inl (more_stops words fault s)
@@ -353,7 +353,7 @@ word_found end word words place (stops code) fault is e inner =
       after = words;
       word = word;
       in_order = refl;
-      goes_on = any_goes_on end place;
+      may_continue = any_goes_on end place;
       dead = λ more. ap (λ t. after_turn (span_at word) t (outcome end more)) is ∙ ap refuses same;
       number = subst (StopsWith end [] place word) (ap (λ (f : Fault). f.code) same) (first_with end word place (sort_of word.part) code refl is);
       span_is = sym (ap (λ (f : Fault). f.span) same);
@@ -366,8 +366,8 @@ word_found end word words place (ends step) fault is e inner =
 
 found : (end : ℕ) (words : List Placed) (place : PlanPlace) (fault : Fault) → outcome end words place ≡ refuses fault → StopsAt end words place fault ⊎ IsOpen end words place fault
 found end [] outside fault e = absurd (cc)
-found end [] opened fault e = inr (record { goes_on = any_goes_on end opened; fault_is = let same : open_at end ≡ fault = cc in sym same })
-found end [] (inside action objects) fault e = inr (record { goes_on = any_goes_on end (inside action objects); fault_is = let same : open_at end ≡ fault = cc in sym same })
+found end [] opened fault e = inr (record { may_continue = any_goes_on end opened; fault_is = let same : open_at end ≡ fault = cc in sym same })
+found end [] (inside action objects) fault e = inr (record { may_continue = any_goes_on end (inside action objects); fault_is = let same : open_at end ≡ fault = cc in sym same })
 found end (word ∷ words) place fault e = word_found end word words place (turn place (sort_of word.part) (name_at word)) fault refl e (λ next. found end words next fault)
 
 begins : (end : ℕ) (words : List Placed) → GoesOn end words outside → BeginsSteps words
@@ -391,7 +391,7 @@ form_fault text parts fault short are e = by_place (found (length text) (placed_
     words = placed_from 0 parts
 
     by_place : StopsAt n words outside fault ⊎ IsOpen n words outside fault → IsFormFault text fault
-    by_place (inl s) = refused short parts are s.before s.after s.word s.in_order (begins n s.before s.goes_on)
+    by_place (inl s) = refused short parts are s.before s.after s.word s.in_order (begins n s.before s.may_continue)
         (λ (more, steps, all).
         let stopped : outcome n ((s.before ++ s.word ∷ []) ++ more) outside ≡ refuses fault = ap (λ ws. outcome n ws outside) (append_assoc s.before (s.word ∷ []) more) ∙ s.dead more in
         let read = reads_steps n ((s.before ++ s.word ∷ []) ++ more) steps all in
@@ -399,7 +399,7 @@ form_fault text parts fault short are e = by_place (found (length text) (placed_
         cc)
         (number_reported n s.before s.word fault.code s.number)
         (ap (λ (x : Span). x.start) s.span_is) (ap (λ (x : Span). x.end) s.span_is)
-    by_place (inr o) = open_at_end short parts are (begins n words o.goes_on)
+    by_place (inr o) = open_at_end short parts are (begins n words o.may_continue)
         (λ steps all. let impossible : reads steps ≡ refuses fault = sym (reads_steps n words steps all) ∙ e in cc)
         (ap (λ (f : Fault). f.code) o.fault_is) (ap (λ (f : Fault). f.span.start) o.fault_is) (ap (λ (f : Fault). f.span.end) o.fault_is)
 

@@ -10,7 +10,7 @@ use Rattle.std.specs.Option.{option_map, option_map_or}
 use Rattle.std.proofs.lemmas.Bool.{and_parts, or_cases, or_left, or_right, ne_eqb, leb-true, le-leb, lt-ltb, eqb-true}
 use Rattle.std.proofs.lemmas.Cmp.{nat_list_eq_equiv}
 use Rattle.std.proofs.lemmas.Option.{slice_get_within, slice_get-map}
-use Rattle.model.specs.Words.{blank, comment, opening, closing, run, form_of, is_run, goes_on, is_gap, Part, form, bytes, size, EndsBefore, AreParts, is_name, is_name_byte, longest_text, longest_run}
+use Rattle.model.specs.Words.{blank, comment, opening, closing, run, form_of, is_run, may_continue, is_gap, Part, form, bytes, size, EndsBefore, AreParts, is_name, is_name_byte, longest_text, longest_run}
 use Rattle.model.specs.Trees as tree
 use Rattle.model.specs.Task.{Name, Object, Schema, Task, Union, Instance}
 use Rattle.model.specs.Meaning.{is_of, is_instance, fits, is_below}
@@ -56,7 +56,7 @@ name_byte_is_run byte e = ⊎_elim (λ (marked : (is_ascii_alphabetic byte || is
     (λ (low_line : (byte == 95) ≡ true). let is = eqb-true byte 95 low_line in printable_is_run byte (omega arith) (omega arith) (λ i. omega arith))
     (or_cases (is_ascii_alphabetic byte || is_ascii_digit byte || byte == 45) (byte == 95) e)
 
-name_goes_on : (others : List ℕ) → list_all is_name_byte others ≡ true → list_all (goes_on run) others ≡ true
+name_goes_on : (others : List ℕ) → list_all is_name_byte others ≡ true → list_all (may_continue run) others ≡ true
 name_goes_on [] all = refl
 name_goes_on (byte ∷ others) all =
     let here = and_parts (is_name_byte byte) (list_all is_name_byte others) all in
@@ -67,7 +67,7 @@ record IsRunOf (name : Name) : Type 0 where
   part : Part
   bytes_are : bytes part ≡ name
   a_run : form part ≡ run
-  to_its_end : list_all (goes_on (form part)) part.others ≡ true
+  to_its_end : list_all (may_continue (form part)) part.others ≡ true
   named : is_name (bytes part) ≡ true
 
 run_of : (name : Name) → is_name name ≡ true → IsRunOf name
@@ -79,7 +79,7 @@ run_of (first ∷ others) e =
       part = record { first = first; others = others };
       bytes_are = refl;
       a_run = here;
-      to_its_end = ap (λ f. list_all (goes_on f) others) here ∙ name_goes_on others letters.1;
+      to_its_end = ap (λ f. list_all (may_continue f) others) here ∙ name_goes_on others letters.1;
       named = e;
     }
 
@@ -319,23 +319,23 @@ module _ (task : Task) (schemas_named : are_lower_names (schema_names task) ≡ 
             }
 
   -- the digits of a cost continue a comment
-  digits_go_on : (k n : ℕ) (more : List ℕ) → list_all (goes_on comment) more ≡ true → list_all (goes_on comment) (digits_onto k 10 false n more) ≡ true
+  digits_go_on : (k n : ℕ) (more : List ℕ) → list_all (may_continue comment) more ≡ true → list_all (may_continue comment) (digits_onto k 10 false n more) ≡ true
   digits_go_on zero n more all = all
   digits_go_on (suc k) n more all = by_last (n / 10 == 0) (digits_go_on k (n / 10) (digit_glyph false (n % 10) ∷ more))
     where
-      digit : (low : Bool) (d : ℕ) → goes_on comment (cond low (48 + d) (87 + d)) ≡ true
+      digit : (low : Bool) (d : ℕ) → may_continue comment (cond low (48 + d) (87 + d)) ≡ true
       digit true d = ap not (ne_eqb (48 + d) 10 (λ e. omega arith))
       digit false d = ap not (ne_eqb (87 + d) 10 (λ e. omega arith))
 
-      longer : list_all (goes_on comment) (digit_glyph false (n % 10) ∷ more) ≡ true
+      longer : list_all (may_continue comment) (digit_glyph false (n % 10) ∷ more) ≡ true
       longer = λ i. digit (nat_lt (n % 10) 10) (n % 10) i && all i
 
-      by_last : (done : Bool) → (list_all (goes_on comment) (digit_glyph false (n % 10) ∷ more) ≡ true → list_all (goes_on comment) (digits_onto k 10 false (n / 10) (digit_glyph false (n % 10) ∷ more)) ≡ true)
-          → list_all (goes_on comment) (cond done (digit_glyph false (n % 10) ∷ more) (digits_onto k 10 false (n / 10) (digit_glyph false (n % 10) ∷ more))) ≡ true
+      by_last : (done : Bool) → (list_all (may_continue comment) (digit_glyph false (n % 10) ∷ more) ≡ true → list_all (may_continue comment) (digits_onto k 10 false (n / 10) (digit_glyph false (n % 10) ∷ more)) ≡ true)
+          → list_all (may_continue comment) (cond done (digit_glyph false (n % 10) ∷ more) (digits_onto k 10 false (n / 10) (digit_glyph false (n % 10) ∷ more))) ≡ true
       by_last true later = longer
       by_last false later = later longer
 
-  decimal_goes_on : (cost : ℕ) → list_all (goes_on comment) (decimal cost) ≡ true
+  decimal_goes_on : (cost : ℕ) → list_all (may_continue comment) (decimal cost) ≡ true
   unfolding digits
   decimal_goes_on cost = digits_go_on 64 cost [] refl
 

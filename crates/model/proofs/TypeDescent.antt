@@ -172,13 +172,13 @@ module _ (parents : List ℕ) where
     pub low : (x : ℕ) → among x xs ≡ true → x < length parents
 
   -- a chain that lacks an ancestor has as many types as steps, and has not ended
-  goes_on : (above most steps type : ℕ) → 0 < above → among above (chain parents steps type) ≡ true → among above (chain parents most type) ≡ false → AreTypes most (chain parents most type)
-  goes_on above zero steps type positive on off = record { count = refl; no_object = refl; low = λ x none. absurd (true≢false (sym none)) }
-  goes_on above (suc most) zero type positive on off = absurd (true≢false (sym on))
-  goes_on above (suc most) (suc steps) zero positive on off = absurd (omega (arith, positive, above_object parents (suc steps) above on))
-  goes_on above (suc most) (suc steps) (suc type) positive on off =
+  may_continue : (above most steps type : ℕ) → 0 < above → among above (chain parents steps type) ≡ true → among above (chain parents most type) ≡ false → AreTypes most (chain parents most type)
+  may_continue above zero steps type positive on off = record { count = refl; no_object = refl; low = λ x none. absurd (true≢false (sym none)) }
+  may_continue above (suc most) zero type positive on off = absurd (true≢false (sym on))
+  may_continue above (suc most) (suc steps) zero positive on off = absurd (omega (arith, positive, above_object parents (suc steps) above on))
+  may_continue above (suc most) (suc steps) (suc type) positive on off =
       by (or_parts (nat_eq above (suc type)) (among above (chain parents most next)) off) (or_cases (nat_eq above (suc type)) (among above (chain parents steps next)) on)
-      (goes_on above most steps next positive)
+      (may_continue above most steps next positive)
     where
       next : ℕ
       next = slice_index parents (suc type)
@@ -219,7 +219,7 @@ module _ (parents : List ℕ) where
 
       by : (b : Bool) → among above (chain parents (length parents) type) ≡ b → among above (chain parents (length parents) type) ≡ true
       by true is = is
-      by false is = full is (goes_on above (length parents) steps type positive on is) (apart_or_whole (length parents) type)
+      by false is = full is (may_continue above (length parents) steps type positive on is) (apart_or_whole (length parents) type)
 
 -- ---- a type that is its own ancestor
 

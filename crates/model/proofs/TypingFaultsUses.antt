@@ -8,7 +8,7 @@ use Rattle.std.proofs.lemmas.List.{length-map}
 use Rattle.model.specs.Task as task
 use Rattle.model.specs.Trees.{TaskFile, Name}
 use Rattle.model.specs.Trees as tree
-use Rattle.model.specs.Typing.{Known, Placed, placed, declared, known_with, variable_faults, folded, is_same, is_known, names_of_predicates, names_of_variables, names_of_objects, faults_against, predicate_in_known, predicate_faults, arguments_in, fits_in, fits_wanted, term_in, term_faults, word_of, misfit_faults, terms_faults, atom_faults, formula_faults, formulas_faults, effect_literal_faults, effect_faults, effects_faults, ground_atom_faults}
+use Rattle.model.specs.Typing.{Known, Placed, placed, declared, known_with, variable_faults, folded, is_same, is_known, names_of_predicates, names_of_variables, names_of_objects, faults_against, predicate_in_known, predicate_faults, arguments_in, fits_in, fits_required, term_in, term_faults, word_of, misfit_faults, terms_faults, atom_faults, formula_faults, formulas_faults, effect_literal_faults, effect_faults, effects_faults, ground_atom_faults}
 use Rattle.model.specs.TypingFaults.{IsUnknown, IsTermFault, IsAtomFault, IsFormulaFault, IsSomeFault, IsLiteralFault, IsEffectFault, IsSomeEffectFault, unknown_predicate, unknown_term, wrong_count, wrong_type, as_atom}
 use Rattle.model.proofs.ListLemmas.{Contains-here, Contains-there, Contains-cases, Contains-none, Contains-flat_map}
 use Rattle.model.proofs.TypingFaultsLemmas.{fault_at, AllReport, none_detects, both_report, one_reports, flat_map_report, unless_reports, on_left, on_right, unless_listed}
@@ -102,10 +102,10 @@ terms_report : {table : ℕ → Placed → Type 0} (file : TaskFile) (known : Kn
 terms_report file known arguments [] unknown misfit = none_detects
 terms_report {table} file known arguments (t ∷ terms) unknown misfit =
     both_report (both_report (term_reports file known t (unknown t (Contains-here t terms)))
-    (unless_reports (fits_wanted known (slice_get arguments 0) (term_in known t)) 19 (placed file (word_of t)) (λ other. wanted_misfit (slice_get arguments 0) refl other)))
+    (unless_reports (fits_required known (slice_get arguments 0) (term_in known t)) 19 (placed file (word_of t)) (λ other. wanted_misfit (slice_get arguments 0) refl other)))
     (terms_report file known (drop 1 arguments) terms (λ s at. unknown s (Contains-there t terms s at)) (λ place wanted s of. misfit (suc place) wanted s (sym (got_later arguments place) ∙ of)))
   where
-    wanted_misfit : (found : Option task.Union) → slice_get arguments 0 ≡ found → fits_wanted known found (term_in known t) ≡ false → table 19 (placed file (word_of t))
+    wanted_misfit : (found : Option task.Union) → slice_get arguments 0 ≡ found → fits_required known found (term_in known t) ≡ false → table 19 (placed file (word_of t))
     wanted_misfit None of other = absurd (cc)
     wanted_misfit (Some wanted) of other = misfit 0 wanted t of refl other
 
@@ -127,7 +127,7 @@ misfit_listed file known arguments [] place wanted t of at misfit = absurd (cc)
 misfit_listed file known arguments (s ∷ terms) zero wanted t of at misfit =
     let is : s ≡ t = cc in
     on_left _ _ (on_right (term_faults file known s) _ (subst (λ u. Contains (misfit_faults file known (slice_get arguments 0) u) (fault_at 19 (placed file (word_of t)))) (sym is)
-    (unless_listed (fits_wanted known (slice_get arguments 0) (term_in known t)) (fault_at 19 (placed file (word_of t))) (ap (λ found. fits_wanted known found (term_in known t)) of ∙ misfit))))
+    (unless_listed (fits_required known (slice_get arguments 0) (term_in known t)) (fault_at 19 (placed file (word_of t))) (ap (λ found. fits_required known found (term_in known t)) of ∙ misfit))))
 misfit_listed file known arguments (s ∷ terms) (suc place) wanted t of at misfit =
     on_right (term_faults file known s ++ misfit_faults file known (slice_get arguments 0) s) _
     (misfit_listed file known (drop 1 arguments) terms place wanted t (got_later arguments place ∙ of) at misfit)

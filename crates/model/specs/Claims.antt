@@ -23,7 +23,7 @@ ClaimHolds {S} {A} t claim = (plan : List A) → Solves t plan → Allows claim 
 -- the role of a state in a listing
 pub data Mark : Type 0 where
   -- all its successors are listed
-  opened : Mark
+  expanded : Mark
   -- it is not expanded: the remaining cost is at least this
   cut : ℕ → Mark
   -- no list of actions leads from it to the goal
@@ -62,9 +62,9 @@ pub record AreTrue {S A : Type 0} (t : System S A) (lines : List (Line S)) : Typ
 -- an orbit space: Domshlak, Katz & Shleyfman 2015.)
 pub record IsClosed {S A : Type 0} (t : System S A) (alike : S → S → Type 0) (claim : Claim) (lines : List (Line S)) : Type 0 where
   pub initial_listed : IsListedWithin alike lines t.initial 0
-  pub successors_listed : (line : Line S) (a : A) (next : S) → Contains lines line → line.mark ≡ opened → t.step line.state a ≡ Some next
+  pub successors_listed : (line : Line S) (a : A) (next : S) → Contains lines line → line.mark ≡ expanded → t.step line.state a ≡ Some next
       → IsListedWithin alike lines next (line.cost + t.cost a)
-  pub open_goals_allowed : (line : Line S) → Contains lines line → line.mark ≡ opened → IsTrue (t.meets_goal line.state) → Allows claim line.cost
+  pub expanded_goals_allowed : (line : Line S) → Contains lines line → line.mark ≡ expanded → IsTrue (t.meets_goal line.state) → Allows claim line.cost
   pub cuts_allowed : (line : Line S) (rest : ℕ) → Contains lines line → line.mark ≡ cut rest → Allows claim (line.cost + rest)
 
 -- What a closed listing shows, if its marks are true and the goal is reached at the same costs from states of the same class: its claim is

@@ -17,24 +17,24 @@ is_unnumbered task atoms (is_true a) = is_fluent task a.predicate && not (occurs
 is_unnumbered task atoms _ = false
 
 -- one of the formula's sure literals requires such an atom
-abbrev pub wants_unnumbered : Task → List Atom → Formula → List ℕ → Bool
-wants_unnumbered task atoms formula binding = list_any (is_unnumbered task atoms) (sure task formula binding)
+abbrev pub requires_unnumbered : Task → List Atom → Formula → List ℕ → Bool
+requires_unnumbered task atoms formula binding = list_any (is_unnumbered task atoms) (sure task formula binding)
 
 -- a sure literal of the instance's precondition requires such an atom
-abbrev pub instance_wants_unnumbered : Task → List Atom → Instance → Bool
-instance_wants_unnumbered task atoms i =
-    option_map_or (λ (s : Schema). wants_unnumbered task atoms s.precondition i.objects) (slice_get task.schemas i.schema) false
+abbrev pub instance_requires_unnumbered : Task → List Atom → Instance → Bool
+instance_requires_unnumbered task atoms i =
+    option_map_or (λ (s : Schema). requires_unnumbered task atoms s.precondition i.objects) (slice_get task.schemas i.schema) false
 
 -- a sure literal of the precondition of the instance with this number requires such an atom
-abbrev pub number_wants_unnumbered : Task → List Atom → ℕ → Bool
-number_wants_unnumbered task atoms number = option_map_or (instance_wants_unnumbered task atoms) (slice_get (kept_instances task) number) false
+abbrev pub number_requires_unnumbered : Task → List Atom → ℕ → Bool
+number_requires_unnumbered task atoms number = option_map_or (instance_requires_unnumbered task atoms) (slice_get (kept_instances task) number) false
 
 -- a change of a numbered atom, with the numbered sure literals of its condition, and whether another sure literal requires an
 -- atom without a number, which is false
 pub record ConditionalChange : Type 0 where
   pub change : NumberedChange
   pub condition : List NumberedLiteral
-  pub wants_unnumbered : Bool
+  pub requires_unnumbered : Bool
 
 abbrev pub changes_in : List ConditionalChange → List NumberedChange
 changes_in changes = map (λ (c : ConditionalChange). c.change) changes
@@ -44,7 +44,7 @@ conditional_change task atoms c =
     option_map (λ (k : NumberedChange). record {
       change = k;
       condition = numbered_literals task atoms c.condition c.binding;
-      wants_unnumbered = wants_unnumbered task atoms c.condition c.binding;
+      requires_unnumbered = requires_unnumbered task atoms c.condition c.binding;
     }) (numbered_change atoms c)
 
 -- the counting changes of an instance, in order

@@ -66,12 +66,12 @@ term_faults file known (tree.variable name) = unknown_faults file 17 (names_of_v
 term_faults file known (tree.object name) = unknown_faults file 17 (names_of_objects known.objects) name
 
 -- the term fits the required types, if there are any
-abbrev pub fits_wanted : Known → Option task.Union → task.Term → Bool
-fits_wanted known wanted term = option_map_or (λ types. fits_in known types term) wanted true
+abbrev pub fits_required : Known → Option task.Union → task.Term → Bool
+fits_required known wanted term = option_map_or (λ types. fits_in known types term) wanted true
 
 -- 19: a term that does not fit its argument, if there is such an argument
 abbrev pub misfit_faults : TaskFile → Known → Option task.Union → tree.Term → List TypingFault
-misfit_faults file known wanted term = if fits_wanted known wanted (term_in known term) then [] else refused_word file 19 (word_of term)
+misfit_faults file known wanted term = if fits_required known wanted (term_in known term) then [] else refused_word file 19 (word_of term)
 
 -- for terms at the positions of these arguments
 abbrev pub terms_faults : TaskFile → Known → List task.Union → List tree.Term → List TypingFault

@@ -65,10 +65,10 @@ is_run _ = false
 
 -- whether a byte continues a part of this form: a comment ends before the next LF, a run continues while run bytes follow, and
 -- each other part is a single byte
-abbrev pub goes_on : Form → ℕ → Bool
-goes_on comment byte = not (byte == 10)
-goes_on run byte = is_run (form_of byte)
-goes_on _ byte = false
+abbrev pub may_continue : Form → ℕ → Bool
+may_continue comment byte = not (byte == 10)
+may_continue run byte = is_run (form_of byte)
+may_continue _ byte = false
 
 pub record Part : Type 0 where
   pub first : ℕ
@@ -86,13 +86,13 @@ size part = length (bytes part)
 -- no byte follows that continues a part of this form
 abbrev pub EndsBefore : Form → List ℕ → Type 0
 EndsBefore f [] = ⊤
-EndsBefore f (byte ∷ _) = goes_on f byte ≡ false
+EndsBefore f (byte ∷ _) = may_continue f byte ≡ false
 
 -- the text is these parts, one after another
 abbrev pub AreParts : List ℕ → List Part → Type 0
 AreParts text [] = text ≡ []
 AreParts text (part ∷ parts) =
-    (rest : List ℕ) × (text ≡ bytes part ++ rest) × (list_all (goes_on (form part)) part.others ≡ true)
+    (rest : List ℕ) × (text ≡ bytes part ++ rest) × (list_all (may_continue (form part)) part.others ≡ true)
     × EndsBefore (form part) rest × AreParts rest parts
 
 -- Words

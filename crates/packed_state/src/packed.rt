@@ -155,7 +155,8 @@ impl Packed {
         Ok(())
     }
 
-    /// Whether each number of the mask is in the set.
+    /// Whether each number of the mask is in the set. The program tests conditions literal by literal; this is for users of the
+    /// library.
     pub fn has_all(&self, mask: &Mask) -> bool
         requires { length (bits_of self.now) ≡ length (mask_bits_of mask.now) }
         ensures { IsTrue result ↔ Includes (bits_of self.now) (mask_bits_of mask.now) }
@@ -163,7 +164,7 @@ impl Packed {
         words::includes(&self.words, &mask.set.words)
     }
 
-    /// Whether no number of the mask is in the set.
+    /// Whether no number of the mask is in the set. Like `has_all`, this is for users of the library.
     pub fn has_none(&self, mask: &Mask) -> bool
         requires { length (bits_of self.now) ≡ length (mask_bits_of mask.now) }
         ensures { IsTrue result ↔ AreDisjoint (bits_of self.now) (mask_bits_of mask.now) }

@@ -10,7 +10,8 @@ use faults::NoMemory;
 use indexmap::IndexSet;
 use std::alloc::Global;
 
-/// A list of distinct sets, each in a vector of its own.
+/// A list of distinct sets, each in a vector of its own. It is the plain form of a store, for users of the library and for tests: the
+/// program keeps its states in a `PooledStore`.
 #[derive(Drop)]
 pub struct PlainStore {
     width: u32,

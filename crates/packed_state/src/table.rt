@@ -52,7 +52,7 @@ impl Table {
         Ok(table)
     }
 
-    /// The slot `step` places behind the one that the key names.
+    /// The slot `step` places after the one that the key names.
     pub(crate) fn slot(&self, key: u32, step: usize) -> usize
         requires step { step < length self.now.entries.items }
         requires few { length self.now.entries.items ≤ 67108864 }

@@ -57,8 +57,8 @@ module _ (task : Task) (steps : List Step) (step : Step) where
 -- the effect of a word here
 module _ (task : Task) (text : List ℕ) (left after : List Placed) (place : PlanPlace) (t : Advance) (span : Span) (meaning : Meaning)
     (read : outcome (length text) left place ≡ after_turn span t (outcome (length text) after)) (so_far : IsReadSoFar task text left place meaning) where
-  pub goes_on : (next : PlanPlace) → t ≡ goes next → IsReadSoFar task text after next meaning
-  goes_on next e = record { steps = so_far.steps; keeps = keeps_on text left after place t span so_far.steps read so_far.keeps next e; mean = so_far.mean }
+  pub may_continue : (next : PlanPlace) → t ≡ goes next → IsReadSoFar task text after next meaning
+  may_continue next e = record { steps = so_far.steps; keeps = keeps_on text left after place t span so_far.steps read so_far.keeps next e; mean = so_far.mean }
 
   pub takes_step : (step : Step) → t ≡ ends step → (taken : Meaning) → ((steps : List Step) → IsMeaning task steps meaning → IsMeaning task (steps ++ step ∷ []) taken)
       → IsReadSoFar task text after outside taken

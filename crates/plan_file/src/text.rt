@@ -36,7 +36,7 @@ impl<'a> PlanPlace<'a> {
         word: Lexeme<'a>,
         objects: &mut Vec<Lexeme<'a>>,
     ) -> Result<Advance<'a>, Fault>
-        ensures goes_on { IfOk result (λ next.
+        ensures may_continue { IfOk result (λ next.
             turn (place_of self.entry objects.old.items) (sort_of sort) (name_of word.entry) ≡ turn_of next objects.new.items) }
         ensures refused { IfErr result (λ fault. IfSome (reported_by fault)
             (ReportsStop (turn (place_of self.entry objects.old.items) (sort_of sort) (name_of word.entry)) (span_of word.entry))) }

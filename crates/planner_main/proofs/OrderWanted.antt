@@ -2,23 +2,27 @@
 use Rattle.std.proofs.Common.{◌≡◌, ℕ, Bool, List, ◌∙◌, sym, ap}
 use Rattle.std.specs.Prelude.{Option}
 use Rattle.std.specs.Borrow.{Bor}
+use Rattle.solver.specs.Versions as solver
 use Rattle.solver.specs.declared.limits.Limits.{Limits}
 use Rattle.command_line.specs.Orders.{Asked, AskedOfCheck, AskedOfExplain, to_solve, to_check, to_explain}
+use Rattle.command_line.specs.Versions as words
 use Rattle.command_line.specs.View.{number_in, text_in, wanted_of}
+use Rattle.command_line.specs.declared.cert_version.CertVersion.{CertVersion}
 use Rattle.command_line.specs.declared.max_count.MaxCount.{MaxCount}
 use Rattle.command_line.specs.declared.order.Order.{Order}
 use Rattle.command_line.specs.declared.order.Order.TheVariants.{Solve, Check, Explain}
 
 -- this is the order, with these numbers
-abbrev asked_with : (plan cert : Option (Bor (List ℕ))) (json progress : Bool) (states instances : ℕ) (seconds : Option ℕ) → Asked
-asked_with plan cert json progress states instances seconds =
-    record { states = states; instances = instances; seconds = seconds; plan = text_in plan; cert = text_in cert; json = json; progress = progress }
+abbrev asked_with : (plan cert : Option (Bor (List ℕ))) (json progress : Bool) (states instances : ℕ) (seconds : Option ℕ) (version : ℕ) → Asked
+asked_with plan cert json progress states instances seconds version =
+    record { states = states; instances = instances; seconds = seconds; cert_version = version; plan = text_in plan; cert = text_in cert; json = json; progress = progress }
 
-pub wanted_of_solve : (order : Order) (domain problem : Bor (List ℕ)) (plan cert : Option (Bor (List ℕ))) (states instances : MaxCount) (seconds : Option MaxCount) (json progress : Bool) (limits : Limits)
-    → order ≡ Solve domain problem plan cert states instances seconds json progress → limits.states ≡ states.number → limits.instances ≡ instances.number → limits.seconds ≡ number_in seconds
-    → to_solve domain.now problem.now (record { states = limits.states; instances = limits.instances; seconds = limits.seconds; plan = text_in plan; cert = text_in cert; json = json; progress = progress }) ≡ wanted_of order
-wanted_of_solve order domain problem plan cert states instances seconds json progress limits is same_states same_instances same_seconds =
-    ap (to_solve domain.now problem.now) (λ i. asked_with plan cert json progress (same_states i) (same_instances i) (same_seconds i)) ∙ sym (ap wanted_of is)
+pub wanted_of_solve : (order : Order) (domain problem : Bor (List ℕ)) (plan cert : Option (Bor (List ℕ))) (states instances : MaxCount) (seconds : Option MaxCount) (version : CertVersion) (json progress : Bool) (limits : Limits)
+    → order ≡ Solve domain problem plan cert states instances seconds version json progress → limits.states ≡ states.number → limits.instances ≡ instances.number → limits.seconds ≡ number_in seconds
+    → solver.number_of limits.version ≡ words.number_of version
+    → to_solve domain.now problem.now (asked_with plan cert json progress limits.states limits.instances limits.seconds (solver.number_of limits.version)) ≡ wanted_of order
+wanted_of_solve order domain problem plan cert states instances seconds version json progress limits is same_states same_instances same_seconds same_version =
+    ap (to_solve domain.now problem.now) (λ i. asked_with plan cert json progress (same_states i) (same_instances i) (same_seconds i) (same_version i)) ∙ sym (ap wanted_of is)
 
 abbrev asked_of_check : (plan : Option (Bor (List ℕ))) (json progress : Bool) (instances : ℕ) → AskedOfCheck
 asked_of_check plan json progress instances = record { instances = instances; plan = text_in plan; json = json; progress = progress }

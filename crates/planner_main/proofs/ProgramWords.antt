@@ -110,7 +110,7 @@ answered_status contents wanted text status written (found, is_found, (is_text, 
 -- the result for files can be printed
 pub can_be_reported : (contents : List ℕ → Option (List ℕ)) (wanted : Wanted) (found : Report) → IsReportOn contents wanted found → reported.IsReported found
 can_be_reported contents (to_validate domain problem plan json) found (v, is, on) = subst reported.IsReported (sym is) tt
-can_be_reported contents (to_solve domain problem asked) found (s, is, on) = subst reported.IsReported (sym is) tt
+can_be_reported contents (to_solve domain problem asked) found (s, is, version, on) = subst reported.IsReported (sym is) tt
 can_be_reported contents (to_check domain problem cert asked) found (c, is, (d, p, l, d_is, p_is, l_is, (text, steps, whole, is_task, handed, is_true, said))) =
     subst reported.IsReported (sym is) said
 can_be_reported contents (to_explain domain problem asked) found (e, is, on) = subst reported.IsReported (sym is) tt
@@ -246,9 +246,9 @@ module _ (contents : List ℕ → Option (List ℕ)) where
   refused_on_inputs domain problem plan d p l d_is p_is l_is (Some fault) h = (d, p, l, d_is, p_is, l_is, h)
 
 -- the guarantee of a call that writes all of the bytes or says why not
-pub written_by : {T : Type 0} (wants_memory : Bool) (failures failures_after : ℕ) (before after : Option (List ℕ)) (bytes : List ℕ) (r : Result T IoFault)
+pub written_by : {T : Type 0} (may_lack_memory : Bool) (failures failures_after : ℕ) (before after : Option (List ℕ)) (bytes : List ℕ) (r : Result T IoFault)
     → OnOk r (Appends before after bytes) → AppendsBeginning before after bytes → CountsDevice failures failures_after r
-    → (r ≡ Err device.NoMemory → IsTrue wants_memory) → IsWritten wants_memory failures failures_after before after bytes
-written_by wants_memory failures failures_after before after bytes (Ok done) all beginning counted wants = (beginning, inl all)
-written_by wants_memory failures failures_after before after bytes (Err device.Device) all beginning counted wants = (beginning, inr (inl counted))
-written_by wants_memory failures failures_after before after bytes (Err device.NoMemory) all beginning counted wants = (beginning, inr (inr (wants refl)))
+    → (r ≡ Err device.NoMemory → IsTrue may_lack_memory) → IsWritten may_lack_memory failures failures_after before after bytes
+written_by may_lack_memory failures failures_after before after bytes (Ok done) all beginning counted wants = (beginning, inl all)
+written_by may_lack_memory failures failures_after before after bytes (Err device.Device) all beginning counted wants = (beginning, inr (inl counted))
+written_by may_lack_memory failures failures_after before after bytes (Err device.NoMemory) all beginning counted wants = (beginning, inr (inr (wants refl)))

@@ -18,7 +18,7 @@ use Rattle.devices.proofs.ProgressLemmas.{said_after, said_of_more, none_said}
 use Rattle.planner_main.specs.Asked.{Outputs, outputs_of}
 use Rattle.printed_answers.specs.AnswerReported as answers
 use Rattle.planner_main.specs.Program.{IsReportOn, IsReportedOn, IsReported}
-use Rattle.planner_main.specs.Progress.{AsksForProgress, AsksForSearchProgress, Ends, EndsByEnd, EndsFor, HasEndedFor, HasEndedIf, HasSaidEnd, IsProgress, IsProgressOn, IsWritingLine, SaysAfter, SaysIf, WantsProgress, WantsSearchProgress, line_if, size_line_for}
+use Rattle.planner_main.specs.Progress.{AsksForProgress, AsksForSearchProgress, Ends, EndsByEnd, EndsFor, HasEndedFor, HasEndedIf, HasSaidEnd, IsProgress, IsProgressOn, IsWritingLine, SaysAfter, SaysIf, RequestsProgress, RequestsSearchProgress, line_if, size_line_for}
 use Rattle.printed_answers.specs.Reported.{status_of}
 use Rattle.planner_main.specs.Solution.{WritesReport, cert_text, files_for}
 use Rattle.planner_main.proofs.ProgramReported.{written_since}
@@ -35,12 +35,12 @@ reported_more Says More more (failure.Text refusal.NoMemory) status (is, line) =
 reported_more Says More more (failure.Device device.Device) status (is, line) = (is, more _ line)
 reported_more Says More more (failure.Device device.NoMemory) status (is, line) = (is, more _ line)
 
-pub after_progress : (IsLine : List ℕ → Type 0) (wants_memory : Bool) (failures now_failures failures_after : ℕ) (taken now_taken taken_after : Option (List ℕ))
-    → AreSaid IsLine wants_memory (stream failures taken) (stream now_failures now_taken) → (f : Failure) (status : ℕ)
-    → IsReportedOn f (IsWritten wants_memory now_failures failures_after now_taken taken_after) status
-    → IsReportedOn f (SaysAfter IsLine wants_memory failures failures_after taken taken_after) status
-after_progress IsLine wants_memory failures now_failures failures_after taken now_taken taken_after said f status reported =
-    reported_more (IsWritten wants_memory now_failures failures_after now_taken taken_after) (SaysAfter IsLine wants_memory failures failures_after taken taken_after)
+pub after_progress : (IsLine : List ℕ → Type 0) (may_lack_memory : Bool) (failures now_failures failures_after : ℕ) (taken now_taken taken_after : Option (List ℕ))
+    → AreSaid IsLine may_lack_memory (stream failures taken) (stream now_failures now_taken) → (f : Failure) (status : ℕ)
+    → IsReportedOn f (IsWritten may_lack_memory now_failures failures_after now_taken taken_after) status
+    → IsReportedOn f (SaysAfter IsLine may_lack_memory failures failures_after taken taken_after) status
+after_progress IsLine may_lack_memory failures now_failures failures_after taken now_taken taken_after said f status reported =
+    reported_more (IsWritten may_lack_memory now_failures failures_after now_taken taken_after) (SaysAfter IsLine may_lack_memory failures failures_after taken taken_after)
     (λ line written. (stream now_failures now_taken, said, written)) f status reported
 
 -- a failure has the exit status of neither a plan nor unsolvability
@@ -88,7 +88,7 @@ size_asked : (progress : Bool) (size : Option ℕ) (line : List ℕ) → line_if
 size_asked true size line is = search
 size_asked false size line is = absurd (cc)
 
-pub wanted_of_line : (contents : List ℕ → Option (List ℕ)) (wanted : Wanted) (line : List ℕ) → IsProgressOn contents wanted line → WantsProgress wanted
+pub wanted_of_line : (contents : List ℕ → Option (List ℕ)) (wanted : Wanted) (line : List ℕ) → IsProgressOn contents wanted line → RequestsProgress wanted
 wanted_of_line contents (to_validate domain problem plan json) line is = absurd is
 wanted_of_line contents (to_solve domain problem asked) line (inl (is, on)) = is
 wanted_of_line contents (to_solve domain problem asked) line (inr (found, on, inl (inl (is, named)))) = is
@@ -97,69 +97,69 @@ wanted_of_line contents (to_solve domain problem asked) line (inr (found, on, in
 wanted_of_line contents (to_check domain problem cert asked) line is = is.0
 wanted_of_line contents (to_explain domain problem asked) line is = absurd is
 
-module _ (contents : List ℕ → Option (List ℕ)) (words : List (List ℕ)) (wanted : Wanted) (asks : Asks words wanted) (wants_memory : Bool) (before after : Stream)
-    (said : AreSaid (IsProgressOn contents wanted) wants_memory before after) where
+module _ (contents : List ℕ → Option (List ℕ)) (words : List (List ℕ)) (wanted : Wanted) (asks : Asks words wanted) (may_lack_memory : Bool) (before after : Stream)
+    (said : AreSaid (IsProgressOn contents wanted) may_lack_memory before after) where
   -- progress of the order is progress for the words that give it
-  pub said_of_words : AreSaid (IsProgress contents words) wants_memory before after
+  pub said_of_words : AreSaid (IsProgress contents words) may_lack_memory before after
   said_of_words = said_of_more (λ line is. (wanted, asks, is)) said
 
   -- nothing is reported if it is not asked for
   pub quiet_unasked : (AsksForProgress words → ⊥) → after.taken ≡ before.taken
   quiet_unasked unasked =
-      ap (λ (s : Stream). s.taken) (none_said (IsProgressOn contents wanted) wants_memory before after (λ line is. unasked (wanted, asks, wanted_of_line contents wanted line is)) said)
+      ap (λ (s : Stream). s.taken) (none_said (IsProgressOn contents wanted) may_lack_memory before after (λ line is. unasked (wanted, asks, wanted_of_line contents wanted line is)) said)
 
 -- progress while the result is computed, and then about the files written for it
 pub said_of_both : (contents : List ℕ → Option (List ℕ)) (wanted : Wanted) (found : Report) → IsReportOn contents wanted found → (outputs : Outputs) → outputs ≡ outputs_of wanted
-    → (wants_memory : Bool) (before now after : Stream)
-    → AreSaid (IsProgressOn contents wanted) wants_memory before now → AreSaid (IsWritingLine found outputs) wants_memory now after → AreSaid (IsProgressOn contents wanted) wants_memory before after
-said_of_both contents wanted found on outputs same wants_memory before now after first then =
+    → (may_lack_memory : Bool) (before now after : Stream)
+    → AreSaid (IsProgressOn contents wanted) may_lack_memory before now → AreSaid (IsWritingLine found outputs) may_lack_memory now after → AreSaid (IsProgressOn contents wanted) may_lack_memory before after
+said_of_both contents wanted found on outputs same may_lack_memory before now after first then =
     said_after first (said_of_more (λ line is. written_is_progress contents wanted found on line (subst (λ (o : Outputs). IsWritingLine found o line) same is)) then)
 
 -- ---- the end
 
-ended_of_answer : (wants_memory : Bool) (failures : ℕ) (taken : Option (List ℕ)) (a : Answer) (status : ℕ) → HasEnded wants_memory failures taken a → status ≡ answers.status_of a
-    → (status ≡ 0) ⊎ (status ≡ 10) → EndsByEnd wants_memory failures taken
-ended_of_answer wants_memory failures taken (Plan steps cost cert) status (now, written) is which = (now, _, _, written)
-ended_of_answer wants_memory failures taken (Unsolvable cert) status (now, written) is which = (now, _, _, written)
-ended_of_answer wants_memory failures taken (Unknown limit) status ended is (inl same) = absurd (omega arith)
-ended_of_answer wants_memory failures taken (Unknown limit) status ended is (inr same) = absurd (omega arith)
+ended_of_answer : (may_lack_memory : Bool) (failures : ℕ) (taken : Option (List ℕ)) (a : Answer) (status : ℕ) → HasEnded may_lack_memory failures taken a → status ≡ answers.status_of a
+    → (status ≡ 0) ⊎ (status ≡ 10) → EndsByEnd may_lack_memory failures taken
+ended_of_answer may_lack_memory failures taken (Plan steps cost cert) status (now, written) is which = (now, _, _, written)
+ended_of_answer may_lack_memory failures taken (Unsolvable cert) status (now, written) is which = (now, _, _, written)
+ended_of_answer may_lack_memory failures taken (Unknown limit) status ended is (inl same) = absurd (omega arith)
+ended_of_answer may_lack_memory failures taken (Unknown limit) status ended is (inr same) = absurd (omega arith)
 
 -- The end of a search, followed by the written certificate, is reported as the exit status implies.
-module _ (contents contents_after : List ℕ → Option (List ℕ)) (known wants_memory : Bool) (after : Stream) where
+module _ (contents contents_after : List ℕ → Option (List ℕ)) (known may_lack_memory : Bool) (after : Stream) where
   pub ended_by_status : (before : Stream) (wanted : Wanted) (found : Report) (status : ℕ) → IsReportOn contents wanted found
-      → HasEndedFor wanted wants_memory before.failures before.taken found
+      → HasEndedFor wanted may_lack_memory before.failures before.taken found
       → (IsTrue known → AreWritten contents contents_after (files_for found (outputs_of wanted)))
-      → SaysIf (size_line_for (outputs_of wanted).cert (cert_text found) (outputs_of wanted).progress) wants_memory before after
-      → status ≡ status_of found → HasSaidEnd contents contents_after known wanted wants_memory after status
+      → SaysIf (size_line_for (outputs_of wanted).cert (cert_text found) (outputs_of wanted).progress) may_lack_memory before after
+      → status ≡ status_of found → HasSaidEnd contents contents_after known wanted may_lack_memory after status
   ended_by_status before (to_validate domain problem plan json) found status is ended held sized same = tt
-  ended_by_status before (to_solve domain problem asked) found status (s, is, on) ended held sized same = λ asks which.
-      let answered = ended_of_answer wants_memory before.failures before.taken s.answer status (subst (HasEndedIf asked.progress wants_memory before.failures before.taken) is ended asks) (same ∙ ap status_of is) which in
-      (found, (s, is, on), held, (before, answered, sized))
+  ended_by_status before (to_solve domain problem asked) found status (s, is, version, on) ended held sized same = λ asks which.
+      let answered = ended_of_answer may_lack_memory before.failures before.taken s.answer status (subst (HasEndedIf asked.progress may_lack_memory before.failures before.taken) is ended asks) (same ∙ ap status_of is) which in
+      (found, (s, is, version, on), held, (before, answered, sized))
   ended_by_status before (to_check domain problem cert asked) found status is ended held sized same = tt
   ended_by_status before (to_explain domain problem asked) found status is ended held sized same = tt
 
-  end_wanted : (wanted : Wanted) (status : ℕ) → HasSaidEnd contents contents_after known wanted wants_memory after status → WantsSearchProgress wanted → (status ≡ 0) ⊎ (status ≡ 10)
-      → EndsFor contents contents_after known wanted wants_memory after
+  end_wanted : (wanted : Wanted) (status : ℕ) → HasSaidEnd contents contents_after known wanted may_lack_memory after status → RequestsSearchProgress wanted → (status ≡ 0) ⊎ (status ≡ 10)
+      → EndsFor contents contents_after known wanted may_lack_memory after
   end_wanted (to_validate domain problem plan json) status ended wants which = absurd wants
   end_wanted (to_solve domain problem asked) status ended wants which = ended wants which
   end_wanted (to_check domain problem cert asked) status ended wants which = absurd wants
   end_wanted (to_explain domain problem asked) status ended wants which = absurd wants
 
-  pub end_of_words : (words : List (List ℕ)) (wanted : Wanted) → Asks words wanted → (status : ℕ) → HasSaidEnd contents contents_after known wanted wants_memory after status
-      → AsksForSearchProgress words → (status ≡ 0) ⊎ (status ≡ 10) → Ends contents contents_after known words wants_memory after
+  pub end_of_words : (words : List (List ℕ)) (wanted : Wanted) → Asks words wanted → (status : ℕ) → HasSaidEnd contents contents_after known wanted may_lack_memory after status
+      → AsksForSearchProgress words → (status ≡ 0) ⊎ (status ≡ 10) → Ends contents contents_after known words may_lack_memory after
   end_of_words words wanted asks status ended (other, others, wants) which =
-      (wanted, asks, end_wanted wanted status ended (subst WantsSearchProgress (one_wanted words other wanted others asks) wants) which)
+      (wanted, asks, end_wanted wanted status ended (subst RequestsSearchProgress (one_wanted words other wanted others asks) wants) which)
 
 -- The same once everything is written.
-pub ended_written : (wants_memory : Bool) (before after : Stream) (contents : List ℕ → Option (List ℕ)) (wanted : Wanted) (found : Report) → IsReportOn contents wanted found
-    → HasEndedFor wanted wants_memory before.failures before.taken found
+pub ended_written : (may_lack_memory : Bool) (before after : Stream) (contents : List ℕ → Option (List ℕ)) (wanted : Wanted) (found : Report) → IsReportOn contents wanted found
+    → HasEndedFor wanted may_lack_memory before.failures before.taken found
     → (known : Bool) (now files_after : List ℕ → Option (List ℕ)) → AreKept contents now → (out out_after : Option (List ℕ)) (outputs : Outputs) → outputs ≡ outputs_of wanted
     → (result : Result ℕ Failure) → IfOk result (IsReported (WritesReport found outputs) known now files_after out out_after)
-    → IfOk result (λ _. SaysIf (size_line_for outputs.cert (cert_text found) outputs.progress) wants_memory before after)
-    → IfOk result (HasSaidEnd contents files_after known wanted wants_memory after)
-ended_written wants_memory before after contents wanted found is ended known now files_after kept out out_after outputs asked (Ok status) (text, written, (is_text, same, files), appended, held) sized =
-    ended_by_status contents files_after known wants_memory after before wanted found status is ended
+    → IfOk result (λ _. SaysIf (size_line_for outputs.cert (cert_text found) outputs.progress) may_lack_memory before after)
+    → IfOk result (HasSaidEnd contents files_after known wanted may_lack_memory after)
+ended_written may_lack_memory before after contents wanted found is ended known now files_after kept out out_after outputs asked (Ok status) (text, written, (is_text, same, files), appended, held) sized =
+    ended_by_status contents files_after known may_lack_memory after before wanted found status is ended
     (λ is_known. subst (λ (o : Outputs). AreWritten contents files_after (files_for found o)) asked
     (subst (AreWritten contents files_after) files (written_since contents now files_after kept written (held is_known))))
-    (subst (λ (o : Outputs). SaysIf (size_line_for o.cert (cert_text found) o.progress) wants_memory before after) asked sized) same
-ended_written wants_memory before after contents wanted found is ended known now files_after kept out out_after outputs asked (Err failure) said sized = tt
+    (subst (λ (o : Outputs). SaysIf (size_line_for o.cert (cert_text found) o.progress) may_lack_memory before after) asked sized) same
+ended_written may_lack_memory before after contents wanted found is ended known now files_after kept out out_after outputs asked (Err failure) said sized = tt

@@ -1,7 +1,7 @@
 -- The behaviour of the program: the order given by its words, the texts of its files, what it prints, and its exit status.
 use Rattle.std.specs.Prelude.{◌≡◌, ℕ, ◌⊎◌, Bool, List, [], ◌∷◌, ◌++◌, Option, None, Some, IfOk, IfErr, IfSome, IsTrue, Result, Ok, Err}
 use Rattle.std.specs.Io.KnownBytes.{Appends}
-use Rattle.solver.specs.Solver.{IsTrueAnswer}
+use Rattle.solver.specs.Solver.{HasVersionUpTo, IsTrueAnswer}
 use Rattle.task.specs.Task.{task_of}
 use Rattle.validator.specs.declared.verdict.Verdict.{Verdict}
 use Rattle.validator.specs.Verdict.{verdict_of}
@@ -26,6 +26,7 @@ use Rattle.printed_answers.specs.CheckReported.{IsReportedRefusal}
 use Rattle.planner_main.specs.Asked.{outputs_of}
 use Rattle.file_answers.specs.declared.explanation.Explanation.{Explanation}
 use Rattle.file_answers.specs.Explanations.{IsTrueOf}
+use Rattle.file_answers.specs.Notes.{AreNoted}
 use Rattle.file_answers.specs.ExplanationLines.{Files, IsSaidOf, named_as}
 use Rattle.devices.specs.Texts.{AreKept, IsText}
 use Rattle.devices.specs.Written.{NamedText, AreWritten, AreWrittenPartly}
@@ -93,10 +94,10 @@ abbrev pub IsVerdictOn : (List ℕ → Option (List ℕ)) → (domain problem pl
 IsVerdictOn contents domain problem plan found =
     (v : Verdict) × (found ≡ report.Validate v) × OnThree contents domain problem plan (λ d p l. IsVerdictOf d p l (verdict_of v))
 
--- or an answer to a task within these limits,
-abbrev pub IsSolutionOn : (List ℕ → Option (List ℕ)) → (domain problem : List ℕ) → (seconds : Option ℕ) → (states instances : ℕ) → Report → Type 0
-IsSolutionOn contents domain problem seconds states instances found =
-    (s : Solved) × (found ≡ report.Solve s)
+-- or an answer to a task within these limits, whose certificate is of at most this version,
+abbrev pub IsSolutionOn : (List ℕ → Option (List ℕ)) → (domain problem : List ℕ) → (seconds : Option ℕ) → (states instances version : ℕ) → Report → Type 0
+IsSolutionOn contents domain problem seconds states instances version found =
+    (s : Solved) × (found ≡ report.Solve s) × HasVersionUpTo version s.answer
     × OnTwo contents domain problem (λ d p. IsTaskOf d p (task_of s.task) × IsTrueAnswer (task_of s.task) seconds states instances s.answer)
 
 -- or the checker's answer to a certificate, for the task of two texts and the plan of a third, if one is given. This much is
@@ -116,17 +117,18 @@ abbrev pub named_inputs : (domain problem : List ℕ) → (plan : Option (List �
 named_inputs domain problem plan d p l =
     record { domain = record { name = domain; text = d }; problem = record { name = problem; text = p }; plan = named_as plan l }
 
--- or the explanation of two texts, and of the plan of a third, if one is given: it is correct, and its lines and its location
--- state it.
+-- or the explanation of two texts, and of the plan of a third, if one is given: it is correct, its lines and its location state it, and
+-- its notes are those on the task.
 abbrev pub IsExplanationOn : (List ℕ → Option (List ℕ)) → (domain problem : List ℕ) → (plan : Option (List ℕ)) → (traced : Bool) → (most : ℕ) → Report → Type 0
 IsExplanationOn contents domain problem plan traced most found =
     (e : Explanation) × (found ≡ report.Explain e)
-    × OnInputs contents domain problem plan (λ d p l. IsTrueOf d p l most e.subject × IsSaidOf traced (named_inputs domain problem plan d p l) e)
+    × OnInputs contents domain problem plan (λ d p l. IsTrueOf d p l most e.subject × IsSaidOf traced (named_inputs domain problem plan d p l) e
+    × AreNoted d p most e)
 
 -- the result is the one asked for, and correct
 abbrev pub IsReportOn : (List ℕ → Option (List ℕ)) → Wanted → Report → Type 0
 IsReportOn contents (to_validate domain problem plan json) = IsVerdictOn contents domain problem plan
-IsReportOn contents (to_solve domain problem asked) = IsSolutionOn contents domain problem asked.seconds asked.states asked.instances
+IsReportOn contents (to_solve domain problem asked) = IsSolutionOn contents domain problem asked.seconds asked.states asked.instances asked.cert_version
 IsReportOn contents (to_check domain problem cert asked) = IsCheckOn contents domain problem cert asked.plan asked.instances
 IsReportOn contents (to_explain domain problem asked) = IsExplanationOn contents domain problem asked.plan asked.trace asked.instances
 

@@ -17,9 +17,10 @@ use Rattle.printed_answers.specs.declared.reports.Report.TheVariants as report
 
 -- ---- the lines
 
--- a line of a search, true of the task of two files
-abbrev pub IsSearchLine : (List ℕ → Option (List ℕ)) → (domain problem : List ℕ) → (progress : Bool) → List ℕ → Type 0
-IsSearchLine contents domain problem progress line = IsTrue progress × OnTwo contents domain problem (λ d p. IsTrueLineOf d p line)
+-- a line of a search within these limits, true of the task of two files
+abbrev pub IsSearchLine : (List ℕ → Option (List ℕ)) → (domain problem : List ℕ) → (seconds : Option ℕ) → (states instances : ℕ) → (progress : Bool) → List ℕ → Type 0
+IsSearchLine contents domain problem seconds states instances progress line =
+    IsTrue progress × OnTwo contents domain problem (λ d p. IsTrueLineOf d p seconds states instances line)
 
 -- the same for a check, for the task of two files and the text of a third
 abbrev pub IsCheckingLine : (List ℕ → Option (List ℕ)) → (domain problem cert : List ℕ) → (progress : Bool) → List ℕ → Type 0
@@ -70,7 +71,7 @@ IsWritingLineOn contents wanted line = (found : Report) × IsReportOn contents w
 abbrev pub IsProgressOn : (List ℕ → Option (List ℕ)) → Wanted → List ℕ → Type 0
 IsProgressOn contents (to_validate domain problem plan json) line = ⊥
 IsProgressOn contents (to_solve domain problem asked) line =
-    IsSearchLine contents domain problem asked.progress line ⊎ IsWritingLineOn contents (to_solve domain problem asked) line
+    IsSearchLine contents domain problem asked.seconds asked.states asked.instances asked.progress line ⊎ IsWritingLineOn contents (to_solve domain problem asked) line
 IsProgressOn contents (to_check domain problem cert asked) line = IsCheckingLine contents domain problem cert asked.progress line
 IsProgressOn contents (to_explain domain problem asked) line = ⊥
 
@@ -79,74 +80,74 @@ IsProgress contents words line = (wanted : Wanted) × Asks words wanted × IsPro
 
 -- ---- whether progress is asked for
 
-abbrev pub WantsProgress : Wanted → Type 0
-WantsProgress (to_validate domain problem plan json) = ⊥
-WantsProgress (to_solve domain problem asked) = IsTrue asked.progress
-WantsProgress (to_check domain problem cert asked) = IsTrue asked.progress
-WantsProgress (to_explain domain problem asked) = ⊥
+abbrev pub RequestsProgress : Wanted → Type 0
+RequestsProgress (to_validate domain problem plan json) = ⊥
+RequestsProgress (to_solve domain problem asked) = IsTrue asked.progress
+RequestsProgress (to_check domain problem cert asked) = IsTrue asked.progress
+RequestsProgress (to_explain domain problem asked) = ⊥
 
 abbrev pub AsksForProgress : List (List ℕ) → Type 0
-AsksForProgress words = (wanted : Wanted) × Asks words wanted × WantsProgress wanted
+AsksForProgress words = (wanted : Wanted) × Asks words wanted × RequestsProgress wanted
 
 -- and of a search
-abbrev pub WantsSearchProgress : Wanted → Type 0
-WantsSearchProgress (to_validate domain problem plan json) = ⊥
-WantsSearchProgress (to_solve domain problem asked) = IsTrue asked.progress
-WantsSearchProgress (to_check domain problem cert asked) = ⊥
-WantsSearchProgress (to_explain domain problem asked) = ⊥
+abbrev pub RequestsSearchProgress : Wanted → Type 0
+RequestsSearchProgress (to_validate domain problem plan json) = ⊥
+RequestsSearchProgress (to_solve domain problem asked) = IsTrue asked.progress
+RequestsSearchProgress (to_check domain problem cert asked) = ⊥
+RequestsSearchProgress (to_explain domain problem asked) = ⊥
 
 abbrev pub AsksForSearchProgress : List (List ℕ) → Type 0
-AsksForSearchProgress words = (wanted : Wanted) × Asks words wanted × WantsSearchProgress wanted
+AsksForSearchProgress words = (wanted : Wanted) × Asks words wanted × RequestsSearchProgress wanted
 
 -- ---- standard error then
 
 -- Such lines were written, followed by these bytes: whole, or a prefix of them if the stream counted a failure or may run out of
 -- memory.
-abbrev pub SaysAfter : (IsLine : List ℕ → Type 0) → (wants_memory : Bool) → (failures failures_after : ℕ) → (before after : Option (List ℕ)) → List ℕ → Type 0
-SaysAfter IsLine wants_memory failures failures_after before after bytes =
-    (now : Stream) × AreSaid IsLine wants_memory (stream failures before) now × IsWritten wants_memory now.failures failures_after now.taken after bytes
+abbrev pub SaysAfter : (IsLine : List ℕ → Type 0) → (may_lack_memory : Bool) → (failures failures_after : ℕ) → (before after : Option (List ℕ)) → List ℕ → Type 0
+SaysAfter IsLine may_lack_memory failures failures_after before after bytes =
+    (now : Stream) × AreSaid IsLine may_lack_memory (stream failures before) now × IsWritten may_lack_memory now.failures failures_after now.taken after bytes
 
 -- the last line is that of the end of a search
-abbrev pub EndsByEnd : (wants_memory : Bool) → (failures : ℕ) → (taken : Option (List ℕ)) → Type 0
-EndsByEnd wants_memory failures taken =
-    (now : Stream) × (listed : ℕ) × (expanded : ℕ) × IsWritten wants_memory now.failures failures now.taken taken (line_of (End listed expanded))
+abbrev pub EndsByEnd : (may_lack_memory : Bool) → (failures : ℕ) → (taken : Option (List ℕ)) → Type 0
+EndsByEnd may_lack_memory failures taken =
+    (now : Stream) × (listed : ℕ) × (expanded : ℕ) × IsWritten may_lack_memory now.failures failures now.taken taken (line_of (End listed expanded))
 
 -- this line was written, if there is one, otherwise nothing
-abbrev pub SaysIf : Option (List ℕ) → (wants_memory : Bool) → (before after : Stream) → Type 0
-SaysIf None wants_memory before after = after ≡ before
-SaysIf (Some line) wants_memory before after = IsWritten wants_memory before.failures after.failures before.taken after.taken line
+abbrev pub SaysIf : Option (List ℕ) → (may_lack_memory : Bool) → (before after : Stream) → Type 0
+SaysIf None may_lack_memory before after = after ≡ before
+SaysIf (Some line) may_lack_memory before after = IsWritten may_lack_memory before.failures after.failures before.taken after.taken line
 
 -- the last line is that of the end of a search; or if this line is given, it is the last, and the one before is that of the end
-abbrev pub EndsBy : Option (List ℕ) → (wants_memory : Bool) → (after : Stream) → Type 0
-EndsBy line wants_memory after = (now : Stream) × EndsByEnd wants_memory now.failures now.taken × SaysIf line wants_memory now after
+abbrev pub EndsBy : Option (List ℕ) → (may_lack_memory : Bool) → (after : Stream) → Type 0
+EndsBy line may_lack_memory after = (now : Stream) × EndsByEnd may_lack_memory now.failures now.taken × SaysIf line may_lack_memory now after
 
 -- The same for a correct result of an order: if the certificate is written to a file, the last line has its size. The files hold
 -- what is written, if they are known.
-abbrev pub EndsFor : (contents contents_after : List ℕ → Option (List ℕ)) → (known : Bool) → Wanted → (wants_memory : Bool) → (after : Stream) → Type 0
-EndsFor contents contents_after known wanted wants_memory after =
+abbrev pub EndsFor : (contents contents_after : List ℕ → Option (List ℕ)) → (known : Bool) → Wanted → (may_lack_memory : Bool) → (after : Stream) → Type 0
+EndsFor contents contents_after known wanted may_lack_memory after =
     (found : Report) × IsReportOn contents wanted found × (IsTrue known → AreWritten contents contents_after (files_for found (outputs_of wanted)))
-    × EndsBy (size_line_for (outputs_of wanted).cert (cert_text found) (outputs_of wanted).progress) wants_memory after
+    × EndsBy (size_line_for (outputs_of wanted).cert (cert_text found) (outputs_of wanted).progress) may_lack_memory after
 
-abbrev pub Ends : (contents contents_after : List ℕ → Option (List ℕ)) → (known : Bool) → List (List ℕ) → (wants_memory : Bool) → (after : Stream) → Type 0
-Ends contents contents_after known words wants_memory after = (wanted : Wanted) × Asks words wanted × EndsFor contents contents_after known wanted wants_memory after
+abbrev pub Ends : (contents contents_after : List ℕ → Option (List ℕ)) → (known : Bool) → List (List ℕ) → (may_lack_memory : Bool) → (after : Stream) → Type 0
+Ends contents contents_after known words may_lack_memory after = (wanted : Wanted) × Asks words wanted × EndsFor contents contents_after known wanted may_lack_memory after
 
 -- If progress is asked for, the last line describes the listing of the answer's certificate, if it has one.
-abbrev pub HasEndedIf : (progress wants_memory : Bool) → (failures : ℕ) → (taken : Option (List ℕ)) → Report → Type 0
-HasEndedIf progress wants_memory failures taken (report.Solve solved) = IsTrue progress → HasEnded wants_memory failures taken solved.answer
-HasEndedIf progress wants_memory failures taken (report.Validate verdict) = ⊤
-HasEndedIf progress wants_memory failures taken (report.Check checked) = ⊤
-HasEndedIf progress wants_memory failures taken (report.Explain e) = ⊤
+abbrev pub HasEndedIf : (progress may_lack_memory : Bool) → (failures : ℕ) → (taken : Option (List ℕ)) → Report → Type 0
+HasEndedIf progress may_lack_memory failures taken (report.Solve solved) = IsTrue progress → HasEnded may_lack_memory failures taken solved.answer
+HasEndedIf progress may_lack_memory failures taken (report.Validate verdict) = ⊤
+HasEndedIf progress may_lack_memory failures taken (report.Check checked) = ⊤
+HasEndedIf progress may_lack_memory failures taken (report.Explain e) = ⊤
 
-abbrev pub HasEndedFor : Wanted → (wants_memory : Bool) → (failures : ℕ) → (taken : Option (List ℕ)) → Report → Type 0
-HasEndedFor (to_validate domain problem plan json) wants_memory failures taken found = ⊤
-HasEndedFor (to_solve domain problem asked) wants_memory failures taken found = HasEndedIf asked.progress wants_memory failures taken found
-HasEndedFor (to_check domain problem cert asked) wants_memory failures taken found = ⊤
-HasEndedFor (to_explain domain problem asked) wants_memory failures taken found = ⊤
+abbrev pub HasEndedFor : Wanted → (may_lack_memory : Bool) → (failures : ℕ) → (taken : Option (List ℕ)) → Report → Type 0
+HasEndedFor (to_validate domain problem plan json) may_lack_memory failures taken found = ⊤
+HasEndedFor (to_solve domain problem asked) may_lack_memory failures taken found = HasEndedIf asked.progress may_lack_memory failures taken found
+HasEndedFor (to_check domain problem cert asked) may_lack_memory failures taken found = ⊤
+HasEndedFor (to_explain domain problem asked) may_lack_memory failures taken found = ⊤
 
 -- the report of the end, by exit status: an answer with a plan or without any plan has a certificate
-abbrev pub HasSaidEnd : (contents contents_after : List ℕ → Option (List ℕ)) → (known : Bool) → Wanted → (wants_memory : Bool) → (after : Stream) → (status : ℕ) → Type 0
-HasSaidEnd contents contents_after known (to_validate domain problem plan json) wants_memory after status = ⊤
-HasSaidEnd contents contents_after known (to_solve domain problem asked) wants_memory after status =
-    IsTrue asked.progress → (status ≡ 0) ⊎ (status ≡ 10) → EndsFor contents contents_after known (to_solve domain problem asked) wants_memory after
-HasSaidEnd contents contents_after known (to_check domain problem cert asked) wants_memory after status = ⊤
-HasSaidEnd contents contents_after known (to_explain domain problem asked) wants_memory after status = ⊤
+abbrev pub HasSaidEnd : (contents contents_after : List ℕ → Option (List ℕ)) → (known : Bool) → Wanted → (may_lack_memory : Bool) → (after : Stream) → (status : ℕ) → Type 0
+HasSaidEnd contents contents_after known (to_validate domain problem plan json) may_lack_memory after status = ⊤
+HasSaidEnd contents contents_after known (to_solve domain problem asked) may_lack_memory after status =
+    IsTrue asked.progress → (status ≡ 0) ⊎ (status ≡ 10) → EndsFor contents contents_after known (to_solve domain problem asked) may_lack_memory after
+HasSaidEnd contents contents_after known (to_check domain problem cert asked) may_lack_memory after status = ⊤
+HasSaidEnd contents contents_after known (to_explain domain problem asked) may_lack_memory after status = ⊤

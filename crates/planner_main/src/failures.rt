@@ -73,7 +73,7 @@ impl From<NoMemory> for Failure {
 pub(crate) fn report_failure<E: Sink>(alloc: Global, failure: Failure, err: &mut E) -> u8
     ensures failure { IsTrue (is_failure result) }
     // If an allocation for the line fails, that failure is reported.
-    ensures said { IsReportedOn failure (IsWritten E.wants_memory (E.failures err.old) (E.failures err.new) (E.taken err.old) (E.taken err.new)) result }
+    ensures said { IsReportedOn failure (IsWritten E.may_lack_memory (E.failures err.old) (E.failures err.new) (E.taken err.old) (E.taken err.new)) result }
 {
     match failure {
         Failure::Text(FileFault::At { file, code, span }) => {
@@ -91,8 +91,8 @@ pub(crate) fn report_failure<E: Sink>(alloc: Global, failure: Failure, err: &mut
 
 /// Reports the fault of a file's text.
 fn report_fault<E: Sink>(alloc: Global, file: File, code: Code, span: Span, err: &mut E) -> u8
-    ensures { ((result ≡ REFUSED) × IsWritten E.wants_memory (E.failures err.old) (E.failures err.new) (E.taken err.old) (E.taken err.new) (line_of_fault (fault_at file code span)))
-        ⊎ ((result ≡ NO_MEMORY) × IsWritten E.wants_memory (E.failures err.old) (E.failures err.new) (E.taken err.old) (E.taken err.new) no_memory_line) }
+    ensures { ((result ≡ REFUSED) × IsWritten E.may_lack_memory (E.failures err.old) (E.failures err.new) (E.taken err.old) (E.taken err.new) (line_of_fault (fault_at file code span)))
+        ⊎ ((result ≡ NO_MEMORY) × IsWritten E.may_lack_memory (E.failures err.old) (E.failures err.new) (E.taken err.old) (E.taken err.new) no_memory_line) }
 {
     match fault_line(alloc, file, code, span) {
         Ok(line) => {
@@ -116,7 +116,7 @@ fn fault_line(alloc: Global, file: File, code: Code, span: Span) -> Result<Strin
 /// Reports that an allocation failed, without allocating: the exit status.
 pub fn report_no_memory<E: Sink>(err: &mut E) -> u8
     ensures status { result ≡ NO_MEMORY }
-    ensures line { IsWritten E.wants_memory (E.failures err.old) (E.failures err.new) (E.taken err.old) (E.taken err.new) no_memory_line }
+    ensures line { IsWritten E.may_lack_memory (E.failures err.old) (E.failures err.new) (E.taken err.old) (E.taken err.new) no_memory_line }
 {
     say(err, b"fault 60 NoMemory\n");
     NO_MEMORY
@@ -124,14 +124,14 @@ pub fn report_no_memory<E: Sink>(err: &mut E) -> u8
 
 /// Writes these bytes, as far as the stream takes them.
 pub(crate) fn say<E: Sink>(err: &mut E, bytes: &[u8])
-    ensures { IsWritten E.wants_memory (E.failures err.old) (E.failures err.new) (E.taken err.old) (E.taken err.new) bytes.now }
+    ensures { IsWritten E.may_lack_memory (E.failures err.old) (E.failures err.new) (E.taken err.old) (E.taken err.new) bytes.now }
 {
     let _ = write_all(err, bytes);
 }
 
 /// Reports what is wrong with the words, or the help that they ask for, and that nothing was done: the exit status.
 pub(crate) fn report_words<E: Sink>(alloc: Global, fault: WordsFault, err: &mut E) -> u8
-    ensures { IsReportedOfWords fault (IsWritten E.wants_memory (E.failures err.old) (E.failures err.new) (E.taken err.old) (E.taken err.new)) result }
+    ensures { IsReportedOfWords fault (IsWritten E.may_lack_memory (E.failures err.old) (E.failures err.new) (E.taken err.old) (E.taken err.new)) result }
 {
     match words_text(alloc, &fault) {
         Ok(text) => {

@@ -5,7 +5,7 @@ mod failures;
 mod program;
 
 pub use cert_checker::{Accepted, Refusal, RefusalCode};
-pub use command_line::{MaxCount, Order, WordsFault, read_words};
+pub use command_line::{CertVersion, MaxCount, Order, WordsFault, read_words};
 pub use devices::{Files, SystemFiles};
 pub use failures::report_no_memory;
 pub use file_answers::{
@@ -16,5 +16,5 @@ pub use file_answers::{
 };
 pub use printed_answers::{Report, json_examples_are_written, json_line};
 pub use program::run;
-pub use solver::{Answer, Exceeded, Limits};
+pub use solver::{Answer, Exceeded, Limits, MaxVersion};
 pub use validator::Verdict;

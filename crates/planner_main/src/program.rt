@@ -1,7 +1,9 @@
 //! The program.
 ghost use Rattle.std.specs.Prelude.{◌≡◌, ℕ, ◌⊎◌, IfErr, IfOk, IfSome, IsTrue, List, false};
 ghost use Rattle.command_line.specs.Orders.{IsCommand};
+ghost use Rattle.command_line.specs.Versions as words;
 ghost use Rattle.command_line.specs.View.{number_in, texts, wanted_of};
+ghost use Rattle.solver.specs.Versions as solver;
 ghost use Rattle.planner_main.specs.Failures.{device_line, is_failure, no_memory_line};
 ghost use Rattle.planner_main.specs.Program.{Reports, ReportsFor, ReportsPartly, ReportsPartlyFor, Refuses, HasFailed, HasNotFailed, CountsEither, CountsFailure, NamesInput, NamesText, IsFaultFor, IsFound, IsOneOf, IsUnread, SaysOfWords, fault_in, inputs_of, texts_of};
 ghost use Rattle.devices.specs.Texts.{AreKept};
@@ -21,7 +23,7 @@ mod writing;
 
 use crate::failures::{Failure, report_failure, report_words};
 use acceptance::{CheckAsked, InputNames, report_of_check};
-use command_line::{MaxCount, Order, read_words};
+use command_line::{CertVersion, MaxCount, Order, read_words};
 use devices::{Files, Sink};
 use devices_clock::Clock;
 use explaining::{ExplainAsked, report_of_explain};
@@ -30,7 +32,7 @@ use inputs::PairNames;
 use outputs::outputs_of;
 use printed_answers::Report;
 use solution::{SolveAsked, report_of_solve};
-use solver::Limits;
+use solver::{Limits, MaxVersion};
 use std::alloc::Global;
 use validation::report_of_validate;
 use writing::write_report;
@@ -93,12 +95,12 @@ pub fn run<F: Files, O: Sink, E: Sink + Clock>(
     ensures status { IsTrue (is_failure result)
         ⊎ Reports (texts words.now) F.is_known (F.contents files.old) (F.contents files.new) (O.taken out.old) (O.taken out.new) result }
     // Without `--progress`, standard error is unchanged when there is an answer. With it, lines come first, each of them true:
-    // lower bounds of plan costs, and the sizes of the task, the search and the certificate. For the answer of a search the last
-    // line is that of the end; if a certificate file is named, the line with the certificate's size in bytes follows it.
+    // lower bounds of plan costs, the sizes of the task, of a listing that shows such a bound and of the certificate, and the option
+    // that raises an exceeded limit. For the answer of a search the last line is that of the end; if a certificate file is named, the line with the certificate's size in bytes follows it.
     ensures quiet { (AsksForProgress (texts words.now) → ⊥) → is_failure result ≡ false → E.taken err.new ≡ E.taken err.old }
-    ensures progress { is_failure result ≡ false → AreSaid (IsProgress (F.contents files.old) (texts words.now)) E.wants_memory (stream (E.failures err.old) (E.taken err.old)) (stream (E.failures err.new) (E.taken err.new)) }
+    ensures progress { is_failure result ≡ false → AreSaid (IsProgress (F.contents files.old) (texts words.now)) E.may_lack_memory (stream (E.failures err.old) (E.taken err.old)) (stream (E.failures err.new) (E.taken err.new)) }
     ensures ended { AsksForSearchProgress (texts words.now) → (result ≡ 0) ⊎ (result ≡ 10)
-        → Ends (F.contents files.old) (F.contents files.new) F.is_known (texts words.now) E.wants_memory (stream (E.failures err.new) (E.taken err.new)) }
+        → Ends (F.contents files.old) (F.contents files.new) F.is_known (texts words.now) E.may_lack_memory (stream (E.failures err.new) (E.taken err.new)) }
 
     // The exit status for words that are not a command occurs exactly for such words, unless an allocation for reading them
     // fails. The one for refused texts occurs only for such texts: `explain` prints the fault on standard output, as asked, and
@@ -106,16 +108,16 @@ pub fn run<F: Files, O: Sink, E: Sink + Clock>(
     ensures words { result ≡ 2 → IsCommand (texts words.now) → ⊥ }
     ensures no_command { (IsCommand (texts words.now) → ⊥) → (result ≡ 2) ⊎ (result ≡ 22) }
     ensures usage { result ≡ 2 → (O.taken out.new ≡ O.taken out.old) × AreKept (F.contents files.old) (F.contents files.new)
-        × SaysOfWords (IsWritten E.wants_memory (E.failures err.old) (E.failures err.new) (E.taken err.old) (E.taken err.new)) }
+        × SaysOfWords (IsWritten E.may_lack_memory (E.failures err.old) (E.failures err.new) (E.taken err.old) (E.taken err.new)) }
     ensures refused { result ≡ 20 → Refuses (texts words.now) (F.contents files.old) (F.contents files.new)
-        (O.taken out.old) (O.taken out.new) (SaysAfter (IsProgress (F.contents files.old) (texts words.now)) E.wants_memory (E.failures err.old) (E.failures err.new) (E.taken err.old) (E.taken err.new))
-        ⊎ (Reports (texts words.now) F.is_known (F.contents files.old) (F.contents files.new) (O.taken out.old) (O.taken out.new) result × AreSaid (IsProgress (F.contents files.old) (texts words.now)) E.wants_memory (stream (E.failures err.old) (E.taken err.old)) (stream (E.failures err.new) (E.taken err.new))) }
+        (O.taken out.old) (O.taken out.new) (SaysAfter (IsProgress (F.contents files.old) (texts words.now)) E.may_lack_memory (E.failures err.old) (E.failures err.new) (E.taken err.old) (E.taken err.new))
+        ⊎ (Reports (texts words.now) F.is_known (F.contents files.old) (F.contents files.new) (O.taken out.old) (O.taken out.new) result × AreSaid (IsProgress (F.contents files.old) (texts words.now)) E.may_lack_memory (stream (E.failures err.old) (E.taken err.old)) (stream (E.failures err.new) (E.taken err.new))) }
 
     // The exit status for a device failure occurs exactly if a device failed. Part of an answer may have been printed.
     ensures unfailed { (result ≡ 21 → ⊥) → HasNotFailed (F.failures files.old) (F.failures files.new) (O.failures out.old) (O.failures out.new) }
     ensures device { result ≡ 21 → HasFailed (F.failures files.old) (F.failures files.new) (O.failures out.old) (O.failures out.new)
         × ReportsPartly (texts words.now) F.is_known (F.contents files.old) (F.contents files.new) (O.taken out.old) (O.taken out.new)
-        × SaysAfter (IsProgress (F.contents files.old) (texts words.now)) E.wants_memory (E.failures err.old) (E.failures err.new) (E.taken err.old) (E.taken err.new) device_line }
+        × SaysAfter (IsProgress (F.contents files.old) (texts words.now)) E.may_lack_memory (E.failures err.old) (E.failures err.new) (E.taken err.old) (E.taken err.new) device_line }
     // All files are opened before any fault in their texts is reported.
     ensures unread { (name : List ℕ) → NamesInput (texts words.now) name → IsTrue (F.is_missing files.old name)
         → (result ≡ 21) ⊎ (result ≡ 22) }
@@ -123,7 +125,7 @@ pub fn run<F: Files, O: Sink, E: Sink + Clock>(
     ensures unreadable { (name : List ℕ) → NamesText (texts words.now) name → IsTrue (F.is_unreadable files.old name)
         → (result ≡ 21) ⊎ (result ≡ 22) }
     ensures memory { result ≡ 22 → ReportsPartly (texts words.now) F.is_known (F.contents files.old) (F.contents files.new) (O.taken out.old) (O.taken out.new)
-        × SaysAfter (IsProgress (F.contents files.old) (texts words.now)) E.wants_memory (E.failures err.old) (E.failures err.new) (E.taken err.old) (E.taken err.new) no_memory_line }
+        × SaysAfter (IsProgress (F.contents files.old) (texts words.now)) E.may_lack_memory (E.failures err.old) (E.failures err.new) (E.taken err.old) (E.taken err.new) no_memory_line }
 {
     match read_words(alloc, words) {
         Err(fault) => report_words(alloc, fault, err),
@@ -150,8 +152,8 @@ fn carry_out<F: Files, O: Sink, E: Sink + Clock>(
     ensures failures { IfErr result (CountsEither (F.failures files.old) (F.failures files.new) (O.failures out.old) (O.failures out.new)) }
     ensures unread { (name : List ℕ) → IsOneOf (inputs_of (wanted_of order.entry)) name → IsTrue (F.is_missing files.old name) → IsUnread result }
     ensures unreadable { (name : List ℕ) → IsOneOf (texts_of (wanted_of order.entry)) name → IsTrue (F.is_unreadable files.old name) → IsUnread result }
-    ensures progress { AreSaid (IsProgressOn (F.contents files.old) (wanted_of order.entry)) E.wants_memory (stream (E.failures err.old) (E.taken err.old)) (stream (E.failures err.new) (E.taken err.new)) }
-    ensures ended { IfOk result (HasSaidEnd (F.contents files.old) (F.contents files.new) F.is_known (wanted_of order.entry) E.wants_memory (stream (E.failures err.new) (E.taken err.new))) }
+    ensures progress { AreSaid (IsProgressOn (F.contents files.old) (wanted_of order.entry)) E.may_lack_memory (stream (E.failures err.old) (E.taken err.old)) (stream (E.failures err.new) (E.taken err.new)) }
+    ensures ended { IfOk result (HasSaidEnd (F.contents files.old) (F.contents files.new) F.is_known (wanted_of order.entry) E.may_lack_memory (stream (E.failures err.new) (E.taken err.new))) }
 {
     let report = report_of(alloc, order, files, err)?;
     write_report(alloc, &report, outputs_of(order), files, out, err)
@@ -168,8 +170,8 @@ fn report_of<F: Files, E: Sink + Clock>(
     ensures kept { AreKept (F.contents files.old) (F.contents files.new) }
     ensures unfailed { IfOk result (λ _. F.failures files.new ≡ F.failures files.old) }
     ensures failures { IfErr result (CountsFailure (F.failures files.old) (F.failures files.new)) }
-    ensures progress { AreSaid (IsProgressOn (F.contents files.old) (wanted_of order.entry)) E.wants_memory (stream (E.failures err.old) (E.taken err.old)) (stream (E.failures err.new) (E.taken err.new)) }
-    ensures ended { IfOk result (HasEndedFor (wanted_of order.entry) E.wants_memory (E.failures err.new) (E.taken err.new)) }
+    ensures progress { AreSaid (IsProgressOn (F.contents files.old) (wanted_of order.entry)) E.may_lack_memory (stream (E.failures err.old) (E.taken err.old)) (stream (E.failures err.new) (E.taken err.new)) }
+    ensures ended { IfOk result (HasEndedFor (wanted_of order.entry) E.may_lack_memory (E.failures err.new) (E.taken err.new)) }
 {
     match order {
         Order::Validate {
@@ -187,10 +189,11 @@ fn report_of<F: Files, E: Sink + Clock>(
             states,
             instances,
             seconds,
+            cert_version,
             progress,
             ..
         } => {
-            let limits = limits_of(states, instances, seconds);
+            let limits = limits_of(states, instances, seconds, cert_version);
             let names = PairNames { domain, problem };
             let asked = SolveAsked {
                 names,
@@ -255,14 +258,32 @@ fn steps_of(trace: bool) -> StepLines
 }
 
 /// The limits of a search.
-fn limits_of(states: MaxCount, instances: MaxCount, seconds: Option<MaxCount>) -> Limits
+fn limits_of(
+    states: MaxCount,
+    instances: MaxCount,
+    seconds: Option<MaxCount>,
+    cert_version: CertVersion,
+) -> Limits
     ensures states { result.states ≡ states.number }
     ensures instances { result.instances ≡ instances.number }
     ensures seconds { result.seconds ≡ number_in seconds }
+    ensures version { solver.number_of result.version ≡ words.number_of cert_version }
 {
     let limits = Limits::new(states.number(), instances.number()).unwrap();
+    let limits = limits.up_to_version(version_of(cert_version));
     match seconds {
         Some(most) => limits.within_seconds(most.number()),
         None => limits,
+    }
+}
+
+/// The same version, as a limit of the search.
+fn version_of(version: CertVersion) -> MaxVersion
+    ensures { solver.number_of result ≡ words.number_of version }
+{
+    match version {
+        CertVersion::Two => MaxVersion::Two,
+        CertVersion::Three => MaxVersion::Three,
+        CertVersion::Four => MaxVersion::Four,
     }
 }

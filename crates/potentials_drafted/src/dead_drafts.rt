@@ -4,10 +4,11 @@
 //! a ray on which a state gains, its value eventually reaches 1, and the state is detected as a dead end.
 use crate::aims::{Aim, Aims};
 use crate::linear_program::LinearProgram;
-use crate::mending::is_whole;
 use crate::program_input::ProgramInput;
-use crate::simplex::{Allowance, Vertex};
+use crate::repair::is_whole;
+use crate::simplex::Vertex;
 use faults::NoMemory;
+use potentials::Allowance;
 use std::alloc::Global;
 use std::num::{nearest_i64_to_f64, saturating_f64_to_i64};
 

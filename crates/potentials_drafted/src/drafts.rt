@@ -1,10 +1,11 @@
 //! Weights that may raise the value of the initial state and of sampled states.
 use crate::aims::{Aim, Aims};
 use crate::linear_program::LinearProgram;
-use crate::mending::Mending;
 use crate::program_input::ProgramInput;
-use crate::simplex::{Allowance, Vertex};
+use crate::repair::Repair;
+use crate::simplex::Vertex;
 use faults::NoMemory;
+use potentials::Allowance;
 use std::alloc::Global;
 
 /// The weight of the sampled states together in the objective, relative to the initial state's weight of 1: first none, then
@@ -26,15 +27,15 @@ pub fn drafted_weights(
     let aims = aims(alloc, input)?;
     let program = LinearProgram::new(alloc, input, &aims)?;
     let mut vertex = Vertex::new(alloc, &program, Allowance::Cost, MAX_WORK)?;
-    let mut mending = Mending::new(alloc, input, &aims, weights)?;
+    let mut repair = Repair::new(alloc, input, &aims, weights)?;
     for share in SHARES {
         if vertex.climb(&program, &aims, share)? {
             let grown = vertex.grown(alloc, input)?;
             let solution = program.weights(alloc, &grown)?;
-            mending.take(input, &aims, &solution)?;
+            repair.take(input, &aims, &solution)?;
         }
     }
-    Ok(mending.into_best())
+    Ok(repair.into_best())
 }
 
 /// The initial state, and the sampled ones.

@@ -9,8 +9,8 @@ mod dead_drafts;
 mod drafts;
 mod incidence;
 mod linear_program;
-mod mending;
 mod program_input;
+mod repair;
 mod samples;
 mod simplex;
 
@@ -18,4 +18,4 @@ pub use dead_drafts::DeadDrafts;
 pub use drafts::drafted_weights;
 pub use incidence::{Incidence, IncidenceEntry};
 pub use program_input::ProgramInput;
-pub use samples::Chance;
+pub use samples::RandomGenerator;

@@ -17,7 +17,7 @@ const PARTS: usize = 65_536;
 
 /// A random generator with a fixed seed.
 #[derive(Drop)]
-pub struct Chance {
+pub struct RandomGenerator {
     state: u64,
 }
 
@@ -27,7 +27,7 @@ struct RandomWalk {
     state: Packed,
     next: Packed,
     applicable: Vec<u32>,
-    chance: Chance,
+    random: RandomGenerator,
 }
 
 /// The end states of this many random walks from the initial state, each given by its true atoms; empty if there are too many
@@ -67,10 +67,10 @@ fn most_steps(instances: u32) -> u32 {
     (MAX_LOOKS / instances).min(MAX_STEPS)
 }
 
-impl Chance {
+impl RandomGenerator {
     /// The generator with its fixed seed.
-    pub fn new() -> Chance {
-        Chance { state: 1 }
+    pub fn new() -> RandomGenerator {
+        RandomGenerator { state: 1 }
     }
 
     /// The next random number from 0 to 1.
@@ -98,7 +98,7 @@ impl RandomWalk {
             state: Packed::empty(alloc, width)?,
             next: Packed::empty(alloc, width)?,
             applicable: Vec::new(alloc),
-            chance: Chance::new(),
+            random: RandomGenerator::new(),
         })
     }
 
@@ -111,7 +111,7 @@ impl RandomWalk {
 
     /// Takes a random number of steps, at most `most`, and fewer if no instance is applicable any more.
     fn go(&mut self, ground: &Ground<'_>, most: u32) -> Result<(), NoMemory> {
-        let steps = self.chance.below(most as usize + 1);
+        let steps = self.random.below(most as usize + 1);
         for _ in 0..steps {
             if !self.step(ground)? {
                 return Ok(());
@@ -126,7 +126,7 @@ impl RandomWalk {
             return Ok(false);
         }
         ground.list_applicable(&self.state, &mut self.applicable)?;
-        let place = self.chance.below(self.applicable.len());
+        let place = self.random.below(self.applicable.len());
         let Some(number) = self.applicable.get(place) else {
             return Ok(false);
         };

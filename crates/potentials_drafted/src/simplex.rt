@@ -8,8 +8,9 @@
 use crate::aims::Aims;
 use crate::linear_program::LinearProgram;
 use crate::program_input::ProgramInput;
-use crate::samples::Chance;
+use crate::samples::RandomGenerator;
 use faults::NoMemory;
+use potentials::Allowance;
 use std::alloc::Global;
 use std::num::nearest_i64_to_f64;
 
@@ -27,15 +28,6 @@ const RISE: f64 = 1e-6;
 
 /// The slack of a tight constraint: it cannot block until it has loosened.
 const TIGHT: f64 = f64::INFINITY;
-
-/// The amount that an instance may lose.
-#[derive(Clone, Copy)]
-pub(crate) enum Allowance {
-    /// Its cost.
-    Cost,
-    /// Nothing, whatever it costs.
-    Nothing,
-}
 
 /// A tight constraint and the edge along which it alone loosens: the growth of each variable along it, the gain of the states,
 /// and the square of its length.
@@ -92,13 +84,11 @@ pub(crate) struct Vertex {
     max_work: u64,
 }
 
-impl Allowance {
-    /// The amount that an instance with this cost may lose.
-    fn of(self, cost: i64) -> i64 {
-        match self {
-            Allowance::Cost => cost,
-            Allowance::Nothing => 0,
-        }
+/// The amount that an instance with this cost may lose.
+fn allowed(allowance: Allowance, cost: i64) -> i64 {
+    match allowance {
+        Allowance::Cost => cost,
+        Allowance::Nothing => 0,
     }
 }
 
@@ -134,14 +124,14 @@ impl Vertex {
     fn fill_slacks(&mut self, costs: &[i64], allowance: Allowance) -> Result<(), NoMemory> {
         let mut most = 1;
         for cost in costs {
-            most = most.max(allowance.of(*cost));
+            most = most.max(allowed(allowance, *cost));
         }
         let rise = RISE * nearest_i64_to_f64(most);
-        let mut chance = Chance::new();
+        let mut random = RandomGenerator::new();
         for cost in costs {
-            let more = rise * (1.0 + chance.part());
+            let more = rise * (1.0 + random.part());
             self.slacks
-                .push(nearest_i64_to_f64(allowance.of(*cost)) + more)?;
+                .push(nearest_i64_to_f64(allowed(allowance, *cost)) + more)?;
         }
         Ok(())
     }

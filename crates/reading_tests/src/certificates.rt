@@ -1,6 +1,6 @@
 //! Tests of the limits of certificates that are made in memory.
 use certificate::{
-    Basis, Cert, Claim, Evidence, Header, Landmarks, Mark, Potential, StateLine, Version,
+    Basis, Cert, Claim, Evidence, Header, Landmarks, Mark, StateLine, Version, WrittenPotentials,
 };
 use faults::NoMemory;
 use indexmap::IndexSet;
@@ -28,7 +28,7 @@ const ZERO: Weights = (0, &[0, 0]);
 const LARGEST: Weights = (2_147_483_647, &[-2_147_483_647, 3]);
 
 /// The state without an atom.
-const START: Line = (0, Mark::Open, &[]);
+const START: Line = (0, Mark::Expanded, &[]);
 
 /// Claims and states; weights of values; versions, and weights of dead ends.
 #[rattlefmt::skip]
@@ -37,14 +37,14 @@ static ROWS: [Row; 32] = [
     (Version::One, Claim::Bound(0), LARGEST, ZERO, (0, Mark::Cut { by: Basis::OfAll, rest: 0 }, &[1]), true),
     (Version::One, Claim::Unsolvable, LARGEST, ZERO, START, true),
     (Version::One, Claim::Bound(MOST + 1), LARGEST, ZERO, START, false),
-    (Version::One, Claim::Bound(0), LARGEST, ZERO, (MOST + 1, Mark::Open, &[]), false),
+    (Version::One, Claim::Bound(0), LARGEST, ZERO, (MOST + 1, Mark::Expanded, &[]), false),
     (Version::One, Claim::Bound(0), LARGEST, ZERO, (0, Mark::Cut { by: Basis::OfAll, rest: MOST + 1 }, &[]), false),
     // Numbers that descend, repeat, or name no atom.
-    (Version::One, Claim::Bound(0), LARGEST, ZERO, (0, Mark::Open, &[1, 0]), false),
-    (Version::One, Claim::Bound(0), LARGEST, ZERO, (0, Mark::Open, &[0, 0]), false),
-    (Version::One, Claim::Bound(0), LARGEST, ZERO, (0, Mark::Open, &[1, 1]), false),
-    (Version::One, Claim::Bound(0), LARGEST, ZERO, (0, Mark::Open, &[2]), false),
-    (Version::One, Claim::Bound(0), LARGEST, ZERO, (0, Mark::Open, &[0, 1, 2]), false),
+    (Version::One, Claim::Bound(0), LARGEST, ZERO, (0, Mark::Expanded, &[1, 0]), false),
+    (Version::One, Claim::Bound(0), LARGEST, ZERO, (0, Mark::Expanded, &[0, 0]), false),
+    (Version::One, Claim::Bound(0), LARGEST, ZERO, (0, Mark::Expanded, &[1, 1]), false),
+    (Version::One, Claim::Bound(0), LARGEST, ZERO, (0, Mark::Expanded, &[2]), false),
+    (Version::One, Claim::Bound(0), LARGEST, ZERO, (0, Mark::Expanded, &[0, 1, 2]), false),
     (Version::One, Claim::Bound(0), ZERO, ZERO, START, true),
     (Version::One, Claim::Bound(0), (-2_147_483_647, &[2_147_483_647, -2_147_483_647]), ZERO, START, true),
     (Version::One, Claim::Bound(0), (-2_147_483_648, &[0, 0]), ZERO, START, false),
@@ -71,10 +71,10 @@ static ROWS: [Row; 32] = [
 ];
 
 /// The potential function with this constant and these weights.
-fn potential(alloc: Global, weights: &Weights) -> Result<Potential, AllocError> {
+fn potential(alloc: Global, weights: &Weights) -> Result<WrittenPotentials, AllocError> {
     let (constant, weights) = *weights;
     let weights = Vec::from_slice(alloc, weights)?;
-    Ok(Potential { constant, weights })
+    Ok(WrittenPotentials { constant, weights })
 }
 
 /// The set of these atoms.

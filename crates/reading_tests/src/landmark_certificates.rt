@@ -20,7 +20,7 @@ const SHARES: [Share; 2] = [Share { zone: 0, weight: 3 }, Share { zone: 1, weigh
 /// The states: their costs, roles and atoms.
 #[rattlefmt::skip]
 static STATES: [(u64, Mark, &[u32]); 3] = [
-    (0, Mark::Open, &[0]),
+    (0, Mark::Expanded, &[0]),
     (1, Mark::Cut { by: Basis::Landmark(0), rest: 3 }, &[1]),
     (2, Mark::Dead { by: Basis::Landmark(0) }, &[0, 1]),
 ];

@@ -1,4 +1,4 @@
-//! The laws of reading, meaning, ground tasks and certificates that are proved for all values, each called once; and the numbers
+//! The laws of reading, meaning and certificates that are proved for all values, each called once; and the numbers
 //! that the contracts mention.
 use cert_checker::{
     closed_certificates_are_accepted, closed_claim_holds, examples_are_judged,
@@ -7,11 +7,6 @@ use cert_checker::{
 use certificate::{MAX_ATOMS, MAX_STATE_LINES, NUMBER_LIMIT, texts_are_certificates_one_for_one};
 use explain_plans::false_parts_report;
 use formulas::{MAX_STEPS, formula_examples_are_judged, one_state, sure_literals_hold};
-use grounding::{
-    atoms_are_numbered, ground_task_is_bisimilar, ground_task_solves_alike,
-    grounding_examples_are_judged, numbered_literals_hold, only_counting_changes_are_made,
-    packs_states, statically_false_is_not_applicable,
-};
 use task::{MAX_ARGUMENTS, MAX_OBJECTS, MAX_VARIABLES};
 use tokens::LONGEST_TEXT;
 use typing::{examples_are_typed, supertypes_are_those_above};
@@ -41,18 +36,6 @@ fn laws_of_meaning_are_called() {
     exactly_one_verdict_is_true();
     worked_examples_are_true();
     false_parts_report();
-}
-
-#[test]
-fn laws_of_ground_tasks_are_called() {
-    atoms_are_numbered();
-    statically_false_is_not_applicable();
-    only_counting_changes_are_made();
-    numbered_literals_hold();
-    packs_states();
-    ground_task_is_bisimilar();
-    ground_task_solves_alike();
-    grounding_examples_are_judged();
 }
 
 #[test]

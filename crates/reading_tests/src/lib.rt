@@ -1,4 +1,4 @@
-//! Tests of trees, tasks, states, ground tasks, landmark values and certificates, as far as runs of the program cannot show them.
+//! Tests of trees, tasks, states, landmark values and certificates, as far as runs of the program cannot show them.
 #![tactic(auto)]
 
 #[cfg(test)]
@@ -7,8 +7,6 @@ mod certificates;
 mod checked_streams;
 #[cfg(test)]
 mod explained;
-#[cfg(test)]
-mod ground_tasks;
 #[cfg(test)]
 mod landmark_certificates;
 #[cfg(test)]

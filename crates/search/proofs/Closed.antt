@@ -5,14 +5,14 @@ use Rattle.std.proofs.lemmas.Bool.{false≢true}
 use Rattle.std.proofs.lemmas.Option.{same_Some, slice_get_within}
 use Rattle.std.proofs.lemmas.List.Sums.{sum_by-append}
 use Rattle.model.specs.Runs.{System, run, cost_of_all, CostsAtLeast, Solves, IsOptimal, IsUnsolvable}
-use Rattle.model.specs.Claims.{Claim, bound, none, Allows, ClaimHolds, Mark, opened, cut, dead, Line, IsListedWithin, AreTrue, IsClosed}
+use Rattle.model.specs.Claims.{Claim, bound, none, Allows, ClaimHolds, Mark, expanded, cut, dead, Line, IsListedWithin, AreTrue, IsClosed}
 use Rattle.model.proofs.ClaimsLemmas.{claim-of_closed}
 use Rattle.model.proofs.ListLemmas.{Contains-here, Contains-there, Contains-cases, Contains-none}
 use Rattle.search.specs.declared.nodes.Node.{Node}
 use Rattle.search.specs.Estimates.{IsAdmissible, IsConsistent}
 use Rattle.search.specs.DeadEnds.{DetectsDeadEnds, ReportsDeadEnds}
 use Rattle.search.specs.Outcome.{AreOfOneClass, AreOwnClasses, AreClassesOf, is_expanded, is_marked_dead, line_of, lines_of, IsReachableAt, ReachingCostsAtLeast, AreFound, AreExpandedWithin}
-use Rattle.search.specs.Nodes.{Waiting, Found, found_of, IsWaiting, total_of, AreNodes, IsFoundWithin, AreOpen, parent_of, begins, follows, IsPath, IsReachedIn, IsWay, dearest}
+use Rattle.search.specs.Nodes.{Waiting, Found, found_of, IsWaiting, total_of, AreNodes, IsFoundWithin, AreClosed, parent_of, begins, follows, IsPath, IsReachedIn, IsWay, dearest}
 use Rattle.search.proofs.NodesLemmas.{run-push}
 use Rattle.search.proofs.ShortWays.{short_way}
 use Rattle.search.proofs.Linked.{found_of-get, get-found_of, length-found_of}
@@ -43,21 +43,21 @@ at-line value is_dead (x ∷ states) (y ∷ all) (suc k) s r is_s is_r =
 
 -- what a mark reports
 abbrev rest_of : Mark → ℕ
-rest_of opened = 0
+rest_of expanded = 0
 rest_of (cut rest) = rest
 rest_of dead = 0
 
-open_if : (expanded reported : Bool) (estimate : ℕ) → (if expanded then opened else (if reported then dead else cut estimate)) ≡ opened → expanded ≡ true
+open_if : (was_expanded reported : Bool) (estimate : ℕ) → (if was_expanded then expanded else (if reported then dead else cut estimate)) ≡ expanded → was_expanded ≡ true
 open_if true reported estimate is = refl
 open_if false true estimate is = absurd (cc)
 open_if false false estimate is = absurd (cc)
 
-cut_if : (expanded reported : Bool) (estimate rest : ℕ) → (if expanded then opened else (if reported then dead else cut estimate)) ≡ cut rest → (expanded ≡ false) × (reported ≡ false) × (rest ≡ estimate)
+cut_if : (was_expanded reported : Bool) (estimate rest : ℕ) → (if was_expanded then expanded else (if reported then dead else cut estimate)) ≡ cut rest → (was_expanded ≡ false) × (reported ≡ false) × (rest ≡ estimate)
 cut_if true reported estimate rest is = absurd (cc)
 cut_if false true estimate rest is = absurd (cc)
 cut_if false false estimate rest is = (refl, refl, sym (ap rest_of is))
 
-dead_if : (expanded reported : Bool) (estimate : ℕ) → (if expanded then opened else (if reported then dead else cut estimate)) ≡ dead → reported ≡ true
+dead_if : (was_expanded reported : Bool) (estimate : ℕ) → (if was_expanded then expanded else (if reported then dead else cut estimate)) ≡ dead → reported ≡ true
 dead_if true reported estimate is = absurd (cc)
 dead_if false true estimate is = refl
 dead_if false false estimate is = absurd (cc)
@@ -121,7 +121,7 @@ module _ {S : Type 0} (t : System S ℕ) (class_of : S → S) (value : S → ℕ
       (line_of value is_dead n.state n.node, at-line value is_dead states all k n.state n.node parts.0 parts.1, is, within)
 
   module _ (listed : AreListed t class_of value is_dead (found_of states all)) where
-    pub closed : (claim : Claim) → AreOpen t class_of (found_of states all)
+    pub closed : (claim : Claim) → AreClosed t class_of (found_of states all)
         → ((k : ℕ) (n : Found S) → slice_get (found_of states all) k ≡ Some n → IsWaiting is_dead n → Allows claim (total_of value n))
         → IsClosed t (AreOfOneClass class_of) claim (lines_of value is_dead states all)
     closed claim are_open allowed = record {
@@ -129,18 +129,18 @@ module _ {S : Type 0} (t : System S ℕ) (class_of : S → S) (value : S → ℕ
       successors_listed = λ line a next at mark step.
           let (k, s, r, is_s, is_r, is) = line-at value is_dead states all line at in
           let there = node_at k s r is_s is_r in
-          let expanded : is_expanded r ≡ true = open_if (is_expanded r) (is_dead s) (value s) (ap (λ (l : Line S). l.mark) is ∙ mark) in
+          let was_expanded : is_expanded r ≡ true = open_if (is_expanded r) (is_dead s) (value s) (ap (λ (l : Line S). l.mark) is ∙ mark) in
           let same : s ≡ line.state = ap (λ (l : Line S). l.state) is in
           let same_cost : r.cost ≡ line.cost = ap (λ (l : Line S). l.cost) is in
           subst (λ c. IsListedWithin (AreOfOneClass class_of) (lines_of value is_dead states all) next (c + t.cost a)) same_cost
           (listed_within next (r.cost + t.cost a)
-          (are_open k (record { state = s; node = r }) there expanded a next (ap (λ (x : S). t.step x a) same ∙ step)));
-      open_goals_allowed = λ line at mark goal.
+          (are_open k (record { state = s; node = r }) there was_expanded a next (ap (λ (x : S). t.step x a) same ∙ step)));
+      expanded_goals_allowed = λ line at mark goal.
           let (k, s, r, is_s, is_r, is) = line-at value is_dead states all line at in
           let there = node_at k s r is_s is_r in
-          let expanded : is_expanded r ≡ true = open_if (is_expanded r) (is_dead s) (value s) (ap (λ (l : Line S). l.mark) is ∙ mark) in
+          let was_expanded : is_expanded r ≡ true = open_if (is_expanded r) (is_dead s) (value s) (ap (λ (l : Line S). l.mark) is ∙ mark) in
           let same : s ≡ line.state = ap (λ (l : Line S). l.state) is in
-          absurd (false≢true (sym (listed.no_goal k (record { state = s; node = r }) there expanded) ∙ ap t.meets_goal same ∙ goal));
+          absurd (false≢true (sym (listed.no_goal k (record { state = s; node = r }) there was_expanded) ∙ ap t.meets_goal same ∙ goal));
       cuts_allowed = λ line rest at mark.
           let (k, s, r, is_s, is_r, is) = line-at value is_dead states all line at in
           let there = node_at k s r is_s is_r in
@@ -165,9 +165,9 @@ module _ {S : Type 0} (t : System S ℕ) (class_of : S → S) (value : S → ℕ
           let s = get_exists states k (omega (arith, slice_get_within all k r at_r)) in
           let there = node_at k s.0 r s.1 at_r in
           rw (length-found_of states all one_each) at (listed.cheap k (record { state = s.0; node = r }) there);
-      expanded_cheapest = λ own consistent detects k s r at_s at_r expanded. listed.cheapest own consistent detects k (record { state = s; node = r }) (node_at k s r at_s at_r) expanded;
+      expanded_cheapest = λ own consistent detects k s r at_s at_r was_expanded. listed.cheapest own consistent detects k (record { state = s; node = r }) (node_at k s r at_s at_r) was_expanded;
       marked = λ k s r at_s at_r. listed.marked k (record { state = s; node = r }) (node_at k s r at_s at_r);
-      expanded_alive = λ k s r at_s at_r expanded. listed.alive k (record { state = s; node = r }) (node_at k s r at_s at_r) expanded;
+      expanded_alive = λ k s r at_s at_r was_expanded. listed.alive k (record { state = s; node = r }) (node_at k s r at_s at_r) was_expanded;
       closed = is_closed;
     }
 
@@ -212,7 +212,7 @@ module _ {S : Type 0} (t : System S ℕ) (class_of : S → S) (value : S → ℕ
         )
 
     -- no list that solves costs less than the sum of the node whose turn came: each has to pass through one that waits
-    pub no_plan_cheaper : AreClassesOf t class_of → IsAdmissible t value → ReportsDeadEnds t is_dead → (one : Found S) → AreOpen t class_of (found_of states all)
+    pub no_plan_cheaper : AreClassesOf t class_of → IsAdmissible t value → ReportsDeadEnds t is_dead → (one : Found S) → AreClosed t class_of (found_of states all)
         → ((k : ℕ) (n : Found S) → slice_get (found_of states all) k ≡ Some n → IsWaiting is_dead n → total_of value one ≤ total_of value n)
         → CostsAtLeast t (total_of value one)
     no_plan_cheaper classes admissible reports one are_open least =
@@ -220,7 +220,7 @@ module _ {S : Type 0} (t : System S ℕ) (class_of : S → S) (value : S → ℕ
         claimed listing classes admissible reports (bound sum) (closed listing (bound sum) are_open (λ k n at waits. least k n at waits))
 
     -- a goal state whose turn came is reached by a cheapest list
-    pub optimal : AreClassesOf t class_of → IsAdmissible t value → ReportsDeadEnds t is_dead → (i : ℕ) (one : Found S) (steps : List ℕ) (max_states : ℕ) → AreOpen t class_of (found_of states all) → slice_get (found_of states all) i ≡ Some one
+    pub optimal : AreClassesOf t class_of → IsAdmissible t value → ReportsDeadEnds t is_dead → (i : ℕ) (one : Found S) (steps : List ℕ) (max_states : ℕ) → AreClosed t class_of (found_of states all) → slice_get (found_of states all) i ≡ Some one
         → ((k : ℕ) (n : Found S) → slice_get (found_of states all) k ≡ Some n → IsWaiting is_dead n → total_of value one ≤ total_of value n)
         → t.meets_goal one.state ≡ true → IsPath all i steps → length steps ≤ length all → length states ≤ max_states
         → IsOptimal t steps × (cost_of_all t steps ≡ one.node.cost) × AreFound t class_of value is_dead (bound one.node.cost) max_states states all
@@ -236,11 +236,11 @@ module _ {S : Type 0} (t : System S ℕ) (class_of : S → S) (value : S → ℕ
           costs,
           found_states listing (bound one.node.cost) max_states within is_closed,
           omega (arith, short, one_each, within),
-          λ k s r at_s at_r expanded. omega (arith, nodes.no_dearer k (record { state = s; node = r }) (node_at k s r at_s at_r) expanded steps solves, costs),
+          λ k s r at_s at_r was_expanded. omega (arith, nodes.no_dearer k (record { state = s; node = r }) (node_at k s r at_s at_r) was_expanded steps solves, costs),
         )
 
     -- where no state waits, none solves
-    pub unsolvable : AreClassesOf t class_of → IsAdmissible t value → ReportsDeadEnds t is_dead → (max_states : ℕ) → AreOpen t class_of (found_of states all)
+    pub unsolvable : AreClassesOf t class_of → IsAdmissible t value → ReportsDeadEnds t is_dead → (max_states : ℕ) → AreClosed t class_of (found_of states all)
         → ((k : ℕ) (n : Found S) → slice_get (found_of states all) k ≡ Some n → IsWaiting is_dead n → ⊥) → length states ≤ max_states
         → IsUnsolvable t × AreFound t class_of value is_dead none max_states states all
     unsolvable classes admissible reports max_states are_open none_waits within =

@@ -4,7 +4,7 @@ use Rattle.std.specs.Prelude.{slice_get, All}
 use Rattle.std.proofs.lemmas.List.Elements.{All-weaker}
 use Rattle.model.specs.Runs.{System}
 use Rattle.search.specs.Outcome.{AreOfOneClass}
-use Rattle.search.specs.Nodes.{Waiting, place_of, IsEntryOf, has_been_expanded, parent_of, begins, follows, IsWay, HasWay, Found, Leads, IsFoundWithin, IsOpen}
+use Rattle.search.specs.Nodes.{Waiting, place_of, IsEntryOf, has_been_expanded, parent_of, begins, follows, IsWay, HasWay, Found, Leads, IsFoundWithin, IsClosedAt}
 
 -- The node's place has one of its class still, which costs no more: another one only where it costs less and the node has never been
 -- expanded.
@@ -31,7 +31,7 @@ module _ {S : Type 0} (nodes after : List (Found S)) where
         let is = kept k n at in
         (k, is.now, is.there, is.alike ∙ alike, omega (arith, is.cheaper, within))
 
-    pub open_kept : (t : System S ℕ) (n : Found S) → IsOpen t class_of nodes n → IsOpen t class_of after n
+    pub open_kept : (t : System S ℕ) (n : Found S) → IsClosedAt t class_of nodes n → IsClosedAt t class_of after n
     open_kept t n is_open a next step = found_kept next (n.node.cost + t.cost a) (is_open a next step)
 
     -- a node's parent may be reached more cheaply, and is the same state

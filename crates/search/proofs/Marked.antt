@@ -10,7 +10,7 @@ use Rattle.search.specs.declared.nodes.NodeStatus.{NodeStatus}
 use Rattle.search.specs.declared.nodes.NodeStatus.TheVariants.{Reopened, Expanded}
 use Rattle.search.specs.Estimates.{IsConsistent}
 use Rattle.search.specs.DeadEnds.{DetectsDeadEnds}
-use Rattle.search.specs.Nodes.{Waiting, entry, IsWaiting, total_of, IsEntryOf, has_been_expanded_status, parent_of, follows, HasWay, Found, Leads, dearest, AreNodes, IsOpen, AreOpen, AreOpenBut, IsTurn, marked}
+use Rattle.search.specs.Nodes.{Waiting, entry, IsWaiting, total_of, IsEntryOf, has_been_expanded_status, parent_of, follows, HasWay, Found, Leads, dearest, AreNodes, IsClosedAt, AreClosed, AreClosedBut, IsTurn, marked}
 use Rattle.search.specs.Outcome.{AreOwnClasses, is_expanded, is_marked_dead, IsReachableAt, ReachingCostsAtLeast}
 use Rattle.search.proofs.Kept.{AreKept, way_kept, open_kept, leads_kept, entries_kept}
 
@@ -155,8 +155,8 @@ module _ {S : Type 0} (nodes after : List (Found S)) (i : ℕ) (one : Found S) (
         (λ k n _ at expanded. old.ordered consistent k i n one at stood expanded (waited, alive));
   }
 
-  pub open_but_marked : AreOpen t class_of nodes → AreOpenBut t class_of after i
-  open_but_marked all = each (λ k n. is_expanded n.node ≡ true → k ≢ i → IsOpen t class_of after n)
+  pub open_but_marked : AreClosed t class_of nodes → AreClosedBut t class_of after i
+  open_but_marked all = each (λ k n. is_expanded n.node ≡ true → k ≢ i → IsClosedAt t class_of after n)
       (λ _ other. absurd (other refl))
       (λ k n _ at expanded _. open_kept nodes after class_of kept t n (all k n at expanded))
 
@@ -174,8 +174,8 @@ module _ {S : Type 0} (t : System S ℕ) (class_of : S → S) (value : S → ℕ
       → (k : ℕ) (n : Found S) → slice_get after k ≡ Some n → is_expanded n.node ≡ true → P k n
   expanded_back P elsewhere = back (λ k n. is_expanded n.node ≡ true → P k n) (λ expanded. absurd (false≢true expanded)) elsewhere
 
-  pub open_unmarked : AreOpenBut t class_of nodes i → AreOpen t class_of after
-  open_unmarked all = expanded_back (λ k n. IsOpen t class_of after n) (λ k n other at expanded. open_kept nodes after class_of kept_back t n (all k n at expanded other))
+  pub open_unmarked : AreClosedBut t class_of nodes i → AreClosed t class_of after
+  open_unmarked all = expanded_back (λ k n. IsClosedAt t class_of after n) (λ k n other at expanded. open_kept nodes after class_of kept_back t n (all k n at expanded other))
 
   pub nodes_unmarked : (open_list : List Waiting) → AreNodes t class_of value is_dead nodes open_list → length after ≡ length nodes
       → AreNodes t class_of value is_dead after (entry turn.found.node.cost (value turn.found.state) i ∷ open_list)
@@ -212,10 +212,10 @@ module _ {S : Type 0} (t : System S ℕ) (class_of : S → S) (value : S → ℕ
       }
 
 -- its turn ends: it is open as the others are
-pub open_all : {S : Type 0} (t : System S ℕ) (class_of : S → S) (nodes : List (Found S)) (i : ℕ) (one : Found S) → slice_get nodes i ≡ Some one → IsOpen t class_of nodes one
-    → AreOpenBut t class_of nodes i → AreOpen t class_of nodes
+pub open_all : {S : Type 0} (t : System S ℕ) (class_of : S → S) (nodes : List (Found S)) (i : ℕ) (one : Found S) → slice_get nodes i ≡ Some one → IsClosedAt t class_of nodes one
+    → AreClosedBut t class_of nodes i → AreClosed t class_of nodes
 open_all {S} t class_of nodes i one occurs is_open others k n at expanded =
     elim (cases_eq k i) [
-      | inl e ↦ subst (λ (x : Found S). IsOpen t class_of nodes x) (same_Some one n (sym occurs ∙ ap (slice_get nodes) (sym e) ∙ at)) is_open
+      | inl e ↦ subst (λ (x : Found S). IsClosedAt t class_of nodes x) (same_Some one n (sym occurs ∙ ap (slice_get nodes) (sym e) ∙ at)) is_open
       | inr other ↦ others k n at expanded other
     ]

@@ -11,10 +11,10 @@ use Rattle.std.proofs.lemmas.Option.{same_Some}
 use Rattle.std.proofs.lemmas.List.Sums.{sum_by-append}
 use Rattle.model.specs.Runs.{System, run, CostsAtLeast}
 use Rattle.search.specs.declared.nodes.NodeStatus.{NodeStatus}
-use Rattle.search.specs.declared.nodes.NodeStatus.TheVariants.{Open, Reopened, Expanded, Dead}
+use Rattle.search.specs.declared.nodes.NodeStatus.TheVariants.{Unexpanded, Reopened, Expanded, Dead}
 use Rattle.search.specs.Estimates.{IsConsistent}
 use Rattle.search.specs.Outcome.{is_expanded_status, is_expanded, is_marked_dead, IsReachableAt, ReachingCostsAtLeast}
-use Rattle.search.specs.Nodes.{Waiting, entry, IsWaiting, total_of, IsEntryOf, has_been_expanded_status, parent_of, begins, follows, IsWay, HasWay, Found, Leads, dearest, AreNodes, IsOpen, AreOpenBut, IsTurn, Updates}
+use Rattle.search.specs.Nodes.{Waiting, entry, IsWaiting, total_of, IsEntryOf, has_been_expanded_status, parent_of, begins, follows, IsWay, HasWay, Found, Leads, dearest, AreNodes, IsClosedAt, AreClosedBut, IsTurn, Updates}
 use Rattle.search.specs.Progress.{Continues, IsListed}
 use Rattle.search.proofs.Kept.{AreKept, way_kept, found_kept, open_kept, leads_kept, entries_kept}
 
@@ -22,7 +22,7 @@ use Rattle.search.proofs.Kept.{AreKept, way_kept, found_kept, open_kept, leads_k
 pub record Stepped {S : Type 0} (t : System S ℕ) (class_of : S → S) (value : S → ℕ) (is_dead : S → Bool) (nodes after : List (Found S)) (open_list : List Waiting) (i : ℕ) (a : ℕ) (s : S) : Type 0 where
   pub sound : AreNodes t class_of value is_dead after open_list
   pub turn : IsTurn t value after i
-  pub others : AreOpenBut t class_of after i
+  pub others : AreClosedBut t class_of after i
   pub continues : Continues class_of nodes after i
   pub listed : IsListed t class_of after i a s
 
@@ -49,7 +49,7 @@ module _ {S A : Type 0} (t : System S A) where
 
 -- what is expanded now has been expanded
 pub expanded_been : (status : NodeStatus) → is_expanded_status status ≡ true → has_been_expanded_status status ≡ true
-expanded_been Open expanded = absurd (false≢true expanded)
+expanded_been Unexpanded expanded = absurd (false≢true expanded)
 expanded_been Reopened expanded = refl
 expanded_been Expanded expanded = refl
 expanded_been Dead expanded = absurd (false≢true expanded)
@@ -145,8 +145,8 @@ module _ {S : Type 0} (class_of : S → S) (nodes after : List (Found S)) (j : �
       greatest = λ consistent. each_expanded (λ k n. total_of value n ≤ total_of value turn.found) (turn.greatest consistent);
     }
 
-    open_but_still : AreOpenBut t class_of nodes i → AreOpenBut t class_of after i
-    open_but_still all = each_expanded (λ k n. k ≢ i → IsOpen t class_of after n) (λ k n at expanded other. open_kept nodes after class_of kept_updated t n (all k n at expanded other))
+    open_but_still : AreClosedBut t class_of nodes i → AreClosedBut t class_of after i
+    open_but_still all = each_expanded (λ k n. k ≢ i → IsClosedAt t class_of after n) (λ k n at expanded other. open_kept nodes after class_of kept_updated t n (all k n at expanded other))
 
     -- costs do not fall along a way, so that the one to the node whose turn it is does not come to the updated one
     way_still : (k : ℕ) (way : List ℕ) → IsWay nodes k way → ((n : Found S) → slice_get nodes k ≡ Some n → n.node.cost ≤ turn.found.node.cost) → IsWay after k way
@@ -223,7 +223,7 @@ module _ {S : Type 0} (class_of : S → S) (nodes after : List (Found S)) (j : �
         }
 
     -- all that a step keeps
-    pub stepped : (open_list' : List Waiting) → AreOpenBut t class_of nodes i → m.node.cost ≤ length after * dearest → t.step turn.found.state m.node.action ≡ Some m.state
+    pub stepped : (open_list' : List Waiting) → AreClosedBut t class_of nodes i → m.node.cost ≤ length after * dearest → t.step turn.found.state m.node.action ≡ Some m.state
         → (IsConsistent t value → value turn.found.state ≤ t.cost m.node.action + value m.state)
         → is_marked_dead m.node ≡ is_dead m.state → IsJoined (is_dead m.state) (entry m.node.cost (value m.state) j) open_list open_list'
         → Stepped t class_of value is_dead nodes after open_list' i m.node.action m.state

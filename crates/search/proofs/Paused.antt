@@ -10,7 +10,7 @@ use Rattle.search.specs.DeadEnds.{ReportsDeadEnds}
 use Rattle.search.specs.Outcome.{AreClassesOf, AreEstimates, IsAtLimit}
 use Rattle.search.specs.OpenList.{waiting_in}
 use Rattle.search.specs.Progress.{AreNotedWith, IsLeastWith, IsSearch, TakesNext, nodes_in}
-use Rattle.search.specs.Nodes.{Waiting, place_of, IsEntry, IsEntryOf, found_of, total_of, AreOpen}
+use Rattle.search.specs.Nodes.{Waiting, place_of, IsEntry, IsEntryOf, found_of, total_of, AreClosed}
 use Rattle.search.proofs.Noted.{are_estimates}
 use Rattle.search.proofs.OpenList.{All-among}
 use Rattle.search.proofs.Steps.{IsNext, at_turn, entries_of, entry_waits}
@@ -47,7 +47,7 @@ module _ {S Store : Type 0} (t : System S ℕ) (class_of : S → S) (value : S �
             omega (arith, next.least (place_of w) n at waits, sum, same, next.sum, is.no_greater)
       ]
 
-  pub at_pause : AreOpen t class_of (nodes_in states_of p) → AreClassesOf t class_of → IsAdmissible t value → ReportsDeadEnds t is_dead → (least : ℕ) → IsLeastWith turn.sum left p.nodes.items least
+  pub at_pause : AreClosed t class_of (nodes_in states_of p) → AreClassesOf t class_of → IsAdmissible t value → ReportsDeadEnds t is_dead → (least : ℕ) → IsLeastWith turn.sum left p.nodes.items least
       → IsAtLimit t class_of value is_dead (length (states_of p.store)) least (states_of p.store) p.nodes.items
   at_pause successors classes admissible reports least is =
       at_least t class_of value is_dead (states_of p.store) p.nodes.items (waiting_in p.open_list) search.one_each search.nodes successors classes admissible reports (length (states_of p.store)) least refl

@@ -11,13 +11,13 @@ use Rattle.search.specs.declared.listing.Place.{Place}
 use Rattle.search.specs.declared.listing.Place.TheVariants.{New, Listed, Alike}
 use Rattle.search.specs.declared.nodes.Node.{Node}
 use Rattle.search.specs.declared.nodes.NodeStatus.{NodeStatus}
-use Rattle.search.specs.declared.nodes.NodeStatus.TheVariants.{Open, Reopened, Expanded, Dead}
+use Rattle.search.specs.declared.nodes.NodeStatus.TheVariants.{Unexpanded, Reopened, Expanded, Dead}
 use Rattle.search.specs.declared.progress.Progress.{Progress}
 use Rattle.search.specs.Estimates.{IsConsistent}
 use Rattle.search.specs.DeadEnds.{IsValueUnlessDead}
 use Rattle.search.specs.Listing.{IsAlikeAt, IsPlacedBy}
 use Rattle.search.specs.Outcome.{AreOfOneClass, is_expanded_status, is_dead_status, is_expanded, is_marked_dead}
-use Rattle.search.specs.Nodes.{Waiting, entry, has_been_expanded_status, has_been_expanded, status_again, parent_of, Found, found_of, dearest, AreNodes, AreOpenBut, IsTurn}
+use Rattle.search.specs.Nodes.{Waiting, entry, has_been_expanded_status, has_been_expanded, status_again, parent_of, Found, found_of, dearest, AreNodes, AreClosedBut, IsTurn}
 use Rattle.search.specs.OpenList.{waiting_in, IsOpenList}
 use Rattle.search.specs.Progress.{IsPlaceAmong, IsFreeFor, IsReachedWithin, IsReachedCheaper, TakesPlace}
 use Rattle.search.proofs.Lists.{get-push_new}
@@ -39,7 +39,7 @@ pub record IsChild {S : Type 0} (t : System S ℕ) (value : S → ℕ) (is_dead 
 again_marks : {S : Type 0} (value : S → ℕ) (is_dead : S → Bool) (s : S) (before : NodeStatus) (estimate : Option ℕ) → IsValueUnlessDead value is_dead s estimate
     → (is_expanded_status (status_again before estimate) ≡ false) × (is_dead_status (status_again before estimate) ≡ is_dead s)
 again_marks value is_dead s before None dead = (refl, sym dead)
-again_marks value is_dead s Open (Some estimate) of = (refl, sym of.0)
+again_marks value is_dead s Unexpanded (Some estimate) of = (refl, sym of.0)
 again_marks value is_dead s Reopened (Some estimate) of = (refl, sym of.0)
 again_marks value is_dead s Expanded (Some estimate) of = (refl, sym of.0)
 again_marks value is_dead s Dead (Some estimate) of = (refl, sym of.0)
@@ -47,7 +47,7 @@ again_marks value is_dead s Dead (Some estimate) of = (refl, sym of.0)
 -- it has been expanded if it was
 again_expanded : {S : Type 0} (value : S → ℕ) (is_dead : S → Bool) (s : S) (before : NodeStatus) (estimate : Option ℕ) → IsValueUnlessDead value is_dead s estimate → is_dead_status before ≡ is_dead s
     → has_been_expanded_status before ≡ true → has_been_expanded_status (status_again before estimate) ≡ true
-again_expanded value is_dead s Open estimate of marked expanded = absurd (false≢true expanded)
+again_expanded value is_dead s Unexpanded estimate of marked expanded = absurd (false≢true expanded)
 again_expanded value is_dead s Dead estimate of marked expanded = absurd (false≢true expanded)
 again_expanded value is_dead s Reopened None dead marked expanded = absurd (false≢true (marked ∙ dead))
 again_expanded value is_dead s Reopened (Some estimate) of marked expanded = refl
@@ -56,7 +56,7 @@ again_expanded value is_dead s Expanded (Some estimate) of marked expanded = ref
 
 module _ {S : Type 0} (t : System S ℕ) (class_of : S → S) (value : S → ℕ) (is_dead : S → Bool) (states : List S) (all : List Node) (open_list : List Waiting) (i : ℕ)
     (one_each : length all ≡ length states)
-    (nodes : AreNodes t class_of value is_dead (found_of states all) open_list) (turn : IsTurn t value (found_of states all) i) (others : AreOpenBut t class_of (found_of states all) i) (s : S) where
+    (nodes : AreNodes t class_of value is_dead (found_of states all) open_list) (turn : IsTurn t value (found_of states all) i) (others : AreClosedBut t class_of (found_of states all) i) (s : S) where
   -- all that the step keeps
   abbrev IsStepped : List S → List Node → List Waiting → ℕ → Type 0
   IsStepped states' all' open_list' a = (length all' ≡ length states') × Stepped t class_of value is_dead (found_of states all) (found_of states' all') open_list' i a s
@@ -212,7 +212,7 @@ match_each false f h it = h it
 module _ {S Store : Type 0} (t : System S ℕ) (class_of : S → S) (value : S → ℕ) (is_dead : S → Bool) (states_of : Store → List S) (states : List S) (old new : Progress Store) (i max_states : ℕ)
     (one_each : length old.nodes.items ≡ length states)
     (nodes : AreNodes t class_of value is_dead (found_of states old.nodes.items) (waiting_in old.open_list)) (turn : IsTurn t value (found_of states old.nodes.items) i)
-    (others : AreOpenBut t class_of (found_of states old.nodes.items) i)
+    (others : AreClosedBut t class_of (found_of states old.nodes.items) i)
     (is_current : ℕ → Type 0) (s : S) (now : Node) (child : IsChild t value is_dead turn.found i s now) (estimate : Option ℕ) (of : IsValueUnlessDead value is_dead s estimate) where
   pub record IsTaken : Type 0 where
     pub each : length new.nodes.items ≡ length (states_of new.store)

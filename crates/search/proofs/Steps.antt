@@ -18,7 +18,7 @@ use Rattle.search.specs.declared.turns.Turn.{Turn}
 use Rattle.search.specs.Estimates.{IsAdmissible}
 use Rattle.search.specs.DeadEnds.{ReportsDeadEnds, IsValueUnlessDead}
 use Rattle.search.specs.Outcome.{AreClassesOf, is_expanded_status, is_dead_status, is_expanded, is_marked_dead, IsReachableAt, ReachingCostsAtLeast}
-use Rattle.search.specs.Nodes.{Waiting, place_of, sum_of, estimate_of, entry, IsEntry, IsWaiting, total_of, IsEntryOf, status_of_reached, begins, HasWay, Found, found_of, dearest, work_left, Leads, AreNodes, IsFoundWithin, IsOpen, AreOpen, AreOpenBut, IsTurn, IsCurrent, marked_as, marked}
+use Rattle.search.specs.Nodes.{Waiting, place_of, sum_of, estimate_of, entry, IsEntry, IsWaiting, total_of, IsEntryOf, status_of_reached, begins, HasWay, Found, found_of, dearest, work_left, Leads, AreNodes, IsFoundWithin, IsClosedAt, AreClosed, AreClosedBut, IsTurn, IsCurrent, marked_as, marked}
 use Rattle.search.specs.declared.open_list.OpenList.{OpenList}
 use Rattle.search.specs.OpenList.{waiting_in, IsOpenList, JoinsBy}
 use Rattle.search.specs.Progress.{Continues, IsListed, TakesNext}
@@ -156,7 +156,7 @@ module _ {S : Type 0} (t : System S ℕ) (class_of : S → S) (nodes : List (Fou
             ];
       }
 
-  pub left_end : (rest : List ℕ) → rest ≡ [] → AreLeft t class_of nodes i rest → IsOpen t class_of nodes one
+  pub left_end : (rest : List ℕ) → rest ≡ [] → AreLeft t class_of nodes i rest → IsClosedAt t class_of nodes one
   left_end rest none left a next step =
       elim (left.complete one occurs a next step) [
         | inl found ↦ found
@@ -241,7 +241,7 @@ pub record HasBegun {S : Type 0} (t : System S ℕ) (class_of : S → S) (value 
   pub one_each : length all ≡ length states
   pub nodes : AreNodes t class_of value is_dead (found_of states all) open_list
   pub turn : IsTurn t value (found_of states all) i
-  pub others_open : AreOpenBut t class_of (found_of states all) i
+  pub others_open : AreClosedBut t class_of (found_of states all) i
   pub occurs : slice_get (found_of states all) i ≡ Some (marked Expanded one)
   pub less : (most : ℕ) → work_left most (found_of states all) < work_left most before
 
@@ -252,7 +252,7 @@ module _ {S : Type 0} (t : System S ℕ) (class_of : S → S) (classes : AreClas
     (least : (k : ℕ) (n : Found S) → slice_get (found_of states all) k ≡ Some n → IsWaiting is_dead n → total_of value one ≤ total_of value n)
     (rest : (k : ℕ) (n : Found S) → slice_get (found_of states all) k ≡ Some n → IsWaiting is_dead n → k ≢ i → Contains open_list' (entry n.node.cost (value n.state) k))
     (entries : All (IsEntryOf value is_dead (found_of states all)) open_list') where
-  pub turn_begins : t.meets_goal one.state ≡ false → AreOpen t class_of (found_of states all) → (states' : List S) (all' : List Node)
+  pub turn_begins : t.meets_goal one.state ≡ false → AreClosed t class_of (found_of states all) → (states' : List S) (all' : List Node)
       → states' ≡ states → all' ≡ set all i (marked_as Expanded one.node)
       → HasBegun t class_of value is_dead (found_of states all) states' all' open_list' i one
   turn_begins no_goal are_open states' all' is_states is_all =

@@ -14,7 +14,7 @@ use Rattle.search.specs.DeadEnds.{ReportsDeadEnds}
 use Rattle.search.specs.Outcome.{AreClassesOf, AreEstimates, IsAtLimit}
 use Rattle.search.specs.OpenList.{waiting_in}
 use Rattle.search.specs.Progress.{AreNotedWith, IsStopped, IsLeastWith}
-use Rattle.search.specs.Nodes.{Waiting, sum_of, place_of, entry, IsEntry, IsEntryOf, Found, found_of, IsWaiting, total_of, AreNodes, AreOpen}
+use Rattle.search.specs.Nodes.{Waiting, sum_of, place_of, entry, IsEntry, IsEntryOf, Found, found_of, IsWaiting, total_of, AreNodes, AreClosed}
 use Rattle.search.proofs.Linked.{found_of-get}
 use Rattle.search.proofs.Closed.{are_listed, node_at, closed, found_states, claimed}
 use Rattle.search.proofs.Consistent.{falls_along}
@@ -22,7 +22,7 @@ use Rattle.search.proofs.Noted.{are_estimates}
 use Rattle.search.proofs.Steps.{entries_of, current_entry, entry_waits}
 
 module _ {S : Type 0} (t : System S ℕ) (class_of : S → S) (value : S → ℕ) (is_dead : S → Bool) (states : List S) (all : List Node) (open_list : List Waiting)
-    (one_each : length all ≡ length states) (nodes : AreNodes t class_of value is_dead (found_of states all) open_list) (are_open : AreOpen t class_of (found_of states all)) where
+    (one_each : length all ≡ length states) (nodes : AreNodes t class_of value is_dead (found_of states all) open_list) (are_open : AreClosed t class_of (found_of states all)) where
   -- the least sum of those that wait is a bound
   pub at_least : AreClassesOf t class_of → IsAdmissible t value → ReportsDeadEnds t is_dead → (max_states least : ℕ) → length states ≡ max_states
       → ((k : ℕ) (n : Found S) → slice_get (found_of states all) k ≡ Some n → IsWaiting is_dead n → least ≤ total_of value n)

@@ -9,12 +9,12 @@ use Rattle.model.specs.Runs.{System, run, cost_of_all}
 use Rattle.search.specs.Estimates.{IsConsistent}
 use Rattle.search.specs.DeadEnds.{DetectsDeadEnds}
 use Rattle.search.specs.Outcome.{AreOwnClasses, is_expanded, ReachingCostsAtLeast}
-use Rattle.search.specs.Nodes.{Waiting, Found, IsWaiting, total_of, AreNodes, IsFoundWithin, AreOpen}
+use Rattle.search.specs.Nodes.{Waiting, Found, IsWaiting, total_of, AreNodes, IsFoundWithin, AreClosed}
 use Rattle.search.proofs.Consistent.{falls_along}
 use Rattle.search.proofs.DeadEnds.{dead_along}
 
 module _ {S : Type 0} (t : System S ℕ) (class_of : S → S) (own : AreOwnClasses class_of) (value : S → ℕ) (is_dead : S → Bool) (consistent : IsConsistent t value) (detects : DetectsDeadEnds t is_dead)
-    (nodes : List (Found S)) (are_open : AreOpen t class_of nodes)
+    (nodes : List (Found S)) (are_open : AreClosed t class_of nodes)
     (least : ℕ) (at_least : (k : ℕ) (n : Found S) → slice_get nodes k ≡ Some n → IsWaiting is_dead n → least ≤ total_of value n) where
   -- Where each state is a class of its own, a list that runs from a found state to one that is not reported dead comes to one that waits, or leads to one that is found
   -- at no more than the list costs. It comes to none that is reported dead.

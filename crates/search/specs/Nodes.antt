@@ -5,7 +5,7 @@ use Rattle.model.specs.Runs.{System, CostsAtLeast}
 use Rattle.search.specs.declared.nodes.StateId.{StateId}
 use Rattle.search.specs.declared.nodes.Node.{Node}
 use Rattle.search.specs.declared.nodes.NodeStatus.{NodeStatus}
-use Rattle.search.specs.declared.nodes.NodeStatus.TheVariants.{Open, Reopened, Expanded, Dead}
+use Rattle.search.specs.declared.nodes.NodeStatus.TheVariants.{Unexpanded, Reopened, Expanded, Dead}
 use Rattle.search.specs.declared.nodes.ShortId.{ShortId}
 use Rattle.search.specs.Estimates.{IsConsistent}
 use Rattle.search.specs.DeadEnds.{DetectsDeadEnds}
@@ -44,12 +44,12 @@ place_in id = id.low + id.middle * 256 + id.high * 65536
 
 -- the status of a new state with this estimate; None: it is reported dead
 abbrev pub status_of_reached : Option ℕ → NodeStatus
-status_of_reached (Some estimate) = Open
+status_of_reached (Some estimate) = Unexpanded
 status_of_reached None = Dead
 
 -- the state was ever expanded, at least in part, so it may be the parent of others
 abbrev pub has_been_expanded_status : NodeStatus → Bool
-has_been_expanded_status Open = false
+has_been_expanded_status Unexpanded = false
 has_been_expanded_status Reopened = true
 has_been_expanded_status Expanded = true
 has_been_expanded_status Dead = false
@@ -59,7 +59,7 @@ has_been_expanded node = has_been_expanded_status node.status
 
 -- the status after the state is reached at a lower cost
 abbrev pub status_again : NodeStatus → Option ℕ → NodeStatus
-status_again before (Some estimate) = if has_been_expanded_status before then Reopened else Open
+status_again before (Some estimate) = if has_been_expanded_status before then Reopened else Unexpanded
 status_again before None = Dead
 
 -- the place of the parent
@@ -164,16 +164,16 @@ abbrev pub IsFoundWithin : {S : Type 0} → (S → S) → List (Found S) → S �
 IsFoundWithin {S} class_of nodes s cost = (k : ℕ) × (n : Found S) × (slice_get nodes k ≡ Some n) × AreOfOneClass class_of n.state s × (n.node.cost ≤ cost)
 
 -- for each successor of the found state, a state of its class is found, at no more than the cost from there
-abbrev pub IsOpen : {S : Type 0} → System S ℕ → (S → S) → List (Found S) → Found S → Type 0
-IsOpen {S} t class_of nodes n = (a : ℕ) (next : S) → t.step n.state a ≡ Some next → IsFoundWithin class_of nodes next (n.node.cost + t.cost a)
+abbrev pub IsClosedAt : {S : Type 0} → System S ℕ → (S → S) → List (Found S) → Found S → Type 0
+IsClosedAt {S} t class_of nodes n = (a : ℕ) (next : S) → t.step n.state a ≡ Some next → IsFoundWithin class_of nodes next (n.node.cost + t.cost a)
 
 -- this holds for each expanded state
-abbrev pub AreOpen : {S : Type 0} → System S ℕ → (S → S) → List (Found S) → Type 0
-AreOpen {S} t class_of nodes = (k : ℕ) (n : Found S) → slice_get nodes k ≡ Some n → is_expanded n.node ≡ true → IsOpen t class_of nodes n
+abbrev pub AreClosed : {S : Type 0} → System S ℕ → (S → S) → List (Found S) → Type 0
+AreClosed {S} t class_of nodes = (k : ℕ) (n : Found S) → slice_get nodes k ≡ Some n → is_expanded n.node ≡ true → IsClosedAt t class_of nodes n
 
 -- and for each expanded state except that at this place
-abbrev pub AreOpenBut : {S : Type 0} → System S ℕ → (S → S) → List (Found S) → ℕ → Type 0
-AreOpenBut {S} t class_of nodes i = (k : ℕ) (n : Found S) → slice_get nodes k ≡ Some n → is_expanded n.node ≡ true → k ≢ i → IsOpen t class_of nodes n
+abbrev pub AreClosedBut : {S : Type 0} → System S ℕ → (S → S) → List (Found S) → ℕ → Type 0
+AreClosedBut {S} t class_of nodes i = (k : ℕ) (n : Found S) → slice_get nodes k ≡ Some n → is_expanded n.node ≡ true → k ≢ i → IsClosedAt t class_of nodes n
 
 -- the state at this place is being expanded; with a consistent estimate, no expanded state has a greater sum
 pub record IsTurn {S : Type 0} (t : System S ℕ) (value : S → ℕ) (nodes : List (Found S)) (i : ℕ) : Type 0 where

@@ -2,10 +2,10 @@
 use Rattle.std.specs.Prelude.{◌≡◌, ℕ, ◌+◌, ◌*◌, ◌<◌, ◌≤◌, Bool, true, false, if◌then◌else◌, List, [], ◌∷◌, length, slice_get, Some, Contains}
 use Rattle.model.specs.Runs.{System, run, cost_of_all, IsReachable, CostsAtLeast, IsOptimal, IsUnsolvable}
 use Rattle.model.specs.Bisimulation.{ReachGoalsAlike}
-use Rattle.model.specs.Claims.{Claim, bound, none, Mark, opened, cut, dead, Line, IsClosed}
+use Rattle.model.specs.Claims.{Claim, bound, none, Mark, expanded, cut, dead, Line, IsClosed}
 use Rattle.search.specs.declared.nodes.Node.{Node}
 use Rattle.search.specs.declared.nodes.NodeStatus.{NodeStatus}
-use Rattle.search.specs.declared.nodes.NodeStatus.TheVariants.{Open, Reopened, Expanded, Dead}
+use Rattle.search.specs.declared.nodes.NodeStatus.TheVariants.{Unexpanded, Reopened, Expanded, Dead}
 use Rattle.search.specs.declared.best.Outcome.{Outcome}
 use Rattle.search.specs.declared.best.Outcome.TheVariants.{Found, Exhausted, States}
 use Rattle.packed_state.specs.Store.{AreDistinct}
@@ -34,7 +34,7 @@ AreClassesOf {S} t class_of = (s r : S) → AreOfOneClass class_of s r → Reach
 
 -- the state was expanded at its present cost
 abbrev pub is_expanded_status : NodeStatus → Bool
-is_expanded_status Open = false
+is_expanded_status Unexpanded = false
 is_expanded_status Reopened = false
 is_expanded_status Expanded = true
 is_expanded_status Dead = false
@@ -44,7 +44,7 @@ is_expanded node = is_expanded_status node.status
 
 -- the state is marked dead
 abbrev pub is_dead_status : NodeStatus → Bool
-is_dead_status Open = false
+is_dead_status Unexpanded = false
 is_dead_status Reopened = false
 is_dead_status Expanded = false
 is_dead_status Dead = true
@@ -56,9 +56,9 @@ is_marked_dead node = is_dead_status node.status
 abbrev pub AreMarked : {S : Type 0} → (S → Bool) → List S → List Node → Type 0
 AreMarked {S} is_dead states nodes = (k : ℕ) (s : S) (node : Node) → slice_get states k ≡ Some s → slice_get nodes k ≡ Some node → is_marked_dead node ≡ is_dead s
 
--- the mark of a found state in a listing: open if it was expanded, dead if it is reported dead, and otherwise a cut with its estimate
+-- the mark of a found state in a listing: expanded if it was, dead if it is reported dead, and otherwise a cut with its estimate
 abbrev pub mark_of : {S : Type 0} → (S → ℕ) → (S → Bool) → S → Node → Mark
-mark_of value is_dead s node = if is_expanded node then opened else (if is_dead s then dead else cut (value s))
+mark_of value is_dead s node = if is_expanded node then expanded else (if is_dead s then dead else cut (value s))
 
 -- the line of a found state in a listing
 abbrev pub line_of : {S : Type 0} → (S → ℕ) → (S → Bool) → S → Node → Line S

@@ -11,7 +11,7 @@ use Rattle.search.specs.declared.listing.Place.TheVariants.{New, Listed, Alike}
 use Rattle.search.specs.Listing.{IsAlikeAt}
 use Rattle.search.specs.OpenList.{waiting_in, AreNoted, IsOpenList, JoinsBy}
 use Rattle.search.specs.Outcome.{AreMoreReachable}
-use Rattle.search.specs.Nodes.{Waiting, sum_of, estimate_of, place_of, entry, IsCurrent, IsWaiting, total_of, IsEntryOf, has_been_expanded, status_again, Found, found_of, work_left, AreNodes, IsFoundWithin, AreOpen, AreOpenBut, IsTurn}
+use Rattle.search.specs.Nodes.{Waiting, sum_of, estimate_of, place_of, entry, IsCurrent, IsWaiting, total_of, IsEntryOf, has_been_expanded, status_again, Found, found_of, work_left, AreNodes, IsFoundWithin, AreClosed, AreClosedBut, IsTurn}
 
 -- The state of this turn has the least sum of the waiting states, of these the least estimate, and of these the least place. It leaves the
 -- open list, and the others stay in it.
@@ -74,14 +74,14 @@ module _ {S Store : Type 0} (t : System S ℕ) (class_of : S → S) (value : S �
     pub sum : turn.sum ≡ total_of value found
     pub estimate : turn.estimate ≡ value found.state
     pub nodes : AreNodes t class_of value is_dead (nodes_in states_of p) (entry found.node.cost (value found.state) turn.id.0 ∷ waiting_in p.open_list)
-    pub are_open : AreOpen t class_of (nodes_in states_of p)
+    pub are_open : AreClosed t class_of (nodes_in states_of p)
     pub heap : IsOpenList p.open_list
 
   -- the state at this place is being expanded
   pub record IsExpanding (i : ℕ) : Type 0 where
     pub search : IsSearch
     pub turn : IsTurn t value (nodes_in states_of p) i
-    pub others_open : AreOpenBut t class_of (nodes_in states_of p) i
+    pub others_open : AreClosedBut t class_of (nodes_in states_of p) i
 
 -- each found class stays found, at no greater cost, and the state that is being expanded stays as it is
 pub record Continues {S : Type 0} (class_of : S → S) (old new : List (Found S)) (i : ℕ) : Type 0 where
@@ -192,7 +192,7 @@ pub record IsFull {S Store : Type 0} (t : System S ℕ) (value : S → ℕ) (is_
 -- The expansion is over.
 pub record Expands {S Store : Type 0} (t : System S ℕ) (class_of : S → S) (value : S → ℕ) (is_dead : S → Bool) (states_of : Store → List S) (old new : Progress Store) (max_states : ℕ) : Type 0 where
   pub search : IsSearch t class_of value is_dead states_of new
-  pub are_open : AreOpen t class_of (nodes_in states_of new)
+  pub are_open : AreClosed t class_of (nodes_in states_of new)
   pub within : length (states_of new.store) ≤ max_states
   pub less : work_left max_states (nodes_in states_of new) < work_left max_states (nodes_in states_of old)
 

@@ -7,7 +7,7 @@ use Rattle.search.specs.declared.under_way.Halt.TheVariants.{Ended, Paused}
 use Rattle.search.specs.declared.under_way.Search.{Search}
 use Rattle.search.specs.declared.under_way.Stop.{Stop}
 use Rattle.search.specs.declared.under_way.Stop.TheVariants as stop
-use Rattle.search.specs.Nodes.{AreOpen}
+use Rattle.search.specs.Nodes.{AreClosed}
 use Rattle.search.specs.Outcome.{AreEstimates, HasEstimates, IsAtLimit, IsTrueOutcome}
 use Rattle.search.specs.Progress.{AreWide, IsSearch, nodes_in}
 
@@ -24,7 +24,7 @@ module _ {S Store R : Type 0} (t : System S ℕ) (class_of : S → S) (value : S
   -- between two expansions of a search by these classes, of states of this width, within the limit
   pub record IsUnderWay (max_states : ℕ) (s : Search Store R) : Type 0 where
     pub search : IsSearch t class_of value is_dead states_of s.progress
-    pub are_open : AreOpen t class_of (nodes_in states_of s.progress)
+    pub are_open : AreClosed t class_of (nodes_in states_of s.progress)
     pub within : length (states_of (store_in s)) ≤ max_states
     pub store_classes : classes_of (store_in s) ≡ class_of
     pub store_width : width_of (store_in s) ≡ width

@@ -43,7 +43,7 @@ pub enum Outcome<L> {
 }
 
 /// Runs the search of `begin` and `finish` to its end, with each state as a class of its own. The states are in the given store, which
-/// is empty at first.
+/// is empty at first. It is there for users of the library: the program pauses its searches.
 ///
 /// # Errors
 /// Memory is refused.

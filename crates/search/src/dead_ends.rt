@@ -25,7 +25,7 @@ pub trait DeadEnd {
     ghost detects_dead_ends: { (test : Self) → DetectsDeadEnds (system_of test) (is_dead test) };
 }
 
-/// The test that reports no state.
+/// The test that reports no state, for users of the library.
 #[derive(Clone, Copy)]
 pub struct NoDeadEnd<'a, T>(pub &'a T);
 

@@ -45,7 +45,7 @@ pub fn value_of(score: i64) -> u64
     if score > 0 { score as u64 } else { 0 }
 }
 
-/// The estimate 0 for each state.
+/// The estimate 0 for each state, for users of the library: by it the search is uniform-cost search.
 #[derive(Clone, Copy)]
 pub struct NoEstimate<'a, T>(pub &'a T);
 

@@ -23,7 +23,7 @@ pub(crate) struct ShortId {
 #[derive(Clone, Copy, Debug, PartialEq, Eq)]
 pub enum NodeStatus {
     /// It waits to be expanded for the first time.
-    Open,
+    Unexpanded,
     /// It was expanded, at least in part, and waits to be expanded again: it was reached at a lower cost since, or the limit stopped
     /// its expansion.
     Reopened,
@@ -64,7 +64,7 @@ impl NodeStatus {
         ensures { result ≡ status_of_reached estimate }
     {
         match estimate {
-            Some(_) => NodeStatus::Open,
+            Some(_) => NodeStatus::Unexpanded,
             None => NodeStatus::Dead,
         }
     }

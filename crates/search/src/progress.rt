@@ -2,7 +2,7 @@
 ghost use Rattle.std.specs.Prelude.{◌≡◌, ◌≢◌, ℕ, ◌+◌, ◌<◌, ◌≤◌, ◌^◌, Bool, true, false, List, [], ◌∷◌, ◌++◌, length, slice_get, slice_set, Contains, All, MatchBool, MatchOption, IfOk, IfNone, IfSome, OnOk, OnSome, Some};
 ghost use Rattle.packed_state.specs.Packed.{bits_of};
 ghost use Rattle.search.specs.Outcome.{AreClassesOf};
-ghost use Rattle.search.specs.Nodes.{Waiting, IsEntry, IsCurrent, AreOpen, IsPath, IsReachedIn};
+ghost use Rattle.search.specs.Nodes.{Waiting, IsEntry, IsCurrent, AreClosed, IsPath, IsReachedIn};
 ghost use Rattle.search.specs.Transitions.{AreApplicable};
 ghost use Rattle.search.specs.OpenList.{waiting_in, IsOpenList, JoinsBy};
 ghost use Rattle.search.specs.Progress.{AreNotedWith, TakesNext, IsLeastWith, nodes_in, IsSearch, IsAtTurn, IsStopped, IsExpanding, IsPlaceAmong, IsReachedWithin, IsReachedCheaper, IsFreeFor, TakesPlace, IsLeftOut, Reaches, IsFull, Expands, AreWide};
@@ -104,7 +104,7 @@ impl<L: StateListing> Progress<L> {
         requires width { L.width_of store ≡ T.width_of system.now }
         ensures scratch { IfOk result (λ _. G.fits guide.now scratch.new) }
         ensures search { IfOk result (λ p. IsSearch (T.means system.now) (L.class_of store) (G.estimate_of guide.now) (G.is_dead guide.now) L.states p) }
-        ensures open { IfOk result (λ p. AreOpen (T.means system.now) (L.class_of store) (nodes_in L.states p)) }
+        ensures open { IfOk result (λ p. AreClosed (T.means system.now) (L.class_of store) (nodes_in L.states p)) }
         ensures one { IfOk result (λ p. length (L.states p.store) ≡ 1) }
         ensures width { IfOk result (λ p. L.width_of p.store ≡ T.width_of system.now) }
         ensures class { IfOk result (λ p. L.class_of p.store ≡ L.class_of store) }
@@ -334,7 +334,7 @@ impl<L: StateListing> Progress<L> {
         requires turn { IsAtTurn (T.means system.now) (L.class_of self.old.store) (G.estimate_of guide.now) (G.is_dead guide.now) L.states self.old turn }
         requires classes { AreClassesOf (T.means system.now) (L.class_of self.old.store) }
         requires scratch { G.fits guide.now buffers.old.scratch }
-        requires open { AreOpen (T.means system.now) (L.class_of self.old.store) (nodes_in L.states self.old) }
+        requires open { AreClosed (T.means system.now) (L.class_of self.old.store) (nodes_in L.states self.old) }
         requires state { slice_get (L.states self.old.store) turn.id.0 ≡ Some (bits_of buffers.old.state) }
         requires no_goal { (T.means system.now).meets_goal (bits_of buffers.old.state) ≡ false }
         requires width { L.width_of self.old.store ≡ T.width_of system.now }

@@ -43,7 +43,7 @@
 //!   (`PrecedesPlans`). The bound is the least sum of cost and estimate over the cuts: the found states that are neither expanded nor
 //!   reported dead. The found states prove it (`IsAtLimit`).
 //! - Exactly the states that are reported dead are marked dead, and none of them is expanded.
-//! - The estimate of each cut is told, so nobody has to ask for it again.
+//! - The estimate of each cut is reported, so it need not be computed again.
 //! - With a consistent estimate, at the limit no expanded state has a greater sum than the bound, and the initial state no greater
 //!   estimate. If moreover each state is a class of its own, and successors of reported dead ends are reported too, expanded states
 //!   were reached by a cheapest way.
@@ -55,7 +55,7 @@ ghost use Rattle.std.specs.Prelude.{◌≡◌, ◌≤◌, ℕ, [], IfOk, length}
 ghost use Rattle.model.specs.Limits.{max_states_listed};
 ghost use Rattle.search.specs.OpenList.{IsLeastSum};
 ghost use Rattle.search.specs.Outcome.{AreClassesOf, HasEstimates, IsTrueOutcome};
-ghost use Rattle.search.specs.Nodes.{AreOpen};
+ghost use Rattle.search.specs.Nodes.{AreClosed};
 ghost use Rattle.search.specs.Progress.{IsSearch, nodes_in};
 ghost use Rattle.search.specs.UnderWay.{store_in, nodes_of, IsUnderWay, IsTrueHalt, IsTrueStop};
 
@@ -226,7 +226,7 @@ pub fn stop_at_pause<G: Guide, L: StateListing>(
     search: Search<L, G::Scratch>,
 ) -> Result<Stop<L>, NoMemory>
     requires search { IsSearch (G.system_of _guide.now) (L.class_of (store_in search)) (G.estimate_of _guide.now) (G.is_dead _guide.now) L.states search.progress }
-    requires successors { AreOpen (G.system_of _guide.now) (L.class_of (store_in search)) (nodes_in L.states search.progress) }
+    requires successors { AreClosed (G.system_of _guide.now) (L.class_of (store_in search)) (nodes_in L.states search.progress) }
     requires classes { AreClassesOf (G.system_of _guide.now) (L.class_of (store_in search)) }
     ensures { IfOk result (λ stop. (max_states : ℕ) → length (L.states (store_in search)) ≤ max_states
         → IsTrueStop (G.system_of _guide.now) (L.class_of (store_in search)) (G.estimate_of _guide.now) (G.is_dead _guide.now) L.states max_states stop) }

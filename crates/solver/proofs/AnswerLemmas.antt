@@ -142,8 +142,8 @@ module _ {S A : Type 0} (t : System S A) (class_of : S → S) (value : S → ℕ
   none_solves more = record {
     initial_listed = found.closed.initial_listed;
     successors_listed = found.closed.successors_listed;
-    open_goals_allowed = λ line at is_open goal.
-        never cost (most + most_value) line.cost more (found.closed.open_goals_allowed line at is_open goal) (omega (arith, (within line at).0));
+    expanded_goals_allowed = λ line at is_open goal.
+        never cost (most + most_value) line.cost more (found.closed.expanded_goals_allowed line at is_open goal) (omega (arith, (within line at).0));
     cuts_allowed = λ line rest at cut.
         let told = cut_told value is_dead states nodes line rest at cut in
         never cost (most + most_value) (line.cost + rest) more (found.closed.cuts_allowed line rest at cut) (omega (arith, told, (within line at).0, (within line at).1));

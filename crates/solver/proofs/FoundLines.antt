@@ -6,7 +6,7 @@ use Rattle.std.proofs.lemmas.Bool.{true≢false}
 use Rattle.std.proofs.lemmas.List.{length-map, map-append}
 use Rattle.search.specs.declared.nodes.Node.{Node}
 use Rattle.search.specs.declared.nodes.NodeStatus.{NodeStatus}
-use Rattle.search.specs.declared.nodes.NodeStatus.TheVariants.{Open, Reopened, Expanded, Dead}
+use Rattle.search.specs.declared.nodes.NodeStatus.TheVariants.{Unexpanded, Reopened, Expanded, Dead}
 use Rattle.search.specs.Outcome.{is_expanded, is_expanded_status, is_dead_status, is_marked_dead, line_of, lines_of, IsCut}
 use Rattle.search.specs.Outcome as search
 use Rattle.certificate.specs.declared.states.Listed.{Listed}
@@ -16,15 +16,15 @@ use Rattle.solver.specs.Listing.{by_all, mark_of_line, state_line}
 use Rattle.certificate_definitions.specs.Evidence as evidence
 use Rattle.certificate_definitions.specs.Evidence.{of_all, bare}
 use Rattle.certificate_definitions.specs.Certificates.{StateLine, has_basis, is_dead_by_landmark}
-use Rattle.model.specs.Claims.{Mark, opened, cut, dead, Line}
+use Rattle.model.specs.Claims.{Mark, expanded, cut, dead, Line}
 use Rattle.model.proofs.ListLemmas.{Contains-cases, Contains-none, Contains-got}
 
 -- ---- what is said of a state
 
 abbrev mark_by : Bool → Bool → ℕ → Mark
-mark_by is_expanded is_dead value = if is_expanded then opened else (if is_dead then dead else cut value)
+mark_by is_expanded is_dead value = if is_expanded then expanded else (if is_dead then dead else cut value)
 
-opened_by : (e d : Bool) (value : ℕ) → mark_by e d value ≡ opened → e ≡ true
+opened_by : (e d : Bool) (value : ℕ) → mark_by e d value ≡ expanded → e ≡ true
 opened_by true d value is = refl
 opened_by false true value is = absurd (cc)
 opened_by false false value is = absurd (cc)
@@ -43,7 +43,7 @@ dead_by false d value alive reported = ap (λ b. mark_by false b value) reported
 
 module _ {S : Type 0} (value : S → ℕ) (is_dead : S → Bool) where
   -- an open line is that of an expanded state
-  pub expanded_of_open : (s : S) (node : Node) → search.mark_of value is_dead s node ≡ opened → is_expanded node ≡ true
+  pub expanded_of_open : (s : S) (node : Node) → search.mark_of value is_dead s node ≡ expanded → is_expanded node ≡ true
   expanded_of_open s node is = opened_by (is_expanded node) (is_dead s) (value s) is
 
   -- a cut is that of a state which waits, with its value
@@ -61,7 +61,7 @@ module _ {S : Type 0} (value : S → ℕ) (is_dead : S → Bool) where
   abbrev line_by : Node → Bool → Bool → ℕ → Marked
   line_by node is_expanded reported estimate = record { cost = node.cost; mark = by_all (mark_by is_expanded reported estimate) }
 
-  pub expanded_listed : (s : S) (node : Node) → node.status ≡ Expanded → record { cost = node.cost; mark = evidence.opened } ≡ mark_of_line (line_of value is_dead s node)
+  pub expanded_listed : (s : S) (node : Node) → node.status ≡ Expanded → record { cost = node.cost; mark = evidence.expanded } ≡ mark_of_line (line_of value is_dead s node)
   expanded_listed s node is = sym (ap (λ (status : NodeStatus). line_by node (is_expanded_status status) (is_dead s) (value s)) is)
 
   pub dead_listed : (s : S) (node : Node) → node.status ≡ Dead → is_marked_dead node ≡ is_dead s → record { cost = node.cost; mark = evidence.dead of_all } ≡ mark_of_line (line_of value is_dead s node)
@@ -69,7 +69,7 @@ module _ {S : Type 0} (value : S → ℕ) (is_dead : S → Bool) where
       let reported : is_dead s ≡ true = sym marked ∙ ap is_dead_status is in
       sym (λ i. line_by node (is_expanded_status (is i)) (reported i) (value s))
 
-  pub waiting_listed : (s : S) (node : Node) (rest : ℕ) → (node.status ≡ Open) ⊎ (node.status ≡ Reopened) → is_marked_dead node ≡ is_dead s → (IsCut is_dead s node → rest ≡ value s)
+  pub waiting_listed : (s : S) (node : Node) (rest : ℕ) → (node.status ≡ Unexpanded) ⊎ (node.status ≡ Reopened) → is_marked_dead node ≡ is_dead s → (IsCut is_dead s node → rest ≡ value s)
       → record { cost = node.cost; mark = evidence.cut of_all rest } ≡ mark_of_line (line_of value is_dead s node)
   waiting_listed s node rest waits marked is =
       let unexpanded : is_expanded node ≡ false = elim waits [
@@ -136,13 +136,13 @@ node_at (n ∷ nodes) (suc k) below = node_at nodes k (omega (arith, below))
 
 -- the role alone is that of the found state
 pub bare-by_all : (mark : Mark) → bare (by_all mark) ≡ mark
-bare-by_all opened = refl
+bare-by_all expanded = refl
 bare-by_all (cut rest) = refl
 bare-by_all dead = refl
 
 -- none rests on a landmark value
 no_landmark : (mark : Mark) → is_dead_by_landmark (by_all mark) ≡ None
-no_landmark opened = refl
+no_landmark expanded = refl
 no_landmark (cut rest) = refl
 no_landmark dead = refl
 
@@ -152,7 +152,7 @@ none-dead_by (line ∷ lines) = λ i. cons_option (no_landmark line.mark i) (non
 
 -- so there is what each rests on
 there_is : (count : ℕ) (mark : Mark) → has_basis count (by_all mark) ≡ true
-there_is count opened = refl
+there_is count expanded = refl
 there_is count (cut rest) = refl
 there_is count dead = refl
 

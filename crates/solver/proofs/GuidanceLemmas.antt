@@ -7,7 +7,7 @@ use Rattle.std.proofs.lemmas.Bool.{and_parts, leb-true, lt-ltb}
 use Rattle.std.proofs.lemmas.Int.{ints}
 use Rattle.std.proofs.lemmas.List.Elements.{All-nil}
 use Rattle.model.specs.Task.{Task, Atom}
-use Rattle.model.specs.Claims.{Claim, opened, cut, dead}
+use Rattle.model.specs.Claims.{Claim, expanded, cut, dead}
 use Rattle.model.specs.Meaning.{initial_state}
 use Rattle.model.specs.Fluents.{is_fluent}
 use Rattle.model.specs.NumberedAtoms.{numbered_atoms}
@@ -146,7 +146,7 @@ estimate-most count (by_tables s) are bits short =
     greatest-most count (length s.values + 1) s.tables limits.tables (leb-true (length s.tables) 4194304 limits.few_tables) bits short 0 s.values limits.values
 
 -- a mark of a certificate that has it
-pub mark-passes : (guidance : Guidance) (is_expanded is_dead : Bool) (rest : ℕ) → rest ≤ most_value → is_mark (version_by guidance) (by_all (if is_expanded then opened else (if is_dead then dead else cut rest))) ≡ true
+pub mark-passes : (guidance : Guidance) (is_expanded is_dead : Bool) (rest : ℕ) → rest ≤ most_value → is_mark (version_by guidance) (by_all (if is_expanded then expanded else (if is_dead then dead else cut rest))) ≡ true
 mark-passes (by_potentials p dead_ends) true is_dead rest most = refl
 mark-passes (by_potentials p dead_ends) false true rest most = refl
 mark-passes (by_potentials p dead_ends) false false rest most = lt-ltb rest 1152921504606846976 (omega (arith, most))

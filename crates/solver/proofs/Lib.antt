@@ -1,4 +1,5 @@
 pub mod TypedLemmas
+pub mod VersionLemmas
 pub mod PotentialLemmas
 pub mod GuidanceLemmas
 pub mod PotentialGuidance

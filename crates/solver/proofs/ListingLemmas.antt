@@ -17,7 +17,7 @@ use Rattle.search.proofs.Closed.{cut_told, dead_told}
 use Rattle.search.specs.Outcome.{AreFound, AreExpandedWithin, AreOfOneClass, IsReachableAt}
 use Rattle.lower_bounds.specs.Settled.{initial_value}
 use Rattle.solver.specs.Improved.{AreSettledOrHigh, AreDeadSettledOrHigh, HasSettledOrHigh}
-use Rattle.solver.specs.Listing.{numbers_in, by_all, state_line, found_certificate, IsShownBy, AreOpenWithin}
+use Rattle.solver.specs.Listing.{numbers_in, by_all, state_line, found_certificate, IsShownBy, AreLinesExpandedWithin}
 use Rattle.solver.proofs.TypedLemmas.{numbered_typed}
 use Rattle.ground_listings.proofs.GroundLemmas.{distinct_states}
 use Rattle.solver.specs.Guidance.{Guidance, by_potentials, by_tables, CanBeWritten, AreFairBy, estimate_by, reports_dead, version_by, values_by, first_value}
@@ -28,7 +28,7 @@ use Rattle.landmark_functions.specs.FairLandmarks.{IsFair, IsDeadFair}
 use Rattle.model.specs.Task.{Task, Atom}
 use Rattle.model.specs.WellTyped.{is_task, is_atom}
 use Rattle.model.specs.Runs.{System}
-use Rattle.model.specs.Claims.{Claim, opened, cut, dead, Line, IsClosed}
+use Rattle.model.specs.Claims.{Claim, expanded, cut, dead, Line, IsClosed}
 use Rattle.model.specs.Meaning.{State, initial_state, system_of}
 use Rattle.model.specs.Fluents.{is_fluent, static_atoms}
 use Rattle.model.specs.NumberedAtoms.{occurs_in, are_distinct, numbered_atoms}
@@ -227,7 +227,7 @@ module _ (task : Task) (claim : Claim) (most : ℕ) (exchanges : List Exchange) 
         let same : state_of_line task made (state_line line) ≡ state_of_bits task atoms line.state = λ i. from_list (named_chosen atoms line.state i ++ static_atoms task) in
         subst (λ (s : State). IsSupported task made s (by_all line.mark)) (sym same) (
         elim line.mark as (λ m. line.mark ≡ m → IsSupported task made (state_of_bits task atoms line.state) (by_all m)) [
-          | opened ↦ λ is_open. tt
+          | expanded ↦ λ is_open. tt
           | cut rest ↦ λ is_cut. omega (arith, cut_told (estimate_by guidance) (reports_dead guidance) states nodes line rest among is_cut, same_value k line.state at)
           | dead ↦ λ is_dead. same_dead k line.state at ∙ dead_told (estimate_by guidance) (reports_dead guidance) states nodes line among is_dead
         ] refl
@@ -290,10 +290,10 @@ module _ (task : Task) (claim : Claim) (most : ℕ) (exchanges : List Exchange) 
         limits : AreLimits (version_by guidance) (length atoms) values
         limits = limits_of (version_by guidance) (length atoms) values written.within_limits
 
-    pub open_within : (cost : ℕ) → AreExpandedWithin (estimate_by guidance) cost states nodes → AreOpenWithin task cost made
+    pub open_within : (cost : ℕ) → AreExpandedWithin (estimate_by guidance) cost states nodes → AreLinesExpandedWithin task cost made
     open_within cost within line among is_open =
         let (k, s, n, there, here, is) = line_found line among in
-        let marked : search.mark_of (estimate_by guidance) (reports_dead guidance) s n ≡ opened = ap (λ (l : Line State). l.mark) (sym is) ∙ is_open in
+        let marked : search.mark_of (estimate_by guidance) (reports_dead guidance) s n ≡ expanded = ap (λ (l : Line State). l.mark) (sym is) ∙ is_open in
         let cheap = within k s n there here (expanded_of_open (estimate_by guidance) (reports_dead guidance) s n marked) in
         let same = same_value k s there in
         let value_same : value_of task made line.state ≡ value_of task made (state_of_bits task atoms s) = ap (λ (l : Line State). value_of task made l.state) is in
@@ -362,8 +362,8 @@ module _ (task : Task) (claim : Claim) (most : ℕ) (exchanges : List Exchange) 
       (shown_by task claim most exchanges guidance states nodes class_of found_by_numbers well classes named (subst (λ (l : List Atom). CanBeWritten (length l) guidance) numbered written)
       (subst (λ (l : List Atom). AreFairBy task l guidance) numbered fair) (ap keeps_limits is_made ∙ kept))) le
 
-  pub opened_within : (cost : ℕ) → AreExpandedWithin (estimate_by guidance) cost states nodes → AreOpenWithin task cost certificate
-  opened_within cost within = subst (AreOpenWithin task cost) is_made (open_within task claim most exchanges guidance states nodes class_of found_by_numbers cost within)
+  pub opened_within : (cost : ℕ) → AreExpandedWithin (estimate_by guidance) cost states nodes → AreLinesExpandedWithin task cost certificate
+  opened_within cost within = subst (AreLinesExpandedWithin task cost) is_made (open_within task claim most exchanges guidance states nodes class_of found_by_numbers cost within)
 
   pub value_at_start : value_of task certificate (initial_state task) ≡ estimate_by guidance (ground_system task known).initial
   value_at_start =

@@ -1,4 +1,5 @@
 pub mod Limit
+pub mod Versions
 pub mod Improved
 pub mod Guidance
 pub mod Written

@@ -7,7 +7,7 @@ use Rattle.search.specs.Outcome as search
 use Rattle.search.specs.Outcome.{IsReachableAt}
 use Rattle.model.specs.Task.{Task, Atom}
 use Rattle.model.specs.Meaning.{State, system_of}
-use Rattle.model.specs.Claims.{Claim, Mark, opened, cut, dead, Line}
+use Rattle.model.specs.Claims.{Claim, Mark, expanded, cut, dead, Line}
 use Rattle.certificate_definitions.specs.Evidence as evidence
 use Rattle.certificate_definitions.specs.Evidence.{of_all, LineMark}
 use Rattle.symmetries_definitions.specs.Exchanges.{Exchange}
@@ -23,7 +23,7 @@ numbers_in bits = filter (has bits) (range_with_len 0 (length bits))
 
 -- what is found of a state rests on the values of all states
 abbrev pub by_all : Mark → LineMark
-by_all opened = evidence.opened
+by_all expanded = evidence.expanded
 by_all (cut rest) = evidence.cut of_all rest
 by_all dead = evidence.dead of_all
 
@@ -35,10 +35,9 @@ state_line line = record { cost = line.cost; mark = by_all line.mark; atoms = nu
 abbrev pub mark_of_line : {S : Type 0} → Line S → Marked
 mark_of_line line = record { cost = line.cost; mark = by_all line.mark }
 
--- the certificate that lists these states, which were found by this guidance, each expanded one as open, each other as a dead end
--- where it is reported one, and else as a cut with its estimate; by these exchanges some are alike
-abbrev pub found_certificate : Claim → List Exchange → List Atom → Guidance → List (List Bool) → List Node → Certificate
-found_certificate claim exchanges atoms guidance states nodes = record {
+-- the certificate of a search by this guidance, with these lines
+abbrev pub certificate_by : Claim → List Exchange → List Atom → Guidance → List StateLine → Certificate
+certificate_by claim exchanges atoms guidance lines = record {
   version = version_by guidance;
   claim = claim;
   exchanges = exchanges;
@@ -47,8 +46,14 @@ found_certificate claim exchanges atoms guidance states nodes = record {
   dead_ends = (values_by guidance).dead_ends;
   tables = (values_by guidance).tables;
   landmarks = no_landmarks;
-  lines = map state_line (search.lines_of (estimate_by guidance) (reports_dead guidance) states nodes);
+  lines = lines;
 }
+
+-- the certificate that lists these states, which were found by this guidance, each expanded one as open, each other as a dead end
+-- where it is reported one, and else as a cut with its estimate; by these exchanges some are alike
+abbrev pub found_certificate : Claim → List Exchange → List Atom → Guidance → List (List Bool) → List Node → Certificate
+found_certificate claim exchanges atoms guidance states nodes =
+    certificate_by claim exchanges atoms guidance (map state_line (search.lines_of (estimate_by guidance) (reports_dead guidance) states nodes))
 
 -- The certificate is closed for the task, claims this, keeps the limits of a certificate's text, its exchanges can be named, and it
 -- lists at most `max_states` states by the numbered atoms, each at the place that is its number: different ones, as it is closed, and
@@ -65,7 +70,7 @@ pub record IsShownBy (task : Task) (claim : Claim) (max_states : ℕ) (certifica
   pub version : (certificate.version ≡ two) ⊎ (certificate.version ≡ three)
   pub dead_ends_are_reported : (line : Line State) → Contains (lines_of task certificate) line → IsTrue (is_dead_end_of task certificate line.state) → line.mark ≡ dead
 
--- each open state of the certificate costs, with its value, at most this
-abbrev pub AreOpenWithin : Task → ℕ → Certificate → Type 0
-AreOpenWithin task most certificate =
-    (line : Line State) → Contains (lines_of task certificate) line → line.mark ≡ opened → line.cost + value_of task certificate line.state ≤ most
+-- each expanded state of the certificate costs, with its value, at most this
+abbrev pub AreLinesExpandedWithin : Task → ℕ → Certificate → Type 0
+AreLinesExpandedWithin task most certificate =
+    (line : Line State) → Contains (lines_of task certificate) line → line.mark ≡ expanded → line.cost + value_of task certificate line.state ≤ most

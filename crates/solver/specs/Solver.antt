@@ -1,13 +1,17 @@
 -- What the answers to a task say.
-use Rattle.std.specs.Prelude.{◌≡◌, ℕ, IsTrue, [], Option, None, Some, is_some, length}
+use Rattle.std.specs.Prelude.{◌≡◌, ℕ, ◌≤◌, IsTrue, [], Option, None, Some, is_some, length, ⊤}
 use Rattle.std.specs.List.{list_all}
 use Rattle.formulas.specs.State.{plan_of}
 use Rattle.certificate.specs.Certificate.{certificate_of}
+use Rattle.certificate_definitions.specs.Certificates.{Certificate}
+use Rattle.certificate_definitions.specs.CertificateText.{version_number}
 use Rattle.solver.specs.declared.answer.Answer.{Answer}
 use Rattle.solver.specs.declared.answer.Answer.TheVariants.{Plan, Unsolvable, Unknown}
 use Rattle.solver.specs.declared.answer.Exceeded.TheVariants.{Instances, Atoms, States, Time}
+use Rattle.solver.specs.declared.limits.Limits.{Limits}
+use Rattle.solver.specs.Versions.{number_of}
 use Rattle.solver.specs.Improved.{HasSettledOrHigh}
-use Rattle.solver.specs.Listing.{IsShownBy, AreOpenWithin}
+use Rattle.solver.specs.Listing.{IsShownBy, AreLinesExpandedWithin}
 use Rattle.solver.specs.AtLimit.{IsAtLimit}
 use Rattle.ground_listings.specs.Reachable.{AreMoreReachable}
 use Rattle.model.specs.Task.{Task}
@@ -31,7 +35,7 @@ IsTrueAnswer task seconds states instances (Plan steps cost cert) =
     × IsTrue (list_all (is_instance task) (plan_of steps))
     × IsShownBy task (bound cost) states (certificate_of cert)
     × HasSettledOrHigh task (certificate_of cert)
-    × AreOpenWithin task cost (certificate_of cert)
+    × AreLinesExpandedWithin task cost (certificate_of cert)
     × (exceeded_limit instances max_numbered_atoms task [] ≡ None)
 IsTrueAnswer task seconds states instances (Unsolvable cert) =
     IsUnsolvable (system_of task) × IsShownBy task none states (certificate_of cert) × HasSettledOrHigh task (certificate_of cert)
@@ -50,3 +54,21 @@ IsTrueAnswer task seconds states instances (Unknown (Time least cert)) =
     × IsShownBy task (bound least) states (certificate_of cert)
     × HasSettledOrHigh task (certificate_of cert)
     × IsAtLimit task least (length (certificate_of cert).lines) (certificate_of cert)
+
+-- the certificate is of at most this version
+abbrev pub IsUpTo : (version : ℕ) → Certificate → Type 0
+IsUpTo version certificate = version_number certificate.version ≤ version
+
+-- and so is that of the answer, if it has one
+abbrev pub HasVersionUpTo : (version : ℕ) → Answer → Type 0
+HasVersionUpTo version (Plan steps cost cert) = IsUpTo version (certificate_of cert)
+HasVersionUpTo version (Unsolvable cert) = IsUpTo version (certificate_of cert)
+HasVersionUpTo version (Unknown Instances) = ⊤
+HasVersionUpTo version (Unknown Atoms) = ⊤
+HasVersionUpTo version (Unknown (States least cert)) = IsUpTo version (certificate_of cert)
+HasVersionUpTo version (Unknown (Time least cert)) = IsUpTo version (certificate_of cert)
+
+-- the answer is true, and keeps all limits
+abbrev pub IsAnswerWithin : Task → Limits → Answer → Type 0
+IsAnswerWithin task limits answer =
+    IsTrueAnswer task limits.seconds limits.states limits.instances answer × HasVersionUpTo (number_of limits.version) answer

@@ -3,7 +3,7 @@ use Rattle.std.specs.Prelude.{ℕ, ◌≤◌, Bool, List, length}
 use Rattle.grounding.specs.Ground.{task_in, atoms_in}
 use Rattle.ground_listings.specs.GroundListing.{listed_class, listed_states, listed_width}
 use Rattle.ground_listings.specs.declared.ground_listing.GroundListing.{GroundListing}
-use Rattle.search.specs.Nodes.{AreOpen}
+use Rattle.search.specs.Nodes.{AreClosed}
 use Rattle.search.specs.Progress.{IsSearch, nodes_in}
 use Rattle.search.specs.UnderWay as under_way
 use Rattle.search.specs.declared.under_way.Search.{Search}
@@ -17,7 +17,7 @@ use Rattle.solver.specs.declared.limits.Limits.{Limits}
 use Rattle.ground_listings.specs.SearchSpace.{class_in, ground_in, system_of}
 use Rattle.ground_listings.specs.declared.search_space.SearchSpace.{SearchSpace}
 use Rattle.solver.specs.Guided.{IsEnding}
-use Rattle.solver.specs.Solver.{IsTrueAnswer}
+use Rattle.solver.specs.Solver.{IsAnswerWithin}
 
 module _ {R : Type 0} (space : SearchSpace) (estimate : List Bool → ℕ) (is_dead : List Bool → Bool) (fits : R → Type 0) where
   -- between two turns
@@ -34,11 +34,11 @@ module _ {R : Type 0} (space : SearchSpace) (estimate : List Bool → ℕ) (is_d
 abbrev pub IsBetweenTurns : {R : Type 0} (space : SearchSpace) (estimate : List Bool → ℕ) (is_dead : List Bool → Bool) → Search GroundListing R → Type 0
 IsBetweenTurns space estimate is_dead s =
     IsSearch (system_of space) (class_in space) estimate is_dead listed_states s.progress
-    × AreOpen (system_of space) (class_in space) (nodes_in listed_states s.progress)
+    × AreClosed (system_of space) (class_in space) (nodes_in listed_states s.progress)
 
 -- an answer by tables, or what the search came to
 abbrev pub IsTrueEnd : (space : SearchSpace) (estimate : List Bool → ℕ) (is_dead : List Bool → Bool) → Limits → Parts → Type 0
-IsTrueEnd space estimate is_dead limits (ByTables answer) = IsTrueAnswer (task_in (ground_in space)) limits.seconds limits.states limits.instances answer
+IsTrueEnd space estimate is_dead limits (ByTables answer) = IsAnswerWithin (task_in (ground_in space)) limits answer
 IsTrueEnd space estimate is_dead limits (ByGuide ending) = IsEnding space estimate is_dead limits ending
 
 -- such an end, or a search to go on with

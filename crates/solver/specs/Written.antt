@@ -1,6 +1,7 @@
 -- The code's guidance, as the guidance that it is.
 use Rattle.certificate.specs.Evidence.{evidence_of, potential_of}
 use Rattle.lower_bounds.specs.PotentialFunctions.{PotentialFunction}
+use Rattle.certificate_definitions.specs.Certificates.{Version, two, three}
 use Rattle.solver.specs.Guidance.{Guidance, by_potentials, by_tables, over_no_tables}
 use Rattle.ground_listings.specs.declared.search_space.SearchSpace.{SearchSpace}
 use Rattle.ground_listings.specs.declared.search_space.SearchSpace.TheVariants as space
@@ -15,3 +16,8 @@ guidance_of (Tables evidence) = by_tables (evidence_of evidence)
 abbrev pub by_potentials_of : SearchSpace → PotentialFunction → PotentialFunction → Guidance
 by_potentials_of (space.Alone g) p dead_ends = by_potentials p dead_ends
 by_potentials_of (space.Orbits r) p dead_ends = by_tables (over_no_tables p dead_ends)
+
+-- the version of such a certificate
+abbrev pub version_in : SearchSpace → Version
+version_in (space.Alone g) = two
+version_in (space.Orbits r) = three

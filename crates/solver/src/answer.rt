@@ -1,23 +1,25 @@
 //! The answer to a task, and how it is found.
-ghost use Rattle.std.specs.Prelude.{◌≡◌, [], count_by, is_some, IfOk, IsTrue, OnOk, map, Option, ℕ};
+ghost use Rattle.std.specs.Prelude.{◌≡◌, ◌≤◌, [], count_by, is_some, IfOk, IsTrue, OnOk, map, Option, ℕ};
 ghost use Rattle.task.specs.Task.{task_of};
 ghost use Rattle.grounding.specs.Ground.{task_in, atoms_in, IsGroundOf};
 ghost use Rattle.potentials_improved.specs.FairPotentials as fair;
 ghost use Rattle.potentials_improved.specs.FairPotentials.{potentials_in};
-ghost use Rattle.solver.specs.Guidance.{estimate_by, reports_dead};
+ghost use Rattle.solver.specs.Guidance.{estimate_by, reports_dead, version_by};
 ghost use Rattle.solver.specs.Guided.{IsEnding, IsGuidanceFor, IsHalted, IsSearched};
 ghost use Rattle.ground_listings.specs.Exchanges.{AreExchangesFor};
 ghost use Rattle.symmetries.specs.Exchange.{exchange_of};
 ghost use Rattle.solver.specs.Improved.{AreSettledOrHigh, AreDeadSettledOrHigh};
 ghost use Rattle.devices.specs.Progress.{GoesOn};
-ghost use Rattle.solver.specs.Said.{HasEnded, IsTrueLine, IsTrueReport, is_open, report_of};
+ghost use Rattle.solver.specs.Said.{HasEnded, IsLineWithin, IsTrueLine, IsTrueReport, is_marked_expanded, report_of};
 ghost use Rattle.model.specs.NumberedAtoms.{numbered_atoms};
 ghost use Rattle.ground_listings.specs.SearchSpace.{ground_in, IsSearchSpace};
-ghost use Rattle.solver.specs.Solver.{IsTrueAnswer};
+ghost use Rattle.solver.specs.Solver.{HasVersionUpTo, IsAnswerWithin, IsTrueAnswer};
+ghost use Rattle.solver.specs.Versions.{number_of};
 ghost use Rattle.potentials_improved.specs.Potentials.{potentials_of};
-ghost use Rattle.solver.specs.Written.{guidance_of, by_potentials_of};
+ghost use Rattle.solver.specs.Written.{guidance_of, by_potentials_of, version_in};
 ghost use Rattle.solver.specs.declared.answer.Answer.TheVariants.{Unknown};
 ghost use Rattle.certificate.specs.Certificate.{certificate_of};
+ghost use Rattle.certificate_definitions.specs.CertificateText.{version_number};
 ghost use Rattle.certificate.specs.CertificateParts.{listed_of};
 ghost use Rattle.model.specs.Task as model;
 ghost use Rattle.model.specs.WellTyped.{is_task};
@@ -101,7 +103,7 @@ pub enum Exceeded {
 ///
 /// **Values.** The search is guided by fair potentials of the ground task, improved in at most 8 rounds; the certificate has them too.
 /// If they are not settled, the initial state's value by them is at least 8. During the search, values over tables may replace them:
-/// the potentials of the first value are these, and are fair by themselves. With a plan, each open state of the certificate costs,
+/// the potentials of the first value are these, and are fair by themselves. With a plan, each expanded state of the certificate costs,
 /// with its value, no more than the plan. Dead-fair potentials, also in the certificate and also settled or high, report dead ends:
 /// such states are listed and not expanded.
 ///
@@ -112,12 +114,15 @@ pub enum Exceeded {
 ///
 /// **Limits.** With the limits above, the certificate lists at most 100,000 distinct states, each at the cost of a list of instances
 /// that leads to it. If more are reachable and may have to be listed, the answer is `Unknown(Exceeded::States { .. })` with a
-/// certificate of 100,000. Its bound is the least sum of cost and value of a state that waits to be expanded. No open state has a
+/// certificate of 100,000. Its bound is the least sum of cost and value of a state that waits to be expanded. No expanded state has a
 /// greater sum, and the bound is at least the initial state's value.
 ///
 /// If the time is limited (`Limits::within_seconds`), it is looked at before the search, whenever 5,000 more states are listed, and between
 /// the parts of a draft of tables. If it is over, the answer is `Unknown(Exceeded::Time { .. })`, which says of the states that are
 /// listed by then what it would say at a limit of as many. No time passes for `solve`.
+///
+/// If the certificate may have version 2 alone (`Limits::up_to_version`), the search goes by potentials and lists each state by itself:
+/// that version has neither tables nor exchanges. By default the certificate has the version that its values need.
 ///
 /// Two limits are reported before potentials are made: `Unknown(Exceeded::Instances)` exactly if the task has more than 10,000 kept
 /// instances, and `Unknown(Exceeded::Atoms)` exactly if it has no more, but more than 1,048,576 numbered atoms.
@@ -125,7 +130,9 @@ pub enum Exceeded {
 /// # Errors
 /// Memory is refused.
 pub fn solve(alloc: Global, task: &Task, limits: Limits) -> Result<Answer, NoMemory>
-    ensures { IfOk result (IsTrueAnswer (task_of task.now) limits.seconds limits.states limits.instances) }
+    ensures answer { IfOk result (IsTrueAnswer (task_of task.now) limits.seconds limits.states limits.instances) }
+    // The certificate that is written is of at most the version that is asked for.
+    ensures version { IfOk result (HasVersionUpTo (number_of limits.version)) }
 {
     solve_and_say(alloc, task, limits, &mut Unheard)
 }
@@ -143,8 +150,9 @@ pub fn solve_and_say<E: Sink + Clock>(
     err: &mut E,
 ) -> Result<Answer, NoMemory>
     ensures answer { IfOk result (IsTrueAnswer (task_of task.now) limits.seconds limits.states limits.instances) }
-    ensures said { GoesOn (IsTrueLine (task_of task.now)) E.wants_memory (E.failures err.old) (E.taken err.old) (E.failures err.new) (E.taken err.new) }
-    ensures ended { IfOk result (HasEnded E.wants_memory (E.failures err.new) (E.taken err.new)) }
+    ensures version { IfOk result (HasVersionUpTo (number_of limits.version)) }
+    ensures said { GoesOn (IsTrueLine (task_of task.now) limits.seconds limits.states limits.instances) E.may_lack_memory (E.failures err.old) (E.taken err.old) (E.failures err.new) (E.taken err.new) }
+    ensures ended { IfOk result (HasEnded E.may_lack_memory (E.failures err.new) (E.taken err.new)) }
 {
     match Ground::new(alloc, task, &[], limits.instances()) {
         Ok(ground) => solve_ground(alloc, &ground, limits, err),
@@ -159,8 +167,8 @@ pub fn solve_and_say<E: Sink + Clock>(
 
 /// Reports the end: the option that raises the exceeded limit, and the size of the answer's certificate, if there are such.
 fn say_end<E: Sink>(alloc: Global, answer: &Answer, err: &mut E) -> Result<(), NoMemory>
-    ensures said { (task : model.Task) (seconds : Option ℕ) (states instances : ℕ) → IsTrueAnswer task seconds states instances answer.now → GoesOn (IsTrueLine task) E.wants_memory (E.failures err.old) (E.taken err.old) (E.failures err.new) (E.taken err.new) }
-    ensures ended { OnOk result (HasEnded E.wants_memory (E.failures err.new) (E.taken err.new) answer.now) }
+    ensures said { (task : model.Task) (seconds : Option ℕ) (states instances : ℕ) → IsTrueAnswer task seconds states instances answer.now → GoesOn (IsTrueLine task seconds states instances) E.may_lack_memory (E.failures err.old) (E.taken err.old) (E.failures err.new) (E.taken err.new) }
+    ensures ended { OnOk result (HasEnded E.may_lack_memory (E.failures err.new) (E.taken err.new) answer.now) }
 {
     match answer {
         Answer::Plan { cert, .. } => say(alloc, end_of(cert), err),
@@ -171,8 +179,8 @@ fn say_end<E: Sink>(alloc: Global, answer: &Answer, err: &mut E) -> Result<(), N
 
 /// Reports the end where a limit is exceeded.
 fn say_limit<E: Sink>(alloc: Global, limit: &Exceeded, err: &mut E) -> Result<(), NoMemory>
-    ensures said { (task : model.Task) (seconds : Option ℕ) (states instances : ℕ) → IsTrueAnswer task seconds states instances (Unknown limit.now) → GoesOn (IsTrueLine task) E.wants_memory (E.failures err.old) (E.taken err.old) (E.failures err.new) (E.taken err.new) }
-    ensures ended { OnOk result (HasEnded E.wants_memory (E.failures err.new) (E.taken err.new) (Unknown limit.now)) }
+    ensures said { (task : model.Task) (seconds : Option ℕ) (states instances : ℕ) → IsTrueAnswer task seconds states instances (Unknown limit.now) → GoesOn (IsTrueLine task seconds states instances) E.may_lack_memory (E.failures err.old) (E.taken err.old) (E.failures err.new) (E.taken err.new) }
+    ensures ended { OnOk result (HasEnded E.may_lack_memory (E.failures err.new) (E.taken err.new) (Unknown limit.now)) }
 {
     match limit {
         Exceeded::States { cert, .. } => {
@@ -194,17 +202,17 @@ fn end_of(cert: &Cert) -> Report
 {
     Report::End {
         listed: cert.line_count(),
-        expanded: open_in(cert.marks()),
+        expanded: count_expanded(cert.marks()),
     }
 }
 
-/// The number of open states.
-fn open_in(marks: &[Listed]) -> usize
-    ensures { result ≡ count_by is_open (map listed_of marks.now) }
+/// The number of expanded states.
+fn count_expanded(marks: &[Listed]) -> usize
+    ensures { result ≡ count_by is_marked_expanded (map listed_of marks.now) }
 {
     let mut count = 0;
     for listed in marks {
-        if matches!(listed.mark, Mark::Open) {
+        if matches!(listed.mark, Mark::Expanded) {
             count += 1;
         }
     }
@@ -221,12 +229,12 @@ fn solve_ground<E: Sink + Clock>(
     requires typed { IsTrue (is_task (task_in ground.now)) }
     requires ground { IsGroundOf (task_in ground.now) [] limits.instances ground.now }
     ensures answer { IfOk result (IsTrueAnswer (task_in ground.now) limits.seconds limits.states limits.instances) }
-    ensures said { GoesOn (IsTrueLine (task_in ground.now)) E.wants_memory (E.failures err.old) (E.taken err.old) (E.failures err.new) (E.taken err.new) }
-    ensures ended { IfOk result (HasEnded E.wants_memory (E.failures err.new) (E.taken err.new)) }
+    ensures version { IfOk result (HasVersionUpTo (number_of limits.version)) }
+    ensures said { GoesOn (IsLineWithin (task_in ground.now) limits) E.may_lack_memory (E.failures err.old) (E.taken err.old) (E.failures err.new) (E.taken err.new) }
+    ensures ended { IfOk result (HasEnded E.may_lack_memory (E.failures err.new) (E.taken err.new)) }
 {
     say(alloc, ground_report(ground), err)?;
-    let exchanges = exchanges_of(alloc, ground)?;
-    let answer = solve_by_exchanges(alloc, ground, &exchanges, limits, err)?;
+    let answer = solve_in_version(alloc, ground, limits, err)?;
     say_end(alloc, &answer, err)?;
     Ok(answer)
 }
@@ -234,7 +242,7 @@ fn solve_ground<E: Sink + Clock>(
 /// The report of the ground task's size.
 fn ground_report(ground: &Ground<'_>) -> Report
     requires { atoms_in ground.now ≡ numbered_atoms (task_in ground.now) [] }
-    ensures { IsTrueReport (task_in ground.now) result }
+    ensures { (seconds : Option ℕ) (states instances : ℕ) → IsTrueReport (task_in ground.now) seconds states instances result }
 {
     Report::Ground {
         instances: ground.instances().len(),
@@ -242,7 +250,26 @@ fn ground_report(ground: &Ground<'_>) -> Report
     }
 }
 
-/// Solves the ground task modulo these exchanges. The caller reports size and end.
+/// Solves the ground task, modulo exchanges of objects if the certificate may have them. The caller reports size and end.
+fn solve_in_version<E: Sink + Clock>(
+    alloc: Global,
+    ground: &Ground<'_>,
+    limits: Limits,
+    err: &mut E,
+) -> Result<Answer, NoMemory>
+    requires typed { IsTrue (is_task (task_in ground.now)) }
+    requires ground { IsGroundOf (task_in ground.now) [] limits.instances ground.now }
+    ensures answer { IfOk result (IsAnswerWithin (task_in ground.now) limits) }
+    ensures said { GoesOn (IsLineWithin (task_in ground.now) limits) E.may_lack_memory (E.failures err.old) (E.taken err.old) (E.failures err.new) (E.taken err.new) }
+{
+    if !limits.allow_version_three() {
+        return solve_listed(alloc, SearchSpace::Alone(ground), limits, err);
+    }
+    let exchanges = exchanges_of(alloc, ground)?;
+    solve_by_exchanges(alloc, ground, &exchanges, limits, err)
+}
+
+/// Solves the ground task modulo these exchanges.
 fn solve_by_exchanges<E: Sink + Clock>(
     alloc: Global,
     ground: &Ground<'_>,
@@ -250,11 +277,12 @@ fn solve_by_exchanges<E: Sink + Clock>(
     limits: Limits,
     err: &mut E,
 ) -> Result<Answer, NoMemory>
+    requires version { 3 ≤ number_of limits.version }
     requires typed { IsTrue (is_task (task_in ground.now)) }
     requires ground { IsGroundOf (task_in ground.now) [] limits.instances ground.now }
     requires exchanges { AreExchangesFor ground.now (map exchange_of exchanges.now) }
-    ensures answer { IfOk result (IsTrueAnswer (task_in ground.now) limits.seconds limits.states limits.instances) }
-    ensures said { GoesOn (IsTrueLine (task_in ground.now)) E.wants_memory (E.failures err.old) (E.taken err.old) (E.failures err.new) (E.taken err.new) }
+    ensures answer { IfOk result (IsAnswerWithin (task_in ground.now) limits) }
+    ensures said { GoesOn (IsLineWithin (task_in ground.now) limits) E.may_lack_memory (E.failures err.old) (E.taken err.old) (E.failures err.new) (E.taken err.new) }
 {
     if exchanges.is_empty() {
         return solve_listed(alloc, SearchSpace::Alone(ground), limits, err);
@@ -274,10 +302,11 @@ fn solve_listed<E: Sink + Clock>(
     limits: Limits,
     err: &mut E,
 ) -> Result<Answer, NoMemory>
+    requires version { version_number (version_in space) ≤ number_of limits.version }
     requires space { IsSearchSpace space }
     requires ground { IsGroundOf (task_in (ground_in space)) [] limits.instances (ground_in space) }
-    ensures answer { IfOk result (IsTrueAnswer (task_in (ground_in space.entry)) limits.seconds limits.states limits.instances) }
-    ensures said { GoesOn (IsTrueLine (task_in (ground_in space.entry))) E.wants_memory (E.failures err.old) (E.taken err.old) (E.failures err.new) (E.taken err.new) }
+    ensures answer { IfOk result (IsAnswerWithin (task_in (ground_in space.entry)) limits) }
+    ensures said { GoesOn (IsLineWithin (task_in (ground_in space.entry)) limits) E.may_lack_memory (E.failures err.old) (E.taken err.old) (E.failures err.new) (E.taken err.new) }
 {
     let ground = space.ground();
     let groundwork = Groundwork::new(alloc, ground)?;
@@ -299,14 +328,15 @@ fn solve_by_potentials<E: Sink + Clock>(
     dead_ends: &DeadFair<'_, '_>,
     err: &mut E,
 ) -> Result<Answer, NoMemory>
+    requires version { version_number (version_in setting.space) ≤ number_of setting.limits.version }
     requires space { IsSearchSpace setting.space }
     requires ground { IsGroundOf (task_in (ground_in setting.space)) [] setting.limits.instances (ground_in setting.space) }
     requires estimate { fair.ground_in estimate.now ≡ ground_in setting.space }
     requires improved { AreSettledOrHigh (task_in (ground_in setting.space)) (atoms_in (ground_in setting.space)) (potentials_in estimate.now) }
     requires dead_ends { fair.ground_in dead_ends.now ≡ ground_in setting.space }
     requires dead_ends_improved { AreDeadSettledOrHigh (task_in (ground_in setting.space)) (atoms_in (ground_in setting.space)) (potentials_in dead_ends.now) }
-    ensures answer { IfOk result (IsTrueAnswer (task_in (ground_in setting.entry.space)) setting.entry.limits.seconds setting.entry.limits.states setting.entry.limits.instances) }
-    ensures said { GoesOn (IsTrueLine (task_in (ground_in setting.entry.space))) E.wants_memory (E.failures err.old) (E.taken err.old) (E.failures err.new) (E.taken err.new) }
+    ensures answer { IfOk result (IsAnswerWithin (task_in (ground_in setting.entry.space)) setting.entry.limits) }
+    ensures said { GoesOn (IsLineWithin (task_in (ground_in setting.entry.space)) setting.entry.limits) E.may_lack_memory (E.failures err.old) (E.taken err.old) (E.failures err.new) (E.taken err.new) }
 {
     let guide = EstimateWithDeadEnds::new(estimate, dead_ends);
     let given = Given {
@@ -329,6 +359,7 @@ fn answer_by_potentials(
     given: Given<'_>,
     ending: Ending<'_, '_>,
 ) -> Result<Answer, NoMemory>
+    requires version { version_number (version_in setting.space) ≤ number_of setting.limits.version }
     requires space { IsSearchSpace setting.space }
     requires ground { IsGroundOf (task_in (ground_in setting.space)) [] setting.limits.instances (ground_in setting.space) }
     requires guidance { IsGuidanceFor setting.space (by_potentials_of setting.space (potentials_of given.potentials.now) (potentials_of given.dead_ends.now)) }
@@ -336,7 +367,7 @@ fn answer_by_potentials(
         (estimate_by (by_potentials_of setting.space (potentials_of given.potentials.now) (potentials_of given.dead_ends.now)))
         (reports_dead (by_potentials_of setting.space (potentials_of given.potentials.now) (potentials_of given.dead_ends.now)))
         setting.limits ending }
-    ensures { IfOk result (IsTrueAnswer (task_in (ground_in setting.entry.space)) setting.entry.limits.seconds setting.entry.limits.states setting.entry.limits.instances) }
+    ensures { IfOk result (IsAnswerWithin (task_in (ground_in setting.entry.space)) setting.entry.limits) }
 {
     let Setting { alloc, space, .. } = setting;
     let guidance = guidance_by(alloc, space, given.potentials, given.dead_ends)?;
@@ -349,11 +380,12 @@ pub(crate) fn answer_of(
     guidance: Guidance,
     ending: Ending<'_, '_>,
 ) -> Result<Answer, NoMemory>
+    requires version { version_number (version_by (guidance_of guidance)) ≤ number_of setting.limits.version }
     requires space { IsSearchSpace setting.space }
     requires ground { IsGroundOf (task_in (ground_in setting.space)) [] setting.limits.instances (ground_in setting.space) }
     requires guidance { IsGuidanceFor setting.space (guidance_of guidance) }
     requires ending { IsEnding setting.space (estimate_by (guidance_of guidance)) (reports_dead (guidance_of guidance)) setting.limits ending }
-    ensures { IfOk result (IsTrueAnswer (task_in (ground_in setting.entry.space)) setting.entry.limits.seconds setting.entry.limits.states setting.entry.limits.instances) }
+    ensures { IfOk result (IsAnswerWithin (task_in (ground_in setting.entry.space)) setting.entry.limits) }
 {
     match ending {
         Ending::Complete(searched) => answer_of_search(setting, guidance, searched),
@@ -367,12 +399,13 @@ fn answer_in_time(
     guidance: Guidance,
     halted: Halted<'_, '_>,
 ) -> Result<Answer, NoMemory>
+    requires version { version_number (version_by (guidance_of guidance)) ≤ number_of setting.limits.version }
     requires space { IsSearchSpace setting.space }
     requires ground { IsGroundOf (task_in (ground_in setting.space)) [] setting.limits.instances (ground_in setting.space) }
     requires guidance { IsGuidanceFor setting.space (guidance_of guidance) }
     requires halted { IsHalted setting.space (estimate_by (guidance_of guidance)) (reports_dead (guidance_of guidance)) setting.limits.states halted }
     requires limited { IsTrue (is_some setting.limits.seconds) }
-    ensures { IfOk result (IsTrueAnswer (task_in (ground_in setting.entry.space)) setting.entry.limits.seconds setting.entry.limits.states setting.entry.limits.instances) }
+    ensures { IfOk result (IsAnswerWithin (task_in (ground_in setting.entry.space)) setting.entry.limits) }
 {
     let Setting { alloc, space, .. } = setting;
     let Halted {
@@ -390,11 +423,12 @@ fn answer_of_search(
     guidance: Guidance,
     searched: Searched<'_, '_>,
 ) -> Result<Answer, NoMemory>
+    requires version { version_number (version_by (guidance_of guidance)) ≤ number_of setting.limits.version }
     requires space { IsSearchSpace setting.space }
     requires ground { IsGroundOf (task_in (ground_in setting.space)) [] setting.limits.instances (ground_in setting.space) }
     requires guidance { IsGuidanceFor setting.space (guidance_of guidance) }
     requires searched { IsSearched setting.space (estimate_by (guidance_of guidance)) (reports_dead (guidance_of guidance)) setting.limits.states searched.outcome searched.marks.items }
-    ensures { IfOk result (IsTrueAnswer (task_in (ground_in setting.entry.space)) setting.entry.limits.seconds setting.entry.limits.states setting.entry.limits.instances) }
+    ensures { IfOk result (IsAnswerWithin (task_in (ground_in setting.entry.space)) setting.entry.limits) }
 {
     let Setting { alloc, space, .. } = setting;
     let Searched { outcome, marks } = searched;

@@ -19,8 +19,9 @@ ghost use Rattle.solver.specs.Improved.{AreSettledOrHigh, AreDeadSettledOrHigh};
 ghost use Rattle.ground_listings.specs.SearchSpace.{ground_in, IsSearchSpace};
 ghost use Rattle.solver.specs.SeveralOver.{several_over};
 ghost use Rattle.devices.specs.Progress.{GoesOn};
-ghost use Rattle.solver.specs.Said.{IsTrueLine};
-ghost use Rattle.solver.specs.Solver.{IsTrueAnswer};
+ghost use Rattle.solver.specs.Said.{IsLineWithin};
+ghost use Rattle.solver.specs.Solver.{IsAnswerWithin};
+ghost use Rattle.solver.specs.Versions.{number_of};
 ghost use Rattle.solver.specs.Stopped.{IsStopped};
 ghost use Rattle.lower_bounds.specs.FairTables.{AreFair};
 ghost use Rattle.lower_bounds.specs.TableFunctions.{functions_of, greatest_value};
@@ -34,7 +35,7 @@ use crate::guidance::{Guidance, potential_of};
 use crate::searched::{Ending, search_by};
 use crate::setting::Setting;
 use crate::stopped::Stopped;
-use certificate::{Evidence, Landmarks, Potential, Version};
+use certificate::{Evidence, Landmarks, Version, WrittenPotentials};
 use cost_partitioning::{DraftedTables, Wanted, drafted_tables};
 use devices::Sink;
 use devices_clock::Clock;
@@ -69,6 +70,7 @@ pub(crate) fn solve_by_tables<E: Sink + Clock>(
     stopped: &Stopped<'_, '_, '_>,
     err: &mut E,
 ) -> Result<Attempt<Answer>, NoMemory>
+    requires version { 3 ≤ number_of setting.limits.version }
     requires space { IsSearchSpace setting.space }
     requires ground { IsGroundOf (task_in (ground_in setting.space)) [] setting.limits.instances (ground_in setting.space) }
     requires stopped { IsStopped stopped.now.listing.now stopped.now.nodes.now }
@@ -76,8 +78,8 @@ pub(crate) fn solve_by_tables<E: Sink + Clock>(
     requires width { length (potentials_of stopped.now.potentials.now).weights ≡ length (atoms_in (ground_in setting.space)) }
     requires improved { AreSettledOrHigh (task_in (ground_in setting.space)) (atoms_in (ground_in setting.space)) (potentials_of stopped.now.potentials.now) }
     requires dead_ends_improved { AreDeadSettledOrHigh (task_in (ground_in setting.space)) (atoms_in (ground_in setting.space)) (potentials_of stopped.now.dead_ends.now) }
-    ensures answer { IfOk result (IfDone (IsTrueAnswer (task_in (ground_in setting.entry.space)) setting.entry.limits.seconds setting.entry.limits.states setting.entry.limits.instances)) }
-    ensures said { GoesOn (IsTrueLine (task_in (ground_in setting.entry.space))) E.wants_memory (E.failures err.old) (E.taken err.old) (E.failures err.new) (E.taken err.new) }
+    ensures answer { IfOk result (IfDone (IsAnswerWithin (task_in (ground_in setting.entry.space)) setting.entry.limits)) }
+    ensures said { GoesOn (IsLineWithin (task_in (ground_in setting.entry.space)) setting.entry.limits) E.may_lack_memory (E.failures err.old) (E.taken err.old) (E.failures err.new) (E.taken err.new) }
 {
     let Setting { alloc, space, .. } = setting;
     if setting.limits.are_over(err) {
@@ -132,7 +134,7 @@ fn drafted(
 }
 
 /// The constants and weights of these values, as a certificate has them.
-fn written(alloc: Global, values: &[Potentials]) -> Result<Vec<Potential>, NoMemory>
+fn written(alloc: Global, values: &[Potentials]) -> Result<Vec<WrittenPotentials>, NoMemory>
     ensures { IfOk result (λ written. map potential_of written.items ≡ map potentials_of values.now) }
 {
     let mut written = Vec::with_capacity(alloc, values.len())?;
@@ -149,6 +151,7 @@ fn answer_by_tables<E: Sink + Clock>(
     stopped: &Stopped<'_, '_, '_>,
     err: &mut E,
 ) -> Result<Attempt<Answer>, NoMemory>
+    requires version { 3 ≤ number_of setting.limits.version }
     requires space { IsSearchSpace setting.space }
     requires ground { IsGroundOf (task_in (ground_in setting.space)) [] setting.limits.instances (ground_in setting.space) }
     requires within_limits { IsTrue (is_evidence three (length (atoms_in (ground_in setting.space))) (evidence_of draft.evidence) no_landmarks) }
@@ -160,8 +163,8 @@ fn answer_by_tables<E: Sink + Clock>(
     requires width { length (potentials_of stopped.now.potentials.now).weights ≡ length (atoms_in (ground_in setting.space)) }
     requires improved { AreSettledOrHigh (task_in (ground_in setting.space)) (atoms_in (ground_in setting.space)) (potentials_of stopped.now.potentials.now) }
     requires dead_ends_improved { AreDeadSettledOrHigh (task_in (ground_in setting.space)) (atoms_in (ground_in setting.space)) (evidence_of draft.evidence).dead_ends }
-    ensures answer { IfOk result (IfDone (IsTrueAnswer (task_in (ground_in setting.entry.space)) setting.entry.limits.seconds setting.entry.limits.states setting.entry.limits.instances)) }
-    ensures said { GoesOn (IsTrueLine (task_in (ground_in setting.entry.space))) E.wants_memory (E.failures err.old) (E.taken err.old) (E.failures err.new) (E.taken err.new) }
+    ensures answer { IfOk result (IfDone (IsAnswerWithin (task_in (ground_in setting.entry.space)) setting.entry.limits)) }
+    ensures said { GoesOn (IsLineWithin (task_in (ground_in setting.entry.space)) setting.entry.limits) E.may_lack_memory (E.failures err.old) (E.taken err.old) (E.failures err.new) (E.taken err.new) }
 {
     let Draft {
         evidence,
@@ -203,7 +206,7 @@ fn search_by_tables<'l, 't, E: Sink + Clock>(
     ensures fair { IfOk result (IfDone (λ _. AreFair (task_in (ground_in setting.entry.space)) (atoms_in (ground_in setting.entry.space)) (evidence_of over.entry.evidence.now))) }
     ensures no_lower { IfOk result (IfDone (λ _. initial_value (task_in (ground_in setting.entry.space)) (atoms_in (ground_in setting.entry.space)) (potentials_of stopped.now.potentials.now) ≤ estimate_by (by_tables (evidence_of over.entry.evidence.now)) (ground_system (task_in (ground_in setting.entry.space)) (atoms_in (ground_in setting.entry.space))).initial)) }
     ensures ending { IfOk result (IfDone (IsEnding setting.entry.space (estimate_by (by_tables (evidence_of over.entry.evidence.now))) (reports_dead (by_tables (evidence_of over.entry.evidence.now))) setting.entry.limits)) }
-    ensures said { GoesOn (IsTrueLine (task_in (ground_in setting.entry.space))) E.wants_memory (E.failures err.old) (E.taken err.old) (E.failures err.new) (E.taken err.new) }
+    ensures said { GoesOn (IsLineWithin (task_in (ground_in setting.entry.space)) setting.entry.limits) E.may_lack_memory (E.failures err.old) (E.taken err.old) (E.failures err.new) (E.taken err.new) }
 {
     let alloc = setting.alloc;
     let ground = setting.space.ground();
@@ -258,7 +261,7 @@ fn search_if_fair<'l, 't, E: Sink + Clock>(
     requires width { width_of functions ≡ length (atoms_in (ground_in setting.space)) }
     ensures fair { IfOk result (IfDone (λ _. AreFair (task_in (ground_in setting.entry.space)) (atoms_in (ground_in setting.entry.space)) (several_of functions.entry))) }
     ensures ending { IfOk result (IfDone (IsEnding setting.entry.space (estimate_by (by_tables (several_of functions.entry))) (reports_dead (by_tables (several_of functions.entry))) setting.entry.limits)) }
-    ensures said { GoesOn (IsTrueLine (task_in (ground_in setting.entry.space))) E.wants_memory (E.failures err.old) (E.taken err.old) (E.failures err.new) (E.taken err.new) }
+    ensures said { GoesOn (IsLineWithin (task_in (ground_in setting.entry.space)) setting.entry.limits) E.may_lack_memory (E.failures err.old) (E.taken err.old) (E.failures err.new) (E.taken err.new) }
 {
     if setting.limits.are_over(err) {
         return Ok(Attempt::InVain);

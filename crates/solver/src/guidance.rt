@@ -8,7 +8,7 @@ ghost use Rattle.potentials_improved.specs.Potentials.{potentials_of};
 ghost use Rattle.solver.specs.Guidance as guidance;
 ghost use Rattle.solver.specs.Written.{guidance_of, by_potentials_of};
 
-use certificate::{Evidence, Landmarks, Potential, Version};
+use certificate::{Evidence, Landmarks, Version, WrittenPotentials};
 use faults::NoMemory;
 use ground_listings::SearchSpace;
 use potentials_improved::Potentials;
@@ -20,9 +20,9 @@ pub(crate) enum Guidance {
     /// Two potential functions.
     Potentials {
         /// For the lower bound.
-        value: Potential,
+        value: WrittenPotentials,
         /// For dead ends.
-        dead_ends: Potential,
+        dead_ends: WrittenPotentials,
     },
     /// Several values over tables, the greatest of which is the lower bound, and one for dead ends.
     Tables(Evidence),
@@ -76,7 +76,11 @@ pub(crate) fn guidance_by(
 }
 
 /// One value, one for dead ends, and neither tables nor landmark values.
-fn evidence_of(alloc: Global, value: Potential, dead_ends: Potential) -> Result<Evidence, NoMemory>
+fn evidence_of(
+    alloc: Global,
+    value: WrittenPotentials,
+    dead_ends: WrittenPotentials,
+) -> Result<Evidence, NoMemory>
     ensures values { IfOk result (λ evidence. parts.evidence_of evidence ≡ guidance.values_by (guidance.by_potentials (parts.potential_of value) (parts.potential_of dead_ends))) }
     ensures landmarks { IfOk result (λ evidence. landmarks_of evidence.landmarks ≡ no_landmarks) }
 {
@@ -91,11 +95,14 @@ fn evidence_of(alloc: Global, value: Potential, dead_ends: Potential) -> Result<
 }
 
 /// The potentials' constant and weights.
-pub(crate) fn potential_of(alloc: Global, potentials: &Potentials) -> Result<Potential, NoMemory>
+pub(crate) fn potential_of(
+    alloc: Global,
+    potentials: &Potentials,
+) -> Result<WrittenPotentials, NoMemory>
     ensures { IfOk result (λ p. parts.potential_of p ≡ potentials_of potentials.now) }
 {
     let weights = Vec::from_slice(alloc, potentials.weights())?;
-    Ok(Potential {
+    Ok(WrittenPotentials {
         constant: potentials.constant(),
         weights,
     })

@@ -8,6 +8,7 @@ mod guidance;
 mod improved;
 mod limits;
 mod listing;
+mod max_version;
 mod parts;
 mod pauses;
 mod reports;
@@ -17,4 +18,5 @@ mod stopped;
 
 pub use answer::{Answer, Exceeded, solve, solve_and_say};
 pub use limits::{Limits, MAX_LIMIT};
+pub use max_version::MaxVersion;
 pub use reports::{RaisedBy, Report};

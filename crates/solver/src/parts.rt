@@ -1,5 +1,5 @@
 //! A search by potentials that pauses to look for tables.
-ghost use Rattle.std.specs.Prelude.{◌≡◌, [], IfOk, length};
+ghost use Rattle.std.specs.Prelude.{◌≡◌, ◌≤◌, [], IfOk, length};
 ghost use Rattle.grounding.specs.Ground.{task_in, atoms_in, IsGroundOf};
 ghost use Rattle.ground_listings.specs.GroundListing.{listed_width};
 ghost use Rattle.potentials.specs.Potentials.{potentials_of};
@@ -8,8 +8,9 @@ ghost use Rattle.solver.specs.Attempts.{IfDone};
 ghost use Rattle.solver.specs.Improved.{AreSettledOrHigh, AreDeadSettledOrHigh};
 ghost use Rattle.ground_listings.specs.SearchSpace.{ground_in, system_of, IsSearchSpace};
 ghost use Rattle.devices.specs.Progress.{GoesOn};
-ghost use Rattle.solver.specs.Said.{IsTrueLine};
-ghost use Rattle.solver.specs.Solver.{IsTrueAnswer};
+ghost use Rattle.solver.specs.Said.{IsLineWithin};
+ghost use Rattle.solver.specs.Solver.{IsAnswerWithin};
+ghost use Rattle.solver.specs.Versions.{number_of};
 ghost use Rattle.solver.specs.Stopped.{IsStopped};
 ghost use Rattle.solver.specs.Stretches.{IsTrueEnd, IsTruePart, IsUnderWay};
 
@@ -83,7 +84,8 @@ enum Part<'l, 't, R> {
     InVain(Search<GroundListing<'l, 't>, R>),
 }
 
-/// Searches the ground task by the guide, which is that of these potentials. At each pause it tries to switch to tables.
+/// Searches the ground task by the guide, which is that of these potentials. At each pause it tries to switch to tables, if the
+/// certificate may have them.
 pub(crate) fn search_in_parts<'l, 't, G: Guide, E: Sink + Clock>(
     session: &Session<'_, 'l, 't, G>,
     given: Given<'_>,
@@ -97,13 +99,16 @@ pub(crate) fn search_in_parts<'l, 't, G: Guide, E: Sink + Clock>(
     requires improved { AreSettledOrHigh (task_in (ground_in session.now.setting.space)) (atoms_in (ground_in session.now.setting.space)) (potentials_of given.potentials.now) }
     requires dead_ends_improved { AreDeadSettledOrHigh (task_in (ground_in session.now.setting.space)) (atoms_in (ground_in session.now.setting.space)) (potentials_of given.dead_ends.now) }
     ensures end { IfOk result (IsTrueEnd session.now.setting.space (G.estimate_of session.now.guide.now) (G.is_dead session.now.guide.now) session.now.setting.limits) }
-    ensures said { GoesOn (IsTrueLine (task_in (ground_in session.now.setting.space))) E.wants_memory (E.failures err.old) (E.taken err.old) (E.failures err.new) (E.taken err.new) }
+    ensures said { GoesOn (IsLineWithin (task_in (ground_in session.now.setting.space)) session.now.setting.limits) E.may_lack_memory (E.failures err.old) (E.taken err.old) (E.failures err.new) (E.taken err.new) }
 {
     let drafting = Drafting {
         pause: QUICK,
         given,
     };
     let search = begin_by(session)?;
+    if !session.setting.limits.allow_version_three() {
+        return search_to_end(session, search, err);
+    }
     match search_to_pause(session, search, drafting, err)? {
         Part::Ended(parts) => Ok(parts),
         Part::Promising(search) => search_on(session, search, given, err),
@@ -118,6 +123,7 @@ fn search_on<'l, 't, G: Guide, E: Sink + Clock>(
     given: Given<'_>,
     err: &mut E,
 ) -> Result<Parts<'l, 't>, NoMemory>
+    requires version { 3 ≤ number_of session.now.setting.limits.version }
     requires space { IsSearchSpace session.now.setting.space }
     requires ground { IsGroundOf (task_in (ground_in session.now.setting.space)) [] session.now.setting.limits.instances (ground_in session.now.setting.space) }
     requires system { G.system_of session.now.guide.now ≡ system_of session.now.setting.space }
@@ -127,7 +133,7 @@ fn search_on<'l, 't, G: Guide, E: Sink + Clock>(
     requires improved { AreSettledOrHigh (task_in (ground_in session.now.setting.space)) (atoms_in (ground_in session.now.setting.space)) (potentials_of given.potentials.now) }
     requires dead_ends_improved { AreDeadSettledOrHigh (task_in (ground_in session.now.setting.space)) (atoms_in (ground_in session.now.setting.space)) (potentials_of given.dead_ends.now) }
     ensures end { IfOk result (IsTrueEnd session.now.setting.space (G.estimate_of session.now.guide.now) (G.is_dead session.now.guide.now) session.now.setting.limits) }
-    ensures said { GoesOn (IsTrueLine (task_in (ground_in session.now.setting.space))) E.wants_memory (E.failures err.old) (E.taken err.old) (E.failures err.new) (E.taken err.new) }
+    ensures said { GoesOn (IsLineWithin (task_in (ground_in session.now.setting.space)) session.now.setting.limits) E.may_lack_memory (E.failures err.old) (E.taken err.old) (E.failures err.new) (E.taken err.new) }
 {
     let drafting = Drafting {
         pause: THOROUGH,
@@ -151,7 +157,7 @@ fn search_to_end<'l, 't, G: Guide, E: Sink + Clock>(
     requires guide_width { G.width_of session.now.guide.now ≡ length (atoms_in (ground_in session.now.setting.space)) }
     requires under_way { IsUnderWay session.now.setting.space (G.estimate_of session.now.guide.now) (G.is_dead session.now.guide.now) (G.fits session.now.guide.now) session.now.setting.limits.states search }
     ensures end { IfOk result (IsTrueEnd session.now.setting.space (G.estimate_of session.now.guide.now) (G.is_dead session.now.guide.now) session.now.setting.limits) }
-    ensures said { GoesOn (IsTrueLine (task_in (ground_in session.now.setting.space))) E.wants_memory (E.failures err.old) (E.taken err.old) (E.failures err.new) (E.taken err.new) }
+    ensures said { GoesOn (IsLineWithin (task_in (ground_in session.now.setting.space)) session.now.setting.limits) E.may_lack_memory (E.failures err.old) (E.taken err.old) (E.failures err.new) (E.taken err.new) }
 {
     let ending = finish_by(session, search, err)?;
     Ok(Parts::ByGuide(ending))
@@ -164,6 +170,7 @@ fn search_to_pause<'l, 't, G: Guide, E: Sink + Clock>(
     drafting: Drafting<'_>,
     err: &mut E,
 ) -> Result<Part<'l, 't, G::Scratch>, NoMemory>
+    requires version { 3 ≤ number_of session.now.setting.limits.version }
     requires space { IsSearchSpace session.now.setting.space }
     requires ground { IsGroundOf (task_in (ground_in session.now.setting.space)) [] session.now.setting.limits.instances (ground_in session.now.setting.space) }
     requires system { G.system_of session.now.guide.now ≡ system_of session.now.setting.space }
@@ -173,7 +180,7 @@ fn search_to_pause<'l, 't, G: Guide, E: Sink + Clock>(
     requires improved { AreSettledOrHigh (task_in (ground_in session.now.setting.space)) (atoms_in (ground_in session.now.setting.space)) (potentials_of drafting.given.potentials.now) }
     requires dead_ends_improved { AreDeadSettledOrHigh (task_in (ground_in session.now.setting.space)) (atoms_in (ground_in session.now.setting.space)) (potentials_of drafting.given.dead_ends.now) }
     ensures part { IfOk result (IsTruePart session.now.setting.space (G.estimate_of session.now.guide.now) (G.is_dead session.now.guide.now) (G.fits session.now.guide.now) session.now.setting.limits) }
-    ensures said { GoesOn (IsTrueLine (task_in (ground_in session.now.setting.space))) E.wants_memory (E.failures err.old) (E.taken err.old) (E.failures err.new) (E.taken err.new) }
+    ensures said { GoesOn (IsLineWithin (task_in (ground_in session.now.setting.space)) session.now.setting.limits) E.may_lack_memory (E.failures err.old) (E.taken err.old) (E.failures err.new) (E.taken err.new) }
 {
     let pause = drafting.pause.states;
     if pause >= session.setting.limits.states() {
@@ -198,7 +205,7 @@ fn search_to_pause<'l, 't, G: Guide, E: Sink + Clock>(
     }
 }
 
-/// Whether the answer tells no more than that the time is over, and a lower bound than this one.
+/// Whether the answer is only that the time is over, with a bound below this one.
 fn is_outdone(answer: &Answer, bound: Option<u64>) -> bool {
     match (answer, bound) {
         (Answer::Unknown(Exceeded::Time { bound, .. }), Some(known)) => *bound < known,
@@ -213,6 +220,7 @@ fn solve_at_pause<R, E: Sink + Clock>(
     drafting: Drafting<'_>,
     err: &mut E,
 ) -> Result<Attempt<Answer>, NoMemory>
+    requires version { 3 ≤ number_of setting.limits.version }
     requires space { IsSearchSpace setting.space }
     requires ground { IsGroundOf (task_in (ground_in setting.space)) [] setting.limits.instances (ground_in setting.space) }
     requires stopped { IsStopped (store_in search.now) (nodes_of search.now) }
@@ -220,8 +228,8 @@ fn solve_at_pause<R, E: Sink + Clock>(
     requires width { length (potentials_of drafting.given.potentials.now).weights ≡ length (atoms_in (ground_in setting.space)) }
     requires improved { AreSettledOrHigh (task_in (ground_in setting.space)) (atoms_in (ground_in setting.space)) (potentials_of drafting.given.potentials.now) }
     requires dead_ends_improved { AreDeadSettledOrHigh (task_in (ground_in setting.space)) (atoms_in (ground_in setting.space)) (potentials_of drafting.given.dead_ends.now) }
-    ensures answer { IfOk result (IfDone (IsTrueAnswer (task_in (ground_in setting.entry.space)) setting.entry.limits.seconds setting.entry.limits.states setting.entry.limits.instances)) }
-    ensures said { GoesOn (IsTrueLine (task_in (ground_in setting.entry.space))) E.wants_memory (E.failures err.old) (E.taken err.old) (E.failures err.new) (E.taken err.new) }
+    ensures answer { IfOk result (IfDone (IsAnswerWithin (task_in (ground_in setting.entry.space)) setting.entry.limits)) }
+    ensures said { GoesOn (IsLineWithin (task_in (ground_in setting.entry.space)) setting.entry.limits) E.may_lack_memory (E.failures err.old) (E.taken err.old) (E.failures err.new) (E.taken err.new) }
 {
     let Some(bound) = search.bound() else {
         return Ok(Attempt::InVain);

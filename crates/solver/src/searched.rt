@@ -1,6 +1,6 @@
 //! A search of the ground task, with the certificate's mark of each found state.
 //!
-//! Marks are made where the search ends, from the estimates that it tells. So the guide is not asked again, and its tables can move into
+//! Marks are made where the search ends, from the estimates that it reports. So the guide is not asked again, and its tables can move into
 //! the certificate without a copy.
 ghost use Rattle.std.specs.Prelude.{◌≡◌, ℕ, Bool, List, count_by, length, is_some, IfOk, IsTrue};
 ghost use Rattle.grounding.specs.Ground.{task_in, atoms_in};
@@ -9,7 +9,7 @@ ghost use Rattle.solver.specs.Guided as guided;
 ghost use Rattle.solver.specs.Guided.{AreMarksOf, CanBeMarked, IsEnding, IsMarkOf};
 ghost use Rattle.ground_listings.specs.SearchSpace.{ground_in, system_of, IsSearchSpace};
 ghost use Rattle.devices.specs.Progress.{GoesOn};
-ghost use Rattle.solver.specs.Said.{IsTrueLine};
+ghost use Rattle.solver.specs.Said.{IsLineWithin};
 ghost use Rattle.solver.specs.Stretches.{IsBetweenTurns, IsStretch, IsUnderWay};
 
 use crate::pauses::{Milestone, is_news, next_pause};
@@ -143,7 +143,7 @@ pub(crate) fn go_on_by<'l, 't, G: Guide, E: Sink + Clock>(
     requires width { G.width_of session.now.guide.now ≡ length (atoms_in (ground_in session.now.setting.space)) }
     requires under_way { IsUnderWay session.now.setting.space (G.estimate_of session.now.guide.now) (G.is_dead session.now.guide.now) (G.fits session.now.guide.now) session.now.setting.limits.states search }
     ensures stretch { IfOk result (IsStretch session.now.setting.space (G.estimate_of session.now.guide.now) (G.is_dead session.now.guide.now) (G.fits session.now.guide.now) pause session.now.setting.limits) }
-    ensures said { GoesOn (IsTrueLine (task_in (ground_in session.now.setting.space))) E.wants_memory (E.failures err.old) (E.taken err.old) (E.failures err.new) (E.taken err.new) }
+    ensures said { GoesOn (IsLineWithin (task_in (ground_in session.now.setting.space)) session.now.setting.limits) E.may_lack_memory (E.failures err.old) (E.taken err.old) (E.failures err.new) (E.taken err.new) }
 {
     let mut search = search;
     let mut said = None;
@@ -171,7 +171,7 @@ fn say_news<G: Guide, E: Sink>(
     requires space { IsSearchSpace session.now.setting.space }
     requires system { G.system_of session.now.guide.now ≡ system_of session.now.setting.space }
     requires successors { IsBetweenTurns session.now.setting.space (G.estimate_of session.now.guide.now) (G.is_dead session.now.guide.now) search.now }
-    ensures { GoesOn (IsTrueLine (task_in (ground_in session.now.setting.space))) E.wants_memory (E.failures err.old) (E.taken err.old) (E.failures err.new) (E.taken err.new) }
+    ensures { GoesOn (IsLineWithin (task_in (ground_in session.now.setting.space)) session.now.setting.limits) E.may_lack_memory (E.failures err.old) (E.taken err.old) (E.failures err.new) (E.taken err.new) }
 {
     let now = Milestone::of(search);
     if !is_news(last, now) {
@@ -190,7 +190,7 @@ fn say_progress<G: Guide, E: Sink>(
     requires space { IsSearchSpace session.now.setting.space }
     requires system { G.system_of session.now.guide.now ≡ system_of session.now.setting.space }
     requires successors { IsBetweenTurns session.now.setting.space (G.estimate_of session.now.guide.now) (G.is_dead session.now.guide.now) search.now }
-    ensures { GoesOn (IsTrueLine (task_in (ground_in session.now.setting.space))) E.wants_memory (E.failures err.old) (E.taken err.old) (E.failures err.new) (E.taken err.new) }
+    ensures { GoesOn (IsLineWithin (task_in (ground_in session.now.setting.space)) session.now.setting.limits) E.may_lack_memory (E.failures err.old) (E.taken err.old) (E.failures err.new) (E.taken err.new) }
 {
     let Some(bound) = search.bound() else {
         return Ok(());
@@ -229,7 +229,7 @@ pub(crate) fn finish_by<'l, 't, G: Guide, E: Sink + Clock>(
     requires width { G.width_of session.now.guide.now ≡ length (atoms_in (ground_in session.now.setting.space)) }
     requires under_way { IsUnderWay session.now.setting.space (G.estimate_of session.now.guide.now) (G.is_dead session.now.guide.now) (G.fits session.now.guide.now) session.now.setting.limits.states search }
     ensures ending { IfOk result (IsEnding session.now.setting.space (G.estimate_of session.now.guide.now) (G.is_dead session.now.guide.now) session.now.setting.limits) }
-    ensures said { GoesOn (IsTrueLine (task_in (ground_in session.now.setting.space))) E.wants_memory (E.failures err.old) (E.taken err.old) (E.failures err.new) (E.taken err.new) }
+    ensures said { GoesOn (IsLineWithin (task_in (ground_in session.now.setting.space)) session.now.setting.limits) E.may_lack_memory (E.failures err.old) (E.taken err.old) (E.failures err.new) (E.taken err.new) }
 {
     match go_on_by(session, search, u32::MAX, err)? {
         Stretch::Ended(ending) => Ok(ending),
@@ -247,7 +247,7 @@ pub(crate) fn search_by<'l, 't, G: Guide, E: Sink + Clock>(
     requires system { G.system_of guide.now ≡ system_of setting.space }
     requires width { G.width_of guide.now ≡ length (atoms_in (ground_in setting.space)) }
     ensures ending { IfOk result (IsEnding setting.entry.space (G.estimate_of guide.now) (G.is_dead guide.now) setting.entry.limits) }
-    ensures said { GoesOn (IsTrueLine (task_in (ground_in setting.entry.space))) E.wants_memory (E.failures err.old) (E.taken err.old) (E.failures err.new) (E.taken err.new) }
+    ensures said { GoesOn (IsLineWithin (task_in (ground_in setting.entry.space)) setting.entry.limits) E.may_lack_memory (E.failures err.old) (E.taken err.old) (E.failures err.new) (E.taken err.new) }
 {
     let session = Session { setting, guide };
     let search = begin_by(&session)?;
@@ -288,13 +288,13 @@ fn listed(node: Node, estimate: u64) -> Listed
     match node.status {
         NodeStatus::Expanded => Listed {
             cost,
-            mark: Mark::Open,
+            mark: Mark::Expanded,
         },
         NodeStatus::Dead => Listed {
             cost,
             mark: Mark::Dead { by: Basis::OfAll },
         },
-        NodeStatus::Open | NodeStatus::Reopened => Listed {
+        NodeStatus::Unexpanded | NodeStatus::Reopened => Listed {
             cost,
             mark: Mark::Cut {
                 by: Basis::OfAll,

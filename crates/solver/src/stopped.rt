@@ -40,6 +40,15 @@ pub(crate) struct Saving {
     saved: usize,
 }
 
+/// Whether other values would have saved the expansion of a state.
+#[derive(Clone, Copy)]
+enum Expansion {
+    /// They would have.
+    Saved,
+    /// They would not have.
+    Needed,
+}
+
 /// Cost model: evaluating this many tables doubles the time for a state.
 const TABLES_AT_A_TIME: usize = 12;
 
@@ -82,27 +91,28 @@ impl Stopped<'_, '_, '_> {
             if place % step == 0 && node.is_expanded() {
                 self.listing.get(place as u32, &mut set);
                 let estimate = functions.value_unless_dead(&set, &mut known);
-                saving.count(self.is_saved(node.cost, estimate));
+                saving.count(self.expansion(node.cost, estimate));
             }
         }
         Ok(saving)
     }
 
     /// Whether the expansion of a state of this cost and estimate is saved. `None`: the state is dead.
-    fn is_saved(&self, cost: u64, estimate: Option<u64>) -> bool {
+    fn expansion(&self, cost: u64, estimate: Option<u64>) -> Expansion {
         match estimate {
-            Some(estimate) => cost.saturating_add(estimate) > self.bound,
-            None => true,
+            Some(estimate) if cost.saturating_add(estimate) <= self.bound => Expansion::Needed,
+            _ => Expansion::Saved,
         }
     }
 }
 
 impl Saving {
     /// Counts one more expanded state.
-    fn count(&mut self, is_saved: bool) {
+    fn count(&mut self, expansion: Expansion) {
         self.expanded = self.expanded.saturating_add(1);
-        if is_saved {
-            self.saved = self.saved.saturating_add(1);
+        match expansion {
+            Expansion::Saved => self.saved = self.saved.saturating_add(1),
+            Expansion::Needed => {}
         }
     }
 

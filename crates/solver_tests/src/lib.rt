@@ -1,6 +1,8 @@
-//! Tests of the certificates of the solver's answers.
+//! Tests of ground tasks, and of the certificates of the solver's answers.
 #![tactic(auto)]
 
+#[cfg(test)]
+mod ground_tasks;
 #[cfg(test)]
 mod laws;
 #[cfg(test)]

@@ -80,7 +80,7 @@ fn listed(
         return None;
     }
     let mark = if node.is_expanded() {
-        Mark::Open
+        Mark::Expanded
     } else if dead_ends.dead(state) {
         Mark::Dead { by: Basis::OfAll }
     } else {

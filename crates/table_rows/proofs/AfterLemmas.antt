@@ -390,13 +390,13 @@ module _ (scope : List ℕ) (rising : IsTrue (are_rising scope)) (row : List Boo
       where
         always : (c : ConditionalChange) → is_plain c ≡ true → (is_open scope (atoms_at scope row) c && test true value c.change) ≡ test true value c.change
         always c is =
-            elim c.change.is_unconditional as (λ u. (not u || (not c.wants_unnumbered && length c.condition == 0)) ≡ true
+            elim c.change.is_unconditional as (λ u. (not u || (not c.requires_unnumbered && length c.condition == 0)) ≡ true
             → (is_open scope (atoms_at scope row) c && (c.change.atom == n && beq u true && beq c.change.value value)) ≡ (c.change.atom == n && beq u true && beq c.change.value value)) [
               | true ↦ λ bare.
-                  let parts = and_parts (not c.wants_unnumbered) (length c.condition == 0) bare in
+                  let parts = and_parts (not c.requires_unnumbered) (length c.condition == 0) bare in
                   let all : agrees c.condition scope (atoms_at scope row) ≡ true =
                   subst (λ literals. agrees literals scope (atoms_at scope row) ≡ true) (sym (no-elements c.condition (eqb-true (length c.condition) 0 parts.1))) refl in
-                  ap (λ b. b && (c.change.atom == n && beq true true && beq c.change.value value)) (and_from (not c.wants_unnumbered) (agrees c.condition scope (atoms_at scope row)) parts.0 all)
+                  ap (λ b. b && (c.change.atom == n && beq true true && beq c.change.value value)) (and_from (not c.requires_unnumbered) (agrees c.condition scope (atoms_at scope row)) parts.0 all)
               | false ↦ λ _. never-so (is_open scope (atoms_at scope row) c) (c.change.atom == n) (beq c.change.value value)
             ] is
 
@@ -404,9 +404,9 @@ module _ (scope : List ℕ) (rising : IsTrue (are_rising scope)) (row : List Boo
         → option_map_or (λ (w : When). w.place == k && (beq w.value value && list_all (is_so row) w.condition)) (when_in scope c) false ≡ (is_open scope (atoms_at scope row) c && test false value c.change)
     when-one value c =
         let so = list_all (is_so row) (filter_map (placed_in scope) c.condition) in
-        when-if (c.change.is_unconditional || c.wants_unnumbered) (place_in scope c.change.atom)
-        ∙ (λ i. if c.change.is_unconditional || c.wants_unnumbered then false else (place-is scope c.change.atom k rising within i && (beq c.change.value value && placed-agree scope row rising long c.condition i)))
-        ∙ sym (open-one c.wants_unnumbered (agrees c.condition scope (atoms_at scope row)) (c.change.atom == n) c.change.is_unconditional (beq c.change.value value))
+        when-if (c.change.is_unconditional || c.requires_unnumbered) (place_in scope c.change.atom)
+        ∙ (λ i. if c.change.is_unconditional || c.requires_unnumbered then false else (place-is scope c.change.atom k rising within i && (beq c.change.value value && placed-agree scope row rising long c.condition i)))
+        ∙ sym (open-one c.requires_unnumbered (agrees c.condition scope (atoms_at scope row)) (c.change.atom == n) c.change.is_unconditional (beq c.change.value value))
       where
         of-place : (o : Option ℕ) → option_map_or (λ (w : When). w.place == k && (beq w.value value && list_all (is_so row) w.condition))
             (option_map (λ (p : ℕ). record { place = p; value = c.change.value; condition = filter_map (placed_in scope) c.condition }) o) false

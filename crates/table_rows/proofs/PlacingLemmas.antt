@@ -57,7 +57,7 @@ when-fits scope [] = All-nil (FitsWhen (length scope))
 when-fits scope (c ∷ changes) =
     let P = FitsWhen (length scope) in
     let rest = when-fits scope changes in
-    elim (c.change.is_unconditional || c.wants_unnumbered) as (λ b. All P (cons_option (if b then None else option_map (λ (k : ℕ). record { place = k; value = c.change.value; condition = filter_map (placed_in scope) c.condition }) (place_in scope c.change.atom)) (filter_map (when_in scope) changes))) [
+    elim (c.change.is_unconditional || c.requires_unnumbered) as (λ b. All P (cons_option (if b then None else option_map (λ (k : ℕ). record { place = k; value = c.change.value; condition = filter_map (placed_in scope) c.condition }) (place_in scope c.change.atom)) (filter_map (when_in scope) changes))) [
       | true ↦ rest
       | false ↦ elim (place_in scope c.change.atom) as (λ o. place_in scope c.change.atom ≡ o → All P (cons_option (option_map (λ (k : ℕ). record { place = k; value = c.change.value; condition = filter_map (placed_in scope) c.condition }) o) (filter_map (when_in scope) changes))) [
         | None ↦ λ _. rest

@@ -36,7 +36,7 @@ certain_set scope value changes = set_of (length scope) (filter_map (certain_pla
 -- the change under a `when`, if it is in the scope and its condition wants no atom without a number
 abbrev pub when_in : List ℕ → ConditionalChange → Option When
 when_in scope c =
-    if c.change.is_unconditional || c.wants_unnumbered then None
+    if c.change.is_unconditional || c.requires_unnumbered then None
     else option_map (λ (k : ℕ). record { place = k; value = c.change.value; condition = filter_map (placed_in scope) c.condition }) (place_in scope c.change.atom)
 
 -- those of places that no unconditional change adds: adds win
@@ -48,7 +48,7 @@ placed_changes scope changes = record { deletes = certain_set scope false change
 
 -- an unconditional change has no condition
 abbrev pub is_plain : ConditionalChange → Bool
-is_plain c = not c.change.is_unconditional || (not c.wants_unnumbered && length c.condition == 0)
+is_plain c = not c.change.is_unconditional || (not c.requires_unnumbered && length c.condition == 0)
 
 -- ---- after a row
 

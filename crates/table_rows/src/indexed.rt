@@ -51,7 +51,7 @@ impl<'a> IndexedTable<'a> {
         self.table
     }
 
-    /// The rows of the rarest atom that a literal wants to be true; all rows if no literal does.
+    /// The rows of the rarest atom that a literal requires to be true; all rows if none does.
     pub(crate) fn candidates(&self, literals: &[PlacedLiteral]) -> Candidates<'_>
         ensures { AreCandidates (sets_of self.now.table.now) (map placed_of literals.now) (candidates_of result) }
     {

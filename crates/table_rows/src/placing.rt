@@ -113,7 +113,7 @@ fn add_when(
     if change.is_unconditional() {
         return Ok(());
     }
-    if change.wants_unnumbered() {
+    if change.requires_unnumbered() {
         return Ok(());
     }
     let Some(place) = place_in(scope, change.atom) else {

@@ -8,13 +8,13 @@ use Rattle.std.proofs.lemmas.Option.{slice_get-get_or}
 use Rattle.model.specs.Task.{Atom, Task, Instance}
 use Rattle.model.specs.StaticallyFalse.{kept_instances}
 use Rattle.model.specs.NumberedLiterals.{NumberedLiteral, NumberedChange, literals_of_instance, literals_of_number, literals_of_goal}
-use Rattle.model.specs.ConditionalChanges.{conditional_of_number, number_wants_unnumbered}
+use Rattle.model.specs.ConditionalChanges.{conditional_of_number, number_requires_unnumbered}
 use Rattle.lower_bounds.specs.PotentialFunctions.{IsInRange}
 use Rattle.lower_bounds.specs.FairPotentials.{loses_at_most, goal_gives_at_most}
 use Rattle.lower_bounds.proofs.Numbers.{literals-named}
 use Rattle.potentials.proofs.LossLemmas.{losing-range}
 use Rattle.lower_bounds.specs.TableFunctions.{TableFunction, sum_over}
-use Rattle.lower_bounds.specs.FairTables.{ConditionalChange, changes_in, conditional_of_instance, instance_wants_unnumbered, is_closed, is_shut_out, table_gives, all_lose, all_give, is_asked, IsFairAt, IsFairAtGoals, IsFirstUnfairAt}
+use Rattle.lower_bounds.specs.FairTables.{ConditionalChange, changes_in, conditional_of_instance, instance_requires_unnumbered, is_closed, is_shut_out, table_gives, all_lose, all_give, is_asked, IsFairAt, IsFairAtGoals, IsFirstUnfairAt}
 use Rattle.tables.specs.ByAtom.{LosesByAll}
 use Rattle.tables.specs.Fairness.{AreInstancesFairAt}
 
@@ -53,8 +53,8 @@ module _ (task : Task) (atoms : List Atom) (h : TableFunction) where
           λ fair. test.1 (subst (λ z. z ≤ℤ pos allowed) (sym lost) (subst (λ c. all_lose (length atoms) h (literals_of_instance task atoms i) (conditional_of_instance task atoms i) ≤ℤ pos c) (sym same) fair.within)),
         )
 
-  pub wants-named : (n : ℕ) (i : Instance) → slice_get (kept_instances task) n ≡ Some i → number_wants_unnumbered task atoms n ≡ instance_wants_unnumbered task atoms i
-  wants-named n i named = ap (λ o. option_map_or (instance_wants_unnumbered task atoms) o false) named
+  pub wants-named : (n : ℕ) (i : Instance) → slice_get (kept_instances task) n ≡ Some i → number_requires_unnumbered task atoms n ≡ instance_requires_unnumbered task atoms i
+  wants-named n i named = ap (λ o. option_map_or (instance_requires_unnumbered task atoms) o false) named
 
   -- ---- goals
 

@@ -17,7 +17,7 @@ use grounding::Ground;
 use potentials::{Allowance, GoalAtoms, Potentials, loses_at_most};
 use std::alloc::Global;
 
-/// One of several values, with what instances may lose of it.
+/// One of several values, for the test of what instances may lose by it.
 #[derive(Clone, Copy)]
 pub(crate) struct TableValue<'a, 't> {
     /// The constant and the weights of atoms.
@@ -80,7 +80,7 @@ pub fn is_instance_shut_out(
     ensures { (i : Instance) → slice_get (kept_instances (task_in ground.now)) number ≡ Some i
         → IfOk result (λ out. out ≡ model.is_instance_shut_out (task_in ground.now) (atoms_in ground.now) (tables_of tables.now) i) }
 {
-    if ground.wants_unnumbered(number) {
+    if ground.requires_unnumbered(number) {
         return Ok(true);
     }
     tables.is_shut_out(alloc, ground.literals(number))

@@ -14,7 +14,7 @@ use grounding::Ground;
 use packed_state::Packed;
 use std::alloc::Global;
 
-/// What some tables tell of an instance.
+/// What some tables say about an instance.
 #[derive(Clone, Copy, Debug, PartialEq, Eq)]
 pub(crate) enum Standing {
     /// It is shut out, by all tables.
@@ -30,7 +30,7 @@ pub(crate) enum Standing {
 pub(crate) struct Losses {
     /// The instance's number.
     pub(crate) number: u32,
-    /// What these tables tell of it.
+    /// What these tables say about it.
     pub(crate) standing: Standing,
     /// The tables that may have an atom of its changes in their scope.
     named: Packed,

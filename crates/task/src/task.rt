@@ -82,7 +82,7 @@ impl Task {
         self.parts.types.len()
     }
 
-    /// The type with this name, given in lower case.
+    /// The type with this name, given in lower case, for users of the library.
     pub fn type_named(&self, folded: &[u8]) -> Option<TypeId>
         ensures { option_map type_of result ≡ position (is_same folded.now) (map (λ t. t.name) (task_of self.now).types) }
     {
@@ -212,7 +212,7 @@ impl Task {
         Some(PredicateId(number))
     }
 
-    /// The function with this name, given in lower case. Its number takes the place of a predicate's.
+    /// The function with this name, given in lower case, for users of the library. Its number takes the place of a predicate's.
     pub fn function_named(&self, folded: &[u8]) -> Option<PredicateId>
         ensures { option_map predicate_id_of result ≡ position (is_same folded.now) (map (λ p. p.name) (task_of self.now).functions) }
     {

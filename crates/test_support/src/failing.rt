@@ -161,7 +161,7 @@ impl<S: Sink> Sink for FailsAt<S> {
 
     ghost write_count = { λ device piece. S.write_count device.inner piece };
 
-    ghost wants_memory = { S.wants_memory };
+    ghost may_lack_memory = { S.may_lack_memory };
 
     ghost name = { λ device. S.name device.inner };
 
@@ -170,7 +170,7 @@ impl<S: Sink> Sink for FailsAt<S> {
         ensures progress { 0 < length piece.now → IfOk result (λ count. 0 < count) }
         ensures takes { IfOk result (λ count. IfSome (S.write_count self.old.inner (length piece.now)) (λ reported. count ≡ reported)) }
         ensures bytes { WriteAppends (S.taken self.old.inner) (S.taken self.new.inner) result piece.now }
-        ensures memory { result ≡ Err IoFault.NoMemory → IsTrue S.wants_memory }
+        ensures memory { result ≡ Err IoFault.NoMemory → IsTrue S.may_lack_memory }
         ensures failures { CountsDevice (⟦<FailsAt<S> as Sink>⟧.failures self.old) (⟦<FailsAt<S> as Sink>⟧.failures self.new) result }
         ensures name { S.name self.new.inner ≡ S.name self.old.inner }
         ensures fails { IsTrue (fails_now (calls_left self.old)) → (result ≡ Err IoFault.Device) × (self.new.inner ≡ self.old.inner) }

@@ -68,7 +68,7 @@ impl<S: Sink> Sink for InPieces<S> {
 
     ghost write_count = { λ device piece. S.write_count device.inner (min (piece_length device) piece) };
 
-    ghost wants_memory = { S.wants_memory };
+    ghost may_lack_memory = { S.may_lack_memory };
 
     ghost name = { λ device. S.name device.inner };
 
@@ -78,7 +78,7 @@ impl<S: Sink> Sink for InPieces<S> {
         ensures progress { 0 < length piece.now → IfOk result (λ count. 0 < count) }
         ensures takes { IfOk result (λ count. IfSome (⟦<InPieces<S> as Sink>⟧.write_count self.old (length piece.now)) (λ reported. count ≡ reported)) }
         ensures bytes { WriteAppends (S.taken self.old.inner) (S.taken self.new.inner) result piece.now }
-        ensures memory { result ≡ Err IoFault.NoMemory → IsTrue S.wants_memory }
+        ensures memory { result ≡ Err IoFault.NoMemory → IsTrue S.may_lack_memory }
         ensures failures { CountsDevice (S.failures self.old.inner) (S.failures self.new.inner) result }
         ensures name { S.name self.new.inner ≡ S.name self.old.inner }
         ensures length { piece_length self.new ≡ piece_length self.old }

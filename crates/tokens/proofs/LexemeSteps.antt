@@ -2,7 +2,7 @@
 use Rattle.std.proofs.Common.{◌≡◌, ℕ, ◌+◌, ◌-◌, ◌<◌, ◌≤◌, Bool, true, false, cond, IsTrue, List, [], ◌∷◌, length, get_or, take, drop, Option, Some, None, refl, sym, ap, ◌∙◌, subst}
 use Rattle.std.specs.List.{prefix_len}
 use Rattle.std.proofs.lemmas.List.{drop_all}
-use Rattle.model.specs.Words.{Form, blank, comment, opening, closing, run, stray, form_of, goes_on, is_gap, Part, form, bytes, size}
+use Rattle.model.specs.Words.{Form, blank, comment, opening, closing, run, stray, form_of, may_continue, is_gap, Part, form, bytes, size}
 use Rattle.model.specs.PlanText.{Placed, placed_from}
 use Rattle.tokens.specs.declared.lexeme.Shape.{Shape}
 use Rattle.tokens.specs.declared.lexeme.Shape.TheVariants.{Open, Close, Run, Stray}
@@ -73,9 +73,9 @@ a_gap stray e = absurd (cc)
 
 module _ (text : List ℕ) (start end : ℕ) (f : Form) (inside : start < length text)
     (f_is : f ≡ form_of (get_or text start 0))
-    (longest : end ≡ start + 1 + prefix_len (goes_on f) (drop (start + 1) text)) where
+    (longest : end ≡ start + 1 + prefix_len (may_continue f) (drop (start + 1) text)) where
   here : PartBetween text start end
-  here = part_between text start end inside (longest ∙ ap (λ g. start + 1 + prefix_len (goes_on g) (drop (start + 1) text)) f_is)
+  here = part_between text start end inside (longest ∙ ap (λ g. start + 1 + prefix_len (may_continue g) (drop (start + 1) text)) f_is)
 
   same_form : form here.part ≡ f
   same_form = ap form_of here.first ∙ sym f_is

@@ -1,6 +1,6 @@
 -- The parts of a text, cut one after another.
 use Rattle.std.specs.Prelude.{ℕ, cond, List, [], ◌∷◌, ◌++◌}
-use Rattle.model.specs.Words.{goes_on, Part, form}
+use Rattle.model.specs.Words.{may_continue, Part, form}
 
 -- a part of one byte
 abbrev pub alone : ℕ → Part
@@ -14,7 +14,7 @@ with_more part more = record { first = part.first; others = part.others ++ more 
 abbrev pub going : Part → List ℕ → List Part
 going part [] = part ∷ []
 going part (byte ∷ rest) =
-    cond (goes_on (form part) byte) (going (with_more part (byte ∷ [])) rest) (part ∷ going (alone byte) rest)
+    cond (may_continue (form part) byte) (going (with_more part (byte ∷ [])) rest) (part ∷ going (alone byte) rest)
 
 abbrev pub cut : List ℕ → List Part
 cut [] = []

@@ -2,7 +2,7 @@
 ghost use Rattle.std.specs.Prelude.{◌≡◌, ◌+◌, ◌<◌, ◌≤◌, length, drop};
 ghost use Rattle.std.specs.List.{prefix_len};
 ghost use Rattle.tokens.specs.Form.{view};
-ghost use Rattle.model.specs.Words.{form_of, goes_on};
+ghost use Rattle.model.specs.Words.{form_of, may_continue};
 
 /// The kind of a part, determined by its first byte.
 #[derive(Clone, Copy, Debug, PartialEq, Eq)]
@@ -37,8 +37,8 @@ impl Form {
     }
 
     /// Whether the byte continues a lexeme of this kind.
-    fn goes_on(self, byte: u8) -> bool
-        ensures { result ≡ goes_on (view self) byte }
+    fn may_continue(self, byte: u8) -> bool
+        ensures { result ≡ may_continue (view self) byte }
     {
         match self {
             Form::Comment => byte != b'\n',
@@ -53,10 +53,10 @@ pub fn part_end(text: &[u8], start: usize, form: Form) -> usize
     requires { start < length text.now }
     ensures after_start { start < result }
     ensures within { result ≤ length text.now }
-    ensures longest { result ≡ start + 1 + prefix_len (goes_on (view form)) (drop (start + 1) text.now) }
+    ensures longest { result ≡ start + 1 + prefix_len (may_continue (view form)) (drop (start + 1) text.now) }
 {
     let mut end = start + 1;
-    while end < text.len() && form.goes_on(text[end]) {
+    while end < text.len() && form.may_continue(text[end]) {
         end += 1;
     }
     end

@@ -101,11 +101,11 @@ module _ (parents : List ℕ) where
       by (inr later) next = or_right (nat_eq x (suc number)) (among x (chain parents further (slice_index parents (suc number)))) (next later)
 
   -- a chain that does not end has as many types as steps, none of them `object`
-  goes_on : (most number : ℕ) → ends most number ≡ false → (length (chain parents most number) ≡ most) × (among 0 (chain parents most number) ≡ false)
-  goes_on zero number h = (refl, refl)
-  goes_on (suc most) zero h = absurd (true≢false h)
-  goes_on (suc most) (suc number) h =
-      let rest = goes_on most (slice_index parents (suc number)) h in
+  may_continue : (most number : ℕ) → ends most number ≡ false → (length (chain parents most number) ≡ most) × (among 0 (chain parents most number) ≡ false)
+  may_continue zero number h = (refl, refl)
+  may_continue (suc most) zero h = absurd (true≢false h)
+  may_continue (suc most) (suc number) h =
+      let rest = may_continue most (slice_index parents (suc number)) h in
       (ap suc rest.0, or_from (nat_eq 0 (suc number)) (among 0 (chain parents most (slice_index parents (suc number)))) (grind (arith, nat_tests)) rest.1)
 
   module _ (low : (k : ℕ) → slice_index parents k < length parents)
@@ -145,7 +145,7 @@ module _ (parents : List ℕ) where
         by : (b : Bool) → ends (length parents) number ≡ b → b ≡ true
         by true e = refl
         by false e =
-            let rest = goes_on (length parents) number e in
+            let rest = may_continue (length parents) number e in
             let within = length-le_from_distinct_below (0 ∷ chain parents (length parents) number) (length parents) (distinct_more 0 (chain parents (length parents) number) rest.1 (apart (length parents) number (omega arith) l))
             (λ q h. zero_or (or_cases (nat_eq q 0) (among q (chain parents (length parents) number)) h)) in
             absurd (omega (arith, within, rest.0))

@@ -3,10 +3,14 @@ use Rattle.std.specs.Prelude.{◌≡◌, List, map, take}
 use Rattle.faults.specs.Fault.{number_of}
 use Rattle.pddl_tree_parts.specs.Tree.{file_of}
 use Rattle.typing_names.specs.declared.fault.PairRefusal.{PairRefusal}
-use Rattle.typing_names.specs.declared.fault.TaskRefusal.{TaskRefusal}
+use Rattle.pddl_tree_parts.specs.declared.tree.TaskFile.{TaskFile}
+use Rattle.faults.specs.declared.refused.RefusalIn.{RefusalIn}
 use Rattle.faults.specs.declared.refused.Refused.{Refused}
 use Rattle.faults.specs.declared.refused.Refused.TheVariants.{At, NoMemory}
 use Rattle.model.specs.Typing.{TypingFault, IsLeastOf}
+
+abbrev pub TaskRefusal : Type 0
+TaskRefusal = RefusalIn TaskFile
 
 -- the fault that a refusal reports
 abbrev pub refusal_of : TaskRefusal → TypingFault

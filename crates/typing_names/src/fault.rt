@@ -3,19 +3,11 @@ ghost use Rattle.std.specs.Prelude.{◌≡◌};
 ghost use Rattle.typing_names.specs.Refusals.{refusal_of};
 ghost use Rattle.model.specs.Typing.{is_before};
 
-use faults::{Code, Refused, Span};
+use faults::{RefusalIn, Refused};
 use pddl_tree_parts::TaskFile;
 
 /// A pair of a domain and a problem is not well-typed: the refused file, the code and the place.
-#[derive(Clone, Copy, Debug, PartialEq, Eq)]
-pub struct TaskRefusal {
-    /// The file that the place is in.
-    pub file: TaskFile,
-    /// What is wrong.
-    pub code: Code,
-    /// Where it is.
-    pub span: Span,
-}
+pub type TaskRefusal = RefusalIn<TaskFile>;
 
 /// Why a pair of a domain and a problem is not a task.
 pub type TaskFault = Refused<TaskRefusal>;
@@ -32,17 +24,15 @@ pub struct PairRefusal {
 /// Why a pair of a domain and a problem is not a task, with all faults.
 pub type PairFault = Refused<PairRefusal>;
 
-impl TaskRefusal {
-    /// The order of reporting: the domain before the problem, then the least start, then the lower number.
-    pub(crate) fn is_before(&self, other: &TaskRefusal) -> bool
-        ensures { result ≡ is_before (refusal_of self.now) (refusal_of other.now) }
-    {
-        if self.file != other.file {
-            self.file == TaskFile::Domain
-        } else if self.span.start != other.span.start {
-            self.span.start < other.span.start
-        } else {
-            self.code.number() < other.code.number()
-        }
+/// Whether a fault is reported before another: the domain before the problem, then the least start, then the lower number.
+pub(crate) fn precedes(fault: &TaskRefusal, other: &TaskRefusal) -> bool
+    ensures { result ≡ is_before (refusal_of fault.now) (refusal_of other.now) }
+{
+    if fault.file != other.file {
+        fault.file == TaskFile::Domain
+    } else if fault.span.start != other.span.start {
+        fault.span.start < other.span.start
+    } else {
+        fault.code.number() < other.code.number()
     }
 }

@@ -22,7 +22,7 @@ impl<'g> Resolver<'g> {
     ghost use Rattle.std.specs.Prelude.{None};
     ghost use Rattle.typing_names.specs.Walk.{ReportsFound, found_by};
 
-    /// Goes on with this walk where no variable is in scope.
+    /// Continues this walk with no variable in scope.
     pub fn new(walk: Walk, globals: &'g Globals<'g>) -> Resolver<'g>
         ensures globals { result.globals.now ≡ globals.now }
         ensures outside { result.variables.entries ≡ [] }

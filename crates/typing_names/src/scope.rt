@@ -87,7 +87,7 @@ impl Scope<'_> {
     ghost use Rattle.typing_names.specs.Walk.{Finds};
     ghost use Rattle.model.specs.Task.{variable, object};
     ghost use Rattle.model.specs.Trees as tree;
-    ghost use Rattle.model.specs.Typing.{atom_faults, atom_in, fits_in, fits_wanted, ground_atom_faults, has_cost, in_function, is_named, lifted_atom_in, names_of_objects, names_of_predicates, names_of_variables, number_in, predicate_faults, refused_word, term_faults, term_in, terms_faults, unknown_faults};
+    ghost use Rattle.model.specs.Typing.{atom_faults, atom_in, fits_in, fits_required, ground_atom_faults, has_cost, in_function, is_named, lifted_atom_in, names_of_objects, names_of_predicates, names_of_variables, number_in, predicate_faults, refused_word, term_faults, term_in, terms_faults, unknown_faults};
 
     /// The names visible in a function of terms or objects: the functions take the place of the predicates.
     pub fn in_function(&self) -> Scope<'_>
@@ -209,7 +209,7 @@ impl Scope<'_> {
 
     /// Whether a term fits an argument; true if there is no such argument.
     fn fits_argument(&self, wanted: Option<&TypeUnion>, term: Term) -> bool
-        ensures { result ≡ fits_wanted (known_of self.now) (option_map (λ u. parts.union_of u.now) wanted.entry) (parts.term_of term) }
+        ensures { result ≡ fits_required (known_of self.now) (option_map (λ u. parts.union_of u.now) wanted.entry) (parts.term_of term) }
     {
         match wanted {
             Some(wanted) => self.fits(wanted, term),

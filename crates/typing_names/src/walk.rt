@@ -6,8 +6,8 @@ ghost use Rattle.pddl_tree_parts.specs.Tree.{name_of};
 ghost use Rattle.model.specs.Typing.{folded, refused_word};
 
 use crate::TaskFile;
-use crate::fault::{PairFault, PairRefusal, TaskRefusal};
-use faults::{Code, NoMemory, Refused};
+use crate::fault::{PairFault, PairRefusal, TaskRefusal, precedes};
+use faults::{Code, NoMemory, RefusalIn, Refused};
 use pddl_tree_parts::Name;
 use std::alloc::Global;
 
@@ -67,7 +67,7 @@ impl FoundFaults {
     {
         match self.least {
             Some(least) => {
-                if fault.is_before(&least) {
+                if precedes(&fault, &least) {
                     self.least = Some(fault);
                 }
             }
@@ -130,7 +130,7 @@ impl Walk {
     pub fn refuse(&mut self, file: TaskFile, code: Code, word: &Name<'_>)
         ensures { found_by self.new ≡ found (found_by self.old) (refused_word (file_of file) (number_of code) (name_of word.now)) }
     {
-        self.found.add(TaskRefusal {
+        self.found.add(RefusalIn {
             file,
             code,
             span: word.span,

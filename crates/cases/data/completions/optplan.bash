@@ -8,7 +8,7 @@ _optplan() {
         return
     fi
     case $command in
-        solve) options='--plan --cert --states --instances --seconds --json --progress --help' ;;
+        solve) options='--plan --cert --states --instances --seconds --cert-version --json --progress --help' ;;
         validate) options='--json --help' ;;
         check) options='--plan --instances --json --progress --help' ;;
         explain) options='--trace --instances --json --help' ;;
@@ -17,6 +17,7 @@ _optplan() {
     esac
     case $previous in
         --states|--instances|--seconds) return ;;
+        --cert-version) COMPREPLY=($(compgen -W '2 3 4' -- "$current")); return ;;
         --plan|--cert) COMPREPLY=($(compgen -f -- "$current")); return ;;
     esac
     if [[ $current == -* ]]; then

@@ -13,6 +13,7 @@ complete -c optplan -n '__fish_seen_subcommand_from solve' -r -l cert -d 'Write 
 complete -c optplan -n '__fish_seen_subcommand_from solve' -x -l states -d 'List at most this many states'
 complete -c optplan -n '__fish_seen_subcommand_from solve' -x -l instances -d 'Keep at most this many action instances'
 complete -c optplan -n '__fish_seen_subcommand_from solve' -x -l seconds -d 'Stop after this many seconds, with the bound by then'
+complete -c optplan -n '__fish_seen_subcommand_from solve' -x -l cert-version -a '2 3 4' -d 'Let the certificate have this version at most'
 complete -c optplan -n '__fish_seen_subcommand_from solve' -l json -d 'Print the answer as a line of JSON'
 complete -c optplan -n '__fish_seen_subcommand_from solve' -l progress -d 'Say on the standard error how far the search is'
 

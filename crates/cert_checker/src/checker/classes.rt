@@ -1,4 +1,4 @@
-//! The listed states of a certificate, by classes of alike states.
+//! The listed states of a certificate, by classes.
 ghost use Rattle.std.specs.Prelude.{◌≡◌, ◌+◌, ◌<◌, length, map, slice_get, true, Contains, IfOk, OnOk, MatchOption, Some};
 ghost use Rattle.std.specs.List.{list_all};
 ghost use Rattle.grounding.specs.Ground.{task_in, atoms_in};
@@ -19,7 +19,7 @@ use packed_state::{Packed, PooledStore, StateStore};
 use std::alloc::Global;
 use symmetries::{Exchange, Representatives};
 
-/// The cheapest listed state of each class. States with the same representative are alike and form a class.
+/// The cheapest listed state of each class. States with the same representative form a class.
 #[derive(Drop)]
 pub(super) struct Classes<'a, 't> {
     cert: &'a Cert,
@@ -84,7 +84,7 @@ impl<'a, 't> Classes<'a, 't> {
         Ok(())
     }
 
-    /// The place of the cheapest line whose state is alike this one, if any is. The state becomes its representative.
+    /// The place of the cheapest line whose state is of this one's class, if there is one. The state becomes its representative.
     pub(super) fn cheapest(&self, state: &mut Packed) -> Option<u32>
         requires state { length (bits_of state.old) ≡ length (atoms_of self.now.representatives) }
         requires width { pooled_width self.now.keys ≡ length (atoms_of self.now.representatives) }
@@ -108,7 +108,7 @@ pub(super) fn cost_at(cert: &Cert, place: usize) -> u64
     cert.marks()[place].cost
 }
 
-/// The classes of the certificate's states by its exchanges. `None` if it has none: each state is then alike itself alone.
+/// The classes of the certificate's states by its exchanges. `None` if it has none: each state is then a class of its own.
 pub(super) fn classes_by<'a, 't>(
     alloc: Global,
     grounded: &'a Ground<'t>,

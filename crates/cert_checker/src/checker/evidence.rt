@@ -42,8 +42,8 @@ pub(super) struct GroundEvidence<'a> {
 impl<'a> GroundEvidence<'a> {
     ghost use Rattle.cert_checker.specs.GroundEvidence.{has_basis, is_dead_at, value_at, width_in, IsEvidenceOf, IsKnownBy};
 
-    /// That of the certificate, whose atoms the ground task numbers first, if its values are fair, and that for dead ends and the
-    /// landmark values that dead ends rest on are dead-fair.
+    /// The certificate's evidence, if all values are fair and those that dead ends rest on are dead-fair. The ground task numbers the
+    /// certificate's atoms first.
     ///
     /// # Errors
     /// 46, 47, 56, 57, 62 and 63, as `check` reports them. [`Refusal::NoMemory`]: an allocation failed.
@@ -67,7 +67,7 @@ impl<'a> GroundEvidence<'a> {
         Ok(GroundEvidence { common, landmarks })
     }
 
-    /// An evaluation to start from; the calls below move it from state to state.
+    /// An evaluation to start from, which the calls below move from state to state.
     pub(super) fn known_state(&self, alloc: Global) -> Result<KnownState, NoMemory>
         ensures { IfOk result (IsKnownBy self.now) }
     {

@@ -84,7 +84,7 @@ fn rests_on_another(mark: Mark, found: &[Fairness]) -> bool
     ensures { result ≡ rests_on_another found.now (mark_of mark) }
 {
     match mark {
-        Mark::Open | Mark::Cut { .. } | Mark::Dead { by: Basis::OfAll } => false,
+        Mark::Expanded | Mark::Cut { .. } | Mark::Dead { by: Basis::OfAll } => false,
         Mark::Dead {
             by: Basis::Landmark(number),
         } => match found.get(number as usize) {

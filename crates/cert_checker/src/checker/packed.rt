@@ -18,7 +18,7 @@ use std::alloc::Global;
 use tables::KnownState;
 
 /// A certificate over a ground task that numbers the certificate's atoms first: its packed states, what its lines rest on, and its
-/// classes of alike states. Versions 1 and 2 have no classes.
+/// classes of states. Versions 1 and 2 have no classes.
 #[derive(Drop)]
 pub(super) struct PackedListing<'a, 't> {
     pub(super) grounded: &'a Ground<'t>,
@@ -77,7 +77,7 @@ impl<'a, 't> PackedListing<'a, 't> {
         self.cert.sets().get(place as u32, into);
     }
 
-    /// The least cost of a listed state that is alike, if there is one. The state becomes its representative.
+    /// The least cost of a listed state of the same class, if there is one. The state becomes its representative.
     pub(super) fn least_cost(&self, state: &mut Packed) -> Option<u64>
         requires { IsPacked self.now state.old }
         ensures packed { IsPacked self.now state.new }
@@ -91,7 +91,7 @@ impl<'a, 't> PackedListing<'a, 't> {
         }
     }
 
-    /// The place of the cheapest line whose state is alike, if there is one. The state becomes its representative.
+    /// The place of the cheapest line whose state is of the same class, if there is one. The state becomes its representative.
     fn cheapest(&self, state: &mut Packed) -> Option<u32>
         requires { IsPacked self.now state.old }
         ensures packed { IsPacked self.now state.new }
@@ -105,7 +105,7 @@ impl<'a, 't> PackedListing<'a, 't> {
         }
     }
 
-    /// An evaluation to start from; the calls below move it from state to state.
+    /// An evaluation to start from, which the calls below move from state to state.
     pub(super) fn known_state(&self, alloc: Global) -> Result<KnownState, NoMemory>
         ensures { IfOk result (IsKnownIn self.now) }
     {

@@ -10,13 +10,13 @@ ghost use Rattle.packed_state.specs.PooledView.{pooled_width};
 ghost use Rattle.certificate.specs.Certificate.{certificate_of, store_in};
 ghost use Rattle.cert_checker.specs.CertChecker.{IsFirstRefusal, IsTrueRefusal};
 ghost use Rattle.cert_checker.specs.FluentAtoms.{AreFluent};
-ghost use Rattle.cert_checker.specs.CheckedLines.{AreSymmetries, CutsAreAllowed, IsCutClosed, IsFirstGrounded, IsLineClosed, IsOpenClosed, IsRightGrounded, IsRightUpTo, IsTrueAnyway, IsListedAs, IsListedBy};
+ghost use Rattle.cert_checker.specs.CheckedLines.{AreSymmetries, CutsAreAllowed, IsCutClosed, IsFirstGrounded, IsLineClosed, IsExpandedClosed, IsRightGrounded, IsRightUpTo, IsTrueAnyway, IsListedAs, IsListedBy};
 ghost use Rattle.cert_checker.specs.Exchanged.{is_said};
 ghost use Rattle.cert_checker.specs.PackedListing.{task_at, atoms_at, certificate_at, state_at, IsPacked, IsKnownIn};
 ghost use Rattle.model.specs.Task as model_task;
 ghost use Rattle.model.specs.Meaning as meaning;
 ghost use Rattle.model.specs.Claims as claims;
-ghost use Rattle.model.specs.Claims.{opened, Allows, IsListedWithin};
+ghost use Rattle.model.specs.Claims.{expanded, Allows, IsListedWithin};
 ghost use Rattle.certificate_definitions.specs.Evidence.{cut, dead};
 ghost use Rattle.model.specs.NumberedAtoms.{numbered_atoms};
 ghost use Rattle.model.specs.Grounding.{applicable_numbers};
@@ -38,9 +38,9 @@ use symmetries::Exchange;
 use tables::KnownState;
 use task::Task;
 
-/// Grounds the task and checks, in this order: the exchanges are symmetries; the values are fair, that for dead ends dead-fair; so
-/// are the landmark values, and those that dead ends rest on;
-/// a state alike the initial one is listed at cost 0; each state line is right.
+/// Grounds the task and checks, in this order: the exchanges are symmetries; the values are fair, and the one for dead ends is
+/// dead-fair; the landmark values are fair, and those that dead ends rest on are dead-fair; a state of the initial state's class is
+/// listed at cost 0; each state line is right.
 pub(super) fn check_cert(
     alloc: Global,
     task: &Task,
@@ -119,8 +119,8 @@ fn check_symmetric(
     check_packed(alloc, &packed)
 }
 
-/// Checks the listing of a certificate with fair values: a state alike the initial one is listed at cost 0, and each state line is
-/// right.
+/// Checks the listing of a certificate with fair values: a state of the initial state's class is listed at cost 0, and each state
+/// line is right.
 fn check_packed(alloc: Global, listing: &PackedListing) -> Result<(), Refusal>
     requires fair { AreFairFor (task_at listing.now) (certificate_at listing.now) }
     requires landmarks { AreLandmarksFair (task_at listing.now) (certificate_at listing.now) }
@@ -132,7 +132,7 @@ fn check_packed(alloc: Global, listing: &PackedListing) -> Result<(), Refusal>
     check_lines(alloc, listing)
 }
 
-/// Checks that a state alike the initial one is listed at cost 0.
+/// Checks that a state of the initial state's class is listed at cost 0.
 fn check_initial(alloc: Global, listing: &PackedListing) -> Result<(), Refusal>
     ensures right { OnOk result (IsListedWithin (AreAlikeFor (task_at listing.now) (certificate_at listing.now)) (lines_of (task_at listing.now) (certificate_at listing.now)) (meaning.system_of (task_at listing.now)).initial 0) }
     ensures wrong { IfErr result (IsTrueAnyway (task_at listing.now) (certificate_at listing.now)) }
@@ -198,7 +198,7 @@ fn check_line(
     let listed = listing.cert.marks()[place];
     listing.get(place, state);
     match listed.mark {
-        Mark::Open => check_open(listing, place, listed.cost, state, next, numbers),
+        Mark::Expanded => check_expanded(listing, place, listed.cost, state, next, numbers),
         Mark::Cut { by, rest } => {
             let line = CutLine {
                 place,
@@ -212,8 +212,8 @@ fn check_line(
     }
 }
 
-/// Checks an open state, its place and cost given: first the goal, then the successors in order.
-fn check_open(
+/// Checks an expanded state, its place and cost given: first the goal, then the successors in order.
+fn check_expanded(
     listing: &PackedListing,
     place: usize,
     cost: u64,
@@ -224,10 +224,10 @@ fn check_open(
     requires within { place < length (certificate_at listing.now).lines }
     requires state { IsPacked listing.now state.now }
     requires next { IsPacked listing.now next.old }
-    requires listed { IsListedAs (task_at listing.now) (certificate_at listing.now) place (state_at listing.now state.now) cost opened }
+    requires listed { IsListedAs (task_at listing.now) (certificate_at listing.now) place (state_at listing.now state.now) cost expanded }
     requires small { cost < 1152921504606846976 }
     ensures next { IsPacked listing.now next.new }
-    ensures right { OnOk result (IsOpenClosed (task_at listing.now) (certificate_at listing.now) (state_at listing.now state.now) cost) }
+    ensures right { OnOk result (IsExpandedClosed (task_at listing.now) (certificate_at listing.now) (state_at listing.now state.now) cost) }
     ensures wrong { IfErr result (IsTrueAnyway (task_at listing.now) (certificate_at listing.now)) }
     ensures first { IfErr result (λ e. (plan : Option (List model_task.Instance)) (most : ℕ) → IsRightUpTo (task_at listing.now) (certificate_at listing.now) most place
         → IsFirstRefusal (task_at listing.now) (certificate_at listing.now) plan most e) }
@@ -237,7 +237,7 @@ fn check_open(
     check_successors(listing, place, cost, state, numbers, next)
 }
 
-/// Checks that an open state that meets the goal costs no less than claimed.
+/// Checks that an expanded state that meets the goal costs no less than claimed.
 fn check_goal(
     listing: &PackedListing,
     place: usize,
@@ -246,7 +246,7 @@ fn check_goal(
 ) -> Result<(), Refusal>
     requires within { place < length (certificate_at listing.now).lines }
     requires state { IsPacked listing.now state.now }
-    requires listed { IsListedAs (task_at listing.now) (certificate_at listing.now) place (state_at listing.now state.now) cost opened }
+    requires listed { IsListedAs (task_at listing.now) (certificate_at listing.now) place (state_at listing.now state.now) cost expanded }
     ensures right { OnOk result (IsTrue (meaning.meets_goal (task_at listing.now) (state_at listing.now state.now)) → Allows (certificate_at listing.now).claim cost) }
     ensures wrong { IfErr result (IsTrueAnyway (task_at listing.now) (certificate_at listing.now)) }
     ensures first { IfErr result (λ e. (plan : Option (List model_task.Instance)) (most : ℕ) → IsRightUpTo (task_at listing.now) (certificate_at listing.now) most place
@@ -259,8 +259,8 @@ fn check_goal(
     }
 }
 
-/// Checks that for each successor of an open state, by the instances with these numbers, an alike state is listed, at no more than
-/// the cost of the step after `cost`.
+/// Checks the successors of an expanded state by the instances with these numbers: a state of each one's class is listed, at no more
+/// than `cost` and the instance's cost together.
 fn check_successors(
     listing: &PackedListing,
     place: usize,
@@ -272,12 +272,12 @@ fn check_successors(
     requires within { place < length (certificate_at listing.now).lines }
     requires state { IsPacked listing.now state.now }
     requires next { IsPacked listing.now next.old }
-    requires listed { IsListedAs (task_at listing.now) (certificate_at listing.now) place (state_at listing.now state.now) cost opened }
+    requires listed { IsListedAs (task_at listing.now) (certificate_at listing.now) place (state_at listing.now state.now) cost expanded }
     requires small { cost < 1152921504606846976 }
     requires numbers { numbers.now ≡ applicable_numbers (task_at listing.now) (atoms_at listing.now) (bits_of state.now) }
     requires goal { IsTrue (meaning.meets_goal (task_at listing.now) (state_at listing.now state.now)) → Allows (certificate_at listing.now).claim cost }
     ensures next { IsPacked listing.now next.new }
-    ensures right { OnOk result (IsOpenClosed (task_at listing.now) (certificate_at listing.now) (state_at listing.now state.now) cost) }
+    ensures right { OnOk result (IsExpandedClosed (task_at listing.now) (certificate_at listing.now) (state_at listing.now state.now) cost) }
     ensures wrong { IfErr result (IsTrueAnyway (task_at listing.now) (certificate_at listing.now)) }
     ensures first { IfErr result (λ e. (plan : Option (List model_task.Instance)) (most : ℕ) → IsRightUpTo (task_at listing.now) (certificate_at listing.now) most place
         → IsFirstRefusal (task_at listing.now) (certificate_at listing.now) plan most e) }
@@ -294,7 +294,7 @@ fn check_successors(
     Ok(())
 }
 
-/// A cut: where it is listed, at which cost, and by which basis at least how much is still to pay.
+/// A cut: its place, its cost, its basis, and its lower bound of the remaining cost.
 #[derive(Clone, Copy)]
 struct CutLine {
     place: usize,
@@ -303,7 +303,7 @@ struct CutLine {
     rest: u64,
 }
 
-/// Checks a cut: the state's value by its basis is at least what it tells, and that and its cost together are no less than claimed.
+/// Checks a cut: its bound is at most the state's value by its basis, and its cost and bound together are no less than claimed.
 fn check_cut(
     listing: &PackedListing,
     line: CutLine,
@@ -330,7 +330,7 @@ fn check_cut(
     }
 }
 
-/// A dead end: where it is listed, and by which basis it is one.
+/// A dead end: its place and its basis.
 #[derive(Clone, Copy)]
 struct DeadLine {
     place: usize,

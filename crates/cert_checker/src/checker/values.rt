@@ -5,7 +5,7 @@ ghost use Rattle.potentials.specs.Potentials.{potentials_of};
 ghost use Rattle.potentials.specs.declared.potentials.Potentials as in_memory;
 ghost use Rattle.certificate.specs.Certificate.{certificate_of};
 ghost use Rattle.certificate.specs.Evidence.{potential_of};
-ghost use Rattle.certificate.specs.declared.evidence.Potential as code;
+ghost use Rattle.certificate.specs.declared.evidence.WrittenPotentials as code;
 ghost use Rattle.certificate_definitions.specs.Certificates as certificates;
 ghost use Rattle.certificate_definitions.specs.Certificates.{has_tables, AreFairFor};
 ghost use Rattle.lower_bounds.specs.PotentialFunctions.{PotentialFunction, AreInRange};
@@ -17,15 +17,15 @@ ghost use Rattle.model.specs.NumberedAtoms.{numbered_atoms};
 
 use crate::checker::weights::{at_width, dead_fair_potentials, fair_potentials, kept_instance};
 use crate::refusal::{Refusal, RefusalCode};
-use certificate::{Cert, Potential, Version};
+use certificate::{Cert, Version, WrittenPotentials};
 use faults::NoMemory;
 use grounding::Ground;
 use potentials::Potentials;
 use std::alloc::Global;
 use tables::{IndexedTables, TableFunctions, ValuesFairness};
 
-/// The certificate's values, if they are fair for the ground task, and that for dead ends dead-fair. The ground task numbers the
-/// certificate's atoms first.
+/// The certificate's values, if they are fair for the ground task, and the one for dead ends is dead-fair. The ground task numbers
+/// the certificate's atoms first.
 pub(super) fn fair_values<'a>(
     alloc: Global,
     cert: &'a Cert,
@@ -91,7 +91,7 @@ fn fair_with_tables<'a>(
     Ok(functions)
 }
 
-/// Checks that these values of the certificate are fair, and that for dead ends dead-fair.
+/// Checks that these values of the certificate are fair, and that the one for dead ends is dead-fair.
 fn check_fairness(
     alloc: Global,
     cert: &Cert,
@@ -140,9 +140,13 @@ fn over_tables<'a>(
 }
 
 /// Copies of these potentials, widened by weights of 0.
-fn all_at_width(alloc: Global, said: &[Potential], width: u32) -> Result<Vec<Potentials>, NoMemory>
-    requires range { All (λ (p : code.Potential). AreInRange (potential_of p)) said.now }
-    requires enough { All (λ (p : code.Potential). length (potential_of p).weights ≤ width) said.now }
+fn all_at_width(
+    alloc: Global,
+    said: &[WrittenPotentials],
+    width: u32,
+) -> Result<Vec<Potentials>, NoMemory>
+    requires range { All (λ (p : code.WrittenPotentials). AreInRange (potential_of p)) said.now }
+    requires enough { All (λ (p : code.WrittenPotentials). length (potential_of p).weights ≤ width) said.now }
     ensures { IfOk result (λ made. AreWidened (map potential_of said.now) width (map potentials_of made.items)) }
 {
     let mut made = Vec::new(alloc);

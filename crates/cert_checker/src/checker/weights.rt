@@ -17,7 +17,7 @@ ghost use Rattle.lower_bounds.specs.PotentialFunctions.{AreInRange};
 ghost use Rattle.lower_bounds.specs.FairPotentials.{AreFair, AreDeadFair};
 
 use crate::refusal::{Refusal, RefusalCode};
-use certificate::{Cert, Potential};
+use certificate::{Cert, WrittenPotentials};
 use faults::NoMemory;
 use formulas::{Instance, copied};
 use grounding::Ground;
@@ -70,8 +70,7 @@ pub(super) fn dead_fair_potentials(
     }
 }
 
-/// Whether these potentials are dead-fair for the ground task. If all are 0, as in version 1, they are, and no instance is looked
-/// at.
+/// Whether these potentials are dead-fair for the ground task. If all are 0, as in version 1, they are: no instance is looked at.
 fn dead_fairness(
     alloc: Global,
     potentials: &Potentials,
@@ -95,7 +94,11 @@ fn are_zero(weights: &[i64]) -> bool
 }
 
 /// A copy of these potentials, widened by weights of 0.
-pub(super) fn at_width(alloc: Global, said: &Potential, width: u32) -> Result<Potentials, NoMemory>
+pub(super) fn at_width(
+    alloc: Global,
+    said: &WrittenPotentials,
+    width: u32,
+) -> Result<Potentials, NoMemory>
     requires range { AreInRange (potential_of said.now) }
     requires enough { length (potential_of said.now).weights ≤ width }
     ensures { IfOk result (λ p. HasItsWeights (potential_of said.now) width (potentials_of p)) }

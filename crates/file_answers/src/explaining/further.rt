@@ -1,8 +1,10 @@
 //! Further faults of two files, after the first.
-ghost use Rattle.std.specs.Prelude.{◌≡◌, IfOk, OnOk};
+ghost use Rattle.std.specs.Prelude.{◌≡◌, ◌∷◌, false, map, IfOk, IsTrue, OnOk};
 ghost use Rattle.std.specs.String.{string_bytes};
 ghost use Rattle.typing.specs.Task.{file_of, refusal_of};
+ghost use Rattle.explain_hints.specs.Refusals.{FileRefusal};
 ghost use Rattle.file_answers.specs.FurtherFaults.{AreFurther, IsFaultOfTexts, IsReportedAt, SayFault, further_text};
+ghost use Rattle.file_answers.specs.Complete.{IsAccounted, IsComplete, IsOfTyping, IsReportedAmong, fault_in, of_pair, one_of_files};
 ghost use Rattle.file_answers.specs.Explanations.{IsExplainedAlone, IsFaultExplained};
 ghost use Rattle.explain_hints.specs.Files.{file_view, name_in, text_in};
 ghost use Rattle.model.specs.Files.{of_task};
@@ -10,42 +12,14 @@ ghost use Rattle.model.specs.Files.{of_task};
 use crate::explaining::of_plan::joined;
 use crate::explanation::{Explanation, FurtherFault};
 use crate::files::faults_of_files;
-use explain_faults::{FileRefusal, explain_fault};
-use explain_hints::{File, NamedTexts};
-use faults::{Code, NoMemory};
+use explain_faults::{FileRefusal, are_of_one_mistake, explain_fault};
+use explain_hints::{CutTexts, File, NamedTexts};
+use faults::{Code, NoMemory, RefusalIn};
 use std::alloc::Global;
 use typing::{TaskFile, TaskRefusal};
 
 /// The maximum number of further faults that are reported.
 const MOST: usize = 20;
-
-/// The explanation of a fault, followed by the lines of the other faults of the two files.
-pub(super) fn with_further(
-    alloc: Global,
-    texts: &NamedTexts<'_>,
-    first: FileRefusal,
-    alone: Explanation,
-) -> Result<Explanation, NoMemory>
-    requires { IsExplainedAlone texts.now first.file first.code first.span alone }
-    ensures { IfOk result (IsFaultExplained texts.now first.file first.code first.span) }
-{
-    let search = FurtherSearch {
-        alloc,
-        texts,
-        first,
-    };
-    let further = search.further_faults()?;
-    let more = further_text(alloc, &further)?;
-    let text = joined(alone.text, more.as_str())?;
-    Ok(Explanation {
-        subject: alone.subject,
-        text,
-        location: alone.location,
-        hints: alone.hints,
-        further,
-        notes: alone.notes,
-    })
-}
 
 /// The lines of the faults, with an empty line before each. If the limit is reached, a last line says that there may be more.
 fn further_text(alloc: Global, further: &[FurtherFault]) -> Result<String, NoMemory>
@@ -64,16 +38,37 @@ fn further_text(alloc: Global, further: &[FurtherFault]) -> Result<String, NoMem
 
 /// A search for the faults of two files other than the first.
 #[derive(Clone, Copy)]
-struct FurtherSearch<'a> {
-    alloc: Global,
-    texts: &'a NamedTexts<'a>,
-    first: FileRefusal,
+pub(super) struct FurtherSearch<'w, 'a> {
+    pub(super) alloc: Global,
+    pub(super) texts: &'w NamedTexts<'a>,
+    /// The pieces of the texts.
+    pub(super) pieces: &'w CutTexts<'a>,
+    pub(super) first: FileRefusal,
 }
 
-impl FurtherSearch<'_> {
+impl FurtherSearch<'_, '_> {
+    /// The explanation of the first fault, followed by the lines of the others.
+    pub(super) fn with_further(self, alone: Explanation) -> Result<Explanation, NoMemory>
+        requires { IsExplainedAlone self.texts.now self.first.file self.first.code self.first.span alone }
+        ensures { IfOk result (IsFaultExplained self.entry.texts.now self.entry.first.file self.entry.first.code self.entry.first.span) }
+    {
+        let further = self.further_faults()?;
+        let more = further_text(self.alloc, &further)?;
+        let text = joined(alone.text, more.as_str())?;
+        Ok(Explanation {
+            subject: alone.subject,
+            text,
+            location: alone.location,
+            hints: alone.hints,
+            further,
+            notes: alone.notes,
+        })
+    }
+
     /// The further faults, each with its lines, if the first is a typing fault.
     fn further_faults(self) -> Result<Vec<FurtherFault>, NoMemory>
-        ensures { IfOk result (λ further. AreFurther self.entry.texts.now further.items) }
+        ensures further { IfOk result (λ further. AreFurther self.entry.texts.now further.items) }
+        ensures complete { IfOk result (λ further. IsComplete (text_in self.entry.texts.now) self.entry.first further.items) }
     {
         let mut further = Vec::new(self.alloc);
         if !is_of_typing(self.first.code) {
@@ -94,36 +89,60 @@ impl FurtherSearch<'_> {
         further: &mut Vec<FurtherFault>,
     ) -> Result<(), NoMemory>
         requires { IsFaultOfTexts self.texts.now.domain.text.now self.texts.now.problem.text.now (refusal_of refusal) }
-        ensures { OnOk result (AreFurther self.entry.texts.now further.old.items → AreFurther self.entry.texts.now further.new.items) }
+        ensures further { OnOk result (AreFurther self.entry.texts.now further.old.items → AreFurther self.entry.texts.now further.new.items) }
+        // No fault is left out.
+        ensures kept { OnOk result ((fault : FileRefusal) → IsAccounted (text_in self.entry.texts.now) self.entry.first further.old.items fault → IsAccounted (text_in self.entry.texts.now) self.entry.first further.new.items fault) }
+        ensures added { OnOk result (IsAccounted (text_in self.entry.texts.now) self.entry.first further.new.items (of_pair refusal)) }
     {
         let fault = in_file(refusal);
-        if further.len() >= MOST || self.is_told(fault, further) {
+        if further.len() >= MOST {
             return Ok(());
         }
-        let text = text_of(self.alloc, self.texts, fault)?;
+        if self.is_reported(fault, further) {
+            return Ok(());
+        }
+        let text = self.text_of(fault)?;
         further.push(FurtherFault { fault, text })?;
         Ok(())
     }
 
-    /// Whether a fault is the first or one of those already reported, or comes from the same mistake.
-    fn is_told(self, fault: FileRefusal, further: &[FurtherFault]) -> bool {
-        comes_of(self.texts, fault, self.first)
-            || further
-                .iter()
-                .any(|other| comes_of(self.texts, fault, other.fault))
+    /// The lines of a fault.
+    fn text_of(self, fault: FileRefusal) -> Result<String, NoMemory>
+        ensures { IfOk result (λ text. SayFault (name_in self.entry.texts.now fault.file) (text_in self.entry.texts.now fault.file) fault (string_bytes text)) }
+    {
+        let explained = explain_fault(self.alloc, self.texts, self.pieces, fault)?;
+        explained.text(self.alloc, self.texts)
+    }
+
+    /// Whether a fault comes from the same mistake as the first or one of those already reported.
+    fn is_reported(self, fault: FileRefusal, further: &[FurtherFault]) -> bool
+        ensures { IsTrue result → IsReportedAmong (text_in self.entry.texts.now) (self.entry.first ∷ map fault_in further.now) fault }
+    {
+        if are_of_one_mistake(self.texts, fault, self.first) {
+            return true;
+        }
+        'others: for other in further {
+            if are_of_one_mistake(self.texts, fault, other.fault) {
+                return true;
+            }
+        }
+        false
     }
 }
 
 /// Whether typing reports this code. Other faults come alone, so the files need not be read again for them.
-fn is_of_typing(code: Code) -> bool {
+fn is_of_typing(code: Code) -> bool
+    ensures { result ≡ false → ¬ IsOfTyping code }
+{
     matches!(code.number(), 14..=25)
 }
 
 /// A typing fault as a fault of a file.
 fn in_file(refusal: TaskRefusal) -> FileRefusal
-    ensures { IsReportedAt (refusal_of refusal) result }
+    ensures reported { IsReportedAt (refusal_of refusal) result }
+    ensures value { result ≡ of_pair refusal }
 {
-    FileRefusal {
+    RefusalIn {
         file: one_of_files(refusal.file),
         code: refusal.code,
         span: refusal.span,
@@ -132,74 +151,11 @@ fn in_file(refusal: TaskRefusal) -> FileRefusal
 
 /// A file of a task as one of the input files.
 fn one_of_files(file: TaskFile) -> File
-    ensures { file_view result ≡ of_task (file_of file) }
+    ensures reported { file_view result ≡ of_task (file_of file) }
+    ensures value { result ≡ one_of_files file }
 {
     match file {
         TaskFile::Domain => File::Domain,
         TaskFile::Problem => File::Problem,
     }
-}
-
-/// The lines of a fault.
-fn text_of(alloc: Global, texts: &NamedTexts<'_>, fault: FileRefusal) -> Result<String, NoMemory>
-    ensures { IfOk result (λ text. SayFault (name_in texts.now fault.file) (text_in texts.now fault.file) fault (string_bytes text)) }
-{
-    let explained = explain_fault(alloc, texts, fault)?;
-    explained.text(alloc, texts)
-}
-
-/// Whether a fault may come from the same mistake as another: they are equal, it follows from the other, or the same word is refused
-/// with the same code, and if it is a variable, in the same action or in the problem.
-fn comes_of(texts: &NamedTexts<'_>, fault: FileRefusal, other: FileRefusal) -> bool {
-    let (word, told) = (word_of(texts, fault), word_of(texts, other));
-    let is_again = fault.code == other.code && word.eq_ignore_ascii_case(told);
-    let is_same = is_again && (!word.starts_with(b"?") || are_in_one_scope(texts, fault, other));
-    is_same || follows(texts, fault, other)
-}
-
-/// Whether a fault seems to follow from another. Each type of a cycle is refused. A term is of a wrong type if the terms of its list are
-/// in the wrong order, or if it is a variable in the scope of a declaration that is refused. An unknown variable may be the one that a
-/// variable declared twice was meant to be.
-fn follows(texts: &NamedTexts<'_>, fault: FileRefusal, other: FileRefusal) -> bool {
-    match (fault.code, other.code) {
-        (Code::TypeCycle, Code::TypeCycle) => true,
-        (Code::WrongType, Code::WrongType) => are_in_one_list(texts, fault, other),
-        (Code::WrongType, Code::UnknownType | Code::Duplicate | Code::Shadowed)
-        | (Code::UnknownName, Code::Duplicate) => {
-            word_of(texts, fault).starts_with(b"?") && are_in_one_scope(texts, fault, other)
-        }
-        _ => false,
-    }
-}
-
-/// Whether no parenthesis stands between two faults of a file.
-fn are_in_one_list(texts: &NamedTexts<'_>, fault: FileRefusal, other: FileRefusal) -> bool {
-    let is_parenthesis = |byte: &u8| matches!(*byte, b'(' | b')');
-    fault.file == other.file && !between(texts, fault, other).iter().any(is_parenthesis)
-}
-
-/// The bytes that a fault is reported for.
-fn word_of<'a>(texts: &NamedTexts<'a>, fault: FileRefusal) -> &'a [u8] {
-    let text = texts.text(fault.file);
-    text.get(fault.span.start..fault.span.end).unwrap_or(b"")
-}
-
-/// Whether two faults are in the problem, or in the domain without a beginning of an action between them.
-fn are_in_one_scope(texts: &NamedTexts<'_>, fault: FileRefusal, other: FileRefusal) -> bool {
-    fault.file == other.file
-        && (fault.file == File::Problem || !has_action(between(texts, fault, other)))
-}
-
-/// The bytes of the first fault's file from the start of the one fault to that of the other.
-fn between<'a>(texts: &NamedTexts<'a>, fault: FileRefusal, other: FileRefusal) -> &'a [u8] {
-    let start = fault.span.start.min(other.span.start);
-    let end = fault.span.start.max(other.span.start);
-    texts.text(fault.file).get(start..end).unwrap_or(b"")
-}
-
-/// Whether an action begins in this piece of a domain.
-fn has_action(piece: &[u8]) -> bool {
-    piece
-        .windows(b":action".len())
-        .any(|word| word.eq_ignore_ascii_case(b":action"))
 }

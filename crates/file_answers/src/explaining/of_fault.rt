@@ -2,12 +2,12 @@
 ghost use Rattle.std.specs.Prelude.{IfOk};
 ghost use Rattle.file_answers.specs.Explanations.{IsExplainedAlone, IsOfFault};
 
-use crate::explaining::further::with_further;
+use crate::explaining::further::FurtherSearch;
 use crate::explanation::{Explanation, Location, Subject};
 use crate::files::FileFault;
 use explain_faults::{FileRefusal, explain_fault};
-use explain_hints::NamedTexts;
-use faults::NoMemory;
+use explain_hints::{CutTexts, NamedTexts};
+use faults::{NoMemory, RefusalIn};
 use std::alloc::Global;
 
 /// Explains the fault of a file.
@@ -20,9 +20,16 @@ pub(super) fn explain_refused(
 {
     match fault {
         FileFault::At { file, code, span } => {
-            let first = FileRefusal { file, code, span };
-            let alone = explain_at(alloc, texts, first)?;
-            with_further(alloc, texts, first, alone)
+            let first = RefusalIn { file, code, span };
+            let pieces = CutTexts::of(alloc, texts, code)?;
+            let alone = explain_at(alloc, texts, &pieces, first)?;
+            let search = FurtherSearch {
+                alloc,
+                texts,
+                pieces: &pieces,
+                first,
+            };
+            search.with_further(alone)
         }
         FileFault::NoMemory => Err(NoMemory),
     }
@@ -32,12 +39,13 @@ pub(super) fn explain_refused(
 fn explain_at(
     alloc: Global,
     texts: &NamedTexts<'_>,
+    pieces: &CutTexts<'_>,
     fault: FileRefusal,
 ) -> Result<Explanation, NoMemory>
     ensures { IfOk result (IsExplainedAlone texts.now fault.file fault.code fault.span) }
 {
-    let FileRefusal { file, code, span } = fault;
-    let explained = explain_fault(alloc, texts, fault)?;
+    let RefusalIn { file, code, span } = fault;
+    let explained = explain_fault(alloc, texts, pieces, fault)?;
     let text = explained.text(alloc, texts)?;
     let hints = explained.hints(alloc, texts)?;
     let location = Location::new(alloc, texts.name(file), explained.place, span)?;

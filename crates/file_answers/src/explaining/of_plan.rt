@@ -10,7 +10,7 @@ ghost use Rattle.explain_plans.specs.NamesView.{names_of};
 ghost use Rattle.file_answers.specs.StepLines.{is_traced};
 ghost use Rattle.file_answers.specs.QuantifiedNames.{IsNamedTask};
 ghost use Rattle.file_answers.specs.ExplanationLines.{IsSaidOf, SayPlan, SayPlanAs, SayVerdict, named_of, place_text};
-ghost use Rattle.file_answers.specs.Explanations.{IsLocatedIf, IsStepFound, IsStepOf, IsTrueOf, IsPlanTold, IsVerdictExplained, files_in};
+ghost use Rattle.file_answers.specs.Explanations.{IsLocatedIf, IsStepFound, IsStepOf, IsTrueOf, IsPlanReported, IsVerdictExplained, files_in};
 ghost use Rattle.model.specs.Files.{IsTaskOf};
 ghost use Rattle.model.specs.Meaning.{is_instance};
 ghost use Rattle.model.specs.PlanText.{IsPlanText};
@@ -96,7 +96,7 @@ impl ExplainedPlan<'_> {
     fn explain_verdict(self, alloc: Global, file: NamedText<'_>) -> Result<Explanation, NoMemory>
         requires instances { IsTrue (list_all (is_instance (task_of self.task.now)) (plan_of self.plan.now)) }
         requires step { IsStepOf file.text.now (plans.verdict_of self.explained.now) }
-        ensures { IfOk result (IsPlanTold (task_of self.entry.task.now) (plan_of self.entry.plan.now) (is_traced self.entry.lines) (named_of file.entry) self.entry.explained.now) }
+        ensures { IfOk result (IsPlanReported (task_of self.entry.task.now) (plan_of self.entry.plan.now) (is_traced self.entry.lines) (named_of file.entry) self.entry.explained.now) }
     {
         let verdict = verdict_in(self.explained);
         let failed = failed_step(file.text, verdict);

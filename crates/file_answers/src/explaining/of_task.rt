@@ -1,10 +1,15 @@
 //! Explains a task without a plan.
-ghost use Rattle.std.specs.Prelude.{◌≡◌, ◌++◌, IfOk, map};
+ghost use Rattle.std.specs.Prelude.{◌≡◌, ℕ, ◌++◌, [], IfOk, List, None, map};
 ghost use Rattle.std.specs.String.{string_bytes};
 ghost use Rattle.task.specs.Task.{task_of};
 ghost use Rattle.explain_tasks.specs.Summary.{summary_text};
 ghost use Rattle.file_answers.specs.ExplanationLines.{grounded_line, on_lines};
 ghost use Rattle.file_answers.specs.Explanations.{IsGrounded, IsTaskExplained};
+ghost use Rattle.file_answers.specs.Notes.{AreGroundTold, AreTold, AreReportedOfGround};
+ghost use Rattle.explain_goals.specs.Notes.{AreGoalNotesOf};
+ghost use Rattle.grounding_instances.specs.Numbering.{task_in};
+ghost use Rattle.model.specs.Grounding.{exceeded_limit};
+ghost use Rattle.model.specs.Limits.{max_numbered_atoms};
 
 use crate::explanation::{Explanation, Grounded, Subject};
 use explain_goals::GoalNotes;
@@ -45,11 +50,9 @@ pub(super) fn explain_task(
 }
 
 /// The notes, followed by those that the files themselves lead to.
-fn with_task_notes(
-    alloc: Global,
-    task: &Task,
-    notes: Vec<String>,
-) -> Result<Vec<String>, NoMemory> {
+fn with_task_notes(alloc: Global, task: &Task, notes: Vec<String>) -> Result<Vec<String>, NoMemory>
+    ensures { IfOk result (λ lines. (others : List (List ℕ)) × AreTold (task_of task.now) others × (map string_bytes lines.items ≡ map string_bytes notes.items ++ others)) }
+{
     let mut lines = notes;
     TaskNotes::of(alloc, task)?.add_lines(alloc, task, &mut lines)?;
     Ok(lines)
@@ -84,7 +87,8 @@ fn add_lines(lines: &[String], text: &mut String) -> Result<(), NoMemory>
 
 /// The number of kept instances and numbered atoms, or the limit that is exceeded.
 fn ground(alloc: Global, task: &Task, max_instances: u32) -> Result<Grounding, NoMemory>
-    ensures { IfOk result (λ g. IsGrounded (task_of task.now) max_instances g.grounded) }
+    ensures grounded { IfOk result (λ g. IsGrounded (task_of task.now) max_instances g.grounded) }
+    ensures notes { IfOk result (λ g. AreReportedOfGround (task_of task.now) max_instances g.grounded (map string_bytes g.notes.items)) }
 {
     match Numbering::new(alloc, task, &[], max_instances) {
         Ok(numbering) => {
@@ -103,22 +107,27 @@ fn ground(alloc: Global, task: &Task, max_instances: u32) -> Result<Grounding, N
 }
 
 /// The notes that the instances lead to; actions with more than `most` instances are not checked for missing values.
-fn notes_of(alloc: Global, numbering: &Numbering<'_>, most: u32) -> Result<Vec<String>, NoMemory> {
+fn notes_of(alloc: Global, numbering: &Numbering<'_>, most: u32) -> Result<Vec<String>, NoMemory>
+    requires { exceeded_limit most max_numbered_atoms (task_in numbering.now) [] ≡ None }
+    ensures { IfOk result (λ lines. AreGroundTold (task_in numbering.now) most (map string_bytes lines.items)) }
+{
+    let task = numbering.task();
     let notes = GroundNotes::of(alloc, numbering, most)?;
+    let goal_notes = goal_notes(alloc, task, most)?;
     let mut lines = Vec::new(alloc);
-    notes.add_lines(alloc, numbering.task(), &mut lines)?;
-    if let Some(goal_notes) = goal_notes(alloc, numbering.task(), most)? {
-        let told = notes.missing_goals.as_slice();
-        goal_notes.add_lines(alloc, numbering.task(), told, &mut lines)?;
-    }
+    notes.add_lines(alloc, task, &mut lines)?;
+    goal_notes.add_lines(alloc, task, &notes.missing_goals, &mut lines)?;
     Ok(lines)
 }
 
-/// The notes on the goal, if the ground task is within its limits.
-fn goal_notes(alloc: Global, task: &Task, most: u32) -> Result<Option<GoalNotes>, NoMemory> {
+/// The notes on the goal. The ground task is within its limits.
+fn goal_notes(alloc: Global, task: &Task, most: u32) -> Result<GoalNotes, NoMemory>
+    requires { exceeded_limit most max_numbered_atoms (task_of task.now) [] ≡ None }
+    ensures { IfOk result (AreGoalNotesOf (task_of task.now)) }
+{
     match Ground::new(alloc, task, &[], most) {
-        Ok(ground) => Ok(Some(GoalNotes::of(alloc, &ground)?)),
-        Err(Refused::At(_)) => Ok(None),
+        Ok(ground) => GoalNotes::of(alloc, &ground),
+        Err(Refused::At(_)) => unreachable!(),
         Err(Refused::NoMemory) => Err(NoMemory),
     }
 }

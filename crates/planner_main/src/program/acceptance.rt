@@ -76,7 +76,7 @@ pub(super) fn report_of_check<F: Files, E: Sink>(
         → IsTrue (F.is_missing files.old name) → IsUnread result }
     ensures unreadable { (name : List ℕ) → IsOneOf (asked.entry.names.domain.now ∷ asked.entry.names.problem.now ∷ if_named (text_in asked.entry.names.plan)) name
         → IsTrue (F.is_unreadable files.old name) → IsUnread result }
-    ensures progress { AreSaid (IsCheckingLine (F.contents files.old) asked.entry.names.domain.now asked.entry.names.problem.now asked.entry.names.cert.now asked.entry.progress) E.wants_memory (stream (E.failures err.old) (E.taken err.old)) (stream (E.failures err.new) (E.taken err.new)) }
+    ensures progress { AreSaid (IsCheckingLine (F.contents files.old) asked.entry.names.domain.now asked.entry.names.problem.now asked.entry.names.cert.now asked.entry.progress) E.may_lack_memory (stream (E.failures err.old) (E.taken err.old)) (stream (E.failures err.new) (E.taken err.new)) }
 {
     let pair = read_pair(alloc, files, asked.names.domain, asked.names.problem)?;
     let input = files.open(asked.names.cert)?;
@@ -102,7 +102,7 @@ fn check_texts<R: Source, E: Sink>(
     ensures refused { IfErr result (λ failure. IfSome (fault_in failure) (IsInputFault texts.now.pair.domain.items texts.now.pair.problem.items (items_in texts.now.plan))) }
     ensures unfailed { IfOk result (λ _. R.failures (source_of cert.new) ≡ R.failures (source_of cert.old)) }
     ensures failures { IfErr result (CountsFailure (R.failures (source_of cert.old)) (R.failures (source_of cert.new))) }
-    ensures progress { AreSaid (λ line. IsTrue texts.now.asked.progress × IsCheckLineOf texts.now.pair.domain.items texts.now.pair.problem.items (R.remaining (source_of cert.old)) line) E.wants_memory (stream (E.failures err.old) (E.taken err.old)) (stream (E.failures err.new) (E.taken err.new)) }
+    ensures progress { AreSaid (λ line. IsTrue texts.now.asked.progress × IsCheckLineOf texts.now.pair.domain.items texts.now.pair.problem.items (R.remaining (source_of cert.old)) line) E.may_lack_memory (stream (E.failures err.old) (E.taken err.old)) (stream (E.failures err.new) (E.taken err.new)) }
 {
     let checked = checked(alloc, texts, cert, err)?;
     match failure_of(&checked.answer) {
@@ -124,7 +124,7 @@ fn checked<R: Source, E: Sink>(
     ensures failures { IfOk result (λ c. CountsRefusal (R.failures (source_of cert.old)) (R.failures (source_of cert.new)) c.answer) }
     ensures refused { IfErr result (λ fault. IfSome (reported_in fault) (IsInputFault texts.now.pair.domain.items texts.now.pair.problem.items (items_in texts.now.plan))) }
     ensures unread { IsErr result → cert.new ≡ cert.old }
-    ensures progress { AreSaid (λ line. IsTrue texts.now.asked.progress × IsCheckLineOf texts.now.pair.domain.items texts.now.pair.problem.items (R.remaining (source_of cert.old)) line) E.wants_memory (stream (E.failures err.old) (E.taken err.old)) (stream (E.failures err.new) (E.taken err.new)) }
+    ensures progress { AreSaid (λ line. IsTrue texts.now.asked.progress × IsCheckLineOf texts.now.pair.domain.items texts.now.pair.problem.items (R.remaining (source_of cert.old)) line) E.may_lack_memory (stream (E.failures err.old) (E.taken err.old)) (stream (E.failures err.new) (E.taken err.new)) }
 {
     let inputs = CheckInputs {
         task: TaskFiles {

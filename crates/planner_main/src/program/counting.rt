@@ -53,7 +53,7 @@ impl<F: Files> Sink for Counted<F> {
 
     ghost taken = { λ counted. Some counted.tally.history.bytes };
 
-    ghost wants_memory = { F.Output.wants_memory };
+    ghost may_lack_memory = { F.Output.may_lack_memory };
 
     ghost name = { λ counted. F.Output.name counted.output };
 

@@ -9,7 +9,8 @@ ghost use Rattle.file_answers.specs.SaidOf.{IsTrueLineOf};
 ghost use Rattle.planner_main.specs.Progress.{HasEndedIf, IsSearchLine};
 ghost use Rattle.devices.specs.Progress.{AreSaid, stream};
 ghost use Rattle.solver.specs.Said.{HasEnded};
-ghost use Rattle.solver.specs.Solver.{IsTrueAnswer};
+ghost use Rattle.solver.specs.Solver.{HasVersionUpTo, IsTrueAnswer};
+ghost use Rattle.solver.specs.Versions.{number_of};
 
 use crate::failures::Failure;
 use crate::program::inputs::{PairNames, TaskTexts, read_pair};
@@ -39,7 +40,7 @@ pub(super) fn report_of_solve<F: Files, E: Sink + Clock>(
     files: &mut F,
     err: &mut E,
 ) -> Result<Report, Failure>
-    ensures report { IfOk result (IsSolutionOn (F.contents files.old) asked.entry.names.domain.now asked.entry.names.problem.now asked.entry.limits.seconds asked.entry.limits.states asked.entry.limits.instances) }
+    ensures report { IfOk result (IsSolutionOn (F.contents files.old) asked.entry.names.domain.now asked.entry.names.problem.now asked.entry.limits.seconds asked.entry.limits.states asked.entry.limits.instances (number_of asked.entry.limits.version)) }
     ensures refused { IfErr result (λ failure. IfSome (fault_in failure) (λ fault.
         OnTwo (F.contents files.old) asked.entry.names.domain.now asked.entry.names.problem.now (λ d p. IsTaskFault d p fault))) }
     ensures kept { AreKept (F.contents files.old) (F.contents files.new) }
@@ -47,8 +48,8 @@ pub(super) fn report_of_solve<F: Files, E: Sink + Clock>(
     ensures failures { IfErr result (CountsFailure (F.failures files.old) (F.failures files.new)) }
     ensures unread { (name : List ℕ) → IsOneOf (asked.entry.names.domain.now ∷ asked.entry.names.problem.now ∷ []) name → IsTrue (F.is_missing files.old name) → IsUnread result }
     ensures unreadable { (name : List ℕ) → IsOneOf (asked.entry.names.domain.now ∷ asked.entry.names.problem.now ∷ []) name → IsTrue (F.is_unreadable files.old name) → IsUnread result }
-    ensures progress { AreSaid (IsSearchLine (F.contents files.old) asked.entry.names.domain.now asked.entry.names.problem.now asked.entry.progress) E.wants_memory (stream (E.failures err.old) (E.taken err.old)) (stream (E.failures err.new) (E.taken err.new)) }
-    ensures ended { IfOk result (HasEndedIf asked.entry.progress E.wants_memory (E.failures err.new) (E.taken err.new)) }
+    ensures progress { AreSaid (IsSearchLine (F.contents files.old) asked.entry.names.domain.now asked.entry.names.problem.now asked.entry.limits.seconds asked.entry.limits.states asked.entry.limits.instances asked.entry.progress) E.may_lack_memory (stream (E.failures err.old) (E.taken err.old)) (stream (E.failures err.new) (E.taken err.new)) }
+    ensures ended { IfOk result (HasEndedIf asked.entry.progress E.may_lack_memory (E.failures err.new) (E.taken err.new)) }
 {
     let pair = read_pair(alloc, files, asked.names.domain, asked.names.problem)?;
     let solved = solved(alloc, &pair, asked, err)?;
@@ -64,9 +65,10 @@ fn solved<E: Sink + Clock>(
 ) -> Result<Solved, FileFault>
     ensures task { IfOk result (λ s. IsTaskOf pair.now.domain.items pair.now.problem.items (task_of s.task)) }
     ensures answer { IfOk result (λ s. IsTrueAnswer (task_of s.task) asked.entry.limits.seconds asked.entry.limits.states asked.entry.limits.instances s.answer) }
+    ensures version { IfOk result (λ s. HasVersionUpTo (number_of asked.entry.limits.version) s.answer) }
     ensures refused { IfErr result (λ fault. IfSome (reported_in fault) (IsTaskFault pair.now.domain.items pair.now.problem.items)) }
-    ensures progress { AreSaid (λ line. IsTrue asked.entry.progress × IsTrueLineOf pair.now.domain.items pair.now.problem.items line) E.wants_memory (stream (E.failures err.old) (E.taken err.old)) (stream (E.failures err.new) (E.taken err.new)) }
-    ensures ended { IfOk result (λ s. IsTrue asked.entry.progress → HasEnded E.wants_memory (E.failures err.new) (E.taken err.new) s.answer) }
+    ensures progress { AreSaid (λ line. IsTrue asked.entry.progress × IsTrueLineOf pair.now.domain.items pair.now.problem.items asked.entry.limits.seconds asked.entry.limits.states asked.entry.limits.instances line) E.may_lack_memory (stream (E.failures err.old) (E.taken err.old)) (stream (E.failures err.new) (E.taken err.new)) }
+    ensures ended { IfOk result (λ s. IsTrue asked.entry.progress → HasEnded E.may_lack_memory (E.failures err.new) (E.taken err.new) s.answer) }
 {
     let files = TaskFiles {
         domain: &pair.domain,

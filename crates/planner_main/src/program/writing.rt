@@ -46,9 +46,9 @@ pub(super) fn write_report<F: Files, O: Sink, E: Sink>(
     ensures unfailed { IfOk result (λ _. HasNotFailed (F.failures files.old) (F.failures files.new) (O.failures out.old) (O.failures out.new)) }
     ensures failures { IfErr result (CountsEither (F.failures files.old) (F.failures files.new) (O.failures out.old) (O.failures out.new)) }
     ensures no_text { IfErr result (λ failure. fault_in failure ≡ None) }
-    ensures progress { AreSaid (IsWritingLine report.now (outputs_in outputs.entry)) E.wants_memory (stream (E.failures err.old) (E.taken err.old)) (stream (E.failures err.new) (E.taken err.new)) }
+    ensures progress { AreSaid (IsWritingLine report.now (outputs_in outputs.entry)) E.may_lack_memory (stream (E.failures err.old) (E.taken err.old)) (stream (E.failures err.new) (E.taken err.new)) }
     ensures sized { IfOk result (λ _. SaysIf (size_line_for (text_in outputs.entry.cert) (cert_text report.now) outputs.entry.progress)
-        E.wants_memory (stream (E.failures err.old) (E.taken err.old)) (stream (E.failures err.new) (E.taken err.new))) }
+        E.may_lack_memory (stream (E.failures err.old) (E.taken err.old)) (stream (E.failures err.new) (E.taken err.new))) }
 {
     let text = report_text(alloc, report)?;
     let json = json_text(alloc, report, outputs.format)?;
@@ -94,8 +94,8 @@ fn save_cert<F: Files, D: Document, E: Sink>(
         → AreWritten (F.contents files.old) (F.contents files.new) (in_file (text_in target.now.name) (option_map D.text document.now))) }
     ensures partly { IsErr result → IsBegun F.is_known (F.contents files.old) (F.contents files.new) (in_file (text_in target.now.name) (option_map D.text document.now)) }
     ensures failures { CountsDevice (F.failures files.old) (F.failures files.new) result }
-    ensures progress { AreSaid (IsCertificateLine target.now.progress (text_in target.now.name) (option_map D.text document.now)) E.wants_memory (stream (E.failures err.old) (E.taken err.old)) (stream (E.failures err.new) (E.taken err.new)) }
-    ensures sized { OnOk result (SaysIf (size_line_for (text_in target.now.name) (option_map D.text document.now) target.now.progress) E.wants_memory (stream (E.failures err.old) (E.taken err.old)) (stream (E.failures err.new) (E.taken err.new))) }
+    ensures progress { AreSaid (IsCertificateLine target.now.progress (text_in target.now.name) (option_map D.text document.now)) E.may_lack_memory (stream (E.failures err.old) (E.taken err.old)) (stream (E.failures err.new) (E.taken err.new)) }
+    ensures sized { OnOk result (SaysIf (size_line_for (text_in target.now.name) (option_map D.text document.now) target.now.progress) E.may_lack_memory (stream (E.failures err.old) (E.taken err.old)) (stream (E.failures err.new) (E.taken err.new))) }
 {
     match save(files, target.name, document) {
         Ok(Some(size)) => say_size(size, target, err),
@@ -109,7 +109,7 @@ fn save_cert<F: Files, D: Document, E: Sink>(
 
 /// Reports the size of the written certificate, if progress is asked for. The only error is running out of memory.
 fn say_size<E: Sink>(size: u64, target: &Target<'_>, err: &mut E) -> Result<(), IoFault>
-    ensures said { OnOk result (SaysIf (line_if target.now.progress (Some size)) E.wants_memory (stream (E.failures err.old) (E.taken err.old)) (stream (E.failures err.new) (E.taken err.new))) }
+    ensures said { OnOk result (SaysIf (line_if target.now.progress (Some size)) E.may_lack_memory (stream (E.failures err.old) (E.taken err.old)) (stream (E.failures err.new) (E.taken err.new))) }
     ensures quiet { IsErr result → stream (E.failures err.new) (E.taken err.new) ≡ stream (E.failures err.old) (E.taken err.old) }
     ensures memory { IfErr result (λ fault. fault ≡ NoMemory) }
 {
@@ -139,7 +139,7 @@ fn save_or_say<F: Files, D: Document, E: Sink>(
         → AreWritten (F.contents files.old) (F.contents files.new) (in_file (text_in target.now.name) (option_map D.text document.now))) }
     ensures partly { IsErr result → IsBegun F.is_known (F.contents files.old) (F.contents files.new) (in_file (text_in target.now.name) (option_map D.text document.now)) }
     ensures failures { CountsDevice (F.failures files.old) (F.failures files.new) result }
-    ensures progress { AreSaid (IsFailedLineOf target.now.progress (text_in target.now.name)) E.wants_memory (stream (E.failures err.old) (E.taken err.old)) (stream (E.failures err.new) (E.taken err.new)) }
+    ensures progress { AreSaid (IsFailedLineOf target.now.progress (text_in target.now.name)) E.may_lack_memory (stream (E.failures err.old) (E.taken err.old)) (stream (E.failures err.new) (E.taken err.new)) }
     ensures quiet { OnOk result (stream (E.failures err.new) (E.taken err.new) ≡ stream (E.failures err.old) (E.taken err.old)) }
 {
     match save(files, target.name, document) {
@@ -154,7 +154,7 @@ fn save_or_say<F: Files, D: Document, E: Sink>(
 /// Reports that the file with this name failed, if progress is asked for. If an allocation for the line fails, nothing is
 /// reported.
 fn say_failed<E: Sink>(target: &Target<'_>, err: &mut E)
-    ensures { AreSaid (IsFailedLineOf target.now.progress (text_in target.now.name)) E.wants_memory (stream (E.failures err.old) (E.taken err.old)) (stream (E.failures err.new) (E.taken err.new)) }
+    ensures { AreSaid (IsFailedLineOf target.now.progress (text_in target.now.name)) E.may_lack_memory (stream (E.failures err.old) (E.taken err.old)) (stream (E.failures err.new) (E.taken err.new)) }
 {
     let Some(name) = target.name else { return };
     if !target.progress {

@@ -15,7 +15,7 @@ invariant-states g l = record {
   so_far : IsListedSoFar g.R.Source.remaining (task_of l.task) l.fn.reader l.reader l.header (pooled_width l.states.sets) (map listed_of l.states.marks.items) (pooled_states l.states.sets) l.next;
   width : pooled_width l.states.sets ≡ length l.header.atoms.keys;
   failures : g.R.Source.failures (source_of l.reader) ≡ g.R.Source.failures (source_of l.fn.reader);
-  said : AreSaid (IsReadLine (g.R.Source.remaining (source_of l.fn.reader))) g.E.Sink.wants_memory (stream (g.E.Sink.failures l.fn.err) (g.E.Sink.taken l.fn.err)) (stream (g.E.Sink.failures l.err) (g.E.Sink.taken l.err));
+  said : AreSaid (IsReadLine (g.R.Source.remaining (source_of l.fn.reader))) g.E.Sink.may_lack_memory (stream (g.E.Sink.failures l.fn.err) (g.E.Sink.taken l.fn.err)) (stream (g.E.Sink.failures l.err) (g.E.Sink.taken l.err));
 }
 
 abbrev pub decreases-states : goal.decreases-states

@@ -3,7 +3,7 @@ use Rattle.std.specs.Int.{w64}
 use Rattle.std.specs.Prelude.{ℤ, pos}
 use Rattle.std.proofs.lemmas.Int.{to_z-of_z}
 use Rattle.std.proofs.lemmas.List.{get_or_read}
-use Rattle.certificate.specs.declared.evidence.Potential.{Potential}
+use Rattle.certificate.specs.declared.evidence.WrittenPotentials.{WrittenPotentials}
 use Rattle.lower_bounds.specs.PotentialFunctions.{PotentialFunction}
 use Rattle.certificate_definitions.specs.CertificateNames.{weights_in}
 use Rattle.certificate_definitions.specs.CertificateText.{weights_text}
@@ -21,7 +21,7 @@ loop-value-preserved c =
     let value = c.value-item.result in
     let within : i < length values = omega (arith, c.loop-value-test.true, ap length c.deref-value-items.ensures.value) in
     let is : value ≡ get_or values i value = c.value-item.is ∙ ap (λ xs. get_or xs i value) c.deref-value-items.ensures.value in
-    let enough : c.args.place < length value.weights.items = subst (λ (p : Potential). c.args.place < length p.weights.items) (sym is) (c.requires.values i value within) in
+    let enough : c.args.place < length value.weights.items = subst (λ (p : WrittenPotentials). c.args.place < length p.weights.items) (sym is) (c.requires.values i value within) in
     let number : to_z w64 (of_z w64 c.index.result.now) ≡ get_or value.weights.items c.args.place (pos 0) =
     to_z-of_z w64 c.index.result.now (search rules) ∙ get_or_read value.weights.items c.args.place c.index.result.now enough c.index.ensures (pos 0) in
     c.in_ok-add_weight.ensures ∙ ap (λ w. c.loop-value.text.items ++ weight_text w) number

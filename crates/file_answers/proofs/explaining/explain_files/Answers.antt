@@ -1,4 +1,6 @@
-use Rattle.std.proofs.Common.{Option, ℕ, List, ap, subst}
+use Rattle.std.proofs.Common.{Option, ℕ, List, ap, map, subst}
+use Rattle.std.proofs.lemmas.Result.{IfOk-weaker}
+use Rattle.std.specs.String.{string_bytes}
 use Rattle.std.specs.Prelude.{IfOk}
 use Rattle.explain_plans.specs.NamesView.{names_of}
 use Rattle.task.specs.Task.{task_of}
@@ -7,7 +9,7 @@ use Rattle.file_answers.proofs.FilesRead.{task_input}
 use Rattle.file_answers.specs.ExplanationLines.{Files, IsSaidOf, files_of}
 use Rattle.file_answers.specs.Explanations.{IsTrueOf, text_in}
 use Rattle.file_answers.specs.StepLines.{is_traced}
-use Rattle.file_answers.proofs.ExplanationLemmas.{files_given, given_among, plan_given, refused_explained, refused_said, task_explained, task_given, task_said}
+use Rattle.file_answers.proofs.ExplanationLemmas.{files_given, given_among, given_bytes, noted_of_task, noted_with_plan, plan_given, refused_explained, refused_said, task_explained, task_given, task_said}
 use Rattle.file_answers.proofs.explaining.explain_files.Goals as goal
 
 pub returns-in-Err-clause-subject : goal.returns-in-Err-clause-subject
@@ -22,6 +24,7 @@ returns-in-Err-clause-said c =
     let texts = c.texts_of-texts in
     refused_said (is_traced c.args.options.steps) texts.result (files_of c.args.files.domain c.args.files.problem c.args.files.plan)
     (given_among texts.result c.args.files.domain c.args.files.problem texts.ensures.domain texts.ensures.problem c.args.files.plan texts.ensures.plan)
+    (given_bytes texts.result c.args.files.domain c.args.files.problem c.args.files.plan texts.ensures.domain texts.ensures.problem texts.ensures.text)
     c.in-Err.fault c.explain_refused.result c.explain_refused.ensures
 
 pub returns-in-Some-clause-subject : goal.returns-in-Some-clause-subject
@@ -47,3 +50,17 @@ returns-clause-subject c =
 pub returns-clause-said : goal.returns-clause-said
 returns-clause-said c =
     task_said (task_of c.in-Ok.named.task) c.args.options.max_instances (is_traced c.args.options.steps) (files_of c.args.files.domain c.args.files.problem c.args.files.plan) c.explain_task.result c.explain_task.ensures
+
+pub returns-in-Some-clause-noted : goal.returns-in-Some-clause-noted
+returns-in-Some-clause-noted c =
+    let texts = c.texts_of-texts in
+    let named = c.in-Some.field-0 in
+    IfOk-weaker c.explain_plan_file.result _ _
+    (λ e is. noted_with_plan c.args.files.domain.text.now c.args.files.problem.text.now _ c.args.options.max_instances e.subject is (map string_bytes e.notes.items))
+    (c.explain_plan_file.ensures.subject c.args.files.domain.text.now c.args.files.problem.text.now c.args.options.max_instances c.in-Ok.ensures.task.is_task)
+
+pub returns-clause-noted : goal.returns-clause-noted
+returns-clause-noted c =
+    IfOk-weaker c.explain_task.result _ _
+    (λ e is. noted_of_task c.args.files.domain.text.now c.args.files.problem.text.now c.args.options.max_instances (task_of c.in-Ok.named.task) c.in-Ok.ensures.task.is_task e is)
+    c.explain_task.ensures

@@ -45,7 +45,7 @@ words-preserved c =
     let objects = c.after.new.objects.items in
     let read = word_read (length text) (lexemes_left c.words.word-iterator) (lexemes_left c.next.new.self) (placed_of word) (sort_of c.of-sort.result) place c.in-Some.ensures.steps c.of-sort.ensures in
     let action = c.in-Ends.action in
-    let over : turn place (sort_of c.of-sort.result) (name_of word) ≡ ends (step_of action objects) = c.in_ok-next.ensures.goes_on ∙ ap (λ t. turn_of t objects) c.in-Ends.is in
+    let over : turn place (sort_of c.of-sort.result) (name_of word) ≡ ends (step_of action objects) = c.in_ok-next.ensures.may_continue ∙ ap (λ t. turn_of t objects) c.in-Ends.is in
     let taken : (steps : List Step) → IsMeaning task steps c.words.meaning → IsMeaning task (steps ++ step_of action objects ∷ []) c.take.new.self =
     subst (λ names. (steps : List Step) → IsMeaning task steps c.words.meaning → IsMeaning task (steps ++ step_of action names ∷ []) c.take.new.self) c.as_slice.ensures.value c.in_ok-take-in-Ends.ensures in
     record {

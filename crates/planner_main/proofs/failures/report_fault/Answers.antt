@@ -6,6 +6,6 @@ pub returns-in-Ok : goal.returns-in-Ok
 returns-in-Ok g c =
     inl (
       refl,
-      subst (IsWritten g.E.Sink.wants_memory (g.E.Sink.failures c.args.err.now) (g.E.Sink.failures c.say.new.err) (g.E.Sink.taken c.args.err.now) (g.E.Sink.taken c.say.new.err))
+      subst (IsWritten g.E.Sink.may_lack_memory (g.E.Sink.failures c.args.err.now) (g.E.Sink.failures c.say.new.err) (g.E.Sink.taken c.args.err.now) (g.E.Sink.taken c.say.new.err))
           (c.as_bytes.ensures.value ∙ c.in-Ok.ensures) c.say.ensures,
     )

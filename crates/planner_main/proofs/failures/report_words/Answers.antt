@@ -10,7 +10,7 @@ returns-in-Ok g c =
       c.in-Ok.ensures.words,
       (
         text,
-        subst (IsWritten g.E.Sink.wants_memory (g.E.Sink.failures c.args.err.now) (g.E.Sink.failures c.say.new.err) (g.E.Sink.taken c.args.err.now) (g.E.Sink.taken c.say.new.err))
+        subst (IsWritten g.E.Sink.may_lack_memory (g.E.Sink.failures c.args.err.now) (g.E.Sink.failures c.say.new.err) (g.E.Sink.taken c.args.err.now) (g.E.Sink.taken c.say.new.err))
             (c.as_bytes.ensures.value ∙ is) c.say.ensures,
       ),
     )

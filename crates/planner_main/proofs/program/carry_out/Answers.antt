@@ -83,11 +83,11 @@ returns-in_err-report-clause-unreadable g c =
 pub returns-clause-progress : goal.returns-clause-progress
 returns-clause-progress g c =
     said_of_both (g.F.Files.contents c.args.files.now) (wanted_of c.args.order) c.in_ok-report.report c.in_ok-report.ensures.found.report (outputs_in c.outputs_of.result) c.outputs_of.ensures
-    g.E.Sink.wants_memory (stream (g.E.Sink.failures c.args.err.now) (g.E.Sink.taken c.args.err.now)) (stream (g.E.Sink.failures c.report_of.new.err) (g.E.Sink.taken c.report_of.new.err))
+    g.E.Sink.may_lack_memory (stream (g.E.Sink.failures c.args.err.now) (g.E.Sink.taken c.args.err.now)) (stream (g.E.Sink.failures c.report_of.new.err) (g.E.Sink.taken c.report_of.new.err))
     (stream (g.E.Sink.failures c.write_report.new.err) (g.E.Sink.taken c.write_report.new.err)) c.in_ok-report.ensures.progress c.write_report.ensures.progress
 
 pub returns-clause-ended : goal.returns-clause-ended
 returns-clause-ended g c =
-    ended_written g.E.Sink.wants_memory (stream (g.E.Sink.failures c.report_of.new.err) (g.E.Sink.taken c.report_of.new.err)) (stream (g.E.Sink.failures c.write_report.new.err) (g.E.Sink.taken c.write_report.new.err))
+    ended_written g.E.Sink.may_lack_memory (stream (g.E.Sink.failures c.report_of.new.err) (g.E.Sink.taken c.report_of.new.err)) (stream (g.E.Sink.failures c.write_report.new.err) (g.E.Sink.taken c.write_report.new.err))
     (g.F.Files.contents c.args.files.now) (wanted_of c.args.order) c.in_ok-report.report c.in_ok-report.ensures.found.report c.in_ok-report.ensures.ended _ _ _ c.in_ok-report.ensures.kept _ _
     (outputs_in c.outputs_of.result) c.outputs_of.ensures c.write_report.result c.write_report.ensures.said c.write_report.ensures.sized

@@ -27,8 +27,8 @@ returns-in-Validate-clause-found g c = subst
 pub returns-in-Solve-clause-found : goal.returns-in-Solve-clause-found
 returns-in-Solve-clause-found g c = subst
     (λ (wanted : Wanted). IsFound (g.F.Files.contents c.args.files.now) (g.F.Files.is_missing c.args.files.now) (g.F.Files.is_unreadable c.args.files.now) wanted c.report_of_solve.result)
-    (wanted_of_solve c.args.order c.in-Solve.domain c.in-Solve.problem _ _ c.in-Solve.states c.in-Solve.instances c.in-Solve.seconds _ c.in-Solve.progress c.limits_of-limits.result c.in-Solve.is c.limits_of-limits.ensures.states c.limits_of-limits.ensures.instances
-    c.limits_of-limits.ensures.seconds)
+    (wanted_of_solve c.args.order c.in-Solve.domain c.in-Solve.problem _ _ c.in-Solve.states c.in-Solve.instances c.in-Solve.seconds c.in-Solve.cert_version _ c.in-Solve.progress c.limits_of-limits.result c.in-Solve.is c.limits_of-limits.ensures.states c.limits_of-limits.ensures.instances
+    c.limits_of-limits.ensures.seconds c.limits_of-limits.ensures.version)
     (let said = c.report_of_solve.ensures in record { report = said.report; refused = said.refused; unread = said.unread; unreadable = said.unreadable })
 
 pub returns-in-Check-clause-found : goal.returns-in-Check-clause-found
@@ -54,7 +54,7 @@ returns-in-Validate-clause-progress g c = nothing
 
 pub returns-in-Check-clause-progress : goal.returns-in-Check-clause-progress
 returns-in-Check-clause-progress g c =
-    subst (λ (wanted : Wanted). AreSaid (IsProgressOn (g.F.Files.contents c.args.files.now) wanted) g.E.Sink.wants_memory (stream (g.E.Sink.failures c.args.err.now) (g.E.Sink.taken c.args.err.now))
+    subst (λ (wanted : Wanted). AreSaid (IsProgressOn (g.F.Files.contents c.args.files.now) wanted) g.E.Sink.may_lack_memory (stream (g.E.Sink.failures c.args.err.now) (g.E.Sink.taken c.args.err.now))
     (stream (g.E.Sink.failures c.report_of_check.new.err) (g.E.Sink.taken c.report_of_check.new.err)))
     (wanted_of_check c.args.order c.in-Check.domain c.in-Check.problem c.in-Check.cert c.in-Check.plan c.in-Check.instances _ c.in-Check.progress c.number-instances.result c.in-Check.is c.number-instances.ensures.number)
     c.report_of_check.ensures.progress
@@ -64,30 +64,30 @@ returns-in-Explain-clause-progress g c = nothing
 
 pub returns-in-Solve-clause-progress : goal.returns-in-Solve-clause-progress
 returns-in-Solve-clause-progress g c =
-    subst (λ (wanted : Wanted). AreSaid (IsProgressOn (g.F.Files.contents c.args.files.now) wanted) g.E.Sink.wants_memory (stream (g.E.Sink.failures c.args.err.now) (g.E.Sink.taken c.args.err.now))
+    subst (λ (wanted : Wanted). AreSaid (IsProgressOn (g.F.Files.contents c.args.files.now) wanted) g.E.Sink.may_lack_memory (stream (g.E.Sink.failures c.args.err.now) (g.E.Sink.taken c.args.err.now))
     (stream (g.E.Sink.failures c.report_of_solve.new.err) (g.E.Sink.taken c.report_of_solve.new.err)))
-    (wanted_of_solve c.args.order c.in-Solve.domain c.in-Solve.problem _ _ c.in-Solve.states c.in-Solve.instances c.in-Solve.seconds _ c.in-Solve.progress c.limits_of-limits.result c.in-Solve.is c.limits_of-limits.ensures.states c.limits_of-limits.ensures.instances
-    c.limits_of-limits.ensures.seconds)
+    (wanted_of_solve c.args.order c.in-Solve.domain c.in-Solve.problem _ _ c.in-Solve.states c.in-Solve.instances c.in-Solve.seconds c.in-Solve.cert_version _ c.in-Solve.progress c.limits_of-limits.result c.in-Solve.is c.limits_of-limits.ensures.states c.limits_of-limits.ensures.instances
+    c.limits_of-limits.ensures.seconds c.limits_of-limits.ensures.version)
     (said_of_more (λ line is. inl is) c.report_of_solve.ensures.progress)
 
 pub returns-in-Validate-clause-ended : goal.returns-in-Validate-clause-ended
 returns-in-Validate-clause-ended g c =
-    subst (λ (wanted : Wanted). IfOk c.report_of_validate.result (HasEndedFor wanted g.E.Sink.wants_memory (g.E.Sink.failures c.args.err.now) (g.E.Sink.taken c.args.err.now)))
+    subst (λ (wanted : Wanted). IfOk c.report_of_validate.result (HasEndedFor wanted g.E.Sink.may_lack_memory (g.E.Sink.failures c.args.err.now) (g.E.Sink.taken c.args.err.now)))
     (sym (ap wanted_of c.in-Validate.is)) (whatever c.report_of_validate.result)
 
 pub returns-in-Check-clause-ended : goal.returns-in-Check-clause-ended
 returns-in-Check-clause-ended g c =
-    subst (λ (wanted : Wanted). IfOk c.report_of_check.result (HasEndedFor wanted g.E.Sink.wants_memory (g.E.Sink.failures c.report_of_check.new.err) (g.E.Sink.taken c.report_of_check.new.err)))
+    subst (λ (wanted : Wanted). IfOk c.report_of_check.result (HasEndedFor wanted g.E.Sink.may_lack_memory (g.E.Sink.failures c.report_of_check.new.err) (g.E.Sink.taken c.report_of_check.new.err)))
     (sym (ap wanted_of c.in-Check.is)) (whatever c.report_of_check.result)
 
 pub returns-in-Explain-clause-ended : goal.returns-in-Explain-clause-ended
 returns-in-Explain-clause-ended g c =
-    subst (λ (wanted : Wanted). IfOk c.report_of_explain.result (HasEndedFor wanted g.E.Sink.wants_memory (g.E.Sink.failures c.args.err.now) (g.E.Sink.taken c.args.err.now)))
+    subst (λ (wanted : Wanted). IfOk c.report_of_explain.result (HasEndedFor wanted g.E.Sink.may_lack_memory (g.E.Sink.failures c.args.err.now) (g.E.Sink.taken c.args.err.now)))
     (sym (ap wanted_of c.in-Explain.is)) (whatever c.report_of_explain.result)
 
 pub returns-in-Solve-clause-ended : goal.returns-in-Solve-clause-ended
 returns-in-Solve-clause-ended g c =
-    subst (λ (wanted : Wanted). IfOk c.report_of_solve.result (HasEndedFor wanted g.E.Sink.wants_memory (g.E.Sink.failures c.report_of_solve.new.err) (g.E.Sink.taken c.report_of_solve.new.err)))
-    (wanted_of_solve c.args.order c.in-Solve.domain c.in-Solve.problem _ _ c.in-Solve.states c.in-Solve.instances c.in-Solve.seconds _ c.in-Solve.progress c.limits_of-limits.result c.in-Solve.is c.limits_of-limits.ensures.states c.limits_of-limits.ensures.instances
-    c.limits_of-limits.ensures.seconds)
+    subst (λ (wanted : Wanted). IfOk c.report_of_solve.result (HasEndedFor wanted g.E.Sink.may_lack_memory (g.E.Sink.failures c.report_of_solve.new.err) (g.E.Sink.taken c.report_of_solve.new.err)))
+    (wanted_of_solve c.args.order c.in-Solve.domain c.in-Solve.problem _ _ c.in-Solve.states c.in-Solve.instances c.in-Solve.seconds c.in-Solve.cert_version _ c.in-Solve.progress c.limits_of-limits.result c.in-Solve.is c.limits_of-limits.ensures.states c.limits_of-limits.ensures.instances
+    c.limits_of-limits.ensures.seconds c.limits_of-limits.ensures.version)
     c.report_of_solve.ensures.ended

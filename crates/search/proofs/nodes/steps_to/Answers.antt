@@ -1,7 +1,7 @@
 use Rattle.std.proofs.Common.{◌≤◌, ◌++◌, ◌∷◌, [], length, get_or, ap, arith}
 use Rattle.std.proofs.lemmas.List.{length-append}
 use Rattle.search.specs.declared.nodes.Node.{Node}
-use Rattle.search.specs.declared.nodes.NodeStatus.TheVariants.{Open}
+use Rattle.search.specs.declared.nodes.NodeStatus.TheVariants.{Unexpanded}
 use Rattle.search.specs.Nodes.{parent_of}
 use Rattle.search.proofs.Lists.{get_there}
 use Rattle.search.proofs.OpenList.{IsWayBack, way_back-start, way_back-within, way_back-more, way_back-end}
@@ -9,7 +9,7 @@ use Rattle.search.proofs.nodes.steps_to.Goals.{In_ok-push}
 use Rattle.search.proofs.nodes.steps_to.Goals as goal
 
 abbrev no_node : Node
-no_node = record { cost = 0; status = Open; parent = record { low = 0; middle = 0; high = 0 }; action = 0 }
+no_node = record { cost = 0; status = Unexpanded; parent = record { low = 0; middle = 0; high = 0 }; action = 0 }
 
 -- the node at the place
 abbrev node_at : In_ok-push → Node

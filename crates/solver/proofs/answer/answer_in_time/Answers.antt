@@ -8,6 +8,8 @@ use Rattle.ground_listings.specs.GroundListing.{listed_states}
 use Rattle.ground_listings.specs.SearchSpace.{class_in, ground_in, exchanges_in}
 use Rattle.ground_listings.proofs.TaskLemmas.{task_costs_at_least}
 use Rattle.solver.specs.AtLimit.{IsAtLimit}
+use Rattle.solver.specs.Solver.{IsUpTo}
+use Rattle.solver.specs.Versions.{number_of}
 use Rattle.solver.specs.Written.{guidance_of}
 use Rattle.solver.proofs.AnswerLemmas.{most_of_limit, found_among_more, limit_allowed}
 use Rattle.solver.proofs.ClassLemmas.{classes_by}
@@ -49,12 +51,16 @@ returns c =
     let limit = c.requires.halted.at_limit in
     let made = c.in_ok-cert.ensures in
     let consistent = consistent_by known numbered guidance c.requires.guidance.written c.requires.guidance.fair in
-    let at_limit : IsAtLimit task least count cert = at_limit_of task least count exchanges guidance states nodes atoms numbered (class_in space) consistent limit cert made count refl in (
-      c.requires.limited,
-      c.requires.ground.within,
-      task_costs_at_least task atoms numbered least limit.costs_at_least,
-      shown task (bound least) count exchanges guidance states nodes atoms numbered (class_in space) limit.found cert made c.args.setting.limits.states c.requires.halted.within_limit c.requires.space.typed
-          (classes_by space c.requires.space) c.requires.space.named c.requires.guidance.written c.requires.guidance.fair c.in_ok-cert.cert.within_limits,
-      settled_or_high task (bound least) count exchanges guidance states nodes atoms numbered (class_in space) limit.found cert made c.requires.guidance.improved c.requires.guidance.dead_ends_improved c.requires.guidance.no_lower,
-      subst (λ (n : ℕ). IsAtLimit task least n cert) (sym at_limit.full) at_limit,
+    let at_limit : IsAtLimit task least count cert = at_limit_of task least count exchanges guidance states nodes atoms numbered (class_in space) consistent limit cert made count refl in
+    let version : IsUpTo (number_of c.args.setting.limits.version) cert = subst (IsUpTo (number_of c.args.setting.limits.version)) (sym made) c.requires.version in (
+      (
+        c.requires.limited,
+        c.requires.ground.within,
+        task_costs_at_least task atoms numbered least limit.costs_at_least,
+        shown task (bound least) count exchanges guidance states nodes atoms numbered (class_in space) limit.found cert made c.args.setting.limits.states c.requires.halted.within_limit c.requires.space.typed
+            (classes_by space c.requires.space) c.requires.space.named c.requires.guidance.written c.requires.guidance.fair c.in_ok-cert.cert.within_limits,
+        settled_or_high task (bound least) count exchanges guidance states nodes atoms numbered (class_in space) limit.found cert made c.requires.guidance.improved c.requires.guidance.dead_ends_improved c.requires.guidance.no_lower,
+        subst (λ (n : ℕ). IsAtLimit task least n cert) (sym at_limit.full) at_limit,
+      ),
+      version,
     )

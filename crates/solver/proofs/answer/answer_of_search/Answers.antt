@@ -19,6 +19,8 @@ use Rattle.ground_listings.specs.declared.ground_listing.GroundListing.{GroundLi
 use Rattle.ground_listings.proofs.TaskLemmas.{task_unsolvable, task_costs_at_least, classes_reach_alike}
 use Rattle.solver.specs.Guidance.{estimate_by, reports_dead}
 use Rattle.solver.specs.Guided.{found_in, AreMarksOf}
+use Rattle.solver.specs.Solver.{IsUpTo}
+use Rattle.solver.specs.Versions.{number_of}
 use Rattle.solver.specs.Written.{guidance_of}
 use Rattle.solver.proofs.AnswerLemmas.{all_instances_of_plan, most_of_limit, found_among_more, claim_allowed, limit_allowed, plan_optimal, more_of_task}
 use Rattle.solver.proofs.ClassLemmas.{classes_by}
@@ -96,15 +98,19 @@ returns-in_ok-cert-in-Found c =
     subst (λ (g : Ground). IsCarriedOut (ground_system (task_in g) (atoms_in g)) (meaning.system_of (task_in g)) numbers plan) c.ground.ensures
     (subst (λ (ns : List ℕ). IsCarriedOut (ground_system (task_in there) (atoms_in there)) (meaning.system_of (task_in there)) ns plan) c.deref.ensures.value c.in_ok-steps-in-Found.ensures) in
     let optimal = plan_optimal task atoms numbered numbers plan carried reported.0 in
-    let made = c.in_ok-cert-in-Found.ensures in (
-      optimal,
-      carried.cost ∙ reported.1,
-      all_instances_of_plan task plan optimal.0,
-      shown task (bound cost) most exchanges guidance states nodes atoms numbered (class_in space) reported.2 cert made most reported.2.within_limit c.requires.space.typed (classes_by space c.requires.space)
-          c.requires.space.named c.requires.guidance.written c.requires.guidance.fair c.in_ok-cert-in-Found.cert.within_limits,
-      settled_or_high task (bound cost) most exchanges guidance states nodes atoms numbered (class_in space) reported.2 cert made c.requires.guidance.improved c.requires.guidance.dead_ends_improved c.requires.guidance.no_lower,
-      opened_within task (bound cost) most exchanges guidance states nodes atoms numbered (class_in space) reported.2 cert made cost reported.4,
-      c.requires.ground.within,
+    let made = c.in_ok-cert-in-Found.ensures in
+    let version : IsUpTo (number_of c.args.setting.limits.version) cert = subst (IsUpTo (number_of c.args.setting.limits.version)) (sym made) c.requires.version in (
+      (
+        optimal,
+        carried.cost ∙ reported.1,
+        all_instances_of_plan task plan optimal.0,
+        shown task (bound cost) most exchanges guidance states nodes atoms numbered (class_in space) reported.2 cert made most reported.2.within_limit c.requires.space.typed (classes_by space c.requires.space)
+            c.requires.space.named c.requires.guidance.written c.requires.guidance.fair c.in_ok-cert-in-Found.cert.within_limits,
+        settled_or_high task (bound cost) most exchanges guidance states nodes atoms numbered (class_in space) reported.2 cert made c.requires.guidance.improved c.requires.guidance.dead_ends_improved c.requires.guidance.no_lower,
+        opened_within task (bound cost) most exchanges guidance states nodes atoms numbered (class_in space) reported.2 cert made cost reported.4,
+        c.requires.ground.within,
+      ),
+      version,
     )
 
 -- ---- no plan
@@ -138,12 +144,16 @@ returns-in_ok-cert-in-Exhausted c =
     let cert = certificate_of c.in_ok-cert-in-Exhausted.cert in
     let numbered = c.requires.space.atoms in
     let reported = subst (IsTrueOutcome (system_of space) (class_in space) (estimate_by guidance) (reports_dead guidance) listed_states c.args.setting.limits.states) c.in-Exhausted.is c.requires.searched.outcome_is in
-    let made = c.in_ok-cert-in-Exhausted.ensures in (
-      task_unsolvable task atoms numbered reported.0,
-      shown task none most exchanges guidance states nodes atoms numbered (class_in space) reported.1 cert made most reported.1.within_limit c.requires.space.typed (classes_by space c.requires.space)
-          c.requires.space.named c.requires.guidance.written c.requires.guidance.fair c.in_ok-cert-in-Exhausted.cert.within_limits,
-      settled_or_high task none most exchanges guidance states nodes atoms numbered (class_in space) reported.1 cert made c.requires.guidance.improved c.requires.guidance.dead_ends_improved c.requires.guidance.no_lower,
-      c.requires.ground.within,
+    let made = c.in_ok-cert-in-Exhausted.ensures in
+    let version : IsUpTo (number_of c.args.setting.limits.version) cert = subst (IsUpTo (number_of c.args.setting.limits.version)) (sym made) c.requires.version in (
+      (
+        task_unsolvable task atoms numbered reported.0,
+        shown task none most exchanges guidance states nodes atoms numbered (class_in space) reported.1 cert made most reported.1.within_limit c.requires.space.typed (classes_by space c.requires.space)
+            c.requires.space.named c.requires.guidance.written c.requires.guidance.fair c.in_ok-cert-in-Exhausted.cert.within_limits,
+        settled_or_high task none most exchanges guidance states nodes atoms numbered (class_in space) reported.1 cert made c.requires.guidance.improved c.requires.guidance.dead_ends_improved c.requires.guidance.no_lower,
+        c.requires.ground.within,
+      ),
+      version,
     )
 
 -- ---- the limit of states
@@ -191,12 +201,16 @@ returns-in_ok-cert-in-States c =
     let numbered = c.requires.space.atoms in
     let reported = subst (IsTrueOutcome (system_of space) (class_in space) (estimate_by guidance) (reports_dead guidance) listed_states c.args.setting.limits.states) c.in-States.is c.requires.searched.outcome_is in
     let consistent = consistent_by known numbered guidance c.requires.guidance.written c.requires.guidance.fair in
-    let made = c.in_ok-cert-in-States.ensures in (
-      more_of_task task atoms numbered (estimate_by guidance) (reports_dead guidance) most reported.0,
-      c.requires.ground.within,
-      task_costs_at_least task atoms numbered least reported.1.costs_at_least,
-      shown task (bound least) most exchanges guidance states nodes atoms numbered (class_in space) reported.1.found cert made most reported.1.found.within_limit c.requires.space.typed
-          (classes_by space c.requires.space) c.requires.space.named c.requires.guidance.written c.requires.guidance.fair c.in_ok-cert-in-States.cert.within_limits,
-      settled_or_high task (bound least) most exchanges guidance states nodes atoms numbered (class_in space) reported.1.found cert made c.requires.guidance.improved c.requires.guidance.dead_ends_improved c.requires.guidance.no_lower,
-      at_limit_of task least most exchanges guidance states nodes atoms numbered (class_in space) consistent reported.1 cert made most refl,
+    let made = c.in_ok-cert-in-States.ensures in
+    let version : IsUpTo (number_of c.args.setting.limits.version) cert = subst (IsUpTo (number_of c.args.setting.limits.version)) (sym made) c.requires.version in (
+      (
+        more_of_task task atoms numbered (estimate_by guidance) (reports_dead guidance) most reported.0,
+        c.requires.ground.within,
+        task_costs_at_least task atoms numbered least reported.1.costs_at_least,
+        shown task (bound least) most exchanges guidance states nodes atoms numbered (class_in space) reported.1.found cert made most reported.1.found.within_limit c.requires.space.typed
+            (classes_by space c.requires.space) c.requires.space.named c.requires.guidance.written c.requires.guidance.fair c.in_ok-cert-in-States.cert.within_limits,
+        settled_or_high task (bound least) most exchanges guidance states nodes atoms numbered (class_in space) reported.1.found cert made c.requires.guidance.improved c.requires.guidance.dead_ends_improved c.requires.guidance.no_lower,
+        at_limit_of task least most exchanges guidance states nodes atoms numbered (class_in space) consistent reported.1 cert made most refl,
+      ),
+      version,
     )

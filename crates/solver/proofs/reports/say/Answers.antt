@@ -5,8 +5,8 @@ use Rattle.devices.proofs.ProgressLemmas.{one_line}
 use Rattle.solver.proofs.reports.say.Goals as goal
 
 pub returns-in-Ok-clause-said : goal.returns-in-Ok-clause-said
-returns-in-Ok-clause-said g c = λ task is.
-    let written = subst (λ (line : List ℕ). IsWritten g.E.Sink.wants_memory (g.E.Sink.failures c.args.err.now) (g.E.Sink.failures c.say_line.new.err) (g.E.Sink.taken c.args.err.now) (g.E.Sink.taken c.say_line.new.err) line)
+returns-in-Ok-clause-said g c = λ task seconds states instances is.
+    let written = subst (λ (line : List ℕ). IsWritten g.E.Sink.may_lack_memory (g.E.Sink.failures c.args.err.now) (g.E.Sink.failures c.say_line.new.err) (g.E.Sink.taken c.args.err.now) (g.E.Sink.taken c.say_line.new.err) line)
     (c.as_bytes.ensures.value ∙ c.in-Ok.ensures) c.say_line.ensures in
-    one_line (IsTrueLine task) g.E.Sink.wants_memory (g.E.Sink.failures c.args.err.now) (g.E.Sink.taken c.args.err.now) (g.E.Sink.failures c.say_line.new.err) (g.E.Sink.taken c.say_line.new.err)
+    one_line (IsTrueLine task seconds states instances) g.E.Sink.may_lack_memory (g.E.Sink.failures c.args.err.now) (g.E.Sink.taken c.args.err.now) (g.E.Sink.failures c.say_line.new.err) (g.E.Sink.taken c.say_line.new.err)
     (line_of c.args.report) (c.args.report, refl, is) written

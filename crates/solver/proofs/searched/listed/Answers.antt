@@ -7,5 +7,5 @@ returns-in-Expanded c = λ value is_dead s marked is. expanded_listed value is_d
 pub returns-in-Dead : goal.returns-in-Dead
 returns-in-Dead c = λ value is_dead s marked is. dead_listed value is_dead s c.args.node c.in-Dead.is marked
 
-pub returns-in-Open : goal.returns-in-Open
-returns-in-Open c = λ value is_dead s marked is. waiting_listed value is_dead s c.args.node c.args.estimate c.in-Open.is marked is
+pub returns-in-Unexpanded : goal.returns-in-Unexpanded
+returns-in-Unexpanded c = λ value is_dead s marked is. waiting_listed value is_dead s c.args.node c.args.estimate c.in-Unexpanded.is marked is

@@ -1,4 +1,5 @@
 use Rattle.std.proofs.Common.{◌≡◌, ◌∙◌, ◌≤◌, ℕ, Bool, List, length, sym, ap, subst, arith}
+use Rattle.std.specs.Prelude.{count_by}
 use Rattle.std.proofs.lemmas.List.Sums.{count_by-le-length}
 use Rattle.grounding.specs.Ground.{task_in, atoms_in}
 use Rattle.ground_listings.specs.GroundListing.{listed_states}
@@ -6,12 +7,15 @@ use Rattle.ground_listings.specs.Reachable.{AreReachable}
 use Rattle.ground_listings.specs.SearchSpace.{class_in, ground_in, system_of}
 use Rattle.ground_listings.specs.declared.ground_listing.GroundListing.{GroundListing}
 use Rattle.ground_listings.proofs.TaskLemmas.{task_costs_at_least, as_many_reachable, classes_reach_alike}
+use Rattle.model.specs.Task.{Atom}
+use Rattle.model.specs.Grounding.{ground_system}
 use Rattle.model.specs.Runs.{System}
 use Rattle.search.specs.DeadEnds.{ReportsDeadEnds}
 use Rattle.search.specs.Estimates.{IsAdmissible}
 use Rattle.search.specs.OpenList.{IsLeastSum}
-use Rattle.search.specs.Outcome.{is_expanded}
-use Rattle.solver.proofs.PauseLemmas.{bound_holds, distinct, reachable}
+use Rattle.search.specs.Outcome.{is_expanded, lines_of}
+use Rattle.solver.specs.Said.{is_expanded_line, IsListing}
+use Rattle.solver.proofs.PauseLemmas.{bound_holds, count-open, distinct, found_listing, listed_count, reachable}
 use Rattle.solver.proofs.searched.say_progress.Goals as goal
 
 pub returns : goal.returns
@@ -37,8 +41,19 @@ returns g c =
     (listed_states p.store, distinct t class_of estimate is_dead listed_states p search, reachable t class_of estimate is_dead listed_states p search, count) in
     let few : c.expanded_in-expanded.result ≤ c.len-listed.result =
     omega (arith, c.expanded_in-expanded.ensures, count_by-le-length is_expanded c.nodes.result.now, ap length c.nodes.ensures, search.one_each, count) in
-    c.say.ensures.said task (
+    let lines = lines_of estimate is_dead (listed_states p.store) p.nodes.items in
+    let listing = found_listing t class_of estimate is_dead listed_states p search (classes_reach_alike space c.requires.space) admissible reports c.requires.successors.1 c.in-Some.bound least in
+    let expanded_count : count_by is_expanded_line lines ≡ c.expanded_in-expanded.result =
+    count-open estimate is_dead (listed_states p.store) p.nodes.items search.one_each ∙ sym (c.expanded_in-expanded.ensures ∙ ap (count_by is_expanded) c.nodes.ensures) in
+    let limits = c.args.session.now.setting.limits in
+    c.say.ensures.said task limits.seconds limits.states limits.instances (
       task_costs_at_least task atoms numbered c.in-Some.bound costs,
       as_many_reachable task atoms numbered c.len-listed.result found,
       few,
+      (
+        lines,
+        subst (λ (known : List Atom). IsListing (ground_system task known) c.in-Some.bound lines) numbered listing,
+        listed_count t class_of estimate is_dead listed_states p search ∙ count,
+        expanded_count,
+      ),
     )

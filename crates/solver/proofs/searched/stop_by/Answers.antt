@@ -4,7 +4,7 @@ use Rattle.ground_listings.specs.SearchSpace.{class_in, system_of}
 use Rattle.ground_listings.specs.GroundListing.{listed_class, listed_states}
 use Rattle.ground_listings.specs.declared.ground_listing.GroundListing.{GroundListing}
 use Rattle.ground_listings.proofs.TaskLemmas.{classes_reach_alike}
-use Rattle.search.specs.Nodes.{AreOpen}
+use Rattle.search.specs.Nodes.{AreClosed}
 use Rattle.search.specs.Outcome.{AreClassesOf}
 use Rattle.search.specs.Progress.{IsSearch, nodes_in}
 use Rattle.search.specs.UnderWay.{IsTrueStop, store_in}
@@ -27,8 +27,8 @@ stop_at_pause-requires-clause-search g c =
 pub stop_at_pause-requires-clause-successors : goal.stop_at_pause-requires-clause-successors
 stop_at_pause-requires-clause-successors g c =
     let p = c.args.search.progress in
-    subst (λ (u : System (List Bool) ℕ). AreOpen u (listed_class (store_in c.args.search)) (nodes_in listed_states p)) (sym c.requires.system)
-    (subst (λ (k : List Bool → List Bool). AreOpen (system_of c.args.session.now.setting.space) k (nodes_in listed_states p)) (sym c.requires.under_way.store_classes) c.requires.under_way.are_open)
+    subst (λ (u : System (List Bool) ℕ). AreClosed u (listed_class (store_in c.args.search)) (nodes_in listed_states p)) (sym c.requires.system)
+    (subst (λ (k : List Bool → List Bool). AreClosed (system_of c.args.session.now.setting.space) k (nodes_in listed_states p)) (sym c.requires.under_way.store_classes) c.requires.under_way.are_open)
 
 pub stop_at_pause-requires-clause-classes : goal.stop_at_pause-requires-clause-classes
 stop_at_pause-requires-clause-classes g c =

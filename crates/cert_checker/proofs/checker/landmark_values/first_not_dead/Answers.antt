@@ -3,7 +3,7 @@ use Rattle.std.specs.Prelude.{slice_get}
 use Rattle.std.proofs.lemmas.Bool.{cases_eq}
 use Rattle.std.proofs.lemmas.Option.{slice_get-get_or, slice_get_within}
 use Rattle.certificate_reader.specs.Lines.{mark_of}
-use Rattle.certificate_reader.specs.declared.line.Mark.TheVariants.{Open}
+use Rattle.certificate_reader.specs.declared.line.Mark.TheVariants.{Expanded}
 use Rattle.certificate.specs.declared.states.Listed.{Listed}
 use Rattle.certificate.specs.CertificateParts.{listed_of}
 use Rattle.certificate.specs.ListedSets.{marked}
@@ -16,9 +16,9 @@ use Rattle.cert_checker.proofs.checker.landmark_values.first_not_dead.Goals as g
 
 -- what is listed at a place within the lines
 line_at : (cert : Certificate) (marks : List Listed) (place : ℕ) → map listed_of marks ≡ map marked cert.lines → place < length marks
-    → HasCost cert place (get_or marks place (record { cost = 0; mark = Open })).cost (mark_of (get_or marks place (record { cost = 0; mark = Open })).mark)
+    → HasCost cert place (get_or marks place (record { cost = 0; mark = Expanded })).cost (mark_of (get_or marks place (record { cost = 0; mark = Expanded })).mark)
 line_at cert marks place same within =
-    has_cost cert marks place (get_or marks place (record { cost = 0; mark = Open })) same (slice_get-get_or marks place (record { cost = 0; mark = Open }) within)
+    has_cost cert marks place (get_or marks place (record { cost = 0; mark = Expanded })) same (slice_get-get_or marks place (record { cost = 0; mark = Expanded }) within)
 
 -- one line more is not at fault
 one_more : (test : StateLine → Bool) (lines : List StateLine) (place : ℕ) (l : StateLine) → slice_get lines place ≡ Some l → test l ≡ false

@@ -1,9 +1,9 @@
 use Rattle.std.proofs.Common.{◌≡◌, ◌<◌, get_or, length, subst, arith}
 use Rattle.std.proofs.lemmas.Option.{slice_get-get_or}
-use Rattle.certificate_definitions.specs.Evidence.{opened, cut, dead}
+use Rattle.certificate_definitions.specs.Evidence.{expanded, cut, dead}
 use Rattle.certificate_reader.specs.Lines.{basis_of, mark_of}
 use Rattle.certificate_reader.specs.declared.line.Mark.{Mark}
-use Rattle.certificate_reader.specs.declared.line.Mark.TheVariants.{Open, Cut, Dead}
+use Rattle.certificate_reader.specs.declared.line.Mark.TheVariants.{Expanded, Cut, Dead}
 use Rattle.certificate.specs.declared.states.Listed.{Listed}
 use Rattle.cert_checker.specs.CheckedLines.{HasCost}
 use Rattle.cert_checker.specs.PackedListing.{task_at, certificate_at, state_at}
@@ -14,14 +14,14 @@ use Rattle.cert_checker.proofs.checker.steps.check_line.Goals.{After-get}
 
 -- what is listed at the place
 abbrev listed_at : After-get → Listed
-listed_at c = get_or c.marks.result.now c.args.place (record { cost = 0; mark = Open })
+listed_at c = get_or c.marks.result.now c.args.place (record { cost = 0; mark = Expanded })
 
 -- its cost and its mark are those of the line
 has_mark : (c : After-get) → HasCost (certificate_at c.args.listing.now) c.args.place (listed_at c).cost (mark_of (listed_at c).mark)
 has_mark c =
     let cert = certificate_at c.args.listing.now in
     let within : c.args.place < length c.marks.result.now = omega (arith, c.requires.within, as_many_marks cert c.marks.result.now c.marks.ensures.marks) in
-    has_cost cert c.marks.result.now c.args.place (listed_at c) c.marks.ensures.marks (slice_get-get_or c.marks.result.now c.args.place (record { cost = 0; mark = Open }) within)
+    has_cost cert c.marks.result.now c.args.place (listed_at c) c.marks.ensures.marks (slice_get-get_or c.marks.result.now c.args.place (record { cost = 0; mark = Expanded }) within)
 
 -- so they are, of a line of this mark
 marked : (c : After-get) (mark : Mark) → (listed_at c).mark ≡ mark → HasCost (certificate_at c.args.listing.now) c.args.place (listed_at c).cost (mark_of mark)
@@ -34,16 +34,16 @@ offset_bounds-marks-place c =
     let within : c.args.place < length c.marks.result.now = omega (arith, c.requires.within, as_many_marks cert c.marks.result.now c.marks.ensures.marks) in
     omega (arith, within, c.marks.ensures.at_most)
 
-pub check_open-requires-clause-small : goal.check_open-requires-clause-small
-check_open-requires-clause-small c =
-    let here = (goal.at.check_open-requires-clause-small c).After-get in
-    small_cost (certificate_at c.args.listing.now) c.args.place (listed_at here).cost opened c.args.listing.now.cert.now.within_limits (marked here Open c.in-Open.is)
+pub check_expanded-requires-clause-small : goal.check_expanded-requires-clause-small
+check_expanded-requires-clause-small c =
+    let here = (goal.at.check_expanded-requires-clause-small c).After-get in
+    small_cost (certificate_at c.args.listing.now) c.args.place (listed_at here).cost expanded c.args.listing.now.cert.now.within_limits (marked here Expanded c.in-Expanded.is)
 
-pub check_open-requires-clause-listed : goal.check_open-requires-clause-listed
-check_open-requires-clause-listed c =
-    let here = (goal.at.check_open-requires-clause-listed c).After-get in
-    as_listed (task_at c.args.listing.now) (certificate_at c.args.listing.now) c.args.place (state_at c.args.listing.now c.get.new.into) (listed_at here).cost opened
-    (c.get.ensures.state (listed_at here).cost opened (marked here Open c.in-Open.is))
+pub check_expanded-requires-clause-listed : goal.check_expanded-requires-clause-listed
+check_expanded-requires-clause-listed c =
+    let here = (goal.at.check_expanded-requires-clause-listed c).After-get in
+    as_listed (task_at c.args.listing.now) (certificate_at c.args.listing.now) c.args.place (state_at c.args.listing.now c.get.new.into) (listed_at here).cost expanded
+    (c.get.ensures.state (listed_at here).cost expanded (marked here Expanded c.in-Expanded.is))
 
 pub check_cut-requires-clause-small : goal.check_cut-requires-clause-small
 check_cut-requires-clause-small c =
@@ -64,13 +64,13 @@ check_dead-requires-clause-listed c =
     let here = (goal.at.check_dead-requires-clause-listed c).After-get in
     ((listed_at here).cost, c.get.ensures.state (listed_at here).cost (dead (basis_of c.in-Dead.by)) (marked here (Dead c.in-Dead.by) c.in-Dead.is))
 
-pub returns-in-Open-clause-right : goal.returns-in-Open-clause-right
-returns-in-Open-clause-right c =
-    let here = (goal.at.returns-in-Open-clause-right c).After-get in
+pub returns-in-Expanded-clause-right : goal.returns-in-Expanded-clause-right
+returns-in-Expanded-clause-right c =
+    let here = (goal.at.returns-in-Expanded-clause-right c).After-get in
     let listing = c.args.listing.now in
     let cost = (listed_at here).cost in
-    line_if_ok (task_at listing) (certificate_at listing) c.args.place (state_at listing c.get.new.into) cost opened c.check_open.result (c.get.ensures.state cost opened (marked here Open c.in-Open.is))
-    c.check_open.ensures.right
+    line_if_ok (task_at listing) (certificate_at listing) c.args.place (state_at listing c.get.new.into) cost expanded c.check_expanded.result (c.get.ensures.state cost expanded (marked here Expanded c.in-Expanded.is))
+    c.check_expanded.ensures.right
 
 pub returns-in-Cut-clause-right : goal.returns-in-Cut-clause-right
 returns-in-Cut-clause-right c =

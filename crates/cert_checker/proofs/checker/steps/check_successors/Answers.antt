@@ -10,7 +10,7 @@ use Rattle.model.specs.Task.{Instance}
 use Rattle.model.specs.Meaning.{State, system_of}
 use Rattle.model.specs.Instances.{successors_of}
 use Rattle.model.specs.Grounding.{ground_system}
-use Rattle.model.specs.Claims.{opened, Line}
+use Rattle.model.specs.Claims.{expanded, Line}
 use Rattle.certificate_definitions.specs.Certificates.{lines_of, AreAlikeFor}
 use Rattle.certificate_definitions.specs.CertificateRefusals.{successor_missing, successor_dearer, state_line, IsListed}
 use Rattle.cert_checker.proofs.CertCheckerLemmas.{AllListed-none, AllListed-more, listed_within, open_closed}
@@ -50,7 +50,7 @@ leads c =
 
 -- of the successors it is the first that may be at fault
 leaves : (c : After-least_cost) → IsFirstToLeave (task_at c.args.listing.now) (certificate_at c.args.listing.now) (state_line (certificate_at c.args.listing.now) c.args.place)
-    (record { state = state_at c.args.listing.now c.args.state.now; cost = c.args.cost; mark = opened }) (there c).0 (there c).1
+    (record { state = state_at c.args.listing.now c.args.state.now; cost = c.args.cost; mark = expanded }) (there c).0 (there c).1
 leaves c =
     let numbers = c.args.numbers.now in
     let k = c.loop-number.number-index in
@@ -131,7 +131,7 @@ returns-in_default-clause-first c =
     let listing = c.args.listing.now in
     let task = task_at listing in
     let cert = certificate_at listing in
-    let line : Line State = record { state = state_at listing c.args.state.now; cost = c.args.cost; mark = opened } in
+    let line : Line State = record { state = state_at listing c.args.state.now; cost = c.args.cost; mark = expanded } in
     let here = (goal.at.returns-in_default-clause-first c).After-least_cost in
     reported_first task cert plan most c.state_line.result SuccessorMissing (state_line cert c.args.place) c.state_line.ensures
     (first_in_line task cert plan most c.args.place successor_missing right refl (open_here task cert c.args.place line c.requires.listed refl c.requires.goal))
@@ -143,7 +143,7 @@ returns-then-listed-cost-clause-first c =
     let listing = c.args.listing.now in
     let task = task_at listing in
     let cert = certificate_at listing in
-    let line : Line State = record { state = state_at listing c.args.state.now; cost = c.args.cost; mark = opened } in
+    let line : Line State = record { state = state_at listing c.args.state.now; cost = c.args.cost; mark = expanded } in
     let here = (goal.at.returns-then-listed-cost-clause-first c).After-least_cost in
     let step = cost_there here in
     let listed = subst (λ s. IsLeastCost (AreAlikeFor task cert) (lines_of task cert) s c.in-Some.listed) (sym (is_there here)) c.in-Some.ensures.least in

@@ -5,7 +5,7 @@ use Rattle.cert_checker.proofs.CertCheckerLemmas.{AllListed}
 use Rattle.cert_checker.proofs.GroundSuccessors.{leads_by}
 use Rattle.cert_checker.proofs.checker.steps.check_successors.Given as goal
 
--- the successors so far are listed, at no more than the open state's cost and that of the instance
+-- the successors so far are listed, at no more than the expanded state's cost and that of the instance
 abbrev pub invariant-loop-number : goal.invariant-loop-number
 invariant-loop-number l = record {
   next : IsPacked l.listing l.next;

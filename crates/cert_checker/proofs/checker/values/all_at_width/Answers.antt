@@ -1,7 +1,7 @@
 use Rattle.std.proofs.Common.{◌∙◌, ◌++◌, ◌∷◌, [], ◌≤◌, length, map, take, Some, sym, ap, subst}
 use Rattle.std.proofs.lemmas.List.{map_push}
 use Rattle.std.proofs.lemmas.Option.{slice_get-get_or}
-use Rattle.certificate.specs.declared.evidence.Potential.{Potential}
+use Rattle.certificate.specs.declared.evidence.WrittenPotentials.{WrittenPotentials}
 use Rattle.certificate.specs.Evidence.{potential_of}
 use Rattle.potentials.specs.Potentials.{potentials_of}
 use Rattle.potentials.proofs.ListLemmas.{map-take-more}
@@ -15,13 +15,13 @@ pub at_width-requires-clause-range : goal.at_width-requires-clause-range
 at_width-requires-clause-range c =
     let items = c.args.said.now in
     let read = slice_get-get_or items c.loop-potential.potential-index c.potential-item.result c.loop-potential-test.true ∙ ap (λ t. Some t) (sym c.potential-item.is) in
-    each-at (λ (p : Potential). AreInRange (potential_of p)) items c.loop-potential.potential-index c.potential-item.result read c.requires.range
+    each-at (λ (p : WrittenPotentials). AreInRange (potential_of p)) items c.loop-potential.potential-index c.potential-item.result read c.requires.range
 
 pub at_width-requires-clause-enough : goal.at_width-requires-clause-enough
 at_width-requires-clause-enough c =
     let items = c.args.said.now in
     let read = slice_get-get_or items c.loop-potential.potential-index c.potential-item.result c.loop-potential-test.true ∙ ap (λ t. Some t) (sym c.potential-item.is) in
-    each-at (λ (p : Potential). length (potential_of p).weights ≤ c.args.width) items c.loop-potential.potential-index c.potential-item.result read c.requires.enough
+    each-at (λ (p : WrittenPotentials). length (potential_of p).weights ≤ c.args.width) items c.loop-potential.potential-index c.potential-item.result read c.requires.enough
 
 pub loop-potential-preserved : goal.loop-potential-preserved
 loop-potential-preserved c =

@@ -2,7 +2,7 @@ use Rattle.std.proofs.Common.{◌∙◌, ◌≤◌, length, map, sym, ap, subst,
 use Rattle.std.specs.Prelude.{All}
 use Rattle.std.proofs.lemmas.List.{length-map}
 use Rattle.grounding.specs.Ground.{task_in, atoms_in}
-use Rattle.certificate.specs.declared.evidence.Potential.{Potential}
+use Rattle.certificate.specs.declared.evidence.WrittenPotentials.{WrittenPotentials}
 use Rattle.certificate.specs.Certificate.{certificate_of}
 use Rattle.certificate.specs.Evidence.{potential_of}
 use Rattle.certificate_definitions.specs.Certificates as certificates
@@ -21,14 +21,14 @@ use Rattle.certificate.proofs.WithinLimits.{one_weight_each, potentials_in_range
 
 pub all_at_width-requires-clause-range : goal.all_at_width-requires-clause-range
 all_at_width-requires-clause-range c =
-    subst (All (λ (p : Potential). AreInRange (potential_of p))) (sym c.deref.ensures.value)
+    subst (All (λ (p : WrittenPotentials). AreInRange (potential_of p))) (sym c.deref.ensures.value)
     (each_in_range (length (certificate_of c.args.cert.now).atoms) c.evidence-evidence.result.now.values.items c.evidence-evidence.ensures.values)
 
 pub all_at_width-requires-clause-enough : goal.all_at_width-requires-clause-enough
 all_at_width-requires-clause-enough c =
     let cert = certificate_of c.args.cert.now in
     let after = numbered_after (task_in c.args.grounded.now) (atoms_in c.args.grounded.now) cert c.requires.fluent c.requires.numbered in
-    subst (All (λ (p : Potential). length (potential_of p).weights ≤ c.width-width.result)) (sym c.deref.ensures.value)
+    subst (All (λ (p : WrittenPotentials). length (potential_of p).weights ≤ c.width-width.result)) (sym c.deref.ensures.value)
     (each_weighed (length cert.atoms) c.width-width.result c.evidence-evidence.result.now.values.items (omega (arith, after, c.width-width.ensures)) c.evidence-evidence.ensures.values)
 
 pub at_width-requires-clause-range : goal.at_width-requires-clause-range

@@ -1,5 +1,5 @@
 use Rattle.std.proofs.Common.{refl}
 use Rattle.file_answers.proofs.explaining.further.in_file.Goals as goal
 
-pub returns : goal.returns
-returns c = record { file = c.one_of_files.ensures; fault = refl }
+pub returns-clause-reported : goal.returns-clause-reported
+returns-clause-reported c = record { file = c.one_of_files.ensures.reported; fault = refl }

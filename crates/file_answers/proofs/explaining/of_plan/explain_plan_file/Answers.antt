@@ -5,7 +5,7 @@ use Rattle.task.specs.Task.{task_of}
 use Rattle.file_answers.specs.ExplanationLines.{named_of}
 use Rattle.file_answers.specs.Explanations.{files_in}
 use Rattle.file_answers.specs.StepLines.{is_traced}
-use Rattle.file_answers.proofs.ExplanationLemmas.{all_among, refused_explained, refused_said, steps_explained, steps_said}
+use Rattle.file_answers.proofs.ExplanationLemmas.{all_among, bytes_all, refused_explained, refused_said, steps_explained, steps_said}
 use Rattle.file_answers.proofs.explaining.of_plan.explain_plan_file.Goals as goal
 
 pub returns-in-Err-clause-subject : goal.returns-in-Err-clause-subject
@@ -14,7 +14,7 @@ returns-in-Err-clause-subject c = λ domain problem most is.
 
 pub returns-in-Err-clause-said : goal.returns-in-Err-clause-said
 returns-in-Err-clause-said c = λ is.
-    refused_said (is_traced c.args.lines) c.args.texts.now (files_in c.args.texts.now) (all_among c.args.texts.now) c.in-Err.fault c.explain_refused.result c.explain_refused.ensures
+    refused_said (is_traced c.args.lines) c.args.texts.now (files_in c.args.texts.now) (all_among c.args.texts.now) (bytes_all c.args.texts.now) c.in-Err.fault c.explain_refused.result c.explain_refused.ensures
 
 pub returns-in-Ok-clause-subject : goal.returns-in-Ok-clause-subject
 returns-in-Ok-clause-subject c = λ domain problem most is.

@@ -19,7 +19,7 @@ returns-in_err-solved-clause-refused g c =
 
 pub returns-clause-report : goal.returns-clause-report
 returns-clause-report g c =
-    (c.in_ok-solved.solved, refl, (_, _, c.in_ok-pair.ensures.domain, c.in_ok-pair.ensures.problem, (c.in_ok-solved.ensures.task, c.in_ok-solved.ensures.answer)))
+    (c.in_ok-solved.solved, refl, c.in_ok-solved.ensures.version, (_, _, c.in_ok-pair.ensures.domain, c.in_ok-pair.ensures.problem, (c.in_ok-solved.ensures.task, c.in_ok-solved.ensures.answer)))
 
 pub returns-in_err-pair-clause-failures : goal.returns-in_err-pair-clause-failures
 returns-in_err-pair-clause-failures g c =

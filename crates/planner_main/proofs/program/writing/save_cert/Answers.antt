@@ -8,7 +8,7 @@ use Rattle.planner_main.proofs.program.writing.save_cert.Goals as goal
 
 pub returns-in-Ok-Some-clause-progress : goal.returns-in-Ok-Some-clause-progress
 returns-in-Ok-Some-clause-progress g c =
-    size_said c.args.target.now.progress (text_in c.args.target.now.name) (option_map g.D.Document.text c.args.document.now) c.in-Ok-Some.size (sym c.in-Ok-Some.field-0-is ∙ c.in-Ok-Some.ensures.counted) g.E.Sink.wants_memory
+    size_said c.args.target.now.progress (text_in c.args.target.now.name) (option_map g.D.Document.text c.args.document.now) c.in-Ok-Some.size (sym c.in-Ok-Some.field-0-is ∙ c.in-Ok-Some.ensures.counted) g.E.Sink.may_lack_memory
     (stream (g.E.Sink.failures c.args.err.now) (g.E.Sink.taken c.args.err.now)) (stream (g.E.Sink.failures c.say_size.new.err) (g.E.Sink.taken c.say_size.new.err))
     c.say_size.result c.say_size.ensures.said c.say_size.ensures.quiet
 

@@ -14,7 +14,7 @@ returns-then-not-target g c = nothing
 pub returns-in-Ok : goal.returns-in-Ok
 returns-in-Ok g c =
     let asked : IsTrue c.args.target.now.progress = search rules in
-    said_once (IsFailedLineOf c.args.target.now.progress (text_in c.args.target.now.name)) g.E.Sink.wants_memory _ _ _ _ c.as_bytes.result.now
+    said_once (IsFailedLineOf c.args.target.now.progress (text_in c.args.target.now.name)) g.E.Sink.may_lack_memory _ _ _ _ c.as_bytes.result.now
     (asked, (c.in-Some.name.now, ap text_in c.in-Some.is, c.as_bytes.ensures.value ∙ c.in-Ok.ensures)) c.say.ensures
 
 pub returns-in_default-failed_line : goal.returns-in_default-failed_line

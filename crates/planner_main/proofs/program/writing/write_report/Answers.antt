@@ -52,12 +52,12 @@ returns-clause-said g c =
 -- the lines about the certificate's file, and then about the plan's
 pub returns-in_err-save_cert-clause-progress : goal.returns-in_err-save_cert-clause-progress
 returns-in_err-save_cert-clause-progress g c =
-    said_of_cert c.args.report.now (outputs_in c.args.outputs) _ c.cert_text-cert.ensures g.E.Sink.wants_memory _ _ (stream (g.E.Sink.failures c.save_cert.new.err) (g.E.Sink.taken c.save_cert.new.err))
+    said_of_cert c.args.report.now (outputs_in c.args.outputs) _ c.cert_text-cert.ensures g.E.Sink.may_lack_memory _ _ (stream (g.E.Sink.failures c.save_cert.new.err) (g.E.Sink.taken c.save_cert.new.err))
     c.save_cert.ensures.progress
 
 pub returns-in_err-save_or_say-clause-progress : goal.returns-in_err-save_or_say-clause-progress
 returns-in_err-save_or_say-clause-progress g c =
-    said_after (said_of_cert c.args.report.now (outputs_in c.args.outputs) _ c.cert_text-cert.ensures g.E.Sink.wants_memory _ _ (stream (g.E.Sink.failures c.save_cert.new.err) (g.E.Sink.taken c.save_cert.new.err))
+    said_after (said_of_cert c.args.report.now (outputs_in c.args.outputs) _ c.cert_text-cert.ensures g.E.Sink.may_lack_memory _ _ (stream (g.E.Sink.failures c.save_cert.new.err) (g.E.Sink.taken c.save_cert.new.err))
     c.save_cert.ensures.progress) (said_of_more (λ line is. inr is) c.in_err-save_or_say.ensures.progress)
 
 pub returns-in_err-text-clause-progress : goal.returns-in_err-text-clause-progress
@@ -69,18 +69,18 @@ returns-in_err-json-clause-progress g c = nothing
 -- no further line if both files are written
 pub returns-in_err-write_all-clause-progress : goal.returns-in_err-write_all-clause-progress
 returns-in_err-write_all-clause-progress g c =
-    said_of_files c.args.report.now (outputs_in c.args.outputs) _ c.cert_text-cert.ensures g.E.Sink.wants_memory (stream (g.E.Sink.failures c.args.err.now) (g.E.Sink.taken c.args.err.now))
+    said_of_files c.args.report.now (outputs_in c.args.outputs) _ c.cert_text-cert.ensures g.E.Sink.may_lack_memory (stream (g.E.Sink.failures c.args.err.now) (g.E.Sink.taken c.args.err.now))
     (stream (g.E.Sink.failures c.save_cert.new.err) (g.E.Sink.taken c.save_cert.new.err)) (stream (g.E.Sink.failures c.save_or_say.new.err) (g.E.Sink.taken c.save_or_say.new.err))
     c.in_ok-save_or_say.ensures.quiet c.save_cert.ensures.progress
 
 pub returns-clause-progress : goal.returns-clause-progress
 returns-clause-progress g c =
-    said_of_files c.args.report.now (outputs_in c.args.outputs) _ c.cert_text-cert.ensures g.E.Sink.wants_memory (stream (g.E.Sink.failures c.args.err.now) (g.E.Sink.taken c.args.err.now))
+    said_of_files c.args.report.now (outputs_in c.args.outputs) _ c.cert_text-cert.ensures g.E.Sink.may_lack_memory (stream (g.E.Sink.failures c.args.err.now) (g.E.Sink.taken c.args.err.now))
     (stream (g.E.Sink.failures c.save_cert.new.err) (g.E.Sink.taken c.save_cert.new.err)) (stream (g.E.Sink.failures c.save_or_say.new.err) (g.E.Sink.taken c.save_or_say.new.err))
     c.in_ok-save_or_say.ensures.quiet c.save_cert.ensures.progress
 
 pub returns-clause-sized : goal.returns-clause-sized
 returns-clause-sized g c =
-    sized_of_cert c.args.report.now (outputs_in c.args.outputs) _ c.cert_text-cert.ensures g.E.Sink.wants_memory (stream (g.E.Sink.failures c.args.err.now) (g.E.Sink.taken c.args.err.now))
+    sized_of_cert c.args.report.now (outputs_in c.args.outputs) _ c.cert_text-cert.ensures g.E.Sink.may_lack_memory (stream (g.E.Sink.failures c.args.err.now) (g.E.Sink.taken c.args.err.now))
     (stream (g.E.Sink.failures c.save_cert.new.err) (g.E.Sink.taken c.save_cert.new.err)) (stream (g.E.Sink.failures c.save_or_say.new.err) (g.E.Sink.taken c.save_or_say.new.err))
     c.in_ok-save_or_say.ensures.quiet c.in_ok-save_cert.ensures.sized

@@ -3,7 +3,7 @@ use Rattle.std.specs.Option.{option_map}
 use Rattle.std.specs.Global.{Vec}
 use Rattle.typing_names.specs.Refusals.{refusal_of}
 use Rattle.typing_names.specs.Walk.{earlier}
-use Rattle.typing_names.specs.declared.fault.TaskRefusal.{TaskRefusal}
+use Rattle.typing_names.specs.Refusals.{TaskRefusal}
 use Rattle.typing_names.proofs.walk.FoundFaults.add.Goals as goal
 
 pub returns : goal.returns
