@@ -13,6 +13,7 @@ use Rattle.search.specs.Estimates.{IsAdmissible, IsConsistent}
 use Rattle.search.specs.DeadEnds.{DetectsDeadEnds, ReportsDeadEnds}
 use Rattle.search.specs.Outcome.{AreOfOneClass, AreOwnClasses, AreClassesOf, is_expanded, is_marked_dead, line_of, lines_of, IsReachableAt, ReachingCostsAtLeast, AreFound, AreExpandedWithin}
 use Rattle.search.specs.Nodes.{Waiting, Found, found_of, IsWaiting, total_of, AreNodes, IsFoundWithin, AreClosed, parent_of, begins, follows, IsPath, IsReachedIn, IsWay, dearest}
+use Rattle.search.proofs.Kept.{later_same}
 use Rattle.search.proofs.NodesLemmas.{run-push}
 use Rattle.search.proofs.ShortWays.{short_way}
 use Rattle.search.proofs.Linked.{found_of-get, get-found_of, length-found_of}
@@ -104,7 +105,7 @@ are_listed {S} t class_of value is_dead nodes open_list are = record {
   cheap = are.cheap;
   reachable = are.reachable;
   no_goal = are.no_goal;
-  cheapest = are.cheapest;
+  cheapest = λ own consistent detects. are.cheapest own value is_dead (later_same value is_dead nodes) consistent detects;
   alive = are.alive;
   marked = are.marked;
 }

@@ -60,12 +60,13 @@ fn states_in_store<S>(states: FoundStates<OwnClasses<S>>) -> FoundStates<S> {
     FoundStates {
         store: states.store.0,
         nodes: states.nodes,
+        bases: states.bases,
         estimates: states.estimates,
     }
 }
 
 /// The outcome, with the store in place of its listing.
-fn in_store<S>(outcome: Outcome<OwnClasses<S>>) -> Outcome<S> {
+pub(crate) fn in_store<S>(outcome: Outcome<OwnClasses<S>>) -> Outcome<S> {
     match outcome {
         Outcome::Found {
             steps,

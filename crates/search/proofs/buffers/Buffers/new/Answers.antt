@@ -1,6 +1,6 @@
 use Rattle.std.proofs.Common.{[], length, ap, ◌∙◌}
 use Rattle.packed_state.proofs.PackedLemmas.{length-set_of}
-use Rattle.search.proofs.progress.Buffers.new.Goals as goal
+use Rattle.search.proofs.buffers.Buffers.new.Goals as goal
 
 pub returns-clause-wide : goal.returns-clause-wide
 returns-clause-wide g c = record {

@@ -2,7 +2,7 @@ use Rattle.std.proofs.Common.{◌∙◌, ap, subst, sym, get_or, length}
 use Rattle.std.specs.Prelude.{IsTrue, is_some, Contains}
 use Rattle.std.proofs.lemmas.List.Elements.{Contains-get_or}
 use Rattle.packed_state.specs.Packed.{bits_of}
-use Rattle.search.proofs.progress.Buffers.touch_successors.Goals as goal
+use Rattle.search.proofs.buffers.Buffers.touch_successors.Goals as goal
 
 pub successor-requires-clause-width : goal.successor-requires-clause-width
 successor-requires-clause-width g c = ap (λ s. length (bits_of s)) c.loop-action.invariant.state ∙ c.requires.buffers.state
