@@ -24,7 +24,7 @@ use cost_partitioning::Effort;
 use devices::Sink;
 use devices_clock::Clock;
 use faults::NoMemory;
-use ground_listings::GroundListing;
+use ground_listings::{GroundListing, SearchSpace};
 use potentials::Potentials;
 use search::{Guide, Search};
 
@@ -42,6 +42,15 @@ const QUICK: Pause = Pause {
     states: 100_000,
     effort: Effort::Quick,
 };
+
+/// The first pause where states take long.
+const QUICK_IF_DEAR: Pause = Pause {
+    states: 50_000,
+    effort: Effort::Quick,
+};
+
+/// With this many exchanges of objects or more, states take long: each has to be made its representative.
+const MANY_EXCHANGES: usize = 3;
 
 /// The second pause, if a quick draft is promising.
 const THOROUGH: Pause = Pause {
@@ -102,7 +111,7 @@ pub(crate) fn search_in_parts<'l, 't, G: Guide, E: Sink + Clock>(
     ensures said { GoesOn (IsLineWithin (task_in (ground_in session.now.setting.space)) session.now.setting.limits) E.may_lack_memory (E.failures err.old) (E.taken err.old) (E.failures err.new) (E.taken err.new) }
 {
     let drafting = Drafting {
-        pause: QUICK,
+        pause: first_pause(session.setting.space),
         given,
     };
     let search = begin_by(session)?;
@@ -113,6 +122,20 @@ pub(crate) fn search_in_parts<'l, 't, G: Guide, E: Sink + Clock>(
         Part::Ended(parts) => Ok(parts),
         Part::Promising(search) => search_on(session, search, given, err),
         Part::InVain(search) => search_to_end(session, search, err),
+    }
+}
+
+/// The first pause of a search of this space.
+fn first_pause(space: SearchSpace<'_, '_>) -> Pause {
+    match space {
+        SearchSpace::Alone(_) => QUICK,
+        SearchSpace::Orbits(representatives) => {
+            if representatives.exchanges().len() < MANY_EXCHANGES {
+                QUICK
+            } else {
+                QUICK_IF_DEAR
+            }
+        }
     }
 }
 
