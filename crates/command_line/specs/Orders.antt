@@ -39,12 +39,20 @@ pub record AskedOfExplain : Type 0 where
   pub trace : Bool
   pub json : Bool
 
+-- the options of `explain` for a certificate: the limit of instances, the file to read a plan from, if any, and whether the
+-- explanation is printed as JSON
+pub record AskedOfCert : Type 0 where
+  pub instances : ℕ
+  pub plan : Option Text
+  pub json : Bool
+
 -- an order, with the names of the input files
 pub data Wanted : Type 0 where
   to_solve : (domain problem : Text) → Asked → Wanted
   to_validate : (domain problem plan : Text) (json : Bool) → Wanted
   to_check : (domain problem cert : Text) → AskedOfCheck → Wanted
   to_explain : (domain problem : Text) → AskedOfExplain → Wanted
+  to_explain_cert : (domain problem cert : Text) → AskedOfCert → Wanted
 
 -- the number that the text denotes in decimal digits after an optional plus, if it is from 1 to 16,777,216
 abbrev pub limit_of : Text → Option ℕ
@@ -115,13 +123,33 @@ check_in rows = do
     progress = is_given (codes "progress") rows;
   }))
 
-abbrev pub explain_in : List Row → Option Wanted
-explain_in rows = do
+-- this, if none is given
+abbrev pub unless_given : {A : Type 0} → Option Text → Option A → Option A
+unless_given None o = o
+unless_given (Some text) o = None
+
+-- without a certificate; `--plan` goes with one
+abbrev pub explain_files_in : List Row → Option Wanted
+explain_files_in rows = do
   domain ← first_of (codes "DOMAIN") rows
   problem ← first_of (codes "PROBLEM") rows
   instances ← limit_in (codes "instances") rows
   trace ← trace_in rows
   Some (to_explain domain problem (record { instances = instances; plan = first_of (codes "PLAN") rows; trace = trace; json = is_given (codes "json") rows }))
+
+-- with this certificate, which a plan goes with by `--plan` alone; a trace does not
+abbrev pub explain_cert_in : List Row → Text → Option Wanted
+explain_cert_in rows cert = do
+  domain ← first_of (codes "DOMAIN") rows
+  problem ← first_of (codes "PROBLEM") rows
+  instances ← limit_in (codes "instances") rows
+  if is_given (codes "trace") rows then None
+      else Some (to_explain_cert domain problem cert (record { instances = instances; plan = first_of (codes "plan") rows; json = is_given (codes "json") rows }))
+
+abbrev pub explain_in : List Row → Option Wanted
+explain_in rows =
+    option_map_or (λ cert. unless_given (first_of (codes "PLAN") rows) (explain_cert_in rows cert)) (first_of (codes "cert") rows)
+    (unless_given (first_of (codes "plan") rows) (explain_files_in rows))
 
 -- the order of a command with these values
 abbrev pub wanted_in : Text × List Row → Option Wanted

@@ -3,11 +3,11 @@ use Rattle.std.specs.Prelude.{ℕ, List, map, Option}
 use Rattle.std.specs.Borrow.{Bor}
 use Rattle.std.specs.Option.{option_map}
 use Rattle.clap.specs.Walk.{Text}
-use Rattle.command_line.specs.Orders.{Wanted, to_solve, to_validate, to_check, to_explain}
+use Rattle.command_line.specs.Orders.{Wanted, to_solve, to_validate, to_check, to_explain, to_explain_cert}
 use Rattle.command_line.specs.Versions.{number_of}
 use Rattle.command_line.specs.declared.max_count.MaxCount.{MaxCount}
 use Rattle.command_line.specs.declared.order.Order.{Order}
-use Rattle.command_line.specs.declared.order.Order.TheVariants.{Solve, Validate, Check, Explain}
+use Rattle.command_line.specs.declared.order.Order.TheVariants.{Solve, Validate, Check, Explain, ExplainCert}
 use Rattle.command_line.specs.declared.fault.WordsFault.{WordsFault}
 use Rattle.command_line.specs.declared.fault.WordsFault.TheVariants.{Words, NoMemory}
 
@@ -41,6 +41,8 @@ wanted_of (Check domain problem cert plan instances json progress) =
     to_check domain.now problem.now cert.now (record { instances = instances.number; plan = text_in plan; json = json; progress = progress })
 wanted_of (Explain domain problem plan trace instances json) =
     to_explain domain.now problem.now (record { instances = instances.number; plan = text_in plan; trace = trace; json = json })
+wanted_of (ExplainCert domain problem cert plan instances json) =
+    to_explain_cert domain.now problem.now cert.now (record { instances = instances.number; plan = text_in plan; json = json })
 
 -- the fault is one of the words, not running out of memory
 abbrev pub IsOfWords : WordsFault → Type 0

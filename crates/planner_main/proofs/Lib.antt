@@ -1,6 +1,7 @@
 pub mod ProgramWords
 pub mod ProgramReported
 pub mod CertificateReported
+pub mod CertExplained
 pub mod OrderWanted
 pub mod ProgressReported
 mod CountedFiles

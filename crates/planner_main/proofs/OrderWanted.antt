@@ -4,13 +4,13 @@ use Rattle.std.specs.Prelude.{Option}
 use Rattle.std.specs.Borrow.{Bor}
 use Rattle.solver.specs.Versions as solver
 use Rattle.solver.specs.declared.limits.Limits.{Limits}
-use Rattle.command_line.specs.Orders.{Asked, AskedOfCheck, AskedOfExplain, to_solve, to_check, to_explain}
+use Rattle.command_line.specs.Orders.{Asked, AskedOfCert, AskedOfCheck, AskedOfExplain, to_solve, to_check, to_explain, to_explain_cert}
 use Rattle.command_line.specs.Versions as words
 use Rattle.command_line.specs.View.{number_in, text_in, wanted_of}
 use Rattle.command_line.specs.declared.cert_version.CertVersion.{CertVersion}
 use Rattle.command_line.specs.declared.max_count.MaxCount.{MaxCount}
 use Rattle.command_line.specs.declared.order.Order.{Order}
-use Rattle.command_line.specs.declared.order.Order.TheVariants.{Solve, Check, Explain}
+use Rattle.command_line.specs.declared.order.Order.TheVariants.{Solve, Check, Explain, ExplainCert}
 
 -- this is the order, with these numbers
 abbrev asked_with : (plan cert : Option (Bor (List ℕ))) (json progress : Bool) (states instances : ℕ) (seconds : Option ℕ) (version : ℕ) → Asked
@@ -41,3 +41,12 @@ pub wanted_of_explain : (order : Order) (domain problem : Bor (List ℕ)) (plan 
     → to_explain domain.now problem.now (record { instances = number; plan = text_in plan; trace = traced; json = json }) ≡ wanted_of order
 wanted_of_explain order domain problem plan trace instances json number traced is same same_trace =
     (λ i. to_explain domain.now problem.now (asked_of_explain plan json (same_trace i) (same i))) ∙ sym (ap wanted_of is)
+
+abbrev asked_of_cert : (plan : Option (Bor (List ℕ))) (json : Bool) (instances : ℕ) → AskedOfCert
+asked_of_cert plan json instances = record { instances = instances; plan = text_in plan; json = json }
+
+pub wanted_of_cert : (order : Order) (domain problem cert : Bor (List ℕ)) (plan : Option (Bor (List ℕ))) (instances : MaxCount) (json : Bool) (number : ℕ)
+    → order ≡ ExplainCert domain problem cert plan instances json → number ≡ instances.number
+    → to_explain_cert domain.now problem.now cert.now (record { instances = number; plan = text_in plan; json = json }) ≡ wanted_of order
+wanted_of_cert order domain problem cert plan instances json number is same =
+    ap (λ (n : ℕ). to_explain_cert domain.now problem.now cert.now (asked_of_cert plan json n)) same ∙ sym (ap wanted_of is)

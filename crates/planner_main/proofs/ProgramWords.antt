@@ -8,7 +8,7 @@ use Rattle.planner_main.specs.declared.failures.Failure.{Failure}
 use Rattle.planner_main.specs.declared.failures.Failure.TheVariants as failure
 use Rattle.file_answers.specs.declared.files.FileFault.TheVariants as refusal
 use Rattle.devices.specs.declared.device.IoFault.TheVariants as device
-use Rattle.command_line.specs.Orders.{Asks, IsCommand, Wanted, to_solve, to_validate, to_check, to_explain}
+use Rattle.command_line.specs.Orders.{Asks, IsCommand, Wanted, to_solve, to_validate, to_check, to_explain, to_explain_cert}
 use Rattle.command_line.specs.View.{IsOfWords}
 use Rattle.command_line.specs.declared.fault.WordsFault.{WordsFault}
 use Rattle.command_line.proofs.OrderLemmas.{one_wanted}
@@ -102,6 +102,7 @@ report_status (report.Solve solved) = inl (answer_status solved.answer)
 report_status (report.Validate v) = inl (verdict_status (verdict_of v))
 report_status (report.Check checked) = inl (checked_status checked.answer)
 report_status (report.Explain e) = explanation_status e.subject
+report_status (report.ExplainCheck e) = inl (checked_status e.checked.answer)
 
 pub answered_status : (contents : List ℕ → Option (List ℕ)) (wanted : Wanted) (text : List ℕ) (status : ℕ) (written : List NamedText)
     → IsAnswerTo contents wanted text status written → IsOfReport status
@@ -114,6 +115,9 @@ can_be_reported contents (to_solve domain problem asked) found (s, is, version, 
 can_be_reported contents (to_check domain problem cert asked) found (c, is, (d, p, l, d_is, p_is, l_is, (text, steps, whole, is_task, handed, is_true, said))) =
     subst reported.IsReported (sym is) said
 can_be_reported contents (to_explain domain problem asked) found (e, is, on) = subst reported.IsReported (sym is) tt
+can_be_reported contents (to_explain_cert domain problem cert asked) found (inl (e, is, (d, p, l, d_is, p_is, l_is, (text, steps, whole, is_task, handed, is_true, said)))) =
+    subst reported.IsReported (sym is) said
+can_be_reported contents (to_explain_cert domain problem cert asked) found (inr (faulty, (e, is, on))) = subst reported.IsReported (sym is) tt
 
 pub no_failure : (n status : ℕ) → IsOfReport status → is_failure n ≡ true → (n ≡ 20 → ⊥) → status ≡ n → ⊥
 no_failure n status (inl answers) fails other same = absurd (cc (ap is_failure same))

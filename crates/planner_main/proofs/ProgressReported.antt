@@ -2,7 +2,7 @@
 use Rattle.std.proofs.Common.{◌≡◌, ◌∙◌, ℕ, ◌⊎◌, inl, inr, Bool, true, false, List, ◌++◌, refl, sym, ap, subst, arith}
 use Rattle.std.specs.Prelude.{Option, None, Some, Result, Ok, Err, IfOk, IfSome, IsTrue}
 use Rattle.command_line.proofs.OrderLemmas.{one_wanted}
-use Rattle.command_line.specs.Orders.{Asks, Wanted, to_solve, to_validate, to_check, to_explain}
+use Rattle.command_line.specs.Orders.{Asks, Wanted, to_solve, to_validate, to_check, to_explain, to_explain_cert}
 use Rattle.certificate_definitions.specs.CertificateText.{text_of}
 use Rattle.devices.specs.Devices.{IsKept, IsWritten}
 use Rattle.devices.specs.Texts.{AreKept}
@@ -71,6 +71,7 @@ written_is_progress contents (to_validate domain problem plan json) found on lin
 written_is_progress contents (to_solve domain problem asked) found on line is = inr (found, on, is)
 written_is_progress contents (to_check domain problem cert asked) found on line is = absurd (no_line found asked.json line is)
 written_is_progress contents (to_explain domain problem asked) found on line is = absurd (no_line found asked.json line is)
+written_is_progress contents (to_explain_cert domain problem cert asked) found on line is = absurd (no_line found asked.json line is)
 
 -- what holds of what was read of a file holds of its contents, if they are known
 known_if_kept : (known came : Option (List ℕ)) → IsKept known came → (P : List ℕ → Type 0) → IfSome came P → IfSome known P
@@ -96,6 +97,7 @@ wanted_of_line contents (to_solve domain problem asked) line (inr (found, on, in
 wanted_of_line contents (to_solve domain problem asked) line (inr (found, on, inr (is, named))) = is
 wanted_of_line contents (to_check domain problem cert asked) line is = is.0
 wanted_of_line contents (to_explain domain problem asked) line is = absurd is
+wanted_of_line contents (to_explain_cert domain problem cert asked) line is = absurd is
 
 module _ (contents : List ℕ → Option (List ℕ)) (words : List (List ℕ)) (wanted : Wanted) (asks : Asks words wanted) (may_lack_memory : Bool) (before after : Stream)
     (said : AreSaid (IsProgressOn contents wanted) may_lack_memory before after) where
@@ -137,6 +139,7 @@ module _ (contents contents_after : List ℕ → Option (List ℕ)) (known may_l
       (found, (s, is, version, on), held, (before, answered, sized))
   ended_by_status before (to_check domain problem cert asked) found status is ended held sized same = tt
   ended_by_status before (to_explain domain problem asked) found status is ended held sized same = tt
+  ended_by_status before (to_explain_cert domain problem cert asked) found status is ended held sized same = tt
 
   end_wanted : (wanted : Wanted) (status : ℕ) → HasSaidEnd contents contents_after known wanted may_lack_memory after status → RequestsSearchProgress wanted → (status ≡ 0) ⊎ (status ≡ 10)
       → EndsFor contents contents_after known wanted may_lack_memory after
@@ -144,6 +147,7 @@ module _ (contents contents_after : List ℕ → Option (List ℕ)) (known may_l
   end_wanted (to_solve domain problem asked) status ended wants which = ended wants which
   end_wanted (to_check domain problem cert asked) status ended wants which = absurd wants
   end_wanted (to_explain domain problem asked) status ended wants which = absurd wants
+  end_wanted (to_explain_cert domain problem cert asked) status ended wants which = absurd wants
 
   pub end_of_words : (words : List (List ℕ)) (wanted : Wanted) → Asks words wanted → (status : ℕ) → HasSaidEnd contents contents_after known wanted may_lack_memory after status
       → AsksForSearchProgress words → (status ≡ 0) ⊎ (status ≡ 10) → Ends contents contents_after known words may_lack_memory after

@@ -1,5 +1,5 @@
 -- The behaviour of the program: the order given by its words, the texts of its files, what it prints, and its exit status.
-use Rattle.std.specs.Prelude.{◌≡◌, ℕ, ◌⊎◌, Bool, List, [], ◌∷◌, ◌++◌, Option, None, Some, IfOk, IfErr, IfSome, IsTrue, Result, Ok, Err}
+use Rattle.std.specs.Prelude.{◌≡◌, ℕ, ◌⊎◌, Bool, false, List, [], ◌∷◌, ◌++◌, Option, None, Some, IfOk, IfErr, IfSome, IsTrue, Result, Ok, Err}
 use Rattle.std.specs.Io.KnownBytes.{Appends}
 use Rattle.solver.specs.Solver.{HasVersionUpTo, IsTrueAnswer}
 use Rattle.task.specs.Task.{task_of}
@@ -7,6 +7,7 @@ use Rattle.validator.specs.declared.verdict.Verdict.{Verdict}
 use Rattle.validator.specs.Verdict.{verdict_of}
 use Rattle.file_answers.specs.declared.checking.Checked.{Checked}
 use Rattle.file_answers.specs.declared.solving.Solved.{Solved}
+use Rattle.printed_answers.specs.declared.explained_check.ExplainedCheck.{ExplainedCheck}
 use Rattle.printed_answers.specs.declared.reports.Report.{Report}
 use Rattle.printed_answers.specs.declared.reports.Report.TheVariants as report
 use Rattle.planner_main.specs.declared.failures.Failure.{Failure}
@@ -17,7 +18,7 @@ use Rattle.devices.specs.declared.device.IoFault.TheVariants as device
 use Rattle.devices.specs.Devices.{AppendsBeginning, one_more}
 use Rattle.planner_main.specs.Failures.{line_of_fault, device_line, no_memory_line, nothing_done_line}
 use Rattle.file_answers.specs.Files.{fault_at, reported_in}
-use Rattle.command_line.specs.Orders.{Asks, Wanted, to_solve, to_validate, to_check, to_explain}
+use Rattle.command_line.specs.Orders.{Asks, Wanted, to_solve, to_validate, to_check, to_explain, to_explain_cert}
 use Rattle.command_line.specs.View.{IsOfWords}
 use Rattle.command_line.specs.declared.fault.WordsFault.{WordsFault}
 use Rattle.file_answers.specs.Checked.{IsTrueCheck}
@@ -52,6 +53,7 @@ inputs_of (to_validate domain problem plan json) = domain ∷ problem ∷ plan �
 inputs_of (to_solve domain problem asked) = domain ∷ problem ∷ []
 inputs_of (to_check domain problem cert asked) = domain ∷ problem ∷ cert ∷ if_named asked.plan
 inputs_of (to_explain domain problem asked) = domain ∷ problem ∷ if_named asked.plan
+inputs_of (to_explain_cert domain problem cert asked) = domain ∷ problem ∷ cert ∷ if_named asked.plan
 
 -- the names of the files that are read whole: all but that of the certificate
 abbrev pub texts_of : Wanted → List (List ℕ)
@@ -59,6 +61,7 @@ texts_of (to_validate domain problem plan json) = domain ∷ problem ∷ plan �
 texts_of (to_solve domain problem asked) = domain ∷ problem ∷ []
 texts_of (to_check domain problem cert asked) = domain ∷ problem ∷ if_named asked.plan
 texts_of (to_explain domain problem asked) = domain ∷ problem ∷ if_named asked.plan
+texts_of (to_explain_cert domain problem cert asked) = domain ∷ problem ∷ if_named asked.plan
 
 -- The words are a command that reads the file with this name; and that reads its text whole.
 abbrev pub NamesInput : List (List ℕ) → List ℕ → Type 0
@@ -125,12 +128,26 @@ IsExplanationOn contents domain problem plan traced most found =
     × OnInputs contents domain problem plan (λ d p l. IsTrueOf d p l most e.subject × IsSaidOf traced (named_inputs domain problem plan d p l) e
     × AreNoted d p most e)
 
+-- or the checker's answer with words beside it,
+abbrev pub IsWordedCheckOn : (List ℕ → Option (List ℕ)) → (domain problem cert : List ℕ) → (plan : Option (List ℕ)) → (most : ℕ) → Report → Type 0
+IsWordedCheckOn contents domain problem cert plan most found =
+    (e : ExplainedCheck) × (found ≡ report.ExplainCheck e)
+    × OnInputs contents domain problem plan (λ d p l. IsCheckedIn (contents cert) d p l most (task_of e.checked.task) e.checked.answer)
+
+-- or, if a text beside the certificate is refused, its explanation.
+abbrev pub IsCertExplanationOn : (List ℕ → Option (List ℕ)) → (domain problem cert : List ℕ) → (plan : Option (List ℕ)) → (most : ℕ) → Report → Type 0
+IsCertExplanationOn contents domain problem cert plan most found =
+    IsWordedCheckOn contents domain problem cert plan most found
+    ⊎ (((fault : FileFault) × OnInputs contents domain problem plan (λ d p l. IsInputFault d p l fault))
+    × IsExplanationOn contents domain problem plan false most found)
+
 -- the result is the one asked for, and correct
 abbrev pub IsReportOn : (List ℕ → Option (List ℕ)) → Wanted → Report → Type 0
 IsReportOn contents (to_validate domain problem plan json) = IsVerdictOn contents domain problem plan
 IsReportOn contents (to_solve domain problem asked) = IsSolutionOn contents domain problem asked.seconds asked.states asked.instances asked.cert_version
 IsReportOn contents (to_check domain problem cert asked) = IsCheckOn contents domain problem cert asked.plan asked.instances
 IsReportOn contents (to_explain domain problem asked) = IsExplanationOn contents domain problem asked.plan asked.trace asked.instances
+IsReportOn contents (to_explain_cert domain problem cert asked) = IsCertExplanationOn contents domain problem cert asked.plan asked.instances
 
 -- This text, with this exit status and the files written before it, states a result that is correct for the texts of the files,
 -- as the order asks; and as the words ask.
@@ -172,6 +189,7 @@ IsFaultFor contents (to_validate domain problem plan json) fault = OnThree conte
 IsFaultFor contents (to_solve domain problem asked) fault = OnTwo contents domain problem (λ d p. IsTaskFault d p fault)
 IsFaultFor contents (to_check domain problem cert asked) fault = OnInputs contents domain problem asked.plan (λ d p l. IsInputFault d p l fault)
 IsFaultFor contents (to_explain domain problem asked) fault = ⊥
+IsFaultFor contents (to_explain_cert domain problem cert asked) fault = ⊥
 
 -- The texts of the files that the words name are refused, and this is the first fault.
 abbrev pub IsRefusedFor : (List ℕ → Option (List ℕ)) → List (List ℕ) → FileFault → Type 0

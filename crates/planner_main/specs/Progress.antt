@@ -2,7 +2,7 @@
 use Rattle.std.specs.Prelude.{◌≡◌, ℕ, ◌⊎◌, ◌-◌, ◌^◌, min, Bool, if◌then◌else◌, IsTrue, List, ◌++◌, length, codes, Option, None, Some, ⊤}
 use Rattle.std.specs.Fmt.{decimal}
 use Rattle.std.specs.Option.{option_map}
-use Rattle.command_line.specs.Orders.{Asks, Asked, Wanted, to_solve, to_validate, to_check, to_explain}
+use Rattle.command_line.specs.Orders.{Asks, Asked, Wanted, to_solve, to_validate, to_check, to_explain, to_explain_cert}
 use Rattle.devices.specs.Devices.{IsWritten}
 use Rattle.devices.specs.Written.{AreWritten}
 use Rattle.file_answers.specs.SaidOf.{IsCheckLineOf, IsTrueLineOf}
@@ -74,6 +74,7 @@ IsProgressOn contents (to_solve domain problem asked) line =
     IsSearchLine contents domain problem asked.seconds asked.states asked.instances asked.progress line ⊎ IsWritingLineOn contents (to_solve domain problem asked) line
 IsProgressOn contents (to_check domain problem cert asked) line = IsCheckingLine contents domain problem cert asked.progress line
 IsProgressOn contents (to_explain domain problem asked) line = ⊥
+IsProgressOn contents (to_explain_cert domain problem cert asked) line = ⊥
 
 abbrev pub IsProgress : (List ℕ → Option (List ℕ)) → List (List ℕ) → List ℕ → Type 0
 IsProgress contents words line = (wanted : Wanted) × Asks words wanted × IsProgressOn contents wanted line
@@ -85,6 +86,7 @@ RequestsProgress (to_validate domain problem plan json) = ⊥
 RequestsProgress (to_solve domain problem asked) = IsTrue asked.progress
 RequestsProgress (to_check domain problem cert asked) = IsTrue asked.progress
 RequestsProgress (to_explain domain problem asked) = ⊥
+RequestsProgress (to_explain_cert domain problem cert asked) = ⊥
 
 abbrev pub AsksForProgress : List (List ℕ) → Type 0
 AsksForProgress words = (wanted : Wanted) × Asks words wanted × RequestsProgress wanted
@@ -95,6 +97,7 @@ RequestsSearchProgress (to_validate domain problem plan json) = ⊥
 RequestsSearchProgress (to_solve domain problem asked) = IsTrue asked.progress
 RequestsSearchProgress (to_check domain problem cert asked) = ⊥
 RequestsSearchProgress (to_explain domain problem asked) = ⊥
+RequestsSearchProgress (to_explain_cert domain problem cert asked) = ⊥
 
 abbrev pub AsksForSearchProgress : List (List ℕ) → Type 0
 AsksForSearchProgress words = (wanted : Wanted) × Asks words wanted × RequestsSearchProgress wanted
@@ -137,12 +140,14 @@ HasEndedIf progress may_lack_memory failures taken (report.Solve solved) = IsTru
 HasEndedIf progress may_lack_memory failures taken (report.Validate verdict) = ⊤
 HasEndedIf progress may_lack_memory failures taken (report.Check checked) = ⊤
 HasEndedIf progress may_lack_memory failures taken (report.Explain e) = ⊤
+HasEndedIf progress may_lack_memory failures taken (report.ExplainCheck e) = ⊤
 
 abbrev pub HasEndedFor : Wanted → (may_lack_memory : Bool) → (failures : ℕ) → (taken : Option (List ℕ)) → Report → Type 0
 HasEndedFor (to_validate domain problem plan json) may_lack_memory failures taken found = ⊤
 HasEndedFor (to_solve domain problem asked) may_lack_memory failures taken found = HasEndedIf asked.progress may_lack_memory failures taken found
 HasEndedFor (to_check domain problem cert asked) may_lack_memory failures taken found = ⊤
 HasEndedFor (to_explain domain problem asked) may_lack_memory failures taken found = ⊤
+HasEndedFor (to_explain_cert domain problem cert asked) may_lack_memory failures taken found = ⊤
 
 -- the report of the end, by exit status: an answer with a plan or without any plan has a certificate
 abbrev pub HasSaidEnd : (contents contents_after : List ℕ → Option (List ℕ)) → (known : Bool) → Wanted → (may_lack_memory : Bool) → (after : Stream) → (status : ℕ) → Type 0
@@ -151,3 +156,4 @@ HasSaidEnd contents contents_after known (to_solve domain problem asked) may_lac
     IsTrue asked.progress → (status ≡ 0) ⊎ (status ≡ 10) → EndsFor contents contents_after known (to_solve domain problem asked) may_lack_memory after
 HasSaidEnd contents contents_after known (to_check domain problem cert asked) may_lack_memory after status = ⊤
 HasSaidEnd contents contents_after known (to_explain domain problem asked) may_lack_memory after status = ⊤
+HasSaidEnd contents contents_after known (to_explain_cert domain problem cert asked) may_lack_memory after status = ⊤

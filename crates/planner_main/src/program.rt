@@ -15,6 +15,7 @@ ghost use Rattle.file_answers.specs.StepLines.{is_traced};
 mod acceptance;
 mod counting;
 mod explaining;
+mod explaining_cert;
 mod inputs;
 mod outputs;
 mod solution;
@@ -27,6 +28,7 @@ use command_line::{CertVersion, MaxCount, Order, read_words};
 use devices::{Files, Sink};
 use devices_clock::Clock;
 use explaining::{ExplainAsked, report_of_explain};
+use explaining_cert::report_of_cert;
 use file_answers::{ExplainOptions, StepLines};
 use inputs::PairNames;
 use outputs::outputs_of;
@@ -48,7 +50,7 @@ use writing::write_report;
 /// ones are not touched, and neither is a file for which there is nothing to write. `validate` judges whether the plan solves the
 /// task. `check` prints what the certificate shows: with a plan, read from the file of `--plan`, that it is optimal; otherwise
 /// that no plan costs less, or that there is none. `explain` says what is wrong with a text or a plan, and where; if
-/// nothing is, it summarizes the task. At most 16,777,217 bytes of a file are read and taken as its whole text, and all files are
+/// nothing is, it summarizes the task. For a certificate it prints what `check` does, and what that means. At most 16,777,217 bytes of a file are read and taken as its whole text, and all files are
 /// read before any fault in them is reported. The exception is the certificate: it is only opened then, and later read line by
 /// line, to its end or its first fault, whatever its length.
 ///
@@ -65,6 +67,7 @@ use writing::write_report;
 /// | it is not | `not accepted CODE Name line L`, `not accepted 46 Unfair (ACTION OBJECT ..)`, `not accepted 56 DeadUnfair (ACTION OBJECT ..)` or `not accepted CODE Name` | | 12 |
 /// | the words are no command, or ask for help | | what is wrong, or the help, and `optplan: nothing was done` | 2 |
 /// | a file's text is refused | | `fault CODE Name in FILE at S..E` | 20 |
+/// | `explain`: the certificate is accepted, or not | the line of `check`, and what it means in words | | 0 or 12 |
 /// | `explain`: a text is refused | where and why, in some lines | | 20 |
 /// | `explain`: the plan does not solve the task | the step or the goal, and why | | 12 |
 /// | `explain`: it does | its steps and their costs | | 0 |
@@ -242,6 +245,28 @@ fn report_of<F: Files, E: Sink + Clock>(
             let asked = ExplainAsked { plan, options };
             let names = PairNames { domain, problem };
             report_of_explain(alloc, names, asked, files)
+        }
+        Order::ExplainCert {
+            domain,
+            problem,
+            cert,
+            plan,
+            instances,
+            ..
+        } => {
+            let most = instances.number();
+            let named = InputNames {
+                domain,
+                problem,
+                cert,
+                plan,
+            };
+            let asked_of = CheckAsked {
+                names: named,
+                instances: most,
+                progress: false,
+            };
+            report_of_cert(alloc, asked_of, files)
         }
     }
 }

@@ -18,13 +18,14 @@ use Rattle.model.specs.Runs.{Verdict, valid, not_applicable, goal_missed}
 use Rattle.printed_answers.specs.JsonText.{Member, number, text, texts}
 use Rattle.printed_answers.specs.Objects.{member, command, result}
 
-abbrev explain : Member
+-- the command, and the text as a member
+abbrev pub explain : Member
 explain = command (codes "explain")
 
 abbrev numbered : List ℕ → ℕ → Member
 numbered key n = member key (number n)
 
-abbrev told : (lines : List ℕ) → Member
+abbrev pub told : (lines : List ℕ) → Member
 told lines = member (codes "text") (text lines)
 
 abbrev code_member : Code → Member

@@ -37,8 +37,10 @@ pub(super) fn outputs_of(order: Order<'_>) -> Outputs<'_>
             plan,
             progress,
         },
-        Order::Validate { json, .. } | Order::Check { json, .. } | Order::Explain { json, .. } =>
-            only_reported(format_of(json)),
+        Order::Validate { json, .. }
+        | Order::Check { json, .. }
+        | Order::Explain { json, .. }
+        | Order::ExplainCert { json, .. } => only_reported(format_of(json)),
     }
 }
 

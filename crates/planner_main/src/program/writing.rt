@@ -207,7 +207,8 @@ fn cert_text(alloc: Global, report: &Report) -> Option<CertText<'_>>
             }
             None => None,
         },
-        Report::Validate(_) | Report::Check(_) | Report::Explain(_) => None,
+        Report::Validate(_) | Report::Check(_) => None,
+        Report::Explain(_) | Report::ExplainCheck(_) => None,
     }
 }
 
@@ -234,7 +235,8 @@ fn plan_text<'a>(report: &Report, text: &'a [u8]) -> Option<Bytes<'a>>
             Answer::Plan { .. } => Some(Bytes(text)),
             Answer::Unsolvable { .. } | Answer::Unknown(_) => None,
         },
-        Report::Validate(_) | Report::Check(_) | Report::Explain(_) => None,
+        Report::Validate(_) | Report::Check(_) => None,
+        Report::Explain(_) | Report::ExplainCheck(_) => None,
     }
 }
 

@@ -3,7 +3,7 @@ use Rattle.command_line.specs.Orders.{Wanted}
 use Rattle.command_line.specs.View.{wanted_of}
 use Rattle.planner_main.specs.Program.{IsFound}
 use Rattle.std.proofs.lemmas.Result.{IfErr-weaker}
-use Rattle.planner_main.proofs.OrderWanted.{wanted_of_check, wanted_of_explain, wanted_of_solve}
+use Rattle.planner_main.proofs.OrderWanted.{wanted_of_cert, wanted_of_check, wanted_of_explain, wanted_of_solve}
 use Rattle.planner_main.proofs.ProgramWords.{without_fault}
 use Rattle.std.specs.Prelude.{IfOk, Result, Ok, Err, ⊤}
 use Rattle.devices.specs.Progress.{AreSaid, nothing, stream}
@@ -91,3 +91,22 @@ returns-in-Solve-clause-ended g c =
     (wanted_of_solve c.args.order c.in-Solve.domain c.in-Solve.problem _ _ c.in-Solve.states c.in-Solve.instances c.in-Solve.seconds c.in-Solve.cert_version _ c.in-Solve.progress c.limits_of-limits.result c.in-Solve.is c.limits_of-limits.ensures.states c.limits_of-limits.ensures.instances
     c.limits_of-limits.ensures.seconds c.limits_of-limits.ensures.version)
     c.report_of_solve.ensures.ended
+
+pub returns-in-ExplainCert-clause-found : goal.returns-in-ExplainCert-clause-found
+returns-in-ExplainCert-clause-found g c = subst
+    (λ (wanted : Wanted). IsFound (g.F.Files.contents c.args.files.now) (g.F.Files.is_missing c.args.files.now) (g.F.Files.is_unreadable c.args.files.now) wanted c.report_of_cert.result)
+    (wanted_of_cert c.args.order c.in-ExplainCert.domain c.in-ExplainCert.problem c.in-ExplainCert.cert c.in-ExplainCert.plan c.in-ExplainCert.instances _ c.number-most.result c.in-ExplainCert.is c.number-most.ensures.number)
+    (let said = c.report_of_cert.ensures in record {
+      report = said.report;
+      refused = IfErr-weaker c.report_of_cert.result _ _ (λ failure is. without_fault failure _ is) said.no_text;
+      unread = said.unread;
+      unreadable = said.unreadable;
+    })
+
+pub returns-in-ExplainCert-clause-progress : goal.returns-in-ExplainCert-clause-progress
+returns-in-ExplainCert-clause-progress g c = nothing
+
+pub returns-in-ExplainCert-clause-ended : goal.returns-in-ExplainCert-clause-ended
+returns-in-ExplainCert-clause-ended g c =
+    subst (λ (wanted : Wanted). IfOk c.report_of_cert.result (HasEndedFor wanted g.E.Sink.may_lack_memory (g.E.Sink.failures c.args.err.now) (g.E.Sink.taken c.args.err.now)))
+    (sym (ap wanted_of c.in-ExplainCert.is)) (whatever c.report_of_cert.result)
