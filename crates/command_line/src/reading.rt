@@ -4,9 +4,9 @@ ghost use Rattle.clap.specs.Matches.{found_of};
 ghost use Rattle.clap.specs.Simple.{subcommand_rows_of};
 ghost use Rattle.clap.specs.Walk.{first_of, rows_of};
 ghost use Rattle.command_line.specs.Examples.{AreRead};
-ghost use Rattle.command_line.specs.Orders.{Asks, IsCommand, cert_version_in, check_in, explain_cert_in, explain_files_in, explain_in, is_given, limit_in, limit_of, seconds_in, solve_in, trace_in, validate_in, wanted_in};
+ghost use Rattle.command_line.specs.Orders.{Asks, IsCommand, cert_version_in, check_in, explain_cert_in, explain_files_in, explain_in, is_given, limit_in, limit_of, seconds_in, solve_in, trace_in, validate_in, request_in};
 ghost use Rattle.command_line.specs.Versions.{number_of};
-ghost use Rattle.command_line.specs.View.{IsOfWords, number_in, text_in, texts, wanted_of};
+ghost use Rattle.command_line.specs.View.{IsOfWords, number_in, text_in, texts, request_of};
 
 use crate::cert_version::CertVersion;
 use crate::description::program;
@@ -33,7 +33,7 @@ use std::alloc::{AllocError, Global};
 /// 2 to 4, by default 4. A trace needs a plan, and `--plan` of `explain` needs `--cert`, which goes without the other two. Words that ask
 /// for help or the version are not an order: the fault's text is what they ask for.
 pub fn read_words<'a>(alloc: Global, words: &'a [&str]) -> Result<Order<'a>, WordsFault>
-    ensures asks { IfOk result (λ order. Asks (texts words.entry.now) (wanted_of order)) }
+    ensures asks { IfOk result (λ order. Asks (texts words.entry.now) (request_of order)) }
     ensures refused { IfErr result (λ fault. IsOfWords fault → IsCommand (texts words.entry.now) → ⊥) }
 {
     let matches = program(alloc)?.try_get_matches_from(words)?;
@@ -83,7 +83,7 @@ fn has_value(matches: &ArgMatches<'_>, name: &str) -> bool {
 
 /// The order of a match.
 fn order_in<'a>(matches: &ArgMatches<'a>) -> Option<Order<'a>>
-    ensures { option_map wanted_of result ≡ option_and_then wanted_in (subcommand_rows_of matches.now) }
+    ensures { option_map request_of result ≡ option_and_then request_in (subcommand_rows_of matches.now) }
 {
     let (name, matches) = matches.subcommand()?;
     match name {
@@ -97,7 +97,7 @@ fn order_in<'a>(matches: &ArgMatches<'a>) -> Option<Order<'a>>
 
 /// The order of the command `solve`, with these values.
 fn solve_in<'a>(matches: &ArgMatches<'a>) -> Option<Order<'a>>
-    ensures { option_map wanted_of result ≡ solve_in (rows_of (found_of matches.now)) }
+    ensures { option_map request_of result ≡ solve_in (rows_of (found_of matches.now)) }
 {
     let domain = value_of(matches, "DOMAIN")?;
     let problem = value_of(matches, "PROBLEM")?;
@@ -121,7 +121,7 @@ fn solve_in<'a>(matches: &ArgMatches<'a>) -> Option<Order<'a>>
 
 /// The order of the command `validate`, with these values.
 fn validate_in<'a>(matches: &ArgMatches<'a>) -> Option<Order<'a>>
-    ensures { option_map wanted_of result ≡ validate_in (rows_of (found_of matches.now)) }
+    ensures { option_map request_of result ≡ validate_in (rows_of (found_of matches.now)) }
 {
     let domain = value_of(matches, "DOMAIN")?;
     let problem = value_of(matches, "PROBLEM")?;
@@ -136,7 +136,7 @@ fn validate_in<'a>(matches: &ArgMatches<'a>) -> Option<Order<'a>>
 
 /// The order of the command `check`, with these values.
 fn check_in<'a>(matches: &ArgMatches<'a>) -> Option<Order<'a>>
-    ensures { option_map wanted_of result ≡ check_in (rows_of (found_of matches.now)) }
+    ensures { option_map request_of result ≡ check_in (rows_of (found_of matches.now)) }
 {
     let domain = value_of(matches, "DOMAIN")?;
     let problem = value_of(matches, "PROBLEM")?;
@@ -155,7 +155,7 @@ fn check_in<'a>(matches: &ArgMatches<'a>) -> Option<Order<'a>>
 
 /// The order of the command `explain`, with these values.
 fn explain_in<'a>(matches: &ArgMatches<'a>) -> Option<Order<'a>>
-    ensures { option_map wanted_of result ≡ explain_in (rows_of (found_of matches.now)) }
+    ensures { option_map request_of result ≡ explain_in (rows_of (found_of matches.now)) }
 {
     match value_of(matches, "cert") {
         Some(cert) => match value_of(matches, "PLAN") {
@@ -171,7 +171,7 @@ fn explain_in<'a>(matches: &ArgMatches<'a>) -> Option<Order<'a>>
 
 /// The order to explain this certificate.
 fn explain_cert_in<'a>(matches: &ArgMatches<'a>, cert: &'a str) -> Option<Order<'a>>
-    ensures { option_map wanted_of result ≡ explain_cert_in (rows_of (found_of matches.now)) cert.entry.now }
+    ensures { option_map request_of result ≡ explain_cert_in (rows_of (found_of matches.now)) cert.entry.now }
 {
     let domain = value_of(matches, "DOMAIN")?;
     let problem = value_of(matches, "PROBLEM")?;
@@ -191,7 +191,7 @@ fn explain_cert_in<'a>(matches: &ArgMatches<'a>, cert: &'a str) -> Option<Order<
 
 /// The order to explain a task, or a plan if one is given.
 fn explain_files_in<'a>(matches: &ArgMatches<'a>) -> Option<Order<'a>>
-    ensures { option_map wanted_of result ≡ explain_files_in (rows_of (found_of matches.now)) }
+    ensures { option_map request_of result ≡ explain_files_in (rows_of (found_of matches.now)) }
 {
     let domain = value_of(matches, "DOMAIN")?;
     let problem = value_of(matches, "PROBLEM")?;

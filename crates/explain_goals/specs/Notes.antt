@@ -10,7 +10,7 @@ use Rattle.explain_goals.specs.Contradictions.{IsBoth}
 use Rattle.explain_goals.specs.Chains.{IsChain}
 use Rattle.explain_goals.specs.Relaxation.{IsNeverTrue, IsRequired}
 
--- the maximum number of atoms that are searched for: one more than are told
+-- the maximum number of atoms that are searched for: one more than are reported
 abbrev pub most_found : ℕ
 most_found = 11
 

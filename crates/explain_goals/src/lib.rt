@@ -10,7 +10,7 @@ mod printing;
 mod reached;
 mod relaxation;
 
-pub use goal_notes::{GoalNotes, MOST_FOUND, MOST_TOLD, Unreachable};
+pub use goal_notes::{GoalNotes, MOST_FOUND, MOST_NOTES, Unreachable};
 pub use laws::{
     closed_sets_are_invariants, contradictory_goals_are_unsolvable, never_true_goals_are_unsolvable,
 };

@@ -3,7 +3,7 @@ ghost use Rattle.std.specs.Prelude.{map, OnOk};
 ghost use Rattle.std.specs.String.{string_bytes};
 ghost use Rattle.explain_goals.specs.AddedLines.{AddsLines};
 
-use crate::goal_notes::{GoalNotes, MOST_TOLD, Unreachable};
+use crate::goal_notes::{GoalNotes, MOST_NOTES, Unreachable};
 use explain_tasks::add_bytes;
 use faults::NoMemory;
 use formulas::{Atom, State};
@@ -28,16 +28,16 @@ impl GoalNotes {
         &self,
         alloc: Global,
         task: &Task,
-        told: &[Atom],
+        reported: &[Atom],
         lines: &mut Vec<String>,
     ) -> Result<(), NoMemory>
         ensures { OnOk result (AddsLines (map string_bytes lines.old.items) (map string_bytes lines.new.items)) }
     {
         let before = lines.len();
-        'notes: for one in self.unreachable.iter().take(MOST_TOLD) {
-            add_if_untold(alloc, task, Untold { one, told }, lines)?;
+        'notes: for one in self.unreachable.iter().take(MOST_NOTES) {
+            add_if_unreported(alloc, task, Unreported { one, reported }, lines)?;
         }
-        let are_all = self.unreachable.len() <= MOST_TOLD || lines.len() <= before;
+        let are_all = self.unreachable.len() <= MOST_NOTES || lines.len() <= before;
         if are_all {
             return add_contradictory(alloc, task, &self.contradictory, lines);
         }
@@ -50,23 +50,23 @@ impl GoalNotes {
     }
 }
 
-/// A note on an atom that is never true, and the atoms that are told already.
+/// A note on an atom that is never true, and the atoms already reported.
 #[derive(Clone, Copy)]
-struct Untold<'a> {
+struct Unreported<'a> {
     one: &'a Unreachable,
-    told: &'a [Atom],
+    reported: &'a [Atom],
 }
 
-/// Adds the line of the note, unless its atom is told already.
-fn add_if_untold(
+/// Adds the line of the note, unless its atom is already reported.
+fn add_if_unreported(
     alloc: Global,
     task: &Task,
-    note: Untold<'_>,
+    note: Unreported<'_>,
     lines: &mut Vec<String>,
 ) -> Result<(), NoMemory>
     ensures { OnOk result (AddsLines (map string_bytes lines.old.items) (map string_bytes lines.new.items)) }
 {
-    if is_among(&note.one.atom, note.told) {
+    if is_among(&note.one.atom, note.reported) {
         Ok(())
     } else {
         add_unreachable(alloc, task, note.one, lines)

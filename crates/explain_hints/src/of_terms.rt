@@ -16,8 +16,8 @@ impl<'w, 'a> Context<'w, 'a> {
         let Some(parameters) = self.parameters() else {
             return Ok(());
         };
-        let wanted = parameters.count();
-        let ending = if wanted == 1 { "" } else { "s" };
+        let required = parameters.count();
+        let ending = if required == 1 { "" } else { "s" };
         let name = Name(self.word);
         write!(out, "{name} takes {wanted} argument{ending}, not {given}.")
     }
@@ -35,10 +35,10 @@ impl<'w, 'a> Context<'w, 'a> {
         let Some(mut parameters) = self.parameters() else {
             return Ok(());
         };
-        let Some(wanted) = parameters.nth(index) else {
+        let Some(required) = parameters.nth(index) else {
             return Ok(());
         };
-        let (given, wanted) = (Types(term.types), Types(wanted.types));
+        let (given, required) = (Types(term.types), Types(required.types));
         let (name, user) = (Name(self.word), Name(head_of(self.list())));
         write!(
             out,

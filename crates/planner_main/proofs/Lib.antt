@@ -2,7 +2,7 @@ pub mod ProgramWords
 pub mod ProgramReported
 pub mod CertificateReported
 pub mod CertExplained
-pub mod OrderWanted
+pub mod OrderRequest
 pub mod ProgressReported
 mod CountedFiles
 mod HistoryWalks

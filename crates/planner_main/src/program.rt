@@ -2,7 +2,7 @@
 ghost use Rattle.std.specs.Prelude.{◌≡◌, ℕ, ◌⊎◌, IfErr, IfOk, IfSome, IsTrue, List, false};
 ghost use Rattle.command_line.specs.Orders.{IsCommand};
 ghost use Rattle.command_line.specs.Versions as words;
-ghost use Rattle.command_line.specs.View.{number_in, texts, wanted_of};
+ghost use Rattle.command_line.specs.View.{number_in, texts, request_of};
 ghost use Rattle.solver.specs.Versions as solver;
 ghost use Rattle.planner_main.specs.Failures.{device_line, is_failure, no_memory_line};
 ghost use Rattle.planner_main.specs.Program.{Reports, ReportsFor, ReportsPartly, ReportsPartlyFor, Refuses, HasFailed, HasNotFailed, CountsEither, CountsFailure, NamesInput, NamesText, IsFaultFor, IsFound, IsOneOf, IsUnread, SaysOfWords, fault_in, inputs_of, texts_of};
@@ -147,16 +147,16 @@ fn carry_out<F: Files, O: Sink, E: Sink + Clock>(
     out: &mut O,
     err: &mut E,
 ) -> Result<u8, Failure>
-    ensures said { IfOk result (ReportsFor (wanted_of order.entry) F.is_known (F.contents files.old) (F.contents files.new) (O.taken out.old) (O.taken out.new)) }
-    ensures refused { IfErr result (λ failure. IfSome (fault_in failure) (λ fault. IsFaultFor (F.contents files.old) (wanted_of order.entry) fault
+    ensures said { IfOk result (ReportsFor (request_of order.entry) F.is_known (F.contents files.old) (F.contents files.new) (O.taken out.old) (O.taken out.new)) }
+    ensures refused { IfErr result (λ failure. IfSome (fault_in failure) (λ fault. IsFaultFor (F.contents files.old) (request_of order.entry) fault
         × (O.taken out.new ≡ O.taken out.old) × AreKept (F.contents files.old) (F.contents files.new))) }
-    ensures partly { IfErr result (λ failure. ReportsPartlyFor (wanted_of order.entry) F.is_known (F.contents files.old) (F.contents files.new) (O.taken out.old) (O.taken out.new)) }
+    ensures partly { IfErr result (λ failure. ReportsPartlyFor (request_of order.entry) F.is_known (F.contents files.old) (F.contents files.new) (O.taken out.old) (O.taken out.new)) }
     ensures unfailed { IfOk result (λ _. HasNotFailed (F.failures files.old) (F.failures files.new) (O.failures out.old) (O.failures out.new)) }
     ensures failures { IfErr result (CountsEither (F.failures files.old) (F.failures files.new) (O.failures out.old) (O.failures out.new)) }
-    ensures unread { (name : List ℕ) → IsOneOf (inputs_of (wanted_of order.entry)) name → IsTrue (F.is_missing files.old name) → IsUnread result }
-    ensures unreadable { (name : List ℕ) → IsOneOf (texts_of (wanted_of order.entry)) name → IsTrue (F.is_unreadable files.old name) → IsUnread result }
-    ensures progress { AreSaid (IsProgressOn (F.contents files.old) (wanted_of order.entry)) E.may_lack_memory (stream (E.failures err.old) (E.taken err.old)) (stream (E.failures err.new) (E.taken err.new)) }
-    ensures ended { IfOk result (HasSaidEnd (F.contents files.old) (F.contents files.new) F.is_known (wanted_of order.entry) E.may_lack_memory (stream (E.failures err.new) (E.taken err.new))) }
+    ensures unread { (name : List ℕ) → IsOneOf (inputs_of (request_of order.entry)) name → IsTrue (F.is_missing files.old name) → IsUnread result }
+    ensures unreadable { (name : List ℕ) → IsOneOf (texts_of (request_of order.entry)) name → IsTrue (F.is_unreadable files.old name) → IsUnread result }
+    ensures progress { AreSaid (IsProgressOn (F.contents files.old) (request_of order.entry)) E.may_lack_memory (stream (E.failures err.old) (E.taken err.old)) (stream (E.failures err.new) (E.taken err.new)) }
+    ensures ended { IfOk result (HasSaidEnd (F.contents files.old) (F.contents files.new) F.is_known (request_of order.entry) E.may_lack_memory (stream (E.failures err.new) (E.taken err.new))) }
 {
     let report = report_of(alloc, order, files, err)?;
     write_report(alloc, &report, outputs_of(order), files, out, err)
@@ -169,12 +169,12 @@ fn report_of<F: Files, E: Sink + Clock>(
     files: &mut F,
     err: &mut E,
 ) -> Result<Report, Failure>
-    ensures found { IsFound (F.contents files.old) (F.is_missing files.old) (F.is_unreadable files.old) (wanted_of order.entry) result }
+    ensures found { IsFound (F.contents files.old) (F.is_missing files.old) (F.is_unreadable files.old) (request_of order.entry) result }
     ensures kept { AreKept (F.contents files.old) (F.contents files.new) }
     ensures unfailed { IfOk result (λ _. F.failures files.new ≡ F.failures files.old) }
     ensures failures { IfErr result (CountsFailure (F.failures files.old) (F.failures files.new)) }
-    ensures progress { AreSaid (IsProgressOn (F.contents files.old) (wanted_of order.entry)) E.may_lack_memory (stream (E.failures err.old) (E.taken err.old)) (stream (E.failures err.new) (E.taken err.new)) }
-    ensures ended { IfOk result (HasEndedFor (wanted_of order.entry) E.may_lack_memory (E.failures err.new) (E.taken err.new)) }
+    ensures progress { AreSaid (IsProgressOn (F.contents files.old) (request_of order.entry)) E.may_lack_memory (stream (E.failures err.old) (E.taken err.old)) (stream (E.failures err.new) (E.taken err.new)) }
+    ensures ended { IfOk result (HasEndedFor (request_of order.entry) E.may_lack_memory (E.failures err.new) (E.taken err.new)) }
 {
     match order {
         Order::Validate {

@@ -12,7 +12,7 @@ use Rattle.cert_checker.specs.declared.checker.Accepted.TheVariants as accepted
 use Rattle.printed_answers.specs.CheckReported.{line_of}
 use Rattle.printed_answers.specs.JsonText.{Member, number, text}
 use Rattle.printed_answers.specs.Objects.{member, result}
-use Rattle.printed_answers.specs.ExplanationObjects.{explain, told}
+use Rattle.printed_answers.specs.ExplanationObjects.{explain, text_member}
 use Rattle.printed_answers.specs.declared.explained_check.ExplainedCheck.{ExplainedCheck}
 
 -- the line that `check` prints, and the words
@@ -20,14 +20,14 @@ abbrev pub text_of : ExplainedCheck → List ℕ
 text_of e = line_of (task_of e.checked.task) e.checked.answer ++ string_bytes e.words
 
 abbrev pub of_accepted : Accepted → (lines : List ℕ) → List Member
-of_accepted (accepted.Optimal cost) lines = explain ∷ member (codes "cost") (number cost) ∷ result (codes "optimal") ∷ told lines ∷ []
-of_accepted (accepted.AtLeast cost) lines = explain ∷ member (codes "cost") (number cost) ∷ result (codes "at least") ∷ told lines ∷ []
-of_accepted accepted.Unsolvable lines = explain ∷ result (codes "unsolvable") ∷ told lines ∷ []
+of_accepted (accepted.Optimal cost) lines = explain ∷ member (codes "cost") (number cost) ∷ result (codes "optimal") ∷ text_member lines ∷ []
+of_accepted (accepted.AtLeast cost) lines = explain ∷ member (codes "cost") (number cost) ∷ result (codes "at least") ∷ text_member lines ∷ []
+of_accepted accepted.Unsolvable lines = explain ∷ result (codes "unsolvable") ∷ text_member lines ∷ []
 
 abbrev pub of_refused : RefusalCode → (lines : List ℕ) → List Member
 of_refused code lines =
     member (codes "code") (number (number_of code)) ∷ explain ∷ member (codes "name") (text (name_of code))
-    ∷ result (codes "not accepted") ∷ told lines ∷ []
+    ∷ result (codes "not accepted") ∷ text_member lines ∷ []
 
 abbrev pub of_answer : Result Accepted Refusal → (lines : List ℕ) → List Member
 of_answer (Ok shown) lines = of_accepted shown lines

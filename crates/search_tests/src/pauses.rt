@@ -105,8 +105,8 @@ fn climbs(alloc: Global, row: &Row) -> Result<Option<(Seen, Seen, bool)>, NoMemo
 }
 
 #[test]
-fn goes_on_where_it_paused(rt: HostRuntime) -> Result<(), Fail> {
-    let wanted = ((3, 3, Some(1)), (4, 4, Some(2)), true);
-    assert_eq!(rt; climbs(rt.alloc(), &CLIMB)?, Some(wanted));
+fn continues_where_it_paused(rt: HostRuntime) -> Result<(), Fail> {
+    let required = ((3, 3, Some(1)), (4, 4, Some(2)), true);
+    assert_eq!(rt; climbs(rt.alloc(), &CLIMB)?, Some(required));
     Ok(())
 }

@@ -1,7 +1,7 @@
 use Rattle.std.proofs.Common.{◌≡◌, refl, subst}
 use Rattle.std.specs.Prelude.{IfSome}
 use Rattle.std.proofs.lemmas.Result.{err_from_is_err_and, IfOk-weaker, IfErr-weaker}
-use Rattle.command_line.specs.View.{wanted_of}
+use Rattle.command_line.specs.View.{request_of}
 use Rattle.devices.specs.Texts.{AreKept}
 use Rattle.faults.proofs.Results.{passed_on}
 use Rattle.planner_main.specs.Program.{HasNotFailed, IsAnswerTo, IsFaultFor, fault_in}
@@ -14,25 +14,25 @@ use Rattle.planner_main.proofs.ProgressReported.{said_of_both, ended_written}
 use Rattle.planner_main.proofs.program.carry_out.Goals as goal
 
 pub write_report-requires : goal.write_report-requires
-write_report-requires g c = can_be_reported (g.F.Files.contents c.args.files.now) (wanted_of c.args.order) c.in_ok-report.report c.in_ok-report.ensures.found.report
+write_report-requires g c = can_be_reported (g.F.Files.contents c.args.files.now) (request_of c.args.order) c.in_ok-report.report c.in_ok-report.ensures.found.report
 
 pub returns-clause-said : goal.returns-clause-said
 returns-clause-said g c =
     let contents = g.F.Files.contents c.args.files.now in
-    let wanted = wanted_of c.args.order in
+    let request = request_of c.args.order in
     let found = c.in_ok-report.report in
     IfOk-weaker c.write_report.result _ _
-    (reported_as (WritesReport found (outputs_in c.outputs_of.result)) (IsAnswerTo contents wanted) (report_written contents wanted found c.in_ok-report.ensures.found.report _ c.outputs_of.ensures)
+    (reported_as (WritesReport found (outputs_in c.outputs_of.result)) (IsAnswerTo contents request) (report_written contents request found c.in_ok-report.ensures.found.report _ c.outputs_of.ensures)
     g.F.Files.is_known contents _ _ c.in_ok-report.ensures.kept _ _)
     c.write_report.ensures.said
 
 pub returns-clause-partly : goal.returns-clause-partly
 returns-clause-partly g c =
     let contents = g.F.Files.contents c.args.files.now in
-    let wanted = wanted_of c.args.order in
+    let request = request_of c.args.order in
     let found = c.in_ok-report.report in
     IfErr-weaker c.write_report.result _ _
-    (λ _. partly_as (WritesReport found (outputs_in c.outputs_of.result)) (IsAnswerTo contents wanted) (report_written contents wanted found c.in_ok-report.ensures.found.report _ c.outputs_of.ensures)
+    (λ _. partly_as (WritesReport found (outputs_in c.outputs_of.result)) (IsAnswerTo contents request) (report_written contents request found c.in_ok-report.ensures.found.report _ c.outputs_of.ensures)
     g.F.Files.is_known contents _ _ c.in_ok-report.ensures.kept _ _)
     c.write_report.ensures.partly
 
@@ -61,7 +61,7 @@ pub returns-in_err-report-clause-refused : goal.returns-in_err-report-clause-ref
 returns-in_err-report-clause-refused g c =
     let contents = g.F.Files.contents c.args.files.now in
     let out = g.O.Sink.taken c.args.out.now in
-    let refused = IsFaultFor contents (wanted_of c.args.order) in
+    let refused = IsFaultFor contents (request_of c.args.order) in
     let kept = AreKept contents (g.F.Files.contents c.report_of.new.files) in
     passed_on (λ failure. IfSome (fault_in failure) (λ fault. refused fault × (out ≡ out) × kept))
     c.from_residual.result c.in_err-report.field-0.0 c.from_residual.ensures.1
@@ -82,12 +82,12 @@ returns-in_err-report-clause-unreadable g c =
 
 pub returns-clause-progress : goal.returns-clause-progress
 returns-clause-progress g c =
-    said_of_both (g.F.Files.contents c.args.files.now) (wanted_of c.args.order) c.in_ok-report.report c.in_ok-report.ensures.found.report (outputs_in c.outputs_of.result) c.outputs_of.ensures
+    said_of_both (g.F.Files.contents c.args.files.now) (request_of c.args.order) c.in_ok-report.report c.in_ok-report.ensures.found.report (outputs_in c.outputs_of.result) c.outputs_of.ensures
     g.E.Sink.may_lack_memory (stream (g.E.Sink.failures c.args.err.now) (g.E.Sink.taken c.args.err.now)) (stream (g.E.Sink.failures c.report_of.new.err) (g.E.Sink.taken c.report_of.new.err))
     (stream (g.E.Sink.failures c.write_report.new.err) (g.E.Sink.taken c.write_report.new.err)) c.in_ok-report.ensures.progress c.write_report.ensures.progress
 
 pub returns-clause-ended : goal.returns-clause-ended
 returns-clause-ended g c =
     ended_written g.E.Sink.may_lack_memory (stream (g.E.Sink.failures c.report_of.new.err) (g.E.Sink.taken c.report_of.new.err)) (stream (g.E.Sink.failures c.write_report.new.err) (g.E.Sink.taken c.write_report.new.err))
-    (g.F.Files.contents c.args.files.now) (wanted_of c.args.order) c.in_ok-report.report c.in_ok-report.ensures.found.report c.in_ok-report.ensures.ended _ _ _ c.in_ok-report.ensures.kept _ _
+    (g.F.Files.contents c.args.files.now) (request_of c.args.order) c.in_ok-report.report c.in_ok-report.ensures.found.report c.in_ok-report.ensures.ended _ _ _ c.in_ok-report.ensures.kept _ _
     (outputs_in c.outputs_of.result) c.outputs_of.ensures c.write_report.result c.write_report.ensures.said c.write_report.ensures.sized

@@ -2,7 +2,7 @@
 ghost use Rattle.std.specs.Prelude.{◌≡◌, All, IfOk, position};
 ghost use Rattle.model.specs.Words.{Reads};
 ghost use Rattle.pddl_tree_parts.specs.Tree.{file_of};
-ghost use Rattle.explain_faults.specs.Expected.{AreSome, AreTold, AreReportedIn, MayFollow, MayOccur, begins_from, words_before};
+ghost use Rattle.explain_faults.specs.Expected.{AreSome, AreSuggested, AreReportedIn, MayFollow, MayOccur, begins_from, words_before};
 
 use explain_hints::is_near;
 use explain_words::expected;
@@ -31,8 +31,8 @@ pub(crate) fn words_at<'a>(
     text: &'a [u8],
     refused: RefusedBytes<'_>,
 ) -> Result<Vec<Word<'a>>, NoMemory>
-    ensures occur { IfOk result (λ wanted. MayOccur (file_of file) text.now refused.entry.offset wanted.items) }
-    ensures told { Reads text.now → IfOk result (λ wanted. AreReportedIn (file_of file) text.now refused.entry.offset refused.entry.bytes.now wanted.items) }
+    ensures occur { IfOk result (λ allowed. MayOccur (file_of file) text.now refused.entry.offset allowed.items) }
+    ensures suggested { Reads text.now → IfOk result (λ allowed. AreReportedIn (file_of file) text.now refused.entry.offset refused.entry.bytes.now allowed.items) }
 {
     let words = match scan(alloc, text) {
         Ok(words) => words,
@@ -54,8 +54,8 @@ fn words_after<'a>(
     before: &[Word<'a>],
     reported: &[u8],
 ) -> Result<Vec<Word<'a>>, NoMemory>
-    ensures follow { IfOk result (λ told. All (MayFollow (file_of file) before.now) told.items) }
-    ensures told { IfOk result (λ told. AreTold (file_of file) before.now reported.now told.items) }
+    ensures follow { IfOk result (λ suggested. All (MayFollow (file_of file) before.now) suggested.items) }
+    ensures suggested { IfOk result (λ suggested. AreSuggested (file_of file) before.now reported.now suggested.items) }
 {
     let all = expected(alloc, file, before)?;
     if !reported.starts_with(b":") {

@@ -1,6 +1,6 @@
 use Rattle.std.proofs.Common.{length}
 use Rattle.grounding.proofs.LiteralLists.{below-at, below-as_long}
-use Rattle.grounding.proofs.watch_lists.count_wanted.Goals as goal
+use Rattle.grounding.proofs.watch_lists.count_required.Goals as goal
 
 pub bounds-ranks-atom : goal.bounds-ranks-atom
 bounds-ranks-atom c =

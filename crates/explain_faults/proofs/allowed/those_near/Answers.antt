@@ -3,8 +3,8 @@ use Rattle.std.proofs.lemmas.List.{take_all}
 use Rattle.tokens.specs.declared.word.Word.{Word}
 use Rattle.explain_faults.specs.Expected.{AreSome, no_more}
 use Rattle.explain_faults.proofs.Candidates.{taken_so_far, passed_so_far}
-use Rattle.explain_faults.proofs.wanted.those_near.Goals as goal
-use Rattle.explain_faults.proofs.wanted.those_near.Goals.{then-is_like+in_ok-push, else-is_like}
+use Rattle.explain_faults.proofs.allowed.those_near.Goals as goal
+use Rattle.explain_faults.proofs.allowed.those_near.Goals.{then-is_like+in_ok-push, else-is_like}
 
 pub loop-word-init : goal.loop-word-init
 loop-word-init c =
