@@ -19,7 +19,10 @@ impl<'w, 'a> Context<'w, 'a> {
         let required = parameters.count();
         let ending = if required == 1 { "" } else { "s" };
         let name = Name(self.word);
-        write!(out, "{name} takes {wanted} argument{ending}, not {given}.")
+        write!(
+            out,
+            "{name} takes {required} argument{ending}, not {given}."
+        )
     }
 
     /// Says which types a term has, and which its place requires.
@@ -42,7 +45,7 @@ impl<'w, 'a> Context<'w, 'a> {
         let (name, user) = (Name(self.word), Name(head_of(self.list())));
         write!(
             out,
-            "{name} has type {given}, but {user} requires {wanted}."
+            "{name} has type {given}, but {user} requires {required}."
         )
     }
 
