@@ -7,7 +7,7 @@ use Rattle.std.specs.List.{list_all}
 use Rattle.std.specs.Str.{bytes_eq}
 use Rattle.std.proofs.lemmas.Slice.Eq.{bytes_eq-Decides}
 use Rattle.std.proofs.lemmas.Bool.{and_parts, leb-true, le-leb, ltb-true, lt-ltb}
-use Rattle.std.proofs.lemmas.Str.Parse.{shows_digits}
+use Rattle.std.proofs.lemmas.Str.Parse.{tells_digits}
 use Rattle.lower_bounds.specs.TableFunctions.{is_among}
 use Rattle.landmark_functions.specs.LandmarkFunctions.{Zone}
 use Rattle.landmark_functions.specs.LandmarkLines.{Share, zone, value, is_zone, is_share, is_value, line_text, most_zones}
@@ -38,7 +38,7 @@ not_first : (negated : List ℕ) (n : ℕ) (rest : Option (List ℕ)) → IsTrue
 not_first [] n rest is same = absurd (cc same)
 not_first (k ∷ others) n rest is same =
     let word = (one_first (codes "not") (decimal n) (then_numbers (k ∷ others)) rest refl (number_is_word n is) (some_same (with_rest (codes "not") (then_numbers (k ∷ others))) (with_rest (decimal n) rest) same)).0 in
-    let (here, _) = shows_digits.parts 110 (codes "ot") (numbers_are_digits n is (codes "not") (sym word)) in
+    let (here, _) = tells_digits.parts 110 (codes "ot") (numbers_are_digits n is (codes "not") (sym word)) in
     absurd (omega (arith, here.1))
 
 -- negated atoms have only one text

@@ -7,7 +7,7 @@ use Rattle.std.specs.List.{flat_map, list_all}
 use Rattle.std.specs.Str.Parse.{AllDigits}
 use Rattle.std.proofs.lemmas.Bool.{and_parts, leb-true, ltb-true, ne_eqb, eqb-true}
 use Rattle.std.proofs.lemmas.Fmt.{decimal_is_IsNumeral}
-use Rattle.std.proofs.lemmas.Str.Parse.{shows_digits}
+use Rattle.std.proofs.lemmas.Str.Parse.{tells_digits}
 use Rattle.model.specs.Words.{is_name, is_name_byte}
 use Rattle.model.specs.PlanWriting.{is_lower_name}
 use Rattle.model.specs.Claims.{bound, none}
@@ -25,7 +25,7 @@ use Rattle.certificate_reader.proofs.WordLemmas.{one_first}
 digits_are_word : (digits : List ℕ) → AllDigits 10 digits → IsTrue (is_word digits)
 digits_are_word [] all = refl
 digits_are_word (digit ∷ digits) all =
-    let (here, more) = shows_digits.parts digit digits all in
+    let (here, more) = tells_digits.parts digit digits all in
     ap (λ b. not b && is_word digits) (ne_eqb digit 32 (λ same. omega (arith, same, here.0))) ∙ digits_are_word digits more
 
 pub number_is_word : (n : ℕ) → IsTrue (is_number n) → IsTrue (is_word (decimal n))

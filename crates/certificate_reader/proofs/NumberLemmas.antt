@@ -13,12 +13,12 @@ use Rattle.std.proofs.lemmas.Bool.{and_parts, eqb-true, le-leb, leb-true, ltb-tr
 use Rattle.std.proofs.lemmas.Fmt.{decimal_digit, decimal_is_IsNumeral, decimal-digits_value, first_decimal, parse-signed_decimal, signed_decimal_injective}
 use Rattle.std.proofs.lemmas.List.{at_drop_more, drop_all, drop_more}
 use Rattle.std.proofs.lemmas.Str.{IsUtf8-from_ascii, digit_value_digit}
-use Rattle.std.proofs.lemmas.Str.Parse.{IsNumeralModel, digit_from_value, numerals_by_value, shows_digits}
+use Rattle.std.proofs.lemmas.Str.Parse.{IsNumeralModel, digit_from_value, numerals_by_value, tells_digits}
 use Rattle.certificate_definitions.specs.Certificates.{is_number, is_weight}
 use Rattle.certificate_reader.specs.Words.{is_spelled}
 
 own : IsNumeralModel (AllDigits 10) (digits_value 10)
-own = numerals_by_value (AllDigits 10) shows_digits
+own = numerals_by_value (AllDigits 10) tells_digits
 
 -- further digits never make a number smaller
 pub no_less : (number : ℕ) (digits : List ℕ) → number ≤ digits_value_after 10 number digits

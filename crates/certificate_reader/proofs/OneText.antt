@@ -9,7 +9,7 @@ use Rattle.std.specs.Str.Parse.{AllDigits}
 use Rattle.std.proofs.lemmas.Bool.{and_parts, eqb-true, leb-true, ltb-true, ne_eqb}
 use Rattle.std.proofs.lemmas.Fmt.{decimal_is_IsNumeral}
 use Rattle.std.proofs.lemmas.List.Folds.{list_all-append}
-use Rattle.std.proofs.lemmas.Str.Parse.{shows_digits}
+use Rattle.std.proofs.lemmas.Str.Parse.{tells_digits}
 use Rattle.model.specs.Words.{is_name, is_name_byte}
 use Rattle.model.specs.PlanWriting.{is_lower_name}
 use Rattle.model.specs.Claims.{bound, none}
@@ -46,7 +46,7 @@ both a b x y = list_all-append is_no_end a b ∙ (λ i. x i && y i)
 digits_in_one : (digits : List ℕ) → AllDigits 10 digits → is_one_line digits ≡ true
 digits_in_one [] all = refl
 digits_in_one (digit ∷ digits) all =
-    let (here, more) = shows_digits.parts digit digits all in
+    let (here, more) = tells_digits.parts digit digits all in
     ap (λ b. not b && is_one_line digits) (ne_eqb digit 10 (λ same. omega (arith, same, here.0))) ∙ digits_in_one digits more
 
 number_in_one : (n : ℕ) → IsTrue (is_number n) → is_one_line (decimal n) ≡ true

@@ -7,7 +7,7 @@ use Rattle.std.proofs.lemmas.List.Elements.{All-nil, All-cons, All-head, All-tai
 use Rattle.tokens.specs.declared.word.Word.{Word}
 use Rattle.model.specs.Trees.{TaskFile}
 use Rattle.explain_faults.specs.Expected.{AreAll, AreSuggested, IsOfKeyword, AreSome, MayFollow, no_more, taken, passed_over}
-use Rattle.explain_words.proofs.Suggested.{those_hold}
+use Rattle.explain_words.proofs.Reported.{those_hold}
 
 -- ---- a selection of words
 

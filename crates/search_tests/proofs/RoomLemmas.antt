@@ -3,7 +3,7 @@ use Rattle.std.proofs.Common.{◌≡◌, ◌∙◌, ◌<◌, ◌+◌, ◌-◌, �
 use Rattle.std.specs.Prelude.{find, Contains, IsTrue, ◌↔◌, option_map, option_and_then}
 use Rattle.std.specs.List.{range_with_len}
 use Rattle.std.proofs.lemmas.Bool.{false≢true}
-use Rattle.std.proofs.lemmas.Bool.Decides.{eqb_shows}
+use Rattle.std.proofs.lemmas.Bool.Decides.{eqb_tells}
 use Rattle.model.proofs.ListLemmas.{Contains-here, Contains-there, Contains-cases, Contains-none}
 use Rattle.search_tests.specs.Rooms.{room_in, doors, following, moved, through, door_numbers}
 
@@ -61,8 +61,8 @@ no-way width set =
 other-doors : (first second : List ℕ) (m : ℕ) → doors first second (suc (suc (suc m))) ≡ []
 other-doors first second m =
     let door : ℕ = suc (suc (suc m)) in
-    let not_first : nat_eq door 1 ≡ false = elim (eqb_shows door 1) [ inl is ↦ absurd (omega (arith, is.1)) | inr other ↦ other.0 ] in
-    let not_second : nat_eq door 2 ≡ false = elim (eqb_shows door 2) [ inl is ↦ absurd (omega (arith, is.1)) | inr other ↦ other.0 ] in
+    let not_first : nat_eq door 1 ≡ false = elim (eqb_tells door 1) [ inl is ↦ absurd (omega (arith, is.1)) | inr other ↦ other.0 ] in
+    let not_second : nat_eq door 2 ≡ false = elim (eqb_tells door 2) [ inl is ↦ absurd (omega (arith, is.1)) | inr other ↦ other.0 ] in
     ap (λ b. cond b first (cond (nat_eq door 2) second [])) not_first ∙ ap (λ b. cond b second []) not_second
 
 -- the numbers of the doors that are there are those of the actions that are applicable
