@@ -37,7 +37,7 @@ use solution::{SolveAsked, report_of_solve};
 use solver::{Limits, MaxVersion};
 use std::alloc::Global;
 use validation::report_of_validate;
-use writing::write_report;
+use writing::write_result;
 
 /// The whole program: executes the order given by the words, with its answer on standard output and its faults on standard error,
 /// and returns the exit status. The words are parsed by `read_words`.
@@ -159,7 +159,7 @@ fn carry_out<F: Files, O: Sink, E: Sink + Clock>(
     ensures ended { IfOk result (HasSaidEnd (F.contents files.old) (F.contents files.new) F.is_known (request_of order.entry) E.may_lack_memory (stream (E.failures err.new) (E.taken err.new))) }
 {
     let report = report_of(alloc, order, files, err)?;
-    write_report(alloc, &report, outputs_of(order), files, out, err)
+    write_result(alloc, report, outputs_of(order), files, out, err)
 }
 
 /// Computes the result of the order.
@@ -255,18 +255,18 @@ fn report_of<F: Files, E: Sink + Clock>(
             ..
         } => {
             let most = instances.number();
-            let named = InputNames {
+            let names = InputNames {
                 domain,
                 problem,
                 cert,
                 plan,
             };
-            let asked_of = CheckAsked {
-                names: named,
+            let asked = CheckAsked {
+                names,
                 instances: most,
                 progress: false,
             };
-            report_of_cert(alloc, asked_of, files)
+            report_of_cert(alloc, asked, files)
         }
     }
 }

@@ -13,46 +13,46 @@ use Rattle.devices.specs.Progress.{stream}
 use Rattle.planner_main.proofs.ProgressReported.{said_of_both, ended_written}
 use Rattle.planner_main.proofs.program.carry_out.Goals as goal
 
-pub write_report-requires : goal.write_report-requires
-write_report-requires g c = can_be_reported (g.F.Files.contents c.args.files.now) (request_of c.args.order) c.in_ok-report.report c.in_ok-report.ensures.found.report
+pub write_result-requires : goal.write_result-requires
+write_result-requires g c = can_be_reported (g.F.Files.contents c.args.files.now) (request_of c.args.order) c.in_ok-report.report c.in_ok-report.ensures.found.report
 
 pub returns-clause-said : goal.returns-clause-said
 returns-clause-said g c =
     let contents = g.F.Files.contents c.args.files.now in
     let request = request_of c.args.order in
     let found = c.in_ok-report.report in
-    IfOk-weaker c.write_report.result _ _
+    IfOk-weaker c.write_result.result _ _
     (reported_as (WritesReport found (outputs_in c.outputs_of.result)) (IsAnswerTo contents request) (report_written contents request found c.in_ok-report.ensures.found.report _ c.outputs_of.ensures)
     g.F.Files.is_known contents _ _ c.in_ok-report.ensures.kept _ _)
-    c.write_report.ensures.said
+    c.write_result.ensures.said
 
 pub returns-clause-partly : goal.returns-clause-partly
 returns-clause-partly g c =
     let contents = g.F.Files.contents c.args.files.now in
     let request = request_of c.args.order in
     let found = c.in_ok-report.report in
-    IfErr-weaker c.write_report.result _ _
+    IfErr-weaker c.write_result.result _ _
     (λ _. partly_as (WritesReport found (outputs_in c.outputs_of.result)) (IsAnswerTo contents request) (report_written contents request found c.in_ok-report.ensures.found.report _ c.outputs_of.ensures)
     g.F.Files.is_known contents _ _ c.in_ok-report.ensures.kept _ _)
-    c.write_report.ensures.partly
+    c.write_result.ensures.partly
 
 pub returns-clause-refused : goal.returns-clause-refused
 returns-clause-refused g c =
-    IfErr-weaker c.write_report.result _ _ (λ failure is. without_fault failure _ is) c.write_report.ensures.no_text
+    IfErr-weaker c.write_result.result _ _ (λ failure is. without_fault failure _ is) c.write_result.ensures.no_text
 
 pub returns-clause-failures : goal.returns-clause-failures
 returns-clause-failures g c =
-    IfErr-weaker c.write_report.result _ _
-    (λ failure. either_since (g.F.Files.failures c.args.files.now) _ (g.F.Files.failures c.write_report.new.files) (g.O.Sink.failures c.args.out.now) (g.O.Sink.failures c.write_report.new.out)
+    IfErr-weaker c.write_result.result _ _
+    (λ failure. either_since (g.F.Files.failures c.args.files.now) _ (g.F.Files.failures c.write_result.new.files) (g.O.Sink.failures c.args.out.now) (g.O.Sink.failures c.write_result.new.out)
     failure c.in_ok-report.ensures.unfailed)
-    c.write_report.ensures.failures
+    c.write_result.ensures.failures
 
 pub returns-clause-unfailed : goal.returns-clause-unfailed
 returns-clause-unfailed g c =
-    IfOk-weaker c.write_report.result _ _
-    (λ _. subst (λ files. HasNotFailed files (g.F.Files.failures c.write_report.new.files) (g.O.Sink.failures c.args.out.now) (g.O.Sink.failures c.write_report.new.out))
+    IfOk-weaker c.write_result.result _ _
+    (λ _. subst (λ files. HasNotFailed files (g.F.Files.failures c.write_result.new.files) (g.O.Sink.failures c.args.out.now) (g.O.Sink.failures c.write_result.new.out))
     c.in_ok-report.ensures.unfailed)
-    c.write_report.ensures.unfailed
+    c.write_result.ensures.unfailed
 
 pub returns-clause-unread : goal.returns-clause-unread
 returns-clause-unread g c = λ name named missing. absurd (c.in_ok-report.ensures.found.unread name named missing)
@@ -84,10 +84,10 @@ pub returns-clause-progress : goal.returns-clause-progress
 returns-clause-progress g c =
     said_of_both (g.F.Files.contents c.args.files.now) (request_of c.args.order) c.in_ok-report.report c.in_ok-report.ensures.found.report (outputs_in c.outputs_of.result) c.outputs_of.ensures
     g.E.Sink.may_lack_memory (stream (g.E.Sink.failures c.args.err.now) (g.E.Sink.taken c.args.err.now)) (stream (g.E.Sink.failures c.report_of.new.err) (g.E.Sink.taken c.report_of.new.err))
-    (stream (g.E.Sink.failures c.write_report.new.err) (g.E.Sink.taken c.write_report.new.err)) c.in_ok-report.ensures.progress c.write_report.ensures.progress
+    (stream (g.E.Sink.failures c.write_result.new.err) (g.E.Sink.taken c.write_result.new.err)) c.in_ok-report.ensures.progress c.write_result.ensures.progress
 
 pub returns-clause-ended : goal.returns-clause-ended
 returns-clause-ended g c =
-    ended_written g.E.Sink.may_lack_memory (stream (g.E.Sink.failures c.report_of.new.err) (g.E.Sink.taken c.report_of.new.err)) (stream (g.E.Sink.failures c.write_report.new.err) (g.E.Sink.taken c.write_report.new.err))
+    ended_written g.E.Sink.may_lack_memory (stream (g.E.Sink.failures c.report_of.new.err) (g.E.Sink.taken c.report_of.new.err)) (stream (g.E.Sink.failures c.write_result.new.err) (g.E.Sink.taken c.write_result.new.err))
     (g.F.Files.contents c.args.files.now) (request_of c.args.order) c.in_ok-report.report c.in_ok-report.ensures.found.report c.in_ok-report.ensures.ended _ _ _ c.in_ok-report.ensures.kept _ _
-    (outputs_in c.outputs_of.result) c.outputs_of.ensures c.write_report.result c.write_report.ensures.said c.write_report.ensures.sized
+    (outputs_in c.outputs_of.result) c.outputs_of.ensures c.write_result.result c.write_result.ensures.said c.write_result.ensures.sized
