@@ -42,7 +42,7 @@ fn meaning_of_text(code: RefusalCode) -> &'static str {
 fn meaning_of_line(code: RefusalCode) -> &'static str {
     match code {
         RefusalCode::NotFluent => {
-            "No action of the task changes this atom: a name is unknown, an object is missing or has the wrong type, or the predicate is static."
+            "No action of the task changes this atom: its predicate is static or unknown, or takes other objects."
         }
         RefusalCode::Repeated => "An earlier line has the same atom, state or row.",
         _ => {
@@ -55,7 +55,7 @@ fn meaning_of_line(code: RefusalCode) -> &'static str {
 fn meaning_of_state(code: RefusalCode) -> &'static str {
     match code {
         RefusalCode::NoInitial => {
-            "No line lists the initial state at cost 0, nor a state that the exchanges of objects make of it."
+            "No line lists the initial state at cost 0, nor a state that the exchanges of objects make of it. This may be the certificate of another task."
         }
         RefusalCode::GoalOpen => {
             "The state of this line meets the goal. The certificate claims that there is no plan, or that every plan costs more."

@@ -48,6 +48,30 @@ fn atom_in(task: &Task, line: &[u8]) -> Option<Atom> {
     Some(Atom { predicate, objects })
 }
 
+/// A name in an atom that the task lacks.
+#[derive(Clone, Copy)]
+pub(crate) enum UnknownName<'a> {
+    /// That of the predicate.
+    Predicate(&'a [u8]),
+    /// That of an object.
+    Object(&'a [u8]),
+}
+
+/// The first name in the atom of a line that the task lacks; `None` if it has them all.
+pub(crate) fn unknown_in<'a>(task: &Task, line: &'a [u8]) -> Option<UnknownName<'a>> {
+    let names = between_parentheses(line);
+    let predicate = word_at(names, 0);
+    if task.predicate_named(predicate).is_none() {
+        return Some(UnknownName::Predicate(predicate));
+    }
+    for name in names.split(|byte| *byte == b' ').skip(1) {
+        if task.object_named(name).is_none() {
+            return Some(UnknownName::Object(name));
+        }
+    }
+    None
+}
+
 /// The bytes of a line between its first parenthesis and the next; empty if it has none.
 fn between_parentheses(line: &[u8]) -> &[u8] {
     let mut is_inside = false;

@@ -2,9 +2,10 @@
 use crate::gap::{Gap, gap_at};
 use crate::lines::{Line, line_of};
 use crate::meanings::meaning_of;
+use crate::named_atom::{UnknownName, unknown_in};
 use crate::numbers::{Claimed, Listed, claim_in, state_in, value_of};
 use cert_checker::{Accepted, Refusal, RefusalCode};
-use explain_hints::marked;
+use explain_hints::{Name, marked};
 use faults::NoMemory;
 use formulas::{Instance, cost};
 use plan_file::step_text;
@@ -93,6 +94,7 @@ impl CheckedCert<'_> {
     ) -> Result<(), NoMemory> {
         match (code, state_in(line.bytes)) {
             (RefusalCode::CertForm, _) => words.push_str(self.form_words(line))?,
+            (RefusalCode::NotFluent, _) => self.add_not_fluent(line, words)?,
             (RefusalCode::GoalOpen, Some(at)) => self.add_goal(at, words)?,
             (RefusalCode::CutWeak, Some(at)) => self.add_weak_cut(at, words)?,
             (RefusalCode::SuccessorMissing | RefusalCode::SuccessorDearer, Some(at)) => {
@@ -101,6 +103,15 @@ impl CheckedCert<'_> {
             _ => words.push_str(meaning_of(code))?,
         }
         Ok(())
+    }
+
+    /// Adds why no action changes an atom.
+    fn add_not_fluent(self, line: Line<'_>, words: &mut String) -> Result<(), AllocError> {
+        match unknown_in(self.task, line.bytes) {
+            Some(UnknownName::Predicate(name)) => add_unknown("predicate", name, words),
+            Some(UnknownName::Object(name)) => add_unknown("object", name, words),
+            None => words.push_str(meaning_of(RefusalCode::NotFluent)),
+        }
     }
 
     /// Adds that an expanded state meets the goal at a cost that the claim rules out.
@@ -209,6 +220,15 @@ impl CheckedCert<'_> {
             }
         }
     }
+}
+
+/// Adds that the task has nothing of this kind with this name.
+fn add_unknown(kind: &str, name: &[u8], words: &mut String) -> Result<(), AllocError> {
+    let name = Name(name);
+    write!(
+        words,
+        "The task has no {kind} {name}. This may be the certificate of another task."
+    )
 }
 
 /// Adds that an expanded state meets the goal at a cost below the claimed bound.
