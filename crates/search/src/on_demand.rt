@@ -44,7 +44,6 @@ pub trait ValuesOnDemand {
 
     /// The state's value by a basis. It should take little time: it is asked of each state that is reached from one with a basis.
     fn value(&self, basis: Basis, state: &Packed) -> u64
-        requires basis { basis.0 < (shows self.now).bases }
         requires width { length (bits_of state.now) ≡ width_of self.now }
         ensures value { result ≡ (shows self.now).value_by basis.0 (bits_of state.now) }
         ensures fits { result < 2 ^ 63 };
