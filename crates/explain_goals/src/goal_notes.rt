@@ -14,7 +14,7 @@ ghost use Rattle.explain_goals.specs.Settled.{IsLeastSettled};
 ghost use Rattle.explain_goals.specs.Views.{is_out};
 
 use crate::contradictions::contradictory;
-use crate::exclusive::{Exclusive, exclusive_atoms};
+use crate::exclusive::Exclusive;
 use crate::reached::reached;
 use crate::relaxation::Relaxation;
 use faults::NoMemory;
@@ -35,7 +35,7 @@ pub struct GoalNotes {
     pub unreachable: Vec<Unreachable>,
     /// The first atom that the goal requires to be true and to be false.
     pub contradictory: Option<Atom>,
-    /// Two atoms that the goal requires and that are never both true.
+    /// Two atoms that the goal requires and that are never both true, though each may be.
     pub exclusive: Option<Exclusive>,
 }
 
@@ -82,7 +82,7 @@ impl Relaxation<'_, '_> {
     {
         let unreachable = self.unreachable(alloc, literals)?;
         let contradictory = contradictory(alloc, literals)?;
-        let exclusive = exclusive_atoms(alloc, self.ground, literals)?;
+        let exclusive = self.exclusive_atoms(alloc, literals)?;
         Ok(GoalNotes {
             unreachable,
             contradictory,

@@ -5,7 +5,7 @@ use Rattle.formulas.specs.State.{state_of}
 use Rattle.model.specs.Task.{Atom}
 use Rattle.explain_goals.specs.Exclusive.{AreTwoOf}
 use Rattle.explain_goals.proofs.MutexLemmas.{two-of}
-use Rattle.explain_goals.proofs.exclusive.two_of.Goals as goal
+use Rattle.explain_goals.proofs.relaxation.Relaxation.two_of.Goals as goal
 
 pub returns-clause-two : goal.returns-clause-two
 returns-clause-two c =

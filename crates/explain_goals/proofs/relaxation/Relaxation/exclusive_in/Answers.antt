@@ -11,7 +11,7 @@ use Rattle.model.specs.SureLiterals.{Literal}
 use Rattle.explain_goals.specs.declared.exclusive.Exclusive.{Exclusive}
 use Rattle.explain_goals.specs.Exclusive.{AreTwoOf, IsMutexGroup}
 use Rattle.explain_goals.specs.Notes.{IsExclusiveNote}
-use Rattle.explain_goals.proofs.exclusive.exclusive_in.Goals as goal
+use Rattle.explain_goals.proofs.relaxation.Relaxation.exclusive_in.Goals as goal
 
 -- both clauses of what was found
 noted : (t : Task) (literals : List Literal) (group : State) → IsMutexGroup t group → (result : Result (Option Exclusive) NoMemory)
@@ -26,6 +26,6 @@ noted t literals group mutex (Err e) two is = two
 
 pub returns-in-Some : goal.returns-in-Some
 returns-in-Some c =
-    let t = task_in c.args.ground.now in
+    let t = task_in c.args.self.now.ground.now in
     noted t (map literal_of c.args.literals.now) (state_of c.in-Some.group)
     (subst (λ o. IfSome o (λ group. IsMutexGroup t (state_of group))) c.in-Some.is c.in_ok-group.ensures) c.two_of.result c.two_of.ensures.two c.two_of.ensures.group
