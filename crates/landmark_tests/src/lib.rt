@@ -1,0 +1,9 @@
+//! Tests of landmark values that are drafted for states.
+#![tactic(auto)]
+
+#[cfg(test)]
+mod drafts;
+#[cfg(test)]
+mod judged;
+#[cfg(test)]
+mod texts;
