@@ -1,0 +1,2 @@
+pub mod TestedLemmas
+pub mod ShownLemmas
