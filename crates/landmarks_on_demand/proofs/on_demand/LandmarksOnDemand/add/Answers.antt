@@ -17,5 +17,15 @@ invariant_of-self c =
       tested = all_pushed (task_of s.index.now) (atoms_of s.index.now) s.values.items c.args.found c.push.new.self.items (is_ok c.push.result) c.push.ensures.items s.tested c.requires.found;
     }
 
+pub invariant_of-self-2 : goal.invariant_of-self-2
+invariant_of-self-2 c =
+    let s = c.args.self.now in
+    record {
+      numbered = s.numbered;
+      asked = s.asked;
+      drafts = s.drafts;
+      tested = all_pushed (task_of s.index.now) (atoms_of s.index.now) s.values.items c.args.found c.push.new.self.items (is_ok c.push.result) c.push.ensures.items s.tested c.requires.found;
+    }
+
 pub returns-clause-number : goal.returns-clause-number
 returns-clause-number c = omega (arith, c.args.self.now.values.ok.0)

@@ -12,7 +12,7 @@ pub test-requires-clause-draft : goal.test-requires-clause-draft
 test-requires-clause-draft c = rw c.in-Some.is at c.in_ok-draft.ensures.drafted
 
 pub keep-requires-clause-found : goal.keep-requires-clause-found
-keep-requires-clause-found c = rw c.in-Some-found.is at c.in_ok-found.ensures
+keep-requires-clause-found c = rw c.in-Some-2.is at c.in_ok-found.ensures
 
 pub keep-requires-clause-width : goal.keep-requires-clause-width
 keep-requires-clause-width c = c.requires.width ∙ ap (λ (i : CutIndex). length (atoms_of i)) (sym c.draft.ensures.index)
@@ -23,8 +23,8 @@ keep-requires-clause-few c = subst (λ (values : List TestedValue). length value
 pub returns-in_default-clause-extends : goal.returns-in_default-clause-extends
 returns-in_default-clause-extends c = extends_as c.args.self.now.values.items c.draft.new.self.values.items c.draft.ensures.values
 
-pub returns-in_default-found-clause-extends : goal.returns-in_default-found-clause-extends
-returns-in_default-found-clause-extends c = extends_as c.args.self.now.values.items c.draft.new.self.values.items c.draft.ensures.values
+pub returns-in_default-2-clause-extends : goal.returns-in_default-2-clause-extends
+returns-in_default-2-clause-extends c = extends_as c.args.self.now.values.items c.draft.new.self.values.items c.draft.ensures.values
 
 pub returns-clause-index : goal.returns-clause-index
 returns-clause-index c = c.keep.ensures.index ∙ c.draft.ensures.index

@@ -1,4 +1,4 @@
-use Rattle.std.proofs.Common.{◌∙◌, length, ap, sym}
+use Rattle.std.proofs.Common.{length, ap}
 use Rattle.packed_state.specs.Packed.{bits_of}
 use Rattle.model.specs.Grounding.{ground_system}
 use Rattle.landmarks.specs.CutIndex.{atoms_of, task_of}
