@@ -96,6 +96,11 @@ impl CutDrafter {
         self.finish(alloc)
     }
 
+    /// The steps of all drafts so far: each looks at an operator.
+    pub fn steps(&self) -> u64 {
+        self.levels.steps()
+    }
+
     /// Keeps the zone of the share, if it is whole in the state from which levels are about to be computed.
     fn keep(&mut self, landmarks: &Landmarks, share: Share) -> Result<(), NoMemory>
         ensures { atom_count_of self.new ≡ atom_count_of self.old }

@@ -38,6 +38,8 @@ pub(crate) struct Levels {
     /// The facts that hold in the state.
     holding: Vec<u32>,
     queue: LevelQueue,
+    /// How often an operator was looked at.
+    steps: u64,
 }
 
 impl Levels {
@@ -53,6 +55,7 @@ impl Levels {
             levels: Vec::new(alloc),
             holding: Vec::new(alloc),
             queue: LevelQueue::new(alloc)?,
+            steps: 0,
         })
     }
 
@@ -79,6 +82,11 @@ impl Levels {
     fn hold(&mut self, fact: u32) -> Result<(), NoMemory> {
         self.holding.push(fact)?;
         self.lower(fact, 0)
+    }
+
+    /// How often an operator was looked at.
+    pub(crate) fn steps(&self) -> u64 {
+        self.steps
     }
 
     /// The facts that hold in the state.
@@ -135,7 +143,9 @@ impl Levels {
 
     /// Goes on from a fact, whose level is final.
     fn expand(&mut self, task: &RelaxedTask, waiting: Waiting) -> Result<(), NoMemory> {
-        for operator in task.needed_by(waiting.fact) {
+        let operators = task.needed_by(waiting.fact);
+        self.steps = self.steps.saturating_add(operators.len() as u64);
+        for operator in operators {
             if let Some(level) = self.support(*operator, waiting) {
                 self.lower_all(task.reaches(*operator), level)?;
             }
@@ -232,7 +242,9 @@ impl Levels {
 
     /// Goes on from a fact whose level has fallen: to the operators that it supports.
     fn expand_lowered(&mut self, task: &RelaxedTask, waiting: Waiting) -> Result<(), NoMemory> {
-        for operator in task.needed_by(waiting.fact) {
+        let operators = task.needed_by(waiting.fact);
+        self.steps = self.steps.saturating_add(operators.len() as u64);
+        for operator in operators {
             if let Some(level) = self.support_again(task, *operator, waiting) {
                 self.lower_all(task.reaches(*operator), level)?;
             }
