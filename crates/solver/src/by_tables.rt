@@ -14,7 +14,8 @@ ghost use Rattle.lower_bounds.specs.Settled.{initial_value};
 ghost use Rattle.potentials.specs.Potentials.{potentials_of};
 ghost use Rattle.solver.specs.Attempts.{IfDone};
 ghost use Rattle.solver.specs.Guidance.{by_tables, estimate_by, first_value, reports_dead};
-ghost use Rattle.solver.specs.Guided.{IsEnding};
+ghost use Rattle.solver.specs.Asked.{IsTablesEnding};
+ghost use Rattle.solver.specs.Guided.{IsGuidanceFor};
 ghost use Rattle.solver.specs.Improved.{AreSettledOrHigh, AreDeadSettledOrHigh};
 ghost use Rattle.ground_listings.specs.SearchSpace.{ground_in, IsSearchSpace};
 ghost use Rattle.solver.specs.SeveralOver.{several_over};
@@ -30,9 +31,10 @@ ghost use Rattle.table_rows.specs.declared.table.Table as in_memory;
 ghost use Rattle.tables.specs.Several.{several_of, width_of};
 
 use crate::answer::{Answer, answer_of};
+use crate::asked::answer_of_asked;
 use crate::attempt::Attempt;
+use crate::fair_tables::{Asking, TablesEnding, search_fair};
 use crate::guidance::{Guidance, potential_of};
-use crate::searched::{Ending, search_by};
 use crate::setting::Setting;
 use crate::stopped::Stopped;
 use certificate::{Evidence, Landmarks, Version, WrittenPotentials};
@@ -42,6 +44,7 @@ use devices_clock::Clock;
 use faults::NoMemory;
 use ground_listings::SearchSpace;
 use grounding::Ground;
+use line_evidence::pays;
 use potentials::Potentials;
 use std::alloc::Global;
 use table_guides::FairTables;
@@ -54,6 +57,7 @@ struct Draft {
     evidence: Evidence,
     values: Vec<Potentials>,
     dead_ends: Potentials,
+    asking: Asking,
 }
 
 /// A draft of which the certificate's part is only lent.
@@ -62,6 +66,7 @@ struct ValuesOver<'a> {
     evidence: &'a Evidence,
     values: Vec<Potentials>,
     dead_ends: Potentials,
+    asking: Asking,
 }
 
 /// The answer by tables, if better ones than the potentials of the paused search are found.
@@ -106,8 +111,71 @@ pub(crate) fn solve_by_tables<E: Sink + Clock>(
         evidence,
         values,
         dead_ends,
+        asking: Asking::AfterAPause,
     };
     answer_by_tables(setting, draft, stopped, err)
+}
+
+/// The answer of a search by the potentials of the paused one that asks for landmark values, if that is estimated to pay.
+pub(crate) fn solve_asking<E: Sink + Clock>(
+    setting: Setting<'_, '_>,
+    stopped: &Stopped<'_, '_, '_>,
+    err: &mut E,
+) -> Result<Attempt<Answer>, NoMemory>
+    requires version { 3 ≤ number_of setting.limits.version }
+    requires space { IsSearchSpace setting.space }
+    requires ground { IsGroundOf (task_in (ground_in setting.space)) [] setting.limits.instances (ground_in setting.space) }
+    requires stopped { IsStopped stopped.now.listing.now stopped.now.nodes.now }
+    requires store_width { listed_width stopped.now.listing.now ≡ length (atoms_in (ground_in setting.space)) }
+    requires width { length (potentials_of stopped.now.potentials.now).weights ≡ length (atoms_in (ground_in setting.space)) }
+    requires improved { AreSettledOrHigh (task_in (ground_in setting.space)) (atoms_in (ground_in setting.space)) (potentials_of stopped.now.potentials.now) }
+    requires dead_ends_improved { AreDeadSettledOrHigh (task_in (ground_in setting.space)) (atoms_in (ground_in setting.space)) (potentials_of stopped.now.dead_ends.now) }
+    ensures answer { IfOk result (IfDone (IsAnswerWithin (task_in (ground_in setting.entry.space)) setting.entry.limits)) }
+    ensures said { MayContinue (IsLineWithin (task_in (ground_in setting.entry.space)) setting.entry.limits) E.may_lack_memory (E.failures err.old) (E.taken err.old) (E.failures err.new) (E.taken err.new) }
+{
+    let Setting {
+        alloc,
+        space,
+        limits,
+    } = setting;
+    if !limits.allow_version_four() || limits.are_over(err) {
+        return Ok(Attempt::InVain);
+    }
+    if !pays(alloc, space.ground(), &stopped.paused())? {
+        return Ok(Attempt::InVain);
+    }
+    let draft = without_tables(alloc, stopped)?;
+    if !draft
+        .evidence
+        .keep_limits(Version::Three, space.ground().width() as usize)
+    {
+        return Ok(Attempt::InVain);
+    }
+    answer_by_tables(setting, draft, stopped, err)
+}
+
+/// The potentials of the paused search, as values over no tables.
+fn without_tables(alloc: Global, stopped: &Stopped<'_, '_, '_>) -> Result<Draft, NoMemory>
+    ensures values { IfOk result (λ draft. map potentials_of draft.values.items ≡ (evidence_of draft.evidence).values) }
+    ensures dead_ends { IfOk result (λ draft. potentials_of draft.dead_ends ≡ (evidence_of draft.evidence).dead_ends) }
+    ensures first { IfOk result (λ draft. first_value (by_tables (evidence_of draft.evidence)) ≡ potentials_of stopped.now.potentials.now) }
+    ensures dead_ends_same { IfOk result (λ draft. (evidence_of draft.evidence).dead_ends ≡ potentials_of stopped.now.dead_ends.now) }
+{
+    let value = stopped.potentials.copied(alloc)?;
+    let dead_ends = stopped.dead_ends.copied(alloc)?;
+    let values = vec![in alloc; value]?;
+    let evidence = Evidence {
+        values: written(alloc, &values)?,
+        dead_ends: potential_of(alloc, &dead_ends)?,
+        tables: Vec::new(alloc),
+        landmarks: Landmarks::none(alloc),
+    };
+    Ok(Draft {
+        evidence,
+        values,
+        dead_ends,
+        asking: Asking::AtOnce,
+    })
 }
 
 /// A draft of tables that may be better than the potentials of the paused search.
@@ -170,21 +238,44 @@ fn answer_by_tables<E: Sink + Clock>(
         evidence,
         values,
         dead_ends,
+        asking,
     } = draft;
     let over = ValuesOver {
         evidence: &evidence,
         values,
         dead_ends,
+        asking,
     };
     let attempt = search_by_tables(setting, over, stopped, err)?;
     match attempt {
-        Attempt::Done(ending) => {
-            let guidance = Guidance::Tables(evidence);
-            let answer = answer_of(setting, guidance, ending)?;
-            Ok(Attempt::Done(answer))
-        }
+        Attempt::Done(ending) => answer_of_tables(setting, evidence, ending),
         Attempt::Promising => Ok(Attempt::Promising),
         Attempt::InVain => Ok(Attempt::InVain),
+    }
+}
+
+/// The answer of a search by these values, with its certificate.
+fn answer_of_tables(
+    setting: Setting<'_, '_>,
+    evidence: Evidence,
+    ending: TablesEnding<'_, '_>,
+) -> Result<Attempt<Answer>, NoMemory>
+    requires version { 3 ≤ number_of setting.limits.version }
+    requires space { IsSearchSpace setting.space }
+    requires ground { IsGroundOf (task_in (ground_in setting.space)) [] setting.limits.instances (ground_in setting.space) }
+    requires guidance { IsGuidanceFor setting.space (by_tables (evidence_of evidence)) }
+    requires ending { IsTablesEnding setting.space (evidence_of evidence) setting.limits ending }
+    ensures { IfOk result (IfDone (IsAnswerWithin (task_in (ground_in setting.entry.space)) setting.entry.limits)) }
+{
+    match ending {
+        TablesEnding::Common(ending) => {
+            let answer = answer_of(setting, Guidance::Tables(evidence), ending)?;
+            Ok(Attempt::Done(answer))
+        }
+        TablesEnding::Asked(asked) => match answer_of_asked(setting, evidence, asked)? {
+            Some(answer) => Ok(Attempt::Done(answer)),
+            None => Ok(Attempt::InVain),
+        },
     }
 }
 
@@ -195,7 +286,7 @@ fn search_by_tables<'l, 't, E: Sink + Clock>(
     over: ValuesOver<'_>,
     stopped: &Stopped<'_, '_, '_>,
     err: &mut E,
-) -> Result<Attempt<Ending<'l, 't>>, NoMemory>
+) -> Result<Attempt<TablesEnding<'l, 't>>, NoMemory>
     requires space { IsSearchSpace setting.space }
     requires within_limits { IsTrue (is_evidence three (length (atoms_in (ground_in setting.space))) (evidence_of over.evidence.now) no_landmarks) }
     requires values { map potentials_of over.values.items ≡ (evidence_of over.evidence.now).values }
@@ -205,7 +296,7 @@ fn search_by_tables<'l, 't, E: Sink + Clock>(
     requires width { length (potentials_of stopped.now.potentials.now).weights ≡ length (atoms_in (ground_in setting.space)) }
     ensures fair { IfOk result (IfDone (λ _. AreFair (task_in (ground_in setting.entry.space)) (atoms_in (ground_in setting.entry.space)) (evidence_of over.entry.evidence.now))) }
     ensures no_lower { IfOk result (IfDone (λ _. initial_value (task_in (ground_in setting.entry.space)) (atoms_in (ground_in setting.entry.space)) (potentials_of stopped.now.potentials.now) ≤ estimate_by (by_tables (evidence_of over.entry.evidence.now)) (ground_system (task_in (ground_in setting.entry.space)) (atoms_in (ground_in setting.entry.space))).initial)) }
-    ensures ending { IfOk result (IfDone (IsEnding setting.entry.space (estimate_by (by_tables (evidence_of over.entry.evidence.now))) (reports_dead (by_tables (evidence_of over.entry.evidence.now))) setting.entry.limits)) }
+    ensures ending { IfOk result (IfDone (IsTablesEnding setting.entry.space (evidence_of over.entry.evidence.now) setting.entry.limits)) }
     ensures said { MayContinue (IsLineWithin (task_in (ground_in setting.entry.space)) setting.entry.limits) E.may_lack_memory (E.failures err.old) (E.taken err.old) (E.failures err.new) (E.taken err.new) }
 {
     let alloc = setting.alloc;
@@ -214,6 +305,7 @@ fn search_by_tables<'l, 't, E: Sink + Clock>(
         evidence,
         values,
         dead_ends,
+        asking,
     } = over;
     let Some(functions) = functions_over(alloc, ground, &evidence.tables, values, dead_ends)? else {
         return Ok(Attempt::InVain);
@@ -224,9 +316,12 @@ fn search_by_tables<'l, 't, E: Sink + Clock>(
     if setting.limits.are_over(err) {
         return Ok(Attempt::InVain);
     }
+    if matches!(asking, Asking::AtOnce) {
+        return search_if_fair(setting, functions, asking, err);
+    }
     let saving = stopped.saving_by(alloc, &functions)?;
     if saving.is_worth(evidence.tables.len()) {
-        return search_if_fair(setting, functions, err);
+        return search_if_fair(setting, functions, asking, err);
     }
     if saving.is_promising() {
         return Ok(Attempt::Promising);
@@ -255,12 +350,13 @@ fn starts_no_lower(
 fn search_if_fair<'l, 't, E: Sink + Clock>(
     setting: Setting<'l, 't>,
     functions: TableFunctions<'_>,
+    asking: Asking,
     err: &mut E,
-) -> Result<Attempt<Ending<'l, 't>>, NoMemory>
+) -> Result<Attempt<TablesEnding<'l, 't>>, NoMemory>
     requires space { IsSearchSpace setting.space }
     requires width { width_of functions ≡ length (atoms_in (ground_in setting.space)) }
     ensures fair { IfOk result (IfDone (λ _. AreFair (task_in (ground_in setting.entry.space)) (atoms_in (ground_in setting.entry.space)) (several_of functions.entry))) }
-    ensures ending { IfOk result (IfDone (IsEnding setting.entry.space (estimate_by (by_tables (several_of functions.entry))) (reports_dead (by_tables (several_of functions.entry))) setting.entry.limits)) }
+    ensures ending { IfOk result (IfDone (IsTablesEnding setting.entry.space (several_of functions.entry) setting.entry.limits)) }
     ensures said { MayContinue (IsLineWithin (task_in (ground_in setting.entry.space)) setting.entry.limits) E.may_lack_memory (E.failures err.old) (E.taken err.old) (E.failures err.new) (E.taken err.new) }
 {
     if setting.limits.are_over(err) {
@@ -270,8 +366,7 @@ fn search_if_fair<'l, 't, E: Sink + Clock>(
     match functions.fairness(setting.alloc, ground)? {
         ValuesFairness::Fair => {
             let guide = FairTables::new(functions, ground);
-            let ending = search_by(setting, &guide, err)?;
-            Ok(Attempt::Done(ending))
+            search_fair(setting, &guide, asking, err)
         }
         _ => Ok(Attempt::InVain),
     }

@@ -2,8 +2,11 @@
 #![tactic(auto)]
 
 mod answer;
+mod asked;
+mod asking;
 mod attempt;
 mod by_tables;
+mod fair_tables;
 mod guidance;
 mod improved;
 mod limits;

@@ -16,7 +16,7 @@ ghost use Rattle.solver.specs.Stretches.{IsTrueEnd, IsTruePart, IsUnderWay};
 
 use crate::answer::{Answer, Exceeded};
 use crate::attempt::Attempt;
-use crate::by_tables::solve_by_tables;
+use crate::by_tables::{solve_asking, solve_by_tables};
 use crate::searched::{Ending, Stretch, begin_by, finish_by, go_on_by, stop_by};
 use crate::setting::{Session, Setting};
 use crate::stopped::Stopped;
@@ -236,7 +236,7 @@ fn is_outdone(answer: &Answer, bound: Option<u64>) -> bool {
     }
 }
 
-/// The answer by tables, if better ones than the potentials of this search are found.
+/// The answer by tables, if better ones than the potentials of this search are found, or by landmark values.
 fn solve_at_pause<R, E: Sink + Clock>(
     setting: Setting<'_, '_>,
     search: &Search<GroundListing<'_, '_>, R>,
@@ -265,5 +265,13 @@ fn solve_at_pause<R, E: Sink + Clock>(
         dead_ends: drafting.given.dead_ends,
         effort: drafting.pause.effort,
     };
-    solve_by_tables(setting, &stopped, err)
+    let attempt = solve_by_tables(setting, &stopped, err)?;
+    match attempt {
+        Attempt::Done(answer) => Ok(Attempt::Done(answer)),
+        Attempt::Promising => match solve_asking(setting, &stopped, err)? {
+            Attempt::Done(answer) => Ok(Attempt::Done(answer)),
+            _ => Ok(Attempt::Promising),
+        },
+        Attempt::InVain => solve_asking(setting, &stopped, err),
+    }
 }

@@ -16,10 +16,10 @@ use Rattle.tables.specs.declared.several.TableFunctions.{TableFunctions}
 use Rattle.tables.specs.Several.{several_of, width_of}
 use Rattle.solver.specs.declared.attempt.Attempt.{Attempt}
 use Rattle.solver.specs.declared.attempt.Attempt.TheVariants.{Done, Promising, InVain}
-use Rattle.solver.specs.declared.searched.Ending.{Ending}
+use Rattle.solver.specs.declared.fair_tables.TablesEnding.{TablesEnding}
 use Rattle.solver.specs.Attempts.{IfDone}
-use Rattle.solver.specs.Guidance.{by_tables, estimate_by, reports_dead}
-use Rattle.solver.specs.Guided.{IsEnding}
+use Rattle.solver.specs.Guidance.{by_tables, estimate_by}
+use Rattle.solver.specs.Asked.{IsTablesEnding}
 use Rattle.solver.specs.SeveralOver.{several_over}
 use Rattle.solver.proofs.TablesLemmas.{dead_ends_weighed}
 use Rattle.solver.proofs.by_tables.search_by_tables.Given.{Over}
@@ -55,7 +55,7 @@ pub search_if_fair-requires-clause-width : goal.search_if_fair-requires-clause-w
 search_if_fair-requires-clause-width g c = width g (goal.at.search_if_fair-requires-clause-width g c).In-Some
 
 -- what is so is so of whatever is done
-whatever : {P : Type 0} (result : Result (Attempt Ending) NoMemory) → P → IfOk result (IfDone (λ (s : Ending). P))
+whatever : {P : Type 0} (result : Result (Attempt TablesEnding) NoMemory) → P → IfOk result (IfDone (λ (s : TablesEnding). P))
 whatever (Ok (Done s)) is = is
 whatever (Ok Promising) is = tt
 whatever (Ok InVain) is = tt
@@ -74,10 +74,10 @@ returns-then-is_worth-clause-no_lower g c =
 
 pub returns-then-is_worth-clause-fair : goal.returns-then-is_worth-clause-fair
 returns-then-is_worth-clause-fair g c =
-    subst (λ (s : SeveralValues). IfOk c.search_if_fair.result (IfDone (λ (_ : Ending). AreFair (task_in (ground_in c.args.setting.space)) (atoms_in (ground_in c.args.setting.space)) s)))
+    subst (λ (s : SeveralValues). IfOk c.search_if_fair.result (IfDone (λ (_ : TablesEnding). AreFair (task_in (ground_in c.args.setting.space)) (atoms_in (ground_in c.args.setting.space)) s)))
     (in_memory g (goal.at.returns-then-is_worth-clause-fair g c).In-Some) c.search_if_fair.ensures.fair
 
 pub returns-then-is_worth-clause-ending : goal.returns-then-is_worth-clause-ending
 returns-then-is_worth-clause-ending g c =
-    subst (λ (s : SeveralValues). IfOk c.search_if_fair.result (IfDone (IsEnding c.args.setting.space (estimate_by (by_tables s)) (reports_dead (by_tables s)) c.args.setting.limits)))
+    subst (λ (s : SeveralValues). IfOk c.search_if_fair.result (IfDone (IsTablesEnding c.args.setting.space s c.args.setting.limits)))
     (in_memory g (goal.at.returns-then-is_worth-clause-ending g c).In-Some) c.search_if_fair.ensures.ending

@@ -1,16 +1,15 @@
 use Rattle.std.proofs.Common.{◌∙◌, ℕ, Bool, List, [], length, sym, ap, subst}
+use Rattle.std.specs.Prelude.{IfOk}
 use Rattle.grounding.specs.declared.ground.Ground.{Ground}
 use Rattle.grounding.specs.Ground.{task_in, atoms_in}
-use Rattle.model.specs.Runs.{System}
-use Rattle.model.specs.Grounding.{ground_system}
 use Rattle.lower_bounds.specs.FairTables.{AreFair}
 use Rattle.lower_bounds.specs.TableLaws.{AreAllNumbered}
 use Rattle.lower_bounds.specs.TableFunctions.{SeveralValues}
 use Rattle.table_guides.proofs.GuideLemmas.{all_numbered}
 use Rattle.table_guides.specs.FairTables.{functions_in}
 use Rattle.tables.specs.Several.{several_of, ReportsValues}
-use Rattle.solver.specs.Guidance.{by_tables, estimate_by, reports_dead}
-use Rattle.solver.specs.Guided.{IsEnding}
+use Rattle.solver.specs.Asked.{IsTablesEnding}
+use Rattle.solver.specs.Attempts.{IfDone}
 use Rattle.ground_listings.specs.SearchSpace.{ground_in}
 use Rattle.solver.proofs.by_tables.search_if_fair.Goals as goal
 
@@ -30,15 +29,7 @@ returns-in-Fair-clause-fair g c =
 
 pub returns-in-Fair-clause-ending : goal.returns-in-Fair-clause-ending
 returns-in-Fair-clause-ending g c =
-    let ending = c.in_ok-ending-in-Fair.ending in
-    subst (λ (s : SeveralValues). IsEnding c.args.setting.space (estimate_by (by_tables s)) (reports_dead (by_tables s)) c.args.setting.limits ending)
-    c.new-guide.ensures.functions c.in_ok-ending-in-Fair.ensures.ending
+    subst (λ (s : SeveralValues). IfOk c.search_fair.result (IfDone (IsTablesEnding c.args.setting.space s c.args.setting.limits))) c.new-guide.ensures.functions c.search_fair.ensures.ending
 
-abbrev means : Ground → System (List Bool) ℕ
-means k = ground_system (task_in k) (atoms_in k)
-
-pub search_by-requires-clause-system : goal.search_by-requires-clause-system
-search_by-requires-clause-system g c = ap means (c.new-guide.ensures.ground ∙ c.ground-ground.ensures)
-
-pub search_by-requires-clause-width : goal.search_by-requires-clause-width
-search_by-requires-clause-width g c = ap (λ k. length (atoms_in k)) (c.new-guide.ensures.ground ∙ c.ground-ground.ensures)
+pub search_fair-requires-clause-ground : goal.search_fair-requires-clause-ground
+search_fair-requires-clause-ground g c = c.new-guide.ensures.ground ∙ c.ground-ground.ensures
