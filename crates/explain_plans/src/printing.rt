@@ -10,7 +10,7 @@ ghost use Rattle.formulas.specs.State.{instance_of, plan_of};
 ghost use Rattle.formulas.specs.declared.instance.Instance.{Instance};
 ghost use Rattle.explain_plans.specs.Explanations.{verdict_of};
 ghost use Rattle.explain_plans.specs.FormulaText.{formula_text, scope_at};
-ghost use Rattle.explain_plans.specs.NamesView.{names_in};
+ghost use Rattle.task.specs.Names.{names_in};
 ghost use Rattle.explain_plans.specs.Parts.{history_of, part_of};
 ghost use Rattle.explain_plans.specs.PlanLines.{added_text, cause_text, cost_lines, deleted_text, increase_text, instance_increase_text, lacking_text, made_text, negation_text, reason_line, reason_lines, reasons_text, step_name, verdict_line, why_text};
 ghost use Rattle.explain_plans.specs.Said.{AddsDetails, HasDetails};
@@ -378,7 +378,7 @@ impl PlanPrinter<'_> {
     fn formula_printer<'a>(
         &'a self,
         objects: &'a [ObjectId],
-        names: &'a [&'a [u8]],
+        names: &'a [Vec<u8>],
     ) -> FormulaPrinter<'a>
         ensures task { result.task.now ≡ self.now.task.now }
         ensures scope { scope_of result.scope ≡ scope_at (map object_of objects.now) (names_in names.now) }
