@@ -1,24 +1,23 @@
 //! The trace of a plan: what each step adds and deletes.
-ghost use Rattle.std.specs.Prelude.{◌≡◌, ◌++◌, map, IfOk, IsTrue, OnOk};
+ghost use Rattle.std.specs.Prelude.{◌≡◌, ◌++◌, IfOk, IsTrue, OnOk};
 ghost use Rattle.std.specs.FinSet.{difference};
 ghost use Rattle.std.specs.List.{flat_map, list_all};
 ghost use Rattle.std.specs.Str.Lossy.{utf8_lossy};
 ghost use Rattle.std.specs.String.{string_bytes};
 ghost use Rattle.task.specs.Task.{task_of};
-ghost use Rattle.task.specs.TaskParts.{atom_of, object_of};
+ghost use Rattle.task.specs.TaskParts.{atom_of};
 ghost use Rattle.formulas.specs.State.{instance_of, plan_of, state_of};
 ghost use Rattle.explain_plans.specs.LentAtoms.{lent_atoms};
 ghost use Rattle.explain_plans.specs.PlanLines.{cost_line};
 ghost use Rattle.explain_plans.specs.Traces.{atoms_line, change_lines, in_order, spaced_text, trace_text};
 ghost use Rattle.model.specs.Meaning.{is_instance};
-ghost use Rattle.model.specs.PlanWriting.{object_text};
 
 use crate::printing::{Paid, cost_line_of};
 use faults::NoMemory;
 use formulas::{Instance, Plan, State, apply, cost};
 use plan_file::step_text;
 use std::alloc::{AllocError, Global};
-use task::{Atom, ObjectId, Task};
+use task::{Atom, Task};
 
 /// The steps of a plan as lines, each with LF: what a step costs, and below it the atoms that it adds and those that it deletes.
 ///
@@ -128,21 +127,8 @@ impl Tracer<'_> {
     fn add_atom(&self, atom: &Atom, text: &mut Vec<u8>) -> Result<(), AllocError>
         ensures { OnOk result (text.new.items ≡ text.old.items ++ spaced_text (task_of self.now.task.now) (atom_of atom.now)) }
     {
-        text.extend_from_slice(b" (")?;
-        text.extend_from_slice(self.task.name_of_predicate(atom.predicate))?;
-        self.add_objects(atom.objects.as_slice(), text)?;
-        text.extend_from_slice(b")")
-    }
-
-    /// Adds a blank and the name of each object.
-    fn add_objects(&self, objects: &[ObjectId], text: &mut Vec<u8>) -> Result<(), AllocError>
-        ensures { OnOk result (text.new.items ≡ text.old.items ++ flat_map (object_text (task_of self.now.task.now)) (map object_of objects.now)) }
-    {
-        for object in objects {
-            text.extend_from_slice(b" ")?;
-            text.extend_from_slice(self.task.name_of_object(*object))?;
-        }
-        Ok(())
+        text.extend_from_slice(b" ")?;
+        self.task.add_atom(atom, text)
     }
 }
 
