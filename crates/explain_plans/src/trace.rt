@@ -6,16 +6,14 @@ ghost use Rattle.std.specs.Str.Lossy.{utf8_lossy};
 ghost use Rattle.std.specs.String.{string_bytes};
 ghost use Rattle.task.specs.Task.{task_of};
 ghost use Rattle.task.specs.TaskParts.{atom_of};
-ghost use Rattle.formulas.specs.State.{instance_of, plan_of, state_of};
+ghost use Rattle.formulas.specs.State.{plan_of, state_of};
 ghost use Rattle.explain_plans.specs.LentAtoms.{lent_atoms};
-ghost use Rattle.explain_plans.specs.PlanLines.{cost_line};
 ghost use Rattle.explain_plans.specs.Traces.{atoms_line, change_lines, in_order, spaced_text, trace_text};
 ghost use Rattle.model.specs.Meaning.{is_instance};
 
-use crate::printing::{Paid, cost_line_of};
+use crate::printing::{Paid, PlanPrinter};
 use faults::NoMemory;
-use formulas::{Instance, Plan, State, apply, cost};
-use plan_file::step_text;
+use formulas::{Plan, State, apply, cost};
 use std::alloc::{AllocError, Global};
 use task::{Atom, Task};
 
@@ -40,26 +38,19 @@ pub fn report_trace(alloc: Global, task: &Task, plan: &Plan) -> Result<String, N
     ensures { IfOk result (λ text. string_bytes text ≡ utf8_lossy (trace_text (task_of task.now) (plan_of plan.now))) }
 {
     let mut text = Vec::new(alloc);
-    Tracer { alloc, task }.add_steps(plan, &mut text)?;
+    PlanPrinter { alloc, task, plan }.add_trace(&mut text)?;
     Ok(String::from_utf8_lossy(alloc, text.as_slice())?)
 }
 
-/// Prints what the steps of a plan change.
-#[derive(Clone, Copy)]
-struct Tracer<'t> {
-    alloc: Global,
-    task: &'t Task,
-}
-
-impl Tracer<'_> {
+impl PlanPrinter<'_> {
     /// Adds the lines of the plan's steps, up to the first that is not applicable.
-    fn add_steps(&self, plan: &Plan, text: &mut Vec<u8>) -> Result<(), NoMemory>
-        requires { IsTrue (list_all (is_instance (task_of self.now.task.now)) (plan_of plan.now)) }
-        ensures { OnOk result (text.new.items ≡ text.old.items ++ trace_text (task_of self.now.task.now) (plan_of plan.now)) }
+    fn add_trace(&self, text: &mut Vec<u8>) -> Result<(), NoMemory>
+        requires { IsTrue (list_all (is_instance (task_of self.now.task.now)) (plan_of self.now.plan.now)) }
+        ensures { OnOk result (text.new.items ≡ text.old.items ++ trace_text (task_of self.now.task.now) (plan_of self.now.plan.now)) }
     {
         let mut state = State::initial(self.alloc, self.task)?;
         let mut total = 0;
-        for (index, step) in plan.steps().iter().enumerate() {
+        for (index, step) in self.plan.steps().iter().enumerate() {
             let Some(next) = apply(self.alloc, self.task, step, &state)? else {
                 return Ok(());
             };
@@ -69,22 +60,6 @@ impl Tracer<'_> {
             self.add_changes(&state, &next, text)?;
             state = next;
         }
-        Ok(())
-    }
-
-    /// Adds the line of the step with this number.
-    fn add_step(
-        &self,
-        number: usize,
-        step: &Instance,
-        paid: Paid,
-        text: &mut Vec<u8>,
-    ) -> Result<(), NoMemory>
-        ensures { OnOk result (text.new.items ≡ text.old.items ++ cost_line (task_of self.now.task.now) number (instance_of step.now) paid.cost paid.total) }
-    {
-        let words = step_text(self.alloc, self.task, step)?;
-        let line = cost_line_of(self.alloc, number, words.as_str(), paid)?;
-        text.extend_from_slice(line.as_bytes())?;
         Ok(())
     }
 
