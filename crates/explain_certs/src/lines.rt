@@ -4,6 +4,8 @@ use faults::Span;
 /// A line of a text, without its LF.
 #[derive(Clone, Copy)]
 pub(crate) struct Line<'a> {
+    /// Its number, from 1.
+    pub number: u64,
     /// Its bytes.
     pub bytes: &'a [u8],
     /// Where it is in the text.
@@ -18,10 +20,24 @@ pub(crate) fn line_of(text: &[u8], number: u64) -> Option<Line<'_>> {
         let end = start.saturating_add(bytes.len());
         if left <= 1 {
             let span = Span { start, end };
-            return Some(Line { bytes, span });
+            return Some(Line {
+                number,
+                bytes,
+                span,
+            });
         }
         left -= 1;
         start = end.saturating_add(1);
     }
     None
+}
+
+/// The first line that is neither empty nor a comment of PDDL; empty if there is none.
+pub(crate) fn first_line(text: &[u8]) -> &[u8] {
+    for line in text.split(|byte| *byte == b'\n') {
+        if !line.is_empty() && !line.starts_with(b";") {
+            return line;
+        }
+    }
+    b""
 }

@@ -1,6 +1,6 @@
 //! The words beside the checker's answer.
 use crate::gap::{Gap, gap_at};
-use crate::lines::{Line, line_of};
+use crate::lines::{Line, first_line, line_of};
 use crate::meanings::meaning_of;
 use crate::named_atom::{UnknownName, unknown_in};
 use crate::numbers::{Claimed, Listed, claim_in, state_in, value_of};
@@ -94,6 +94,7 @@ impl CheckedCert<'_> {
     ) -> Result<(), NoMemory> {
         match (code, state_in(line.bytes)) {
             (RefusalCode::CertForm, _) => words.push_str(self.form_words(line))?,
+            (RefusalCode::Truncated, _) => words.push_str(truncated_words(line))?,
             (RefusalCode::NotFluent, _) => self.add_not_fluent(line, words)?,
             (RefusalCode::GoalOpen, Some(at)) => self.add_goal(at, words)?,
             (RefusalCode::CutWeak, Some(at)) => self.add_weak_cut(at, words)?,
@@ -150,26 +151,35 @@ impl CheckedCert<'_> {
 
     /// What is wrong with a line that is malformed or out of place.
     fn form_words(self, line: Line<'_>) -> &'static str {
-        if line.span.start == 0 {
+        if line.number == 1 {
             self.first_line_words(line)
         } else if line.bytes.starts_with(b"end") {
             "The last line is `end N`, where N is the number of states that are listed."
+        } else if self.follows_end(line) {
+            "Nothing may follow the line `end N`."
         } else {
             meaning_of(RefusalCode::CertForm)
         }
     }
 
+    /// Whether the line before is the last one of a certificate.
+    fn follows_end(self, line: Line<'_>) -> bool {
+        line_of(self.text, line.number.saturating_sub(1)).is_some_and(|before| before
+            .bytes
+            .starts_with(b"end"))
+    }
+
     /// What the text is, if its first line begins no certificate.
     fn first_line_words(self, line: Line<'_>) -> &'static str {
-        let is_plan = self.text.starts_with(b"(") || self.text.starts_with(b";");
+        let first = first_line(self.text);
         if self.text.starts_with(b"\xef\xbb\xbf") {
             "The file begins with a byte order mark. Save it without one."
-        } else if line.bytes.ends_with(b"\r") {
-            "The lines end with CR LF. Save the file with LF alone."
-        } else if self.text.starts_with(b"(define") {
+        } else if first.starts_with(b"(define") {
             "This is PDDL, not a certificate. A certificate begins with a line such as `pddl-cert 2`."
-        } else if is_plan {
+        } else if first.starts_with(b"(") {
             "This is a plan, not a certificate. Give the plan by `--plan`, and the certificate by `--cert`."
+        } else if line.bytes.starts_with(b"pddl-cert") && line.bytes.ends_with(b"\r") {
+            "The lines end with CR LF. Save the file with LF alone."
         } else {
             "A certificate begins with a line such as `pddl-cert 2`."
         }
@@ -219,6 +229,15 @@ impl CheckedCert<'_> {
                 format!(in alloc; "{meaning}\n")
             }
         }
+    }
+}
+
+/// What is missing from a text that ends in this line.
+fn truncated_words(line: Line<'_>) -> &'static str {
+    if line.bytes.starts_with(b"end") {
+        "The line `end N` has no LF. Each line of a certificate ends with one."
+    } else {
+        meaning_of(RefusalCode::Truncated)
     }
 }
 
