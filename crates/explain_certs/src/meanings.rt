@@ -33,7 +33,7 @@ fn meaning_of_text(code: RefusalCode) -> &'static str {
             "The text ends before its last line, `end N` with the number of states: a part of the certificate is missing."
         }
         _ => {
-            "The line is malformed or out of place. First come `pddl-cert`, `claim` and `constant`, then exchanges, atoms, tables, zones, landmark values, states and `end`, in this order."
+            "The line is malformed or out of place, or a number in it is that of nothing listed before. The order is: `pddl-cert`, `claim`, `constant`, exchanges, atoms, tables, zones, landmark values, states, `end`."
         }
     }
 }
