@@ -1,9 +1,12 @@
-//! Families of atoms: all atoms of a predicate, or those with a given object at a given position.
+//! Families of atoms: all atoms of a predicate, or those with given objects at one or two given positions.
 use crate::numbers::number_of;
 use faults::NoMemory;
 use grounding::Ground;
 use std::alloc::Global;
 use task::{ObjectId, PredicateId};
+
+/// Atoms share two objects only if they have this many.
+const LEAST_WITH_PAIRS: usize = 3;
 
 /// An object at a position, counted from 0, of an atom's arguments.
 #[derive(Clone, Copy, Debug, PartialEq, Eq, PartialOrd, Ord)]
@@ -12,11 +15,22 @@ pub(crate) struct Argument {
     object: ObjectId,
 }
 
-/// The atoms of the predicate with this argument, or all its atoms.
+/// The arguments that all atoms of a family share.
+#[derive(Clone, Copy, Debug, PartialEq, Eq, PartialOrd, Ord)]
+pub(crate) enum Shared {
+    /// None: the family has all atoms of its predicate.
+    Nothing,
+    /// This one.
+    One(Argument),
+    /// These two, the first position first.
+    Two(Argument, Argument),
+}
+
+/// The atoms of a predicate with these arguments.
 #[derive(Clone, Copy, Debug, PartialEq, Eq, PartialOrd, Ord)]
 pub(crate) struct Family {
     pub(crate) predicate: PredicateId,
-    pub(crate) argument: Option<Argument>,
+    pub(crate) shared: Shared,
 }
 
 /// All families of a ground task's atoms.
@@ -96,14 +110,16 @@ impl Families {
 }
 
 impl Family {
-    /// Whether the family, of a predicate with this many arguments, may join a group that begins with `first`: both have the same
-    /// object, or both have all atoms of a predicate, or there are no arguments.
-    pub(crate) fn goes_with(&self, first: &Family, argument_count: usize) -> bool {
-        match (self.argument, first.argument) {
-            (Some(own), Some(other)) => own.object == other.object,
-            (None, None) => true,
-            (None, Some(_)) => argument_count == 0,
-            (Some(_), None) => false,
+    /// Whether both families share the same objects.
+    pub(crate) fn goes_with(&self, other: &Family) -> bool {
+        match (self.shared, other.shared) {
+            (Shared::Nothing, Shared::Nothing) => true,
+            (Shared::One(own), Shared::One(its)) => own.object == its.object,
+            (Shared::Two(one, two), Shared::Two(left, right)) => {
+                one.object == left.object && two.object == right.object
+                    || one.object == right.object && two.object == left.object
+            }
+            _ => false,
         }
     }
 }
@@ -117,7 +133,8 @@ fn families_of_atoms(alloc: Global, ground: &Ground<'_>) -> Result<Vec<Vec<Famil
     Ok(of_atom)
 }
 
-/// The families of an atom with this predicate and these objects.
+/// The families of an atom with this predicate and these objects, beginning with that of all the predicate's atoms. Two objects are
+/// shared only where a third is left.
 fn families_of(
     alloc: Global,
     predicate: PredicateId,
@@ -126,16 +143,30 @@ fn families_of(
     let mut families = Vec::new(alloc);
     families.push(Family {
         predicate,
-        argument: None,
+        shared: Shared::Nothing,
     })?;
     for (place, object) in objects.iter().enumerate() {
+        let argument = argument_at(place, *object);
         families.push(Family {
             predicate,
-            argument: Some(Argument {
-                place: number_of(place),
-                object: *object,
-            }),
+            shared: Shared::One(argument),
         })?;
+        if objects.len() >= LEAST_WITH_PAIRS {
+            for later in place.saturating_add(1)..objects.len() {
+                if let Some(other) = objects.get(later) {
+                    let shared = Shared::Two(argument, argument_at(later, *other));
+                    families.push(Family { predicate, shared })?;
+                }
+            }
+        }
     }
     Ok(families)
+}
+
+/// The object as the argument at this position, counted from 0.
+fn argument_at(place: usize, object: ObjectId) -> Argument {
+    Argument {
+        place: number_of(place),
+        object,
+    }
 }
