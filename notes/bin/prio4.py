@@ -1,42 +1,43 @@
 #!/usr/bin/env python3
-"""Processes of the gate run first; unproved builds and programs of other clones at nice 5; other checks get what is left (SCHED_IDLE)."""
+"""Processes of the gate run first; the chain before all; helpers' checks at the nice value of /work/bin/mode; unproved builds at 12."""
 import os,time
 GATE=("/work/gate","/work/gate2","/work/gate3")
-def sched(p,policy,nice):
+CHAIN=('symmetries','symmetries_drafted','table_guides','landmarks','grounding','potentials','potentials_drafted','table_rows','search','cert_checker','tables','certificate','ground_listings','table_guides','abstractions','potentials_improved','cost_partitioning','solver','file_answers','printed_answers','planner_main','optplan','cases')
+def sched(p,nice):
     try:
-        if os.sched_getscheduler(p)!=policy: os.sched_setscheduler(p,policy,os.sched_param(0))
-        if policy==os.SCHED_OTHER and os.getpriority(os.PRIO_PROCESS,p)!=nice:
+        if os.getpriority(os.PRIO_PROCESS,p)!=nice:
             for t in os.listdir(f'/proc/{p}/task'):
                 os.setpriority(os.PRIO_PROCESS,int(t),nice)
-                if os.sched_getscheduler(int(t))!=policy: os.sched_setscheduler(int(t),policy,os.sched_param(0))
-        if policy==os.SCHED_IDLE:
-            for t in os.listdir(f'/proc/{p}/task'):
-                if os.sched_getscheduler(int(t))!=policy: os.sched_setscheduler(int(t),policy,os.sched_param(0))
     except (OSError,ProcessLookupError): pass
 while True:
-    try: extra=open('/work/bin/first').read().split()
-    except OSError: extra=[]
-    try: mode=open('/work/bin/mode').read().strip()
-    except OSError: mode='idle'
+    try: mode=int(open('/work/bin/mode').read().strip())
+    except (OSError,ValueError): mode=5
+    try: first=open('/work/bin/first').read().split()
+    except OSError: first=[]
+    try: fast=open('/work/bin/fast').read().strip()
+    except OSError: fast=''
     for p in os.listdir('/proc'):
         if not p.isdigit(): continue
         try: cwd=os.readlink(f'/proc/{p}/cwd'); cmd=open(f'/proc/{p}/cmdline').read()
         except OSError: continue
         if not ('/opt/rattle' in cmd or 'clang' in cmd or 'rt\0' in cmd or 'ld.lld' in cmd or 'rattle' in cmd): continue
-        first=cwd.startswith(GATE) or any(cwd.startswith(e) for e in extra)
-        if cwd.startswith('/tmp/rt-') : first=True
-        chain=cwd.startswith(('/tmp/rt-copy','/work/land','/work/gate')) and os.path.basename(cwd) in ('cert_checker','tables','certificate','ground_listings','table_guides','abstractions','potentials_improved','cost_partitioning','solver','file_answers','printed_answers','planner_main','optplan','cases')
-        if cwd.startswith('/tmp/rt-edit'): sched(int(p), os.SCHED_OTHER, -2)
-        elif cwd.startswith('/work/next'): sched(int(p), os.SCHED_OTHER, -8)
-        elif chain: sched(int(p), os.SCHED_OTHER, -10)
-        elif cwd.startswith(('/work/trace','/tmp/planted')): sched(int(p), os.SCHED_IDLE, 0)
-        elif first: sched(int(p), os.SCHED_OTHER, 0)
-        elif 'clang' in cmd and 'unproved.' in cmd and os.path.exists('/work/bin/fastbuild') and open('/work/bin/fastbuild').read().strip() in cmd: sched(int(p), os.SCHED_OTHER, 0)
-        elif ('clang' in cmd or 'ld.lld' in cmd) and 'unproved.' not in cmd: sched(int(p), os.SCHED_OTHER, -10)
-        elif 'clang' in cmd or 'ld.lld' in cmd: sched(int(p), os.SCHED_OTHER, 15)
-        elif 'rattle-try' in cmd: sched(int(p), os.SCHED_OTHER, 15)
-        elif cwd.startswith(('/work/lazy','/work/cuts','/work/housec','/work/resolver','/work/version','/work/merge','/work/trace')): sched(int(p), os.SCHED_IDLE, 0)
-        elif cwd.startswith('/work/certs'): sched(int(p), os.SCHED_IDLE, 0)
-        elif mode=='idle': sched(int(p), os.SCHED_IDLE, 0)
-        else: sched(int(p), os.SCHED_OTHER, int(mode))
+        if cmd.split('\0')[0].endswith('optplan'):
+            sched(int(p),-9); continue
+        gate=cwd.startswith(GATE) or cwd.startswith('/tmp/rt-')
+        chain=cwd.startswith(('/tmp/rt-copy','/work/gate')) and os.path.basename(cwd) in CHAIN
+        if fast and fast in cmd: n=-6
+        elif any(cwd.startswith(e) for e in first): n=-6
+        elif cwd.startswith('/tmp/rt-edit'): n=-8
+        elif chain: n=-10
+        elif gate: n=-8
+        elif ('clang' in cmd or 'ld.lld' in cmd) and 'unproved.' not in cmd: n=-10
+        elif 'clang' in cmd or 'ld.lld' in cmd: n=-3
+        elif 'rattle-try' in cmd: n=12
+        elif cwd.startswith('/work/certs') and 'bin/rattle' in cmd: n=4
+        elif cwd.startswith('/work/groups') and 'bin/rattle' in cmd: n=-10
+        elif cwd.startswith('/work/cuts') and 'bin/rattle' in cmd: n=8
+        elif cwd.startswith('/work/tables') and 'bin/rattle' in cmd: n=-12
+        elif cwd.startswith('/work/names'): n=mode+4
+        else: n=mode
+        sched(int(p),n)
     time.sleep(2)

@@ -16,7 +16,7 @@ while True:
     found.sort()
     running=0
     for start,p,rss in found:
-        if running<2 or (rss>400e6 and p not in stopped):
+        if running<4 or (rss>400e6 and p not in stopped):
             running+=1
             if p in stopped:
                 try: os.kill(p,signal.SIGCONT)
