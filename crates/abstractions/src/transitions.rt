@@ -58,7 +58,7 @@ impl InstancePart<'_, '_> {
         for from in self.first_value()..self.variables.value_count(self.variable) {
             if self.allows(self.literals, from) {
                 self.add_transitions(from, &mut transitions)?;
-                if self.wants_atom() {
+                if self.requires_atom() {
                     return Ok(transitions);
                 }
             }
@@ -79,7 +79,7 @@ impl InstancePart<'_, '_> {
     }
 
     /// Whether a literal requires one of the variable's atoms.
-    fn wants_atom(&self) -> bool {
+    fn requires_atom(&self) -> bool {
         self.literals.iter().any(|literal| literal.value && self.value_of(literal.atom).is_some())
     }
 

@@ -100,8 +100,8 @@ module _ (task : Task) (atoms : List Atom) (c : Certificate) (store : PooledStor
       abbrev key : List Bool → List Bool
       key = packed_representative task atoms c.exchanges
 
-      keys_tell : (set : List Bool) → (key set ≡ key bits) ↔ AreAlikeFor task c (state_of_bits task atoms set) here
-      keys_tell set =
+      keys_show : (set : List Bool) → (key set ≡ key bits) ↔ AreAlikeFor task c (state_of_bits task atoms set) here
+      keys_show set =
           subst (λ those. ArePackedAlike task those c.exchanges set bits ↔ AreAlikeFor task c (state_of_bits task those set) (state_of_bits task those bits)) (sym listed.numbered)
           (packed_states_are_alike task c.atoms c.exchanges (all_fluent task c.atoms listed.fluent) (all_symmetries task c symmetric) (all_keep_atoms task c symmetric) set bits)
 
@@ -112,17 +112,17 @@ module _ (task : Task) (atoms : List Atom) (c : Certificate) (store : PooledStor
             record {
               line = line;
               listed = first.there;
-              is_alike = subst (λ s. AreAlikeFor task c s here) first.state ((keys_tell set).0 (cheapest.of_the_key at place set (key bits) has there first.stored));
+              is_alike = subst (λ s. AreAlikeFor task c s here) first.state ((keys_show set).0 (cheapest.of_the_key at place set (key bits) has there first.stored));
               least = λ other among is_alike.
                   let (other_place, other_set, second) = set_of_line other among in
-                  let same = (keys_tell other_set).1 (subst (λ s. AreAlikeFor task c s here) (sym second.state) is_alike) in
+                  let same = (keys_show other_set).1 (subst (λ s. AreAlikeFor task c s here) (sym second.state) is_alike) in
                   cheapest.least at place other_place other_set other.cost line.cost second.below (has ∙ ap Some (sym same)) there second.stored second.cost first.cost;
             }
 
         none_found : ¬ Contains keys (key bits) → NoneAlike
         none_found unknown (other, among, is_alike) =
             let (place, set, second) = set_of_line other among in
-            let same = (keys_tell set).1 (subst (λ s. AreAlikeFor task c s here) (sym second.state) is_alike) in
+            let same = (keys_show set).1 (subst (λ s. AreAlikeFor task c s here) (sym second.state) is_alike) in
             cheapest.known place set second.below second.stored (λ known. unknown (subst (Contains keys) same known))
 
       pub by_classes : (classes : Classes) → AreClassesOf task atoms c store classes → (o : Option ℕ)

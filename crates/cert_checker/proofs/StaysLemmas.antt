@@ -307,12 +307,12 @@ module _ (task : Task) (c : Certificate) (closed : IsClosedFor task c) where
     symmetries : IsTrue (list_all (is_symmetry task) c.exchanges)
     symmetries = all_symmetries task c closed.exchanges_are_symmetries
 
-    claim_told : ClaimHolds (system_of task) c.claim
-    claim_told =
+    claim_reported : ClaimHolds (system_of task) c.claim
+    claim_reported =
         listings_by_exchanges_claim task (numbered_atoms task c.atoms) c.exchanges well symmetries c.claim (lines_of task c) lines_are_true closed.listing_is_closed
 
-    stays_told : (plan : List Instance) → Solves (system_of task) plan → StaysListed (system_of task) (AreOfOneOrbit (system_of task)) (lines_of task c) plan
-    stays_told plan =
+    stays_reported : (plan : List Instance) → Solves (system_of task) plan → StaysListed (system_of task) (AreOfOneOrbit (system_of task)) (lines_of task c) plan
+    stays_reported plan =
         stays_listed (system_of task) (AreAlikeFor task c) (AreOfOneOrbit (system_of task)) (orbits_are_classes (system_of task))
         (alike_states_are_of_one_orbit task (numbered_atoms task c.atoms) c.exchanges well symmetries) c.claim (lines_of task c) lines_are_true closed.listing_is_closed plan
 
@@ -322,11 +322,11 @@ module _ (task : Task) (c : Certificate) (closed : IsClosedFor task c) where
       c.claim (lines_of task c) lines_are_true closed.listing_is_closed plan
 
 pub closed_holds : (task : Task) (c : Certificate) → IsTrue (is_task task) → IsClosedFor task c → ClaimHolds (system_of task) c.claim
-closed_holds task c well closed = claim_told task c closed well
+closed_holds task c well closed = claim_reported task c closed well
 
 pub solving_stays : (task : Task) (c : Certificate) (plan : List Instance) → IsTrue (is_task task) → IsClosedFor task c → Solves (system_of task) plan
     → StaysListed (system_of task) (AreOfOneOrbit (system_of task)) (lines_of task c) plan
-solving_stays task c plan well closed = stays_told task c closed well plan
+solving_stays task c plan well closed = stays_reported task c closed well plan
 
 pub solving_stays_alone : (task : Task) (c : Certificate) (plan : List Instance) → c.exchanges ≡ [] → IsClosedFor task c → Solves (system_of task) plan
     → StaysListed (system_of task) (λ s r. s ≡ r) (lines_of task c) plan

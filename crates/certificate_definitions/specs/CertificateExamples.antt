@@ -152,12 +152,12 @@ pub record AreJudged : Type 0 where
   pub version_1_has_none : keeps_limits (token_reported one none (pos 2) (minus 1)) ≡ false
   pub dead_in_version_1 : keeps_limits (first_version none token_atoms (zeros token_atoms) (dead_at 0 (0 ∷ []) ∷ [])) ≡ false
   -- The first state's line follows the version, the claim, the constants, two atoms, and two tables with two rows each.
-  pub state_behind_tables : state_line token_tables 0 ≡ 12
+  pub state_after_tables : state_line token_tables 0 ≡ 12
   pub tables_within_limits : keeps_limits token_tables ≡ true
   -- The lines of two exchanges come before those of two atoms, and these before the first state; each is reported by its line.
   pub second_exchange : exchange_line 1 ≡ 5
-  pub atom_behind_exchanges : atom_line (gripper_by three (swapping 2 3 ∷ swapping 4 5 ∷ [])) 0 ≡ 6
-  pub state_behind_exchanges : state_line (gripper_by three (swapping 2 3 ∷ swapping 4 5 ∷ [])) 0 ≡ 8
+  pub atom_after_exchanges : atom_line (gripper_by three (swapping 2 3 ∷ swapping 4 5 ∷ [])) 0 ≡ 6
+  pub state_after_exchanges : state_line (gripper_by three (swapping 2 3 ∷ swapping 4 5 ∷ [])) 0 ≡ 8
   pub rooms_exchanged : IsWrongAt gripper (gripper_by three (swapping 2 3 ∷ swapping 0 1 ∷ [])) not_symmetry 5
   pub ball_and_gripper : IsWrongAt gripper (gripper_by three (swapping 2 4 ∷ [])) not_symmetry 4
   pub ball_and_none : IsWrongAt gripper (gripper_by three (swapping 2 6 ∷ [])) not_symmetry 4

@@ -91,9 +91,9 @@ pub record AreTextsJudged : Type 0 where
   pub whole : after_atoms three 3 (table_lines_of_both ++ last_lines) ≡ Some ended
   pub without_tables : after_atoms three 3 (last_lines) ≡ Some ended
   pub row_first : after_atoms three 3 (row_line zeros [] ∷ []) ≡ None
-  pub atom_behind_a_table : after_atoms three 3 (table_lines_of_both ++ atom (weighs zeros (codes "r")) ∷ []) ≡ None
-  pub row_behind_a_state : after_atoms three 3 (table_lines_of_both ++ listed (expanded_at 0 []) ∷ row_line zeros (0 ∷ []) ∷ []) ≡ None
-  pub table_behind_a_state : after_atoms three 3 (listed (expanded_at 0 []) ∷ part (tabled (scope (0 ∷ []))) ∷ []) ≡ None
+  pub atom_after_a_table : after_atoms three 3 (table_lines_of_both ++ atom (weighs zeros (codes "r")) ∷ []) ≡ None
+  pub row_after_a_state : after_atoms three 3 (table_lines_of_both ++ listed (expanded_at 0 []) ∷ row_line zeros (0 ∷ []) ∷ []) ≡ None
+  pub table_after_a_state : after_atoms three 3 (listed (expanded_at 0 []) ∷ part (tabled (scope (0 ∷ []))) ∷ []) ≡ None
   -- A scope has at least one atom, and its numbers ascend and are those of atoms; the same holds for a row, which has one weight
   -- for each constant.
   pub empty_scope : after_atoms three 3 (part (tabled (scope [])) ∷ []) ≡ None
@@ -106,8 +106,8 @@ pub record AreTextsJudged : Type 0 where
   pub table_in_version_2 : after_atoms two 2 (part (tabled (scope (0 ∷ []))) ∷ []) ≡ None
   -- Exchanges come right after the constants.
   pub exchanges : after_constants three (swapped (codes "a" ∷ codes "b" ∷ []) ∷ swapped (codes "b" ∷ codes "c" ∷ codes "d" ∷ codes "a" ∷ []) ∷ last_lines) ≡ Some ended
-  pub exchange_behind_atoms : after_atoms three 2 (swapped (codes "a" ∷ codes "b" ∷ []) ∷ []) ≡ None
-  pub exchange_behind_a_state : after_constants three (listed (expanded_at 0 []) ∷ swapped (codes "a" ∷ codes "b" ∷ []) ∷ []) ≡ None
+  pub exchange_after_atoms : after_atoms three 2 (swapped (codes "a" ∷ codes "b" ∷ []) ∷ []) ≡ None
+  pub exchange_after_a_state : after_constants three (listed (expanded_at 0 []) ∷ swapped (codes "a" ∷ codes "b" ∷ []) ∷ []) ≡ None
   pub exchange_in_version_1 : after_constants one (swapped (codes "a" ∷ codes "b" ∷ []) ∷ []) ≡ None
   pub exchange_in_version_2 : after_constants two (swapped (codes "a" ∷ codes "b" ∷ []) ∷ []) ≡ None
   -- The names of an exchange are at least two, even in number, and all different.
@@ -135,11 +135,11 @@ pub record AreTextsJudged : Type 0 where
   pub row_twice : IsWrongAfter tie_task (first_lines ++ table_lines_of_both) (row_line zeros (0 ∷ 1 ∷ [])) 44
   -- Version 4: zones come after tables and before landmark values, and a value's zones, as the value of a line, before it.
   pub landmarks : after_atoms four 3 (table_lines_of_both ++ zone_line ∷ marks_line 0 ∷ marks_line 0 ∷ listed (cut_by 1) ∷ last 1 ∷ []) ≡ Some ended
-  pub table_behind_a_zone : after_atoms four 3 (zone_line ∷ part (tabled (scope (0 ∷ []))) ∷ []) ≡ None
-  pub row_behind_a_zone : after_atoms four 3 (part (tabled (scope (0 ∷ []))) ∷ zone_line ∷ row_line zeros [] ∷ []) ≡ None
-  pub zone_behind_a_value : after_atoms four 3 (zone_line ∷ marks_line 0 ∷ zone_line ∷ []) ≡ None
+  pub table_after_a_zone : after_atoms four 3 (zone_line ∷ part (tabled (scope (0 ∷ []))) ∷ []) ≡ None
+  pub row_after_a_zone : after_atoms four 3 (part (tabled (scope (0 ∷ []))) ∷ zone_line ∷ row_line zeros [] ∷ []) ≡ None
+  pub zone_after_a_value : after_atoms four 3 (zone_line ∷ marks_line 0 ∷ zone_line ∷ []) ≡ None
   pub value_without_its_zone : after_atoms four 3 (zone_line ∷ marks_line 1 ∷ []) ≡ None
-  pub atom_behind_a_zone : after_atoms four 3 (zone_line ∷ atom (weighs zeros (codes "r")) ∷ []) ≡ None
+  pub atom_after_a_zone : after_atoms four 3 (zone_line ∷ atom (weighs zeros (codes "r")) ∷ []) ≡ None
   pub cut_by_no_value : after_atoms four 3 (zone_line ∷ marks_line 0 ∷ listed (cut_by 1) ∷ []) ≡ None
   pub zone_in_version_3 : after_atoms three 3 (zone_line ∷ []) ≡ None
   pub cut_by_in_version_3 : after_atoms three 3 (listed (cut_by 0) ∷ []) ≡ None

@@ -241,7 +241,7 @@ abbrev pub is_dead_end_by : Task → Certificate → Basis → State → Bool
 is_dead_end_by task c of_all = is_dead_end_of task c
 is_dead_end_by task c (landmark number) = λ state. nat_le 1 (landmarks.value_of_state task (numbered_atoms task c.atoms) (landmark_function c number) state)
 
--- what the mark says of the state rests on its basis: what is told to be still to pay from a cut is at most the value of the state, and a
+-- what the mark says of the state rests on its basis: the cost that a cut says is still to pay is at most the value of the state, and a
 -- dead end is shown to be one
 abbrev pub IsSupported : Task → Certificate → State → LineMark → Type 0
 IsSupported task c state expanded = Unit {0}

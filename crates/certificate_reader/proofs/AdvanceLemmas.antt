@@ -22,16 +22,16 @@ not_ended (stage.Body b) may_continue same = absurd (cc same)
 not_ended stage.Ended may_continue same = absurd (may_continue refl)
 
 module _ {R : Type 0} (remaining : R → Option (List ℕ)) (old new : CertReader R) (stays : new.position ≡ old.position) (may_continue : old.position.stage ≢ stage.Ended) (before : List TextLine) (read : HasRead old before) where
-  pub fault_told : (fault : NextFault) → IsNext (place_of old.position.stage) (waits_in old) (waits_in new) (remaining (source_of old)) (remaining (source_of new)) (Err fault)
+  pub fault_stated : (fault : NextFault) → IsNext (place_of old.position.stage) (waits_in old) (waits_in new) (remaining (source_of old)) (remaining (source_of new)) (Err fault)
       → IsAdvance remaining old new before (Err fault)
-  fault_told (next.Text Truncated) (bytes, consumed, at_end, faulty) = (bytes, consumed, at_end, faulty before read.place (not_ended old.position.stage may_continue))
-  fault_told (next.Text Form) (bytes, consumed, faulty, prompt) = (bytes, consumed, faulty before read.place, prompt_unless_ended old.position.stage may_continue (waits_in old) bytes prompt)
-  fault_told (next.Text Version) (bytes, consumed, faulty, prompt) = (bytes, consumed, faulty before read.place, prompt_unless_ended old.position.stage may_continue (waits_in old) bytes prompt)
-  fault_told (next.Text Limit) (bytes, consumed, faulty, prompt) = (bytes, consumed, faulty before read.place, prompt_unless_ended old.position.stage may_continue (waits_in old) bytes prompt)
-  fault_told next.Device unready = record {
+  fault_stated (next.Text Truncated) (bytes, consumed, at_end, faulty) = (bytes, consumed, at_end, faulty before read.place (not_ended old.position.stage may_continue))
+  fault_stated (next.Text Form) (bytes, consumed, faulty, prompt) = (bytes, consumed, faulty before read.place, prompt_unless_ended old.position.stage may_continue (waits_in old) bytes prompt)
+  fault_stated (next.Text Version) (bytes, consumed, faulty, prompt) = (bytes, consumed, faulty before read.place, prompt_unless_ended old.position.stage may_continue (waits_in old) bytes prompt)
+  fault_stated (next.Text Limit) (bytes, consumed, faulty, prompt) = (bytes, consumed, faulty before read.place, prompt_unless_ended old.position.stage may_continue (waits_in old) bytes prompt)
+  fault_stated next.Device unready = record {
     bytes = unready.grown.bytes;
     consumed = unready.grown.consumed;
     waits = unready.grown.appended;
     nothing = come_unless_ended new.position.stage (waits_in new) (subst (λ at. at.stage ≢ stage.Ended) (sym stays) may_continue) ∙ unready.unready;
   }
-  fault_told next.NoMemory reported = tt
+  fault_stated next.NoMemory reported = tt

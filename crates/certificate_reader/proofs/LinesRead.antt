@@ -449,8 +449,8 @@ module _ (rest : List ℕ) (f : Format) where
     constant_is : (k : List ℤ) → IsReadAs (codes "constant") rest f (constant k) → (w ≡ k) × (following ≡ None)
     constant_is k read = one_leading (Some rest) 33 w k following None is (constant_leads k read)
 
-    pub constant_goes_on : (bytes : List ℕ) → following ≡ Some bytes → (line : TextLine) → IsReadAs (codes "constant") rest f line → ⊥
-    constant_goes_on bytes at = only_constant (λ k read. absurd (cc (sym (constant_is k read).1 ∙ at)))
+    pub constant_continues : (bytes : List ℕ) → following ≡ Some bytes → (line : TextLine) → IsReadAs (codes "constant") rest f line → ⊥
+    constant_continues bytes at = only_constant (λ k read. absurd (cc (sym (constant_is k read).1 ∙ at)))
 
     pub other_count : is_weight_count f.version (length w) ≡ false → (line : TextLine) → IsReadAs (codes "constant") rest f line → ⊥
     other_count other = only_constant (λ k read.

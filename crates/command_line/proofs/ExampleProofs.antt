@@ -27,6 +27,7 @@ are_read = record {
   a_task_to_explain = (refl, refl);
   a_plan_to_explain = (refl, refl);
   a_trace = (refl, refl);
+  a_certificate_to_explain = (refl, refl);
   an_explanation_in_json = (refl, refl);
   no_word = refl;
   help = refl;
@@ -38,7 +39,10 @@ are_read = record {
   no_problem_to_explain = refl;
   a_trace_without_a_plan = λ is. let asks = is.1.1 in absurd (cc);
   a_plan_too_many = refl;
-  an_option_of_check = refl;
+  a_plan_by_an_option = λ is. let asks = is.1.1 in absurd (cc);
+  two_plans = λ is. let asks = is.1.1 in absurd (cc);
+  a_trace_of_a_certificate = λ is. let asks = is.1.1 in absurd (cc);
+  an_option_of_solve_to_explain = refl;
   no_value = refl;
   an_option_for_a_value = refl;
   a_value_for_none = refl;

@@ -18,13 +18,13 @@ use Rattle.clap.proofs.WalkLemmas.{both}
 use Rattle.clap.proofs.ValueTestLemmas.{accepts-Accepts, Accepts-accepts}
 use Rattle.command_line.specs.Limit.{is_limit, most}
 use Rattle.command_line.specs.Description.{optplan}
-use Rattle.command_line.specs.Orders.{Asks, IsCommand, Wanted, limit_of, wanted_in}
+use Rattle.command_line.specs.Orders.{Asks, IsCommand, Request, limit_of, request_in}
 use Rattle.command_line.specs.declared.max_count.MaxCount.{MaxCount}
 
 -- words give only one order
-pub one_wanted : (words : List Text) (a b : Wanted) → Asks words a → Asks words b → a ≡ b
-one_wanted words a b asks others =
-    let same : ◌≡◌ {A = Option Wanted} (Some a) (Some b) = sym asks.1 ∙ others.1 in cc
+pub one_request : (words : List Text) (a b : Request) → Asks words a → Asks words b → a ≡ b
+one_request words a b asks others =
+    let same : ◌≡◌ {A = Option Request} (Some a) (Some b) = sym asks.1 ∙ others.1 in cc
 
 -- ---- limits
 
@@ -77,25 +77,25 @@ unfolding clap_on_literals
 is_simple_too = refl
 
 module _ (app : App) (is : app ≡ optplan) (words : List Text) where
-  pub asked : (m : ArgMatches) (wanted : Wanted) → (is_simple app ≡ true → subcommand_rows_of m ≡ subcommand_of app words)
-      → (is_simple_and_free app ≡ true → fault_of app words ≡ []) → Some wanted ≡ option_and_then wanted_in (subcommand_rows_of m) → Asks words wanted
-  asked m wanted matches taken wants =
+  pub asked : (m : ArgMatches) (request : Request) → (is_simple app ≡ true → subcommand_rows_of m ≡ subcommand_of app words)
+      → (is_simple_and_free app ≡ true → fault_of app words ≡ []) → Some request ≡ option_and_then request_in (subcommand_rows_of m) → Asks words request
+  asked m request matches taken wants =
       let simple : is_simple app ≡ true = ap is_simple is ∙ is_simple_too in
       let free : is_simple_and_free app ≡ true = ap is_simple_and_free is ∙ optplan_is_simple in (
         sym (ap (λ a. fault_of a words) is) ∙ taken free,
-        sym (wants ∙ ap (option_and_then wanted_in) (matches simple ∙ ap (λ a. subcommand_of a words) is)),
+        sym (wants ∙ ap (option_and_then request_in) (matches simple ∙ ap (λ a. subcommand_of a words) is)),
       )
 
   pub not_asked : (m : ArgMatches) → (is_simple app ≡ true → subcommand_rows_of m ≡ subcommand_of app words)
-      → None ≡ option_and_then wanted_in (subcommand_rows_of m) → IsCommand words → ⊥
-  not_asked m matches none (wanted, asks) =
+      → None ≡ option_and_then request_in (subcommand_rows_of m) → IsCommand words → ⊥
+  not_asked m matches none (request, asks) =
       let simple : is_simple app ≡ true = ap is_simple is ∙ is_simple_too in
-      let same : ◌≡◌ {A = Option Wanted} None (Some wanted) =
-      none ∙ ap (option_and_then wanted_in) (matches simple ∙ ap (λ a. subcommand_of a words) is) ∙ asks.1 in
+      let same : ◌≡◌ {A = Option Request} None (Some request) =
+      none ∙ ap (option_and_then request_in) (matches simple ∙ ap (λ a. subcommand_of a words) is) ∙ asks.1 in
       absurd (cc)
 
   pub refused : (e : Error) → (is_simple_and_free app ≡ true → HasKind (fault_of app words) e) → (kind_of e ≡ OutOfMemory → ⊥) → IsCommand words → ⊥
-  refused e fails of_words (wanted, asks) =
+  refused e fails of_words (request, asks) =
       let free : is_simple_and_free app ≡ true = ap is_simple_and_free is ∙ optplan_is_simple in
       let kind : HasKind [] e = subst (λ kinds. HasKind kinds e) (ap (λ a. fault_of a words) is ∙ asks.0) (fails free) in
       elim kind [ inl memory ↦ of_words memory | inr among ↦ absurd among ]

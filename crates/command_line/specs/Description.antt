@@ -66,7 +66,8 @@ check = subcommand (codes "check")
 
 abbrev pub explain : Shape
 explain = subcommand (codes "explain")
-    (file (codes "DOMAIN") ∷ file (codes "PROBLEM") ∷ optional_file (codes "PLAN") ∷ trace ∷ limit (codes "instances") ∷ json ∷ [])
+    (file (codes "DOMAIN") ∷ file (codes "PROBLEM") ∷ optional_file (codes "PLAN") ∷ trace ∷ option (codes "cert") ∷ option (codes "plan")
+    ∷ limit (codes "instances") ∷ json ∷ [])
 
 -- the program: one of the four commands is required, and without words the usage is reported
 abbrev pub optplan : App

@@ -5,7 +5,7 @@ use Rattle.clap.specs.Faults.{fault_of}
 use Rattle.clap.specs.Walk.{Text}
 use Rattle.clap.specs.declared.error.kind.ErrorKind.TheVariants.{ArgumentConflict, DisplayHelp, DisplayHelpOnMissingArgumentOrSubcommand, DisplayVersion, InvalidValue, MissingRequiredArgument, TooManyValues, UnknownArgument, ValueValidation}
 use Rattle.command_line.specs.Description.{optplan}
-use Rattle.command_line.specs.Orders.{Asks, Asked, IsCommand, to_solve, to_validate, to_check, to_explain}
+use Rattle.command_line.specs.Orders.{Asks, Asked, IsCommand, to_solve, to_validate, to_check, to_explain, to_explain_cert}
 
 -- `solve d p`, with these words before, between and after the two names
 abbrev pub solve_words : (first second third : List Text) → List Text
@@ -58,6 +58,8 @@ pub record AreRead : Type 0 where
       (to_explain (codes "d") (codes "p") (record { instances = 7; plan = Some (codes "l"); trace = false; json = false }))
   pub a_trace : Asks (codes "explain" ∷ codes "d" ∷ codes "p" ∷ codes "--trace" ∷ codes "l" ∷ [])
       (to_explain (codes "d") (codes "p") (record { instances = 1000000; plan = Some (codes "l"); trace = true; json = false }))
+  pub a_certificate_to_explain : Asks (codes "explain" ∷ codes "d" ∷ codes "p" ∷ codes "--cert" ∷ codes "c" ∷ codes "--plan=l" ∷ codes "--json" ∷ [])
+      (to_explain_cert (codes "d") (codes "p") (codes "c") (record { instances = 1000000; plan = Some (codes "l"); json = true }))
   pub an_explanation_in_json : Asks (codes "explain" ∷ codes "--json" ∷ codes "d" ∷ codes "p" ∷ [])
       (to_explain (codes "d") (codes "p") (record { instances = 1000000; plan = None; trace = false; json = true }))
   -- refusals
@@ -71,7 +73,10 @@ pub record AreRead : Type 0 where
   pub no_problem_to_explain : AreRefused (codes "explain" ∷ codes "d" ∷ []) (MissingRequiredArgument ∷ [])
   pub a_trace_without_a_plan : IsCommand (codes "explain" ∷ codes "d" ∷ codes "p" ∷ codes "--trace" ∷ []) → ⊥
   pub a_plan_too_many : AreRefused (codes "explain" ∷ codes "d" ∷ codes "p" ∷ codes "l" ∷ codes "l" ∷ []) (UnknownArgument ∷ [])
-  pub an_option_of_check : AreRefused (codes "explain" ∷ codes "d" ∷ codes "p" ∷ codes "--plan" ∷ codes "l" ∷ []) (UnknownArgument ∷ [])
+  pub a_plan_by_an_option : IsCommand (codes "explain" ∷ codes "d" ∷ codes "p" ∷ codes "--plan" ∷ codes "l" ∷ []) → ⊥
+  pub two_plans : IsCommand (codes "explain" ∷ codes "d" ∷ codes "p" ∷ codes "l" ∷ codes "--cert" ∷ codes "c" ∷ []) → ⊥
+  pub a_trace_of_a_certificate : IsCommand (codes "explain" ∷ codes "d" ∷ codes "p" ∷ codes "--trace" ∷ codes "--cert" ∷ codes "c" ∷ []) → ⊥
+  pub an_option_of_solve_to_explain : AreRefused (codes "explain" ∷ codes "d" ∷ codes "p" ∷ codes "--states" ∷ codes "5" ∷ []) (UnknownArgument ∷ [])
   pub no_value : AreRefused (words (codes "--plan" ∷ [])) (InvalidValue ∷ [])
   pub an_option_for_a_value : AreRefused (words (codes "--plan" ∷ codes "--json" ∷ [])) (InvalidValue ∷ [])
   pub a_value_for_none : AreRefused (words (codes "--json=true" ∷ [])) (TooManyValues ∷ [])

@@ -39,12 +39,20 @@ pub record AskedOfExplain : Type 0 where
   pub trace : Bool
   pub json : Bool
 
+-- the options of `explain` for a certificate: the limit of instances, the file to read a plan from, if any, and whether the
+-- explanation is printed as JSON
+pub record AskedOfCert : Type 0 where
+  pub instances : ℕ
+  pub plan : Option Text
+  pub json : Bool
+
 -- an order, with the names of the input files
-pub data Wanted : Type 0 where
-  to_solve : (domain problem : Text) → Asked → Wanted
-  to_validate : (domain problem plan : Text) (json : Bool) → Wanted
-  to_check : (domain problem cert : Text) → AskedOfCheck → Wanted
-  to_explain : (domain problem : Text) → AskedOfExplain → Wanted
+pub data Request : Type 0 where
+  to_solve : (domain problem : Text) → Asked → Request
+  to_validate : (domain problem plan : Text) (json : Bool) → Request
+  to_check : (domain problem cert : Text) → AskedOfCheck → Request
+  to_explain : (domain problem : Text) → AskedOfExplain → Request
+  to_explain_cert : (domain problem cert : Text) → AskedOfCert → Request
 
 -- the number that the text denotes in decimal digits after an optional plus, if it is from 1 to 16,777,216
 abbrev pub limit_of : Text → Option ℕ
@@ -76,7 +84,7 @@ abbrev pub ◌>>=◌ : {A B : Type 0} → Option A → (A → Option B) → Opti
 o >>= f = option_and_then f o
 
 -- the order given by the values of a command's arguments: its files and limits are there, and the given options
-abbrev pub solve_in : List Row → Option Wanted
+abbrev pub solve_in : List Row → Option Request
 solve_in rows = do
   domain ← first_of (codes "DOMAIN") rows
   problem ← first_of (codes "PROBLEM") rows
@@ -95,14 +103,14 @@ solve_in rows = do
     progress = is_given (codes "progress") rows;
   }))
 
-abbrev pub validate_in : List Row → Option Wanted
+abbrev pub validate_in : List Row → Option Request
 validate_in rows = do
   domain ← first_of (codes "DOMAIN") rows
   problem ← first_of (codes "PROBLEM") rows
   plan ← first_of (codes "PLAN") rows
   Some (to_validate domain problem plan (is_given (codes "json") rows))
 
-abbrev pub check_in : List Row → Option Wanted
+abbrev pub check_in : List Row → Option Request
 check_in rows = do
   domain ← first_of (codes "DOMAIN") rows
   problem ← first_of (codes "PROBLEM") rows
@@ -115,26 +123,46 @@ check_in rows = do
     progress = is_given (codes "progress") rows;
   }))
 
-abbrev pub explain_in : List Row → Option Wanted
-explain_in rows = do
+-- this, if none is given
+abbrev pub unless_given : {A : Type 0} → Option Text → Option A → Option A
+unless_given None o = o
+unless_given (Some text) o = None
+
+-- without a certificate; `--plan` goes with one
+abbrev pub explain_files_in : List Row → Option Request
+explain_files_in rows = do
   domain ← first_of (codes "DOMAIN") rows
   problem ← first_of (codes "PROBLEM") rows
   instances ← limit_in (codes "instances") rows
   trace ← trace_in rows
   Some (to_explain domain problem (record { instances = instances; plan = first_of (codes "PLAN") rows; trace = trace; json = is_given (codes "json") rows }))
 
+-- with this certificate, which a plan goes with by `--plan` alone; a trace does not
+abbrev pub explain_cert_in : List Row → Text → Option Request
+explain_cert_in rows cert = do
+  domain ← first_of (codes "DOMAIN") rows
+  problem ← first_of (codes "PROBLEM") rows
+  instances ← limit_in (codes "instances") rows
+  if is_given (codes "trace") rows then None
+      else Some (to_explain_cert domain problem cert (record { instances = instances; plan = first_of (codes "plan") rows; json = is_given (codes "json") rows }))
+
+abbrev pub explain_in : List Row → Option Request
+explain_in rows =
+    option_map_or (λ cert. unless_given (first_of (codes "PLAN") rows) (explain_cert_in rows cert)) (first_of (codes "cert") rows)
+    (unless_given (first_of (codes "plan") rows) (explain_files_in rows))
+
 -- the order of a command with these values
-abbrev pub wanted_in : Text × List Row → Option Wanted
-wanted_in used =
+abbrev pub request_in : Text × List Row → Option Request
+request_in used =
     if bytes_eq used.0 (codes "solve") then solve_in used.1
     else (if bytes_eq used.0 (codes "validate") then validate_in used.1
     else (if bytes_eq used.0 (codes "check") then check_in used.1
     else (if bytes_eq used.0 (codes "explain") then explain_in used.1 else None)))
 
 -- The words are accepted and give this order.
-abbrev pub Asks : List Text → Wanted → Type 0
-Asks words wanted = (fault_of optplan words ≡ []) × (option_and_then wanted_in (subcommand_of optplan words) ≡ Some wanted)
+abbrev pub Asks : List Text → Request → Type 0
+Asks words request = (fault_of optplan words ≡ []) × (option_and_then request_in (subcommand_of optplan words) ≡ Some request)
 
 -- the words are a command
 abbrev pub IsCommand : List Text → Type 0
-IsCommand words = (wanted : Wanted) × Asks words wanted
+IsCommand words = (request : Request) × Asks words request

@@ -3,11 +3,11 @@ use Rattle.std.specs.Prelude.{ℕ, List, map, Option}
 use Rattle.std.specs.Borrow.{Bor}
 use Rattle.std.specs.Option.{option_map}
 use Rattle.clap.specs.Walk.{Text}
-use Rattle.command_line.specs.Orders.{Wanted, to_solve, to_validate, to_check, to_explain}
+use Rattle.command_line.specs.Orders.{Request, to_solve, to_validate, to_check, to_explain, to_explain_cert}
 use Rattle.command_line.specs.Versions.{number_of}
 use Rattle.command_line.specs.declared.max_count.MaxCount.{MaxCount}
 use Rattle.command_line.specs.declared.order.Order.{Order}
-use Rattle.command_line.specs.declared.order.Order.TheVariants.{Solve, Validate, Check, Explain}
+use Rattle.command_line.specs.declared.order.Order.TheVariants.{Solve, Validate, Check, Explain, ExplainCert}
 use Rattle.command_line.specs.declared.fault.WordsFault.{WordsFault}
 use Rattle.command_line.specs.declared.fault.WordsFault.TheVariants.{Words, NoMemory}
 
@@ -24,8 +24,8 @@ abbrev pub texts : List (Bor Text) → List Text
 texts = map (λ (word : Bor Text). word.now)
 
 -- the order
-abbrev pub wanted_of : Order → Wanted
-wanted_of (Solve domain problem plan cert states instances seconds cert_version json progress) =
+abbrev pub request_of : Order → Request
+request_of (Solve domain problem plan cert states instances seconds cert_version json progress) =
     to_solve domain.now problem.now (record {
       states = states.number;
       instances = instances.number;
@@ -36,11 +36,13 @@ wanted_of (Solve domain problem plan cert states instances seconds cert_version 
       json = json;
       progress = progress;
     })
-wanted_of (Validate domain problem plan json) = to_validate domain.now problem.now plan.now json
-wanted_of (Check domain problem cert plan instances json progress) =
+request_of (Validate domain problem plan json) = to_validate domain.now problem.now plan.now json
+request_of (Check domain problem cert plan instances json progress) =
     to_check domain.now problem.now cert.now (record { instances = instances.number; plan = text_in plan; json = json; progress = progress })
-wanted_of (Explain domain problem plan trace instances json) =
+request_of (Explain domain problem plan trace instances json) =
     to_explain domain.now problem.now (record { instances = instances.number; plan = text_in plan; trace = trace; json = json })
+request_of (ExplainCert domain problem cert plan instances json) =
+    to_explain_cert domain.now problem.now cert.now (record { instances = instances.number; plan = text_in plan; json = json })
 
 -- the fault is one of the words, not running out of memory
 abbrev pub IsOfWords : WordsFault → Type 0

@@ -19,7 +19,8 @@ const USAGE: &str =
     "optplan solve DOMAIN PROBLEM [--plan FILE] [--cert FILE] [--states N] [--instances N] [--seconds N] [--cert-version N] [--json] [--progress]
        optplan validate DOMAIN PROBLEM PLAN [--json]
        optplan check DOMAIN PROBLEM CERT [--plan FILE] [--instances N] [--json] [--progress]
-       optplan explain DOMAIN PROBLEM [PLAN] [--trace] [--instances N] [--json]";
+       optplan explain DOMAIN PROBLEM [PLAN] [--trace] [--instances N] [--json]
+       optplan explain DOMAIN PROBLEM --cert FILE [--plan FILE] [--instances N] [--json]";
 
 const PROGRAM_HELP: &str =
     "N is a number from 1 to 16777216; the default is 1000000. Of --seconds it is at most 1000000; by default the time is not limited.
@@ -61,7 +62,7 @@ Put `--` before the name of a file that begins with a hyphen.";
 const EXPLAIN_HELP: &str = "Example:
   optplan explain domain.pddl problem.pddl plan.txt
 
-Status: 0 no fault, 11 a limit was exceeded, 12 the plan does not solve the task, 20 a file has a fault; for others see `optplan help`
+Status: 0 no fault, 11 a limit was exceeded, 12 the plan does not solve the task, or the certificate is not accepted, 20 a file has a fault; for others see `optplan help`
 Put `--` before the name of a file that begins with a hyphen.";
 
 const INSTANCES_HELP: &str = "Keep at most N action instances, 1 to 16777216";
@@ -189,12 +190,24 @@ fn add_explain<'a>(alloc: Global, commands: &mut Vec<Command<'a>>) -> Result<(),
             "The plan file; without it the task is summarized"
         ),
         trace(alloc),
+        option(
+            alloc,
+            "cert",
+            "FILE",
+            "Say what the certificate in this file shows, or why it is refused",
+        ),
+        option(
+            alloc,
+            "plan",
+            "FILE",
+            "With --cert: check that the plan in this file is a cheapest one",
+        ),
         limit(alloc, "instances", INSTANCES_HELP),
         json(alloc),
     ]?;
     let texts = CommandTexts {
         name: "explain",
-        about: "Explain what is wrong with a task or a plan, or summarize a task",
+        about: "Explain what is wrong with a task, a plan or a certificate, or summarize a task",
         help: EXPLAIN_HELP,
     };
     add_command(alloc, texts, arguments, commands)

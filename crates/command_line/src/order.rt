@@ -71,4 +71,19 @@ pub enum Order<'a> {
         /// Whether the explanation is printed as JSON.
         json: bool,
     },
+    /// Explain what the certificate in a file shows about the task of two files, or why it is refused.
+    ExplainCert {
+        /// The name of the domain file.
+        domain: &'a str,
+        /// The name of the problem file.
+        problem: &'a str,
+        /// The name of the certificate file.
+        cert: &'a str,
+        /// The name of the plan file, if any.
+        plan: Option<&'a str>,
+        /// The maximum number of instances that may be kept.
+        instances: MaxCount,
+        /// Whether the explanation is printed as JSON.
+        json: bool,
+    },
 }

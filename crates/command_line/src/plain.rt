@@ -8,10 +8,10 @@ use std::alloc::{AllocError, Global};
 /// # Errors
 /// An allocation failed.
 pub fn text_of(alloc: Global, fault: &WordsFault) -> Result<String, AllocError> {
-    let told = format!(in alloc; "{fault}")?;
+    let message = format!(in alloc; "{fault}")?;
     let mut text = String::new(alloc);
     let mut is_after_blank = false;
-    for line in told.as_str().lines() {
+    for line in message.as_str().lines() {
         let is_left_out = is_misleading(line) || (line.is_empty() && is_after_blank);
         if !is_left_out {
             is_after_blank = line.is_empty();

@@ -4,9 +4,9 @@ ghost use Rattle.clap.specs.Matches.{found_of};
 ghost use Rattle.clap.specs.Simple.{subcommand_rows_of};
 ghost use Rattle.clap.specs.Walk.{first_of, rows_of};
 ghost use Rattle.command_line.specs.Examples.{AreRead};
-ghost use Rattle.command_line.specs.Orders.{Asks, IsCommand, cert_version_in, check_in, explain_in, is_given, limit_in, limit_of, seconds_in, solve_in, trace_in, validate_in, wanted_in};
+ghost use Rattle.command_line.specs.Orders.{Asks, IsCommand, cert_version_in, check_in, explain_cert_in, explain_files_in, explain_in, is_given, limit_in, limit_of, seconds_in, solve_in, trace_in, validate_in, request_in};
 ghost use Rattle.command_line.specs.Versions.{number_of};
-ghost use Rattle.command_line.specs.View.{IsOfWords, number_in, text_in, texts, wanted_of};
+ghost use Rattle.command_line.specs.View.{IsOfWords, number_in, text_in, texts, request_of};
 
 use crate::cert_version::CertVersion;
 use crate::description::program;
@@ -24,21 +24,22 @@ use std::alloc::{AllocError, Global};
 /// optplan validate DOMAIN PROBLEM PLAN [--json]
 /// optplan check DOMAIN PROBLEM CERT [--plan FILE] [--instances N] [--json] [--progress]
 /// optplan explain DOMAIN PROBLEM [PLAN] [--trace] [--instances N] [--json]
+/// optplan explain DOMAIN PROBLEM --cert FILE [--plan FILE] [--instances N] [--json]
 /// ```
 ///
 /// Options may come in any order, each at most once, before, between and after the files, as `--states 5` or `--states=5`. A word
 /// after `--` is a file name, even if it begins with a hyphen. A number is from 1 to 16,777,216, in decimal digits after an
 /// optional plus; the default is 1,000,000. Seconds are at most 1,000,000, and not limited by default. Versions of certificates are from
-/// 2 to 4, by default 4. A trace needs a plan. Words that ask for help or the version are not an order: the fault's text is what they
-/// ask for.
+/// 2 to 4, by default 4. A trace needs a plan, and `--plan` of `explain` needs `--cert`, which goes without the other two. Words that ask
+/// for help or the version are not an order: the fault's text is what they ask for.
 pub fn read_words<'a>(alloc: Global, words: &'a [&str]) -> Result<Order<'a>, WordsFault>
-    ensures asks { IfOk result (λ order. Asks (texts words.entry.now) (wanted_of order)) }
+    ensures asks { IfOk result (λ order. Asks (texts words.entry.now) (request_of order)) }
     ensures refused { IfErr result (λ fault. IsOfWords fault → IsCommand (texts words.entry.now) → ⊥) }
 {
     let matches = program(alloc)?.try_get_matches_from(words)?;
     match order_in(&matches) {
         Some(order) => Ok(order),
-        None => Err(no_order(alloc)),
+        None => Err(no_order(alloc, &matches)),
     }
 }
 
@@ -47,24 +48,42 @@ pub fn examples_are_read()
     ensures { AreRead }
 {}
 
-/// The fault for a match that is not an order: a trace is asked for without a plan. `clap` makes no match without a command and its
-/// files.
-fn no_order(alloc: Global) -> WordsFault {
-    match missing(alloc) {
+/// The fault for a match that is not an order: options of `explain` that do not go together. `clap` makes no match without a command
+/// and its files.
+fn no_order(alloc: Global, matches: &ArgMatches<'_>) -> WordsFault {
+    match unfitting(alloc, matches) {
         Ok(error) => WordsFault::Words(error),
         Err(refused) => WordsFault::from(refused),
     }
 }
 
-/// The error for a missing plan.
-fn missing(alloc: Global) -> Result<Error, AllocError> {
-    let text = "`--trace` needs a plan: optplan explain DOMAIN PROBLEM PLAN --trace";
-    program(alloc)?.error(ErrorKind::MissingRequiredArgument, text)
+/// The error for options that do not go together.
+fn unfitting(alloc: Global, matches: &ArgMatches<'_>) -> Result<Error, AllocError> {
+    if has_value(matches, "cert") {
+        let text =
+            "`--cert` goes without PLAN and `--trace`: optplan explain DOMAIN PROBLEM --cert FILE [--plan FILE]";
+        program(alloc)?.error(ErrorKind::ArgumentConflict, text)
+    } else if has_value(matches, "plan") {
+        let text =
+            "`--plan` needs `--cert`: optplan explain DOMAIN PROBLEM PLAN, or --cert FILE --plan FILE";
+        program(alloc)?.error(ErrorKind::MissingRequiredArgument, text)
+    } else {
+        let text = "`--trace` needs a plan: optplan explain DOMAIN PROBLEM PLAN --trace";
+        program(alloc)?.error(ErrorKind::MissingRequiredArgument, text)
+    }
+}
+
+/// Whether an argument of the command has a value.
+fn has_value(matches: &ArgMatches<'_>, name: &str) -> bool {
+    match matches.subcommand() {
+        Some((_, matches)) => value_of(matches, name).is_some(),
+        None => false,
+    }
 }
 
 /// The order of a match.
 fn order_in<'a>(matches: &ArgMatches<'a>) -> Option<Order<'a>>
-    ensures { option_map wanted_of result ≡ option_and_then wanted_in (subcommand_rows_of matches.now) }
+    ensures { option_map request_of result ≡ option_and_then request_in (subcommand_rows_of matches.now) }
 {
     let (name, matches) = matches.subcommand()?;
     match name {
@@ -78,7 +97,7 @@ fn order_in<'a>(matches: &ArgMatches<'a>) -> Option<Order<'a>>
 
 /// The order of the command `solve`, with these values.
 fn solve_in<'a>(matches: &ArgMatches<'a>) -> Option<Order<'a>>
-    ensures { option_map wanted_of result ≡ solve_in (rows_of (found_of matches.now)) }
+    ensures { option_map request_of result ≡ solve_in (rows_of (found_of matches.now)) }
 {
     let domain = value_of(matches, "DOMAIN")?;
     let problem = value_of(matches, "PROBLEM")?;
@@ -102,7 +121,7 @@ fn solve_in<'a>(matches: &ArgMatches<'a>) -> Option<Order<'a>>
 
 /// The order of the command `validate`, with these values.
 fn validate_in<'a>(matches: &ArgMatches<'a>) -> Option<Order<'a>>
-    ensures { option_map wanted_of result ≡ validate_in (rows_of (found_of matches.now)) }
+    ensures { option_map request_of result ≡ validate_in (rows_of (found_of matches.now)) }
 {
     let domain = value_of(matches, "DOMAIN")?;
     let problem = value_of(matches, "PROBLEM")?;
@@ -117,7 +136,7 @@ fn validate_in<'a>(matches: &ArgMatches<'a>) -> Option<Order<'a>>
 
 /// The order of the command `check`, with these values.
 fn check_in<'a>(matches: &ArgMatches<'a>) -> Option<Order<'a>>
-    ensures { option_map wanted_of result ≡ check_in (rows_of (found_of matches.now)) }
+    ensures { option_map request_of result ≡ check_in (rows_of (found_of matches.now)) }
 {
     let domain = value_of(matches, "DOMAIN")?;
     let problem = value_of(matches, "PROBLEM")?;
@@ -136,7 +155,43 @@ fn check_in<'a>(matches: &ArgMatches<'a>) -> Option<Order<'a>>
 
 /// The order of the command `explain`, with these values.
 fn explain_in<'a>(matches: &ArgMatches<'a>) -> Option<Order<'a>>
-    ensures { option_map wanted_of result ≡ explain_in (rows_of (found_of matches.now)) }
+    ensures { option_map request_of result ≡ explain_in (rows_of (found_of matches.now)) }
+{
+    match value_of(matches, "cert") {
+        Some(cert) => match value_of(matches, "PLAN") {
+            Some(_) => None,
+            None => explain_cert_in(matches, cert),
+        },
+        None => match value_of(matches, "plan") {
+            Some(_) => None,
+            None => explain_files_in(matches),
+        },
+    }
+}
+
+/// The order to explain this certificate.
+fn explain_cert_in<'a>(matches: &ArgMatches<'a>, cert: &'a str) -> Option<Order<'a>>
+    ensures { option_map request_of result ≡ explain_cert_in (rows_of (found_of matches.now)) cert.entry.now }
+{
+    let domain = value_of(matches, "DOMAIN")?;
+    let problem = value_of(matches, "PROBLEM")?;
+    let instances = limit_in(matches, "instances")?;
+    if is_given(matches, "trace") {
+        return None;
+    }
+    Some(Order::ExplainCert {
+        domain,
+        problem,
+        cert,
+        plan: value_of(matches, "plan"),
+        instances,
+        json: is_given(matches, "json"),
+    })
+}
+
+/// The order to explain a task, or a plan if one is given.
+fn explain_files_in<'a>(matches: &ArgMatches<'a>) -> Option<Order<'a>>
+    ensures { option_map request_of result ≡ explain_files_in (rows_of (found_of matches.now)) }
 {
     let domain = value_of(matches, "DOMAIN")?;
     let problem = value_of(matches, "PROBLEM")?;

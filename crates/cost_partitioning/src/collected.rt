@@ -147,7 +147,7 @@ impl Collecting<'_, '_> {
         let mut level: Vec<Vec<u32>> = Vec::new(self.alloc);
         for candidate in candidates {
             for variable in &candidate.variables {
-                for more in links.wanted(*variable) {
+                for more in links.required(*variable) {
                     self.grow(&candidate.variables, *more, &mut level)?;
                 }
                 for more in links.changed(*variable) {

@@ -72,7 +72,7 @@ impl Effort {
 
 /// Inputs of a draft: potentials to beat, sample states, effort.
 #[derive(Clone, Copy)]
-pub struct Wanted<'a> {
+pub struct DraftInput<'a> {
     /// The potentials that the values should exceed.
     pub potentials: &'a Potentials,
     /// The potentials for dead ends.
@@ -86,13 +86,13 @@ pub struct Wanted<'a> {
     pub effort: Effort,
 }
 
-/// A ground task over variables, for which tables are wanted.
+/// A ground task over variables, for which tables are drafted.
 #[derive(Clone, Copy)]
 struct Subject<'a, 't> {
     alloc: Global,
     ground: &'a Ground<'t>,
     variables: &'a Variables,
-    wanted: &'a Wanted<'a>,
+    inputs: &'a DraftInput<'a>,
 }
 
 /// Values over tables that may exceed those of potentials. `None` if no table is useful, or the task is too large.
@@ -102,10 +102,10 @@ struct Subject<'a, 't> {
 pub fn drafted_tables(
     alloc: Global,
     ground: &Ground<'_>,
-    wanted: &Wanted<'_>,
+    inputs: &DraftInput<'_>,
 ) -> Result<Option<DraftedTables>, NoMemory>
-    ensures first { IfOk result (λ o. IfSome o (λ draft. slice_get (map potentials_of draft.values.items) 0 ≡ Some (potentials_of wanted.now.potentials.now))) }
-    ensures dead_ends { IfOk result (λ o. IfSome o (λ draft. potentials_of draft.dead_ends ≡ potentials_of wanted.now.dead_ends.now)) }
+    ensures first { IfOk result (λ o. IfSome o (λ draft. slice_get (map potentials_of draft.values.items) 0 ≡ Some (potentials_of inputs.now.potentials.now))) }
+    ensures dead_ends { IfOk result (λ o. IfSome o (λ draft. potentials_of draft.dead_ends ≡ potentials_of inputs.now.dead_ends.now)) }
 {
     if ground.width() > MAX_ATOMS || ground.instances().len() > MAX_INSTANCES {
         return Ok(None);
@@ -120,7 +120,7 @@ pub fn drafted_tables(
         alloc,
         ground,
         variables: &variables,
-        wanted,
+        inputs,
     };
     let draft = subject.draft(&mut input)?;
     Ok(draft)
@@ -129,10 +129,10 @@ pub fn drafted_tables(
 impl Subject<'_, '_> {
     /// The draft, whose potentials are drafted from this input.
     fn draft(&self, input: &mut ProgramInput) -> Result<Option<DraftedTables>, NoMemory>
-        ensures first { IfOk result (λ o. IfSome o (λ draft. slice_get (map potentials_of draft.values.items) 0 ≡ Some (potentials_of self.now.wanted.now.potentials.now))) }
-        ensures dead_ends { IfOk result (λ o. IfSome o (λ draft. potentials_of draft.dead_ends ≡ potentials_of self.now.wanted.now.dead_ends.now)) }
+        ensures first { IfOk result (λ o. IfSome o (λ draft. slice_get (map potentials_of draft.values.items) 0 ≡ Some (potentials_of self.now.inputs.now.potentials.now))) }
+        ensures dead_ends { IfOk result (λ o. IfSome o (λ draft. potentials_of draft.dead_ends ≡ potentials_of self.now.inputs.now.dead_ends.now)) }
     {
-        let atoms = samples(self.alloc, input.states(), self.wanted.states)?;
+        let atoms = samples(self.alloc, input.states(), self.inputs.states)?;
         let values = values_of_all(self.alloc, self.variables, &atoms)?;
         let Some(known) = self.known(input, &values)? else {
             return Ok(None);
@@ -149,7 +149,7 @@ impl Subject<'_, '_> {
     /// Tables over the variables, and the costs of the instances that they do not shut out, for the values of variables in the
     /// sampled states. `None` if the task is too large.
     fn known(&self, input: &ProgramInput, states: &[Vec<u32>]) -> Result<Option<Known>, NoMemory> {
-        let starts = samples(self.alloc, first_of(input.states()), self.wanted.starts)?;
+        let starts = samples(self.alloc, first_of(input.states()), self.inputs.starts)?;
         let starts = values_of_all(self.alloc, self.variables, &starts)?;
         let Some(steps) = Steps::new(self.alloc, self.ground, self.variables)? else {
             return Ok(None);
@@ -187,7 +187,7 @@ impl Subject<'_, '_> {
             costs: costs_of(self.alloc, self.ground, &shutters)?,
             shutters,
             states,
-            effort: self.wanted.effort,
+            effort: self.inputs.effort,
             collected: Collected::new(self.alloc),
             room: 0,
         };
@@ -207,17 +207,17 @@ impl Subject<'_, '_> {
         sampled: Sampled<'k>,
         input: &mut ProgramInput,
     ) -> Result<Option<DraftedTables>, NoMemory>
-        ensures first { IfOk result (λ o. IfSome o (λ draft. slice_get (map potentials_of draft.values.items) 0 ≡ Some (potentials_of self.now.wanted.now.potentials.now))) }
-        ensures dead_ends { IfOk result (λ o. IfSome o (λ draft. potentials_of draft.dead_ends ≡ potentials_of self.now.wanted.now.dead_ends.now)) }
+        ensures first { IfOk result (λ o. IfSome o (λ draft. slice_get (map potentials_of draft.values.items) 0 ≡ Some (potentials_of self.now.inputs.now.potentials.now))) }
+        ensures dead_ends { IfOk result (λ o. IfSome o (λ draft. potentials_of draft.dead_ends ≡ potentials_of self.now.inputs.now.dead_ends.now)) }
     {
-        let wanted = self.wanted;
+        let inputs = self.inputs;
         let choosing = Choosing {
             alloc: self.alloc,
             abstractions: &known.collected.graphs,
             costs: &known.costs,
             sampled,
-            potentials: wanted.potentials,
-            effort: wanted.effort,
+            potentials: inputs.potentials,
+            effort: inputs.effort,
         };
         let values = choosing.values(input)?;
         let Some(written) = self.tables_of_use(known, &values, sampled)? else {
@@ -226,7 +226,7 @@ impl Subject<'_, '_> {
         Ok(Some(DraftedTables {
             tables: written,
             values: potentials_in(self.alloc, &values)?,
-            dead_ends: wanted.dead_ends.copied(self.alloc)?,
+            dead_ends: inputs.dead_ends.copied(self.alloc)?,
         }))
     }
 
@@ -242,7 +242,7 @@ impl Subject<'_, '_> {
             alloc: self.alloc,
             variables: self.variables,
             values,
-            weight_of_dead: weight_of_dead(self.wanted.dead_ends),
+            weight_of_dead: weight_of_dead(self.inputs.dead_ends),
         };
         let mut dead_ends = DeadEnds::new(self.alloc, sampled.abstract_states)?;
         let mut tables = Vec::new(self.alloc);

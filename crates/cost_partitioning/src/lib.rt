@@ -21,4 +21,4 @@ mod rests;
 mod states;
 mod written;
 
-pub use draft::{DraftedTables, Effort, Wanted, drafted_tables};
+pub use draft::{DraftInput, DraftedTables, Effort, drafted_tables};

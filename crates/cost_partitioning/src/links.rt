@@ -11,7 +11,7 @@ const MAX_CHANGED: usize = 40;
 /// For each variable, those required by instances that change it, and those changed with it.
 #[derive(Drop)]
 pub(crate) struct Links {
-    wanted: Vec<Vec<u32>>,
+    required: Vec<Vec<u32>>,
     changed: Vec<Vec<u32>>,
 }
 
@@ -23,28 +23,28 @@ impl Links {
         variables: &Variables,
     ) -> Result<Links, NoMemory> {
         let mut links = Links {
-            wanted: Vec::new(alloc),
+            required: Vec::new(alloc),
             changed: Vec::new(alloc),
         };
         for _ in 0..variables.count() {
-            links.wanted.push(Vec::new(alloc))?;
+            links.required.push(Vec::new(alloc))?;
             links.changed.push(Vec::new(alloc))?;
         }
         for number in 0..instance_count(ground) {
-            let wanted = variables.of_literals(alloc, ground.literals(number))?;
+            let required = variables.of_literals(alloc, ground.literals(number))?;
             let changed = variables.of_changes(alloc, ground.counting(number))?;
             if changed.len() <= MAX_CHANGED {
-                links.add(&wanted, &changed)?;
+                links.add(&required, &changed)?;
             }
         }
         Ok(links)
     }
 
     /// Links each changed variable with the required ones and with the other changed ones.
-    fn add(&mut self, wanted: &[u32], changed: &[u32]) -> Result<(), NoMemory> {
+    fn add(&mut self, required: &[u32], changed: &[u32]) -> Result<(), NoMemory> {
         for variable in changed {
-            if let Some(links) = self.wanted.get_mut(place_of(*variable)) {
-                join(links, wanted, *variable)?;
+            if let Some(links) = self.required.get_mut(place_of(*variable)) {
+                join(links, required, *variable)?;
             }
             if let Some(links) = self.changed.get_mut(place_of(*variable)) {
                 join(links, changed, *variable)?;
@@ -54,8 +54,8 @@ impl Links {
     }
 
     /// The variables required by instances that change this one.
-    pub(crate) fn wanted(&self, variable: u32) -> &[u32] {
-        list_at(&self.wanted, variable)
+    pub(crate) fn required(&self, variable: u32) -> &[u32] {
+        list_at(&self.required, variable)
     }
 
     /// The variables changed together with this one.

@@ -2,11 +2,11 @@
 use Rattle.std.proofs.Common.{◌≡◌, ℕ, Bool, List, refl}
 use Rattle.std.specs.Prelude.{Option}
 use Rattle.devices.specs.Devices.{IsWritten}
-use Rattle.devices.specs.Progress.{Stream, stream, AreSaid, nothing, one_more, GoesOn}
+use Rattle.devices.specs.Progress.{Stream, stream, AreSaid, nothing, one_more, MayContinue}
 
 -- one more line is reported
 pub one_line : (IsLine : List ℕ → Type 0) (may_lack_memory : Bool) (failures : ℕ) (taken : Option (List ℕ)) (failures_after : ℕ) (taken_after : Option (List ℕ)) (line : List ℕ)
-    → IsLine line → IsWritten may_lack_memory failures failures_after taken taken_after line → GoesOn IsLine may_lack_memory failures taken failures_after taken_after
+    → IsLine line → IsWritten may_lack_memory failures failures_after taken taken_after line → MayContinue IsLine may_lack_memory failures taken failures_after taken_after
 one_line IsLine may_lack_memory failures taken failures_after taken_after line is written origin said =
     one_more (stream failures taken) (stream failures_after taken_after) line said is written
 
@@ -22,10 +22,10 @@ pub said_of_more : {IsLine IsMore : List ℕ → Type 0} {may_lack_memory : Bool
 said_of_more more nothing = nothing
 said_of_more more (one_more now after line said is written) = one_more now after line (said_of_more more said) (more line is) written
 
-pub goes_on_of_more : (IsLine IsMore : List ℕ → Type 0) (may_lack_memory : Bool) (failures : ℕ) (taken : Option (List ℕ)) (failures_after : ℕ) (taken_after : Option (List ℕ))
-    → ((line : List ℕ) → IsLine line → IsMore line) → GoesOn IsLine may_lack_memory failures taken failures_after taken_after
-    → GoesOn IsMore may_lack_memory failures taken failures_after taken_after
-goes_on_of_more IsLine IsMore may_lack_memory failures taken failures_after taken_after more may_continue origin said =
+pub continues_of_more : (IsLine IsMore : List ℕ → Type 0) (may_lack_memory : Bool) (failures : ℕ) (taken : Option (List ℕ)) (failures_after : ℕ) (taken_after : Option (List ℕ))
+    → ((line : List ℕ) → IsLine line → IsMore line) → MayContinue IsLine may_lack_memory failures taken failures_after taken_after
+    → MayContinue IsMore may_lack_memory failures taken failures_after taken_after
+continues_of_more IsLine IsMore may_lack_memory failures taken failures_after taken_after more may_continue origin said =
     said_after said (said_of_more more (may_continue (stream failures taken) nothing))
 
 -- nothing is reported if no line may be

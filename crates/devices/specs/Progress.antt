@@ -18,6 +18,6 @@ pub data AreSaid (IsLine : List ℕ → Type 0) (may_lack_memory : Bool) (before
       → IsWritten may_lack_memory now.failures after.failures now.taken after.taken line → AreSaid IsLine may_lack_memory before after
 
 -- Whatever was reported before, only such lines were reported since.
-abbrev pub GoesOn : (IsLine : List ℕ → Type 0) → Bool → (failures : ℕ) (taken : Option (List ℕ)) (failures_after : ℕ) (taken_after : Option (List ℕ)) → Type 0
-GoesOn IsLine may_lack_memory failures taken failures_after taken_after =
+abbrev pub MayContinue : (IsLine : List ℕ → Type 0) → Bool → (failures : ℕ) (taken : Option (List ℕ)) (failures_after : ℕ) (taken_after : Option (List ℕ)) → Type 0
+MayContinue IsLine may_lack_memory failures taken failures_after taken_after =
     (origin : Stream) → AreSaid IsLine may_lack_memory origin (stream failures taken) → AreSaid IsLine may_lack_memory origin (stream failures_after taken_after)

@@ -6,8 +6,8 @@ use Rattle.std.proofs.lemmas.List.{take_more}
 use Rattle.std.proofs.lemmas.List.Elements.{All-nil, All-cons, All-head, All-tail}
 use Rattle.tokens.specs.declared.word.Word.{Word}
 use Rattle.model.specs.Trees.{TaskFile}
-use Rattle.explain_faults.specs.Expected.{AreAll, AreTold, IsOfKeyword, AreSome, MayFollow, no_more, taken, passed_over}
-use Rattle.explain_words.proofs.Told.{those_hold}
+use Rattle.explain_faults.specs.Expected.{AreAll, AreSuggested, IsOfKeyword, AreSome, MayFollow, no_more, taken, passed_over}
+use Rattle.explain_words.proofs.Reported.{those_hold}
 
 -- ---- a selection of words
 
@@ -54,12 +54,12 @@ follow_all file before all are = those_hold (MayFollow file before) are.candidat
 
 -- if all are reported, or a non-empty selection, the report is as specified
 module _ (file : TaskFile) (before all : List Word) (reported : List ℕ) where
-  pub told_all : AreAll file before all → AreTold file before reported all
-  told_all are_all = record { all = all; are_all = are_all; are_told = inl refl }
+  pub reported_all : AreAll file before all → AreSuggested file before reported all
+  reported_all are_all = record { all = all; are_all = are_all; are_reported = inl refl }
 
-  pub told_some : (given some : List Word) → given ≡ all → AreSome given some → IsOfKeyword reported → 0 < length some → AreAll file before all → AreTold file before reported some
-  told_some given some same are is_of_keyword not_none are_all = record {
+  pub stated_some : (given some : List Word) → given ≡ all → AreSome given some → IsOfKeyword reported → 0 < length some → AreAll file before all → AreSuggested file before reported some
+  stated_some given some same are is_of_keyword not_none are_all = record {
     all = all;
     are_all = are_all;
-    are_told = inr (is_of_keyword, subst (λ (w : List Word). AreSome w some) same are, λ empty. absurd (let none_in : length some ≡ 0 = ap length empty in omega arith));
+    are_reported = inr (is_of_keyword, subst (λ (w : List Word). AreSome w some) same are, λ empty. absurd (let none_in : length some ≡ 0 = ap length empty in omega arith));
   }

@@ -1,4 +1,4 @@
 pub mod Candidates
 pub mod FirstLines
-pub mod WantedWords
+pub mod ExpectedWords
 pub mod WrongLemmas

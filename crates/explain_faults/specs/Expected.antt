@@ -17,14 +17,14 @@ words_before offset = before_first (begins_from offset)
 
 -- Words may occur at an offset of a file's text: each of them, after the words of the text before it, is the continuation of some
 -- file of this kind.
-pub record MayOccurIn (file : TaskFile) (text : List ℕ) (offset : ℕ) (wanted : List code.Word) : Type 0 where
+pub record MayOccurIn (file : TaskFile) (text : List ℕ) (offset : ℕ) (allowed : List code.Word) : Type 0 where
   pub words : List code.Word
   pub reads : ReadsAs text (map word_of words)
-  pub follow : All (MayFollow file (words_before offset words)) wanted
+  pub follow : All (MayFollow file (words_before offset words)) allowed
 
 -- the words may occur there, or none are reported
 abbrev pub MayOccur : TaskFile → List ℕ → ℕ → List code.Word → Type 0
-MayOccur file text offset wanted = (wanted ≡ []) ⊎ MayOccurIn file text offset wanted
+MayOccur file text offset allowed = (allowed ≡ []) ⊎ MayOccurIn file text offset allowed
 
 -- some of these words, in order
 pub data AreSome : (words some : List code.Word) → Type 0 where
@@ -38,13 +38,13 @@ IsOfKeyword reported = IsTrue (starts_with nat_eq reported (codes ":"))
 
 -- The words reported in place of the refused bytes, after these words: all candidates that may follow, or for a keyword a
 -- non-empty selection of them.
-pub record AreTold (file : TaskFile) (before : List code.Word) (reported : List ℕ) (told : List code.Word) : Type 0 where
+pub record AreSuggested (file : TaskFile) (before : List code.Word) (reported : List ℕ) (suggested : List code.Word) : Type 0 where
   pub all : List code.Word
   pub are_all : AreAll file before all
-  pub are_told : (told ≡ all) ⊎ (IsOfKeyword reported × AreSome all told × (told ≡ [] → ⊥))
+  pub are_reported : (suggested ≡ all) ⊎ (IsOfKeyword reported × AreSome all suggested × (suggested ≡ [] → ⊥))
 
 -- the same, after the words of a text that begin before an offset
-pub record AreReportedIn (file : TaskFile) (text : List ℕ) (offset : ℕ) (reported : List ℕ) (told : List code.Word) : Type 0 where
+pub record AreReportedIn (file : TaskFile) (text : List ℕ) (offset : ℕ) (reported : List ℕ) (suggested : List code.Word) : Type 0 where
   pub words : List code.Word
   pub reads : ReadsAs text (map word_of words)
-  pub are_told : AreTold file (words_before offset words) reported told
+  pub are_reported : AreSuggested file (words_before offset words) reported suggested

@@ -51,11 +51,11 @@ abbrev pub BeginsWith : (text : List ℕ) → (form : List ℕ → Type 0) → T
 BeginsWith text form = (beginning : List ℕ) × (rest : List ℕ) × (text ≡ beginning ++ rest) × form beginning
 
 -- the words may occur at the fault of a domain or a problem; none are reported for a plan
-abbrev pub AreWanted : NamedTexts → FileRefusal → List Word → Type 0
-AreWanted texts fault wanted =
-    (fault.file ≡ Domain → MayOccur domain_file (text_in texts Domain) fault.span.start wanted)
-    × (fault.file ≡ Problem → MayOccur problem_file (text_in texts Problem) fault.span.start wanted)
-    × (fault.file ≡ Plan → wanted ≡ [])
+abbrev pub AreExpected : NamedTexts → FileRefusal → List Word → Type 0
+AreExpected texts fault allowed =
+    (fault.file ≡ Domain → MayOccur domain_file (text_in texts Domain) fault.span.start allowed)
+    × (fault.file ≡ Problem → MayOccur problem_file (text_in texts Problem) fault.span.start allowed)
+    × (fault.file ≡ Plan → allowed ≡ [])
 
 -- a word was unexpected
 abbrev pub IsOfWords : Code → Type 0
@@ -64,16 +64,16 @@ IsOfWords code = (code ≡ BadForm) ⊎ (code ≡ UnknownSection) ⊎ (code ≡ 
 -- For such a fault of a domain or a problem that reads as words, all candidates are reported that may occur at its place, or for
 -- a keyword a non-empty selection of them.
 abbrev pub AreWhole : NamedTexts → FileRefusal → List Word → Type 0
-AreWhole texts fault wanted =
+AreWhole texts fault allowed =
     (fault.file ≡ Domain → Reads (text_in texts Domain)
-    → AreReportedIn domain_file (text_in texts Domain) fault.span.start (reported_in (text_in texts Domain) fault.span.start fault.span.end) wanted)
+    → AreReportedIn domain_file (text_in texts Domain) fault.span.start (reported_in (text_in texts Domain) fault.span.start fault.span.end) allowed)
     × (fault.file ≡ Problem → Reads (text_in texts Problem)
-    → AreReportedIn problem_file (text_in texts Problem) fault.span.start (reported_in (text_in texts Problem) fault.span.start fault.span.end) wanted)
+    → AreReportedIn problem_file (text_in texts Problem) fault.span.start (reported_in (text_in texts Problem) fault.span.start fault.span.end) allowed)
 
 -- the explanation is of this fault, the place is that of the first byte of its span, and the reported words are exactly those
 -- that may occur there
 pub record IsExplained (texts : NamedTexts) (fault : FileRefusal) (explanation : FaultExplanation) : Type 0 where
   pub is_fault : explanation.fault ≡ fault
   pub is_place : IsPlace (text_in texts fault.file) fault.span.start explanation.place
-  pub are_wanted : AreWanted texts fault explanation.wanted.items
-  pub are_whole : IsOfWords fault.code → AreWhole texts fault explanation.wanted.items
+  pub are_expected : AreExpected texts fault explanation.allowed.items
+  pub are_whole : IsOfWords fault.code → AreWhole texts fault explanation.allowed.items

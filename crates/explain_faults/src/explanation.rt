@@ -1,9 +1,9 @@
 //! A fault with its explanation.
 ghost use Rattle.std.specs.Prelude.{IfOk, IsTrue};
-ghost use Rattle.explain_faults.specs.Explained.{AreWanted, AreWhole, IsExplained, IsOfWords};
+ghost use Rattle.explain_faults.specs.Explained.{AreExpected, AreWhole, IsExplained, IsOfWords};
 
+use crate::allowed::{RefusedBytes, words_at};
 use crate::sentences::{Remarks, remarks_on};
-use crate::wanted::{RefusedBytes, words_at};
 use crate::wrong::{WrongPlace, wrong_place};
 use explain_hints::{
     Context, CutTexts, File, FileRefusal, LineColumn, NamedTexts, place_of, reported_bytes,
@@ -22,7 +22,7 @@ pub struct FaultExplanation<'a> {
     pub place: LineColumn,
     /// The words that may occur in place of a refused one, one for each kind: one name stands for all names, one variable for all
     /// variables, one number for all numbers. For a keyword, only the similar ones if there are any.
-    pub wanted: Vec<Word<'a>>,
+    pub allowed: Vec<Word<'a>>,
     /// What is wrong, and what to do.
     pub(crate) remarks: Remarks,
     /// Where the text goes wrong before the fault, if its parentheses are unbalanced.
@@ -43,26 +43,26 @@ pub fn explain_fault<'a>(
     ensures { IfOk result (IsExplained texts.now fault) }
 {
     let place = place_of(texts.text(fault.file), fault.span.start);
-    let wanted = wanted_words(alloc, texts, fault)?;
+    let allowed = expected_words(alloc, texts, fault)?;
     let wrong = wrong_place(alloc, texts, pieces, fault)?;
-    let remarks = remarks_on(alloc, Context::of(alloc, texts, pieces, fault), &wanted)?;
+    let remarks = remarks_on(alloc, Context::of(alloc, texts, pieces, fault), &allowed)?;
     Ok(FaultExplanation {
         fault,
         place,
-        wanted,
+        allowed,
         remarks,
         wrong,
     })
 }
 
 /// The words that may occur in place of a refused one; none if other help is reported.
-fn wanted_words<'a>(
+fn expected_words<'a>(
     alloc: Global,
     texts: &NamedTexts<'a>,
     fault: FileRefusal,
 ) -> Result<Vec<Word<'a>>, NoMemory>
-    ensures wanted { IfOk result (λ wanted. AreWanted texts.now fault wanted.items) }
-    ensures whole { IsOfWords fault.code → IfOk result (λ wanted. AreWhole texts.now fault wanted.items) }
+    ensures allowed { IfOk result (λ allowed. AreExpected texts.now fault allowed.items) }
+    ensures whole { IsOfWords fault.code → IfOk result (λ allowed. AreWhole texts.now fault allowed.items) }
 {
     if !is_of_words(fault.code) {
         return Ok(Vec::new(alloc));

@@ -1,11 +1,11 @@
 //! Explains a fault of a text: its place, the line with marks, and a sentence of help.
 #![tactic(auto)]
 
+mod allowed;
 mod explanation;
 mod report;
 mod same_mistake;
 mod sentences;
-mod wanted;
 mod words;
 mod wrong;
 

@@ -1,6 +1,6 @@
 //! The sentences about a fault: what is wrong, and what helps.
 use crate::explanation::FaultExplanation;
-use crate::words::{is_suggested, wanted_sentence};
+use crate::words::{expected_sentence, is_suggested};
 use crate::wrong::{Nesting, WrongPlace};
 use explain_hints::{Context, FilePlace, Name, NamedTexts, after_word, marked, reported_bytes};
 use faults::{NoMemory, RefusalIn};
@@ -25,12 +25,12 @@ pub(crate) struct Remarks {
 pub(crate) fn remarks_on(
     alloc: Global,
     context: Context<'_, '_>,
-    wanted: &[Word<'_>],
+    allowed: &[Word<'_>],
 ) -> Result<Remarks, NoMemory> {
     let word = context.word;
-    if is_suggested(word, wanted) {
+    if is_suggested(word, allowed) {
         return Ok(Remarks {
-            sentence: wanted_sentence(alloc, word, wanted)?,
+            sentence: expected_sentence(alloc, word, allowed)?,
             is_hint: false,
             advice: None,
             rewriter: None,
@@ -41,8 +41,8 @@ pub(crate) fn remarks_on(
     Ok(Remarks {
         sentence: match message {
             Some(message) => format!(in alloc; "{message}")?,
-            None if wanted.is_empty() => context.sentence()?,
-            None => wanted_sentence(alloc, word, wanted)?,
+            None if allowed.is_empty() => context.sentence()?,
+            None => expected_sentence(alloc, word, allowed)?,
         },
         is_hint: message.is_some(),
         advice: hint.and_then(|hint| hint.advice),

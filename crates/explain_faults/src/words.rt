@@ -4,25 +4,25 @@ use std::alloc::{AllocError, Global};
 use tokens::{Kind, Word};
 
 /// Whether similar keywords are suggested in place of this word.
-pub(crate) fn is_suggested(word: &[u8], wanted: &[Word<'_>]) -> bool {
-    !wanted.is_empty()
+pub(crate) fn is_suggested(word: &[u8], allowed: &[Word<'_>]) -> bool {
+    !allowed.is_empty()
         && word.starts_with(b":")
-        && wanted.iter().all(|other| is_near(word, other.text()))
+        && allowed.iter().all(|other| is_near(word, other.text()))
 }
 
 /// The sentence about the words that may occur in place of this one. Similar keywords are offered as a question.
-pub(crate) fn wanted_sentence(
+pub(crate) fn expected_sentence(
     alloc: Global,
     word: &[u8],
-    wanted: &[Word<'_>],
+    allowed: &[Word<'_>],
 ) -> Result<String, AllocError> {
-    let (opening, ending) = if is_suggested(word, wanted) {
+    let (opening, ending) = if is_suggested(word, allowed) {
         ("did you mean ", "?")
     } else {
         ("expected ", ".")
     };
     let mut out = String::from_str(alloc, opening)?;
-    add_words(alloc, wanted, &mut out)?;
+    add_words(alloc, allowed, &mut out)?;
     out.push_str(ending)?;
     Ok(out)
 }
@@ -34,8 +34,8 @@ enum NamesAllowed {
     Any,
     /// All but the reserved ones.
     Unreserved,
-    /// Those told one by one.
-    Told,
+    /// Those listed one by one.
+    Suggested,
 }
 
 impl NamesAllowed {
@@ -46,7 +46,7 @@ impl NamesAllowed {
         } else if has(words, b"name") {
             NamesAllowed::Unreserved
         } else {
-            NamesAllowed::Told
+            NamesAllowed::Suggested
         }
     }
 }
@@ -77,7 +77,7 @@ fn is_reported(word: &Word<'_>, names: NamesAllowed) -> bool {
         b"name" => true,
         b"preference" => false,
         b"define" | b"domain" | b"problem" | b"number" | b"minimize" => {
-            matches!(names, NamesAllowed::Told)
+            matches!(names, NamesAllowed::Suggested)
         }
         _ => word.kind() != Kind::Name || !matches!(names, NamesAllowed::Any),
     }

@@ -123,10 +123,10 @@ module _ (s other : List Bool) (within : IsWithin s other) where
         | inr there ↦ or_right (not l.value) (has other l.atom) (within l.atom there)
       ]
 
-  held-within : (wants : Bool) (literals : List NumberedLiteral) → may_hold s wants literals ≡ true → may_hold other wants literals ≡ true
-  held-within wants literals so =
-      let parts = and_parts (not wants) (allows_all s literals) so in
-      and_from (not wants) (allows_all other literals) parts.0 (passes_weaker (allows s) (allows other) allowed-within literals parts.1)
+  held-within : (demands : Bool) (literals : List NumberedLiteral) → may_hold s demands literals ≡ true → may_hold other demands literals ≡ true
+  held-within demands literals so =
+      let parts = and_parts (not demands) (allows_all s literals) so in
+      and_from (not demands) (allows_all other literals) parts.0 (passes_weaker (allows s) (allows other) allowed-within literals parts.1)
 
   added-within : (c : ConditionalChange) → may_add s c ≡ true → may_add other c ≡ true
   added-within c so =

@@ -4,3 +4,4 @@ pub mod GrownLemmas
 pub mod SettledLemmas
 pub mod NeedLemmas
 pub mod ChainLemmas
+pub mod MutexLemmas

@@ -2,7 +2,7 @@
 use Rattle.std.proofs.Common.{arith, ◌≡◌, ◌∙◌, ℕ, ◌+◌, ◌<◌, ◌≤◌, Bool, true, false, true≢false, inl, inr, List, [], Some, refl, sym, ap, subst, length}
 use Rattle.faults.specs.declared.refused.NoMemory.{NoMemory}
 use Rattle.explain_goals.specs.declared.needs.Needs.{Needs}
-use Rattle.explain_goals.specs.declared.needs.Needs.TheVariants.{Added, Untold}
+use Rattle.explain_goals.specs.declared.needs.Needs.TheVariants.{Added, Unreported}
 use Rattle.std.specs.Prelude.{◌==◌, ◌⊎◌, IfOk, Result, Ok, Err, Contains, slice_get}
 use Rattle.std.specs.List.{list_any}
 use Rattle.std.specs.Option.{option_map_or}
@@ -118,5 +118,5 @@ answered-all r added needed count past all i c a there by =
 -- what is known of a result
 pub when-added : (P Q : Type 0) → (P → Q) → (result : Result Needs NoMemory) → IfOk result (λ n. WhenAdded n P) → IfOk result (λ n. WhenAdded n Q)
 when-added P Q step (Ok Added) so = step so
-when-added P Q step (Ok Untold) so = tt
+when-added P Q step (Ok Unreported) so = tt
 when-added P Q step (Err e) so = so

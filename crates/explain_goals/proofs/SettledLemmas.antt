@@ -122,10 +122,10 @@ module _ (t : Task) (set : List Bool) where
         one (are_different a b) n none there = absurd (cc)
 
     -- want no atom without a number
-    wants_none : (literals : List Literal) → ((b : Atom) → Contains literals (is_true b) → is_in t atoms set b ≡ true) → list_any (is_unnumbered t atoms) literals ≡ false
-    wants_none [] each = refl
-    wants_none (l ∷ literals) each =
-        let rest = wants_none literals (λ b at. each b (Contains-there l literals (is_true b) at)) in
+    requires_none : (literals : List Literal) → ((b : Atom) → Contains literals (is_true b) → is_in t atoms set b ≡ true) → list_any (is_unnumbered t atoms) literals ≡ false
+    requires_none [] each = refl
+    requires_none (l ∷ literals) each =
+        let rest = requires_none literals (λ b at. each b (Contains-there l literals (is_true b) at)) in
         (λ i. one l (λ b same. each b (subst_here b same)) i || rest i)
       where
         subst_here : (b : Atom) → l ≡ is_true b → Contains (l ∷ literals) (is_true b)
@@ -157,8 +157,8 @@ module _ (t : Task) (set : List Bool) where
             | Some s ↦ refl
           ]
 
-      wants-are : instance_requires_unnumbered t atoms i ≡ list_any (is_unnumbered t atoms) (sure_of_instance t i)
-      wants-are = elim (slice_get t.schemas i.schema) as (λ o. option_map_or (λ (s : Schema). requires_unnumbered t atoms s.precondition i.objects) o false
+      demands-are : instance_requires_unnumbered t atoms i ≡ list_any (is_unnumbered t atoms) (sure_of_instance t i)
+      demands-are = elim (slice_get t.schemas i.schema) as (λ o. option_map_or (λ (s : Schema). requires_unnumbered t atoms s.precondition i.objects) o false
           ≡ list_any (is_unnumbered t atoms) (option_map_or (λ (s : Schema). sure t s.precondition i.objects) o [])) [
             | None ↦ refl
             | Some s ↦ refl
@@ -170,7 +170,7 @@ module _ (t : Task) (set : List Bool) where
       applies : may_apply t atoms set place.0 ≡ true
       applies =
           (λ j. may_hold set
-          ((ap (λ o. option_map_or (instance_requires_unnumbered t atoms) o false) place.1 ∙ wants-are ∙ wants_none (sure_of_instance t i) of_precondition) j)
+          ((ap (λ o. option_map_or (instance_requires_unnumbered t atoms) o false) place.1 ∙ demands-are ∙ requires_none (sure_of_instance t i) of_precondition) j)
           ((ap (λ o. option_map_or (literals_of_instance t atoms) o []) place.1 ∙ literals-are) j))
           ∙ allowed (sure_of_instance t i) of_precondition
 
@@ -188,7 +188,7 @@ module _ (t : Task) (set : List Bool) where
 
       adds-it : may_add set conditional ≡ true
       adds-it =
-          (λ j. may_hold set (wants_none (sure t c.condition c.binding) of_condition j) (numbered_literals t atoms c.condition c.binding))
+          (λ j. may_hold set (requires_none (sure t c.condition c.binding) of_condition j) (numbered_literals t atoms c.condition c.binding))
           ∙ allowed (sure t c.condition c.binding) of_condition
 
       below : numbered.0 < length set

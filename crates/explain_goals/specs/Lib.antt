@@ -6,4 +6,6 @@ pub mod Notes
 pub mod Chains
 pub mod Needed
 pub mod Contradictions
+pub mod Exclusive
+pub mod MutexGroups
 pub mod AddedLines

@@ -13,14 +13,14 @@ use Rattle.model.specs.ConditionalChanges.{ConditionalChange}
 use Rattle.explain_goals.specs.declared.relaxation.Relaxation.{Relaxation}
 use Rattle.explain_goals.specs.declared.goal_notes.Unreachable.{Unreachable}
 use Rattle.explain_goals.specs.declared.needs.Needs.{Needs}
-use Rattle.explain_goals.specs.declared.needs.Needs.TheVariants.{Added, Untold}
+use Rattle.explain_goals.specs.declared.needs.Needs.TheVariants.{Added, Unreported}
 use Rattle.explain_goals.specs.Chains.{InstanceNeedsOneOf, NeedOneOf}
 use Rattle.explain_goals.specs.Views.{is_out}
 
 -- what holds if an atom was added
 abbrev pub WhenAdded : Needs → Type 0 → Type 0
 WhenAdded Added fact = fact
-WhenAdded Untold fact = Unit {0}
+WhenAdded Unreported fact = Unit {0}
 
 -- none of the atoms may become true
 abbrev pub AreOut : Relaxation → State → Type 0

@@ -14,6 +14,7 @@ ghost use Rattle.explain_goals.specs.Settled.{IsLeastSettled};
 ghost use Rattle.explain_goals.specs.Views.{is_out};
 
 use crate::contradictions::contradictory;
+use crate::exclusive::Exclusive;
 use crate::reached::reached;
 use crate::relaxation::Relaxation;
 use faults::NoMemory;
@@ -22,7 +23,7 @@ use grounding::Ground;
 use std::alloc::Global;
 
 /// The maximum number of atoms that are reported.
-pub const MOST_TOLD: usize = 10;
+pub const MOST_NOTES: usize = 10;
 
 /// The maximum number that are searched for: one more shows that there are more.
 pub const MOST_FOUND: usize = 11;
@@ -34,6 +35,8 @@ pub struct GoalNotes {
     pub unreachable: Vec<Unreachable>,
     /// The first atom that the goal requires to be true and to be false.
     pub contradictory: Option<Atom>,
+    /// Two atoms that the goal requires and that are never both true, though each may be.
+    pub exclusive: Option<Exclusive>,
 }
 
 /// An atom of the goal that is never true.
@@ -79,9 +82,11 @@ impl Relaxation<'_, '_> {
     {
         let unreachable = self.unreachable(alloc, literals)?;
         let contradictory = contradictory(alloc, literals)?;
+        let exclusive = self.exclusive_atoms(alloc, literals)?;
         Ok(GoalNotes {
             unreachable,
             contradictory,
+            exclusive,
         })
     }
 

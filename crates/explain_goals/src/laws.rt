@@ -1,5 +1,6 @@
 //! Laws of the delete relaxation, over all tasks. They are proved; the calls do nothing.
 ghost use Rattle.explain_goals.specs.Contradictions.{ContradictoryGoalsAreUnsolvable};
+ghost use Rattle.explain_goals.specs.Exclusive.{ExclusiveGoalsAreUnsolvable};
 ghost use Rattle.explain_goals.specs.Laws.{ClosedSetsAreInvariants, NeverTrueGoalsAreUnsolvable};
 
 /// No list of actions leads to a state with an atom outside a closed set.
@@ -15,4 +16,9 @@ pub fn never_true_goals_are_unsolvable()
 /// A task is unsolvable if its goal requires an atom to be true and to be false.
 pub fn contradictory_goals_are_unsolvable()
     ensures { ContradictoryGoalsAreUnsolvable }
+{}
+
+/// A task is unsolvable if its goal requires two atoms of a group of which at most one is ever true.
+pub fn exclusive_goals_are_unsolvable()
+    ensures { ExclusiveGoalsAreUnsolvable }
 {}

@@ -31,7 +31,7 @@ pub(crate) enum Needs {
     /// An atom was added that each change in question needs, or there is no such change.
     Added,
     /// No such atom was found, or there are too many.
-    Untold,
+    Unreported,
 }
 
 impl Relaxation<'_, '_> {
@@ -47,7 +47,7 @@ impl Relaxation<'_, '_> {
         for number in 0..instance_count(self.ground) {
             match self.add_needs(alloc, number, added, &mut needed)? {
                 Needs::Added => {}
-                Needs::Untold => return Ok(None),
+                Needs::Unreported => return Ok(None),
             }
         }
         Ok(Some(needed))
@@ -71,7 +71,7 @@ impl Relaxation<'_, '_> {
         }
         match self.ground.instance(number) {
             Some(instance) => self.add_need_of(alloc, instance, needed),
-            None => Ok(Needs::Untold),
+            None => Ok(Needs::Unreported),
         }
     }
 
@@ -138,7 +138,7 @@ impl Relaxation<'_, '_> {
     {
         match self.first_out(literals) {
             Some(atom) => add_need(atom, needed),
-            None => Ok(Needs::Untold),
+            None => Ok(Needs::Unreported),
         }
     }
 
@@ -163,7 +163,7 @@ fn add_need(atom: &Atom, needed: &mut State) -> Result<Needs, NoMemory>
     ensures { IfOk result (λ n. WhenAdded n (state_of needed.new ≡ insert (state_of needed.old) (atom_of atom.now))) }
 {
     if needed.atoms().len() >= MOST_NEEDED {
-        return Ok(Needs::Untold);
+        return Ok(Needs::Unreported);
     }
     needed.insert(atom.clone()?)?;
     Ok(Needs::Added)

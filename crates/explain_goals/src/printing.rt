@@ -3,7 +3,8 @@ ghost use Rattle.std.specs.Prelude.{map, OnOk};
 ghost use Rattle.std.specs.String.{string_bytes};
 ghost use Rattle.explain_goals.specs.AddedLines.{AddsLines};
 
-use crate::goal_notes::{GoalNotes, MOST_TOLD, Unreachable};
+use crate::exclusive::Exclusive;
+use crate::goal_notes::{GoalNotes, MOST_NOTES, Unreachable};
 use explain_tasks::add_bytes;
 use faults::NoMemory;
 use formulas::{Atom, State};
@@ -14,8 +15,8 @@ use task::{ObjectId, PredicateId, Task};
 const MOST_NAMED: usize = 3;
 
 impl GoalNotes {
-    /// Adds a line for each atom of the goal that is never true, unless it is among those already reported, and one for an atom
-    /// that the goal requires to be true and to be false.
+    /// Adds a line for each atom of the goal that is never true, unless it is among those already reported, one for an atom that
+    /// the goal requires to be true and to be false, and one for two atoms that are never both true.
     ///
     /// # Errors
     /// An allocation failed.
@@ -28,45 +29,58 @@ impl GoalNotes {
         &self,
         alloc: Global,
         task: &Task,
-        told: &[Atom],
+        reported: &[Atom],
         lines: &mut Vec<String>,
     ) -> Result<(), NoMemory>
         ensures { OnOk result (AddsLines (map string_bytes lines.old.items) (map string_bytes lines.new.items)) }
     {
         let before = lines.len();
-        'notes: for one in self.unreachable.iter().take(MOST_TOLD) {
-            add_if_untold(alloc, task, Untold { one, told }, lines)?;
+        'notes: for one in self.unreachable.iter().take(MOST_NOTES) {
+            add_if_unreported(alloc, task, Unreported { one, reported }, lines)?;
         }
-        let are_all = self.unreachable.len() <= MOST_TOLD || lines.len() <= before;
+        let are_all = self.unreachable.len() <= MOST_NOTES || lines.len() <= before;
         if are_all {
-            return add_contradictory(alloc, task, &self.contradictory, lines);
+            return self.add_conflicts(alloc, task, lines);
         }
         add_text(
             alloc,
             "The goal asks for more atoms that can never become true.",
             lines,
         )?;
-        add_contradictory(alloc, task, &self.contradictory, lines)
+        self.add_conflicts(alloc, task, lines)
+    }
+
+    /// Adds the lines for what the goal requires that excludes itself.
+    fn add_conflicts(
+        &self,
+        alloc: Global,
+        task: &Task,
+        lines: &mut Vec<String>,
+    ) -> Result<(), NoMemory>
+        ensures { OnOk result (AddsLines (map string_bytes lines.old.items) (map string_bytes lines.new.items)) }
+    {
+        add_contradictory(alloc, task, &self.contradictory, lines)?;
+        add_exclusive(alloc, task, &self.exclusive, lines)
     }
 }
 
-/// A note on an atom that is never true, and the atoms that are told already.
+/// A note on an atom that is never true, and the atoms already reported.
 #[derive(Clone, Copy)]
-struct Untold<'a> {
+struct Unreported<'a> {
     one: &'a Unreachable,
-    told: &'a [Atom],
+    reported: &'a [Atom],
 }
 
-/// Adds the line of the note, unless its atom is told already.
-fn add_if_untold(
+/// Adds the line of the note, unless its atom is already reported.
+fn add_if_unreported(
     alloc: Global,
     task: &Task,
-    note: Untold<'_>,
+    note: Unreported<'_>,
     lines: &mut Vec<String>,
 ) -> Result<(), NoMemory>
     ensures { OnOk result (AddsLines (map string_bytes lines.old.items) (map string_bytes lines.new.items)) }
 {
-    if is_among(&note.one.atom, note.told) {
+    if is_among(&note.one.atom, note.reported) {
         Ok(())
     } else {
         add_unreachable(alloc, task, note.one, lines)
@@ -109,6 +123,50 @@ fn contradictory_line(alloc: Global, task: &Task, atom: &Atom) -> Result<String,
     add_pattern(task, &Pattern::of(alloc, atom)?, &mut line)?;
     line.push_str(" and for its opposite, so it can never be met.")?;
     Ok(line)
+}
+
+/// Adds the line for two atoms that are never both true.
+fn add_exclusive(
+    alloc: Global,
+    task: &Task,
+    atoms: &Option<Exclusive>,
+    lines: &mut Vec<String>,
+) -> Result<(), NoMemory>
+    ensures { OnOk result (AddsLines (map string_bytes lines.old.items) (map string_bytes lines.new.items)) }
+{
+    match atoms {
+        Some(atoms) => add_line(exclusive_line(alloc, task, atoms)?, lines),
+        None => Ok(()),
+    }
+}
+
+/// The line for two atoms that are never both true.
+fn exclusive_line(alloc: Global, task: &Task, atoms: &Exclusive) -> Result<String, NoMemory> {
+    let mut line = String::from_str(alloc, "The goal asks for ")?;
+    add_pattern(task, &Pattern::of(alloc, &atoms.first)?, &mut line)?;
+    line.push_str(" and ")?;
+    add_pattern(task, &Pattern::of(alloc, &atoms.second)?, &mut line)?;
+    line.push_str(", which can never both be true")?;
+    if atoms.group.atoms().len() > 2 {
+        line.push_str(": of the atoms ")?;
+        add_group(alloc, task, &atoms.group, &mut line)?;
+        line.push_str(", at most one is ever true")?;
+    }
+    line.push_str(".")?;
+    Ok(line)
+}
+
+/// Adds the atoms of a group: each, if they are few, and otherwise by predicate.
+fn add_group(alloc: Global, task: &Task, group: &State, line: &mut String) -> Result<(), NoMemory> {
+    let patterns = patterns_of(alloc, group)?;
+    for (place, pattern) in patterns.iter().enumerate() {
+        if place > 0 {
+            let is_last = place + 1 == patterns.len();
+            line.push_str(if is_last { " and " } else { ", " })?;
+        }
+        add_atoms(task, pattern, line)?;
+    }
+    Ok(())
 }
 
 /// Whether the atom is among these.
@@ -251,11 +309,16 @@ fn patterns_of(alloc: Global, atoms: &State) -> Result<Vec<Pattern>, NoMemory> {
     Ok(patterns)
 }
 
-/// Adds the pattern, with `..` for what differs.
+/// Adds the pattern as what is needed: its atom, or some of its atoms.
 fn add_pattern(task: &Task, pattern: &Pattern, line: &mut String) -> Result<(), NoMemory> {
     if pattern.count > 1 {
         line.push_str("some ")?;
     }
+    add_atoms(task, pattern, line)
+}
+
+/// Adds the atoms of the pattern, with `..` for what differs.
+fn add_atoms(task: &Task, pattern: &Pattern, line: &mut String) -> Result<(), NoMemory> {
     line.push_str("(")?;
     add_bytes(task.name_of_predicate(pattern.predicate), line)?;
     for object in &pattern.objects {

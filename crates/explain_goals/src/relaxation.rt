@@ -39,8 +39,8 @@ impl Relaxation<'_, '_> {
         self.initial.contains(atom) || self.has_number(atom)
     }
 
-    /// Whether the atom has a number of the set.
-    fn has_number(&self, atom: &Atom) -> bool
+    /// Whether the atom has a number and may become true.
+    pub(crate) fn has_number(&self, atom: &Atom) -> bool
         ensures { result ≡ defined.has_number (atoms_in self.now.ground.now) (bits_of self.now.set.now) (atom_of atom.now) }
     {
         match self.ground.number_of(atom) {

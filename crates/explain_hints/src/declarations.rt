@@ -104,7 +104,7 @@ impl<'w, 'a> Iterator for Declarations<'w, 'a> {
             self.end = names_end(list, at);
         }
         self.at = at + 1;
-        let types = types_behind(list, self.end);
+        let types = types_after(list, self.end);
         Some(TypedName { name, types })
     }
 }
@@ -125,7 +125,7 @@ fn is_dash(list: &[Lexeme<'_>], at: usize) -> bool {
 }
 
 /// The type names behind a dash with this index: one, or those of an `(either ..)`. None if there is no dash.
-fn types_behind<'w, 'a>(list: &'w [Lexeme<'a>], dash: usize) -> &'w [Lexeme<'a>] {
+fn types_after<'w, 'a>(list: &'w [Lexeme<'a>], dash: usize) -> &'w [Lexeme<'a>] {
     if is_dash(list, dash) {
         types_in(item_at(list, dash.saturating_add(1)))
     } else {

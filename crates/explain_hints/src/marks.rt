@@ -84,8 +84,8 @@ fn part_around(line: Span, offset: usize) -> Span
     if line.end - line.start <= WIDEST {
         return line;
     }
-    let wanted = offset.saturating_sub(LEAD);
-    let start = wanted.max(line.start).min(line.end - WIDEST);
+    let required = offset.saturating_sub(LEAD);
+    let start = required.max(line.start).min(line.end - WIDEST);
     Span {
         start,
         end: start + WIDEST,

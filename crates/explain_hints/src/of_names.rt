@@ -8,7 +8,7 @@ use crate::texts::File;
 use std::alloc::AllocError;
 use tokens::Lexeme;
 
-/// If there are at most this many known names, all are told.
+/// If there are at most this many known names, all are listed.
 const FEW: usize = 8;
 
 /// What an unknown name was meant to name, in the singular and in the plural.

@@ -16,10 +16,13 @@ impl<'w, 'a> Context<'w, 'a> {
         let Some(parameters) = self.parameters() else {
             return Ok(());
         };
-        let wanted = parameters.count();
-        let ending = if wanted == 1 { "" } else { "s" };
+        let required = parameters.count();
+        let ending = if required == 1 { "" } else { "s" };
         let name = Name(self.word);
-        write!(out, "{name} takes {wanted} argument{ending}, not {given}.")
+        write!(
+            out,
+            "{name} takes {required} argument{ending}, not {given}."
+        )
     }
 
     /// Says which types a term has, and which its place requires.
@@ -35,14 +38,14 @@ impl<'w, 'a> Context<'w, 'a> {
         let Some(mut parameters) = self.parameters() else {
             return Ok(());
         };
-        let Some(wanted) = parameters.nth(index) else {
+        let Some(required) = parameters.nth(index) else {
             return Ok(());
         };
-        let (given, wanted) = (Types(term.types), Types(wanted.types));
+        let (given, required) = (Types(term.types), Types(required.types));
         let (name, user) = (Name(self.word), Name(head_of(self.list())));
         write!(
             out,
-            "{name} has type {given}, but {user} requires {wanted}."
+            "{name} has type {given}, but {user} requires {required}."
         )
     }
 

@@ -7,7 +7,7 @@ use Rattle.std.proofs.lemmas.List.Elements.{All-nil, All-cons, All-append, All-g
 use Rattle.std.proofs.lemmas.Option.{slice_get_within, get_or_from_slice_get}
 use Rattle.task.proofs.Lists.{nil_left, nil_right}
 use Rattle.explain_plans.specs.FalseParts.{Part, part_holds, false_parts, false_parts_of_all, itself_if_false, FalsePartsReport}
-use Rattle.explain_plans.specs.VariableNames.{behind}
+use Rattle.explain_plans.specs.VariableNames.{names_left}
 use Rattle.model.specs.Task.{Task, Name, Formula, Formulas, atom, equal, and, or, imply, exists, forall, no_formula, more_formulas}
 use Rattle.model.specs.Task as task
 use Rattle.model.specs.Meaning.{State, holds, all_hold, objects_of}
@@ -63,8 +63,8 @@ module _ (t : Task) (s : State) where
     none_where_holds (or parts) b ns so = none_if t s (or parts) b ns so
     none_where_holds (task.not part) b ns so = none_if t s (task.not part) b ns so
     none_where_holds (imply premise conclusion) b ns so =
-        elim (holds t premise b s) as (λ v. (not v || holds t conclusion b s) ≡ true → (if v then false_parts t conclusion b (behind premise ns) s else []) ≡ []) [
-          | true ↦ λ e. none_where_holds conclusion b (behind premise ns) e
+        elim (holds t premise b s) as (λ v. (not v || holds t conclusion b s) ≡ true → (if v then false_parts t conclusion b (names_left premise ns) s else []) ≡ []) [
+          | true ↦ λ e. none_where_holds conclusion b (names_left premise ns) e
           | false ↦ λ e. refl
         ] so
     none_where_holds (exists types part) b ns so = none_if t s (exists types part) b ns so
@@ -76,7 +76,7 @@ module _ (t : Task) (s : State) where
     none_where_all_hold no_formula b ns so = refl
     none_where_all_hold (more_formulas first rest) b ns so =
         λ i. none_where_holds first b ns (first_so (holds t first b s) (all_hold t rest b s) so) i
-        ++ none_where_all_hold rest b (behind first ns) (second_so (holds t first b s) (all_hold t rest b s) so) i
+        ++ none_where_all_hold rest b (names_left first ns) (second_so (holds t first b s) (all_hold t rest b s) so) i
 
   mutual
     holds_where_none : (f : Formula) (b : List ℕ) (ns : List Name) → false_parts t f b ns s ≡ [] → holds t f b s ≡ true
@@ -86,8 +86,8 @@ module _ (t : Task) (s : State) where
     holds_where_none (or parts) b ns none = if_none t s (or parts) b ns none
     holds_where_none (task.not part) b ns none = if_none t s (task.not part) b ns none
     holds_where_none (imply premise conclusion) b ns none =
-        elim (holds t premise b s) as (λ v. (if v then false_parts t conclusion b (behind premise ns) s else []) ≡ [] → (not v || holds t conclusion b s) ≡ true) [
-          | true ↦ λ e. holds_where_none conclusion b (behind premise ns) e
+        elim (holds t premise b s) as (λ v. (if v then false_parts t conclusion b (names_left premise ns) s else []) ≡ [] → (not v || holds t conclusion b s) ≡ true) [
+          | true ↦ λ e. holds_where_none conclusion b (names_left premise ns) e
           | false ↦ λ e. refl
         ] none
     holds_where_none (exists types part) b ns none = if_none t s (exists types part) b ns none
@@ -98,8 +98,8 @@ module _ (t : Task) (s : State) where
     all_hold_where_none : (parts : Formulas) (b : List ℕ) (ns : List Name) → false_parts_of_all t parts b ns s ≡ [] → all_hold t parts b s ≡ true
     all_hold_where_none no_formula b ns none = refl
     all_hold_where_none (more_formulas first rest) b ns none =
-        λ i. holds_where_none first b ns (nil_left (false_parts t first b ns s) (false_parts_of_all t rest b (behind first ns) s) none) i
-        && all_hold_where_none rest b (behind first ns) (nil_right (false_parts t first b ns s) (false_parts_of_all t rest b (behind first ns) s) none) i
+        λ i. holds_where_none first b ns (nil_left (false_parts t first b ns s) (false_parts_of_all t rest b (names_left first ns) s) none) i
+        && all_hold_where_none rest b (names_left first ns) (nil_right (false_parts t first b ns s) (false_parts_of_all t rest b (names_left first ns) s) none) i
 
   abbrev IsFalse : Part → Type 0
   IsFalse p = part_holds t s p ≡ false
@@ -112,8 +112,8 @@ module _ (t : Task) (s : State) where
     each_is_false (or parts) b ns = itself_is_false t s (or parts) b ns
     each_is_false (task.not part) b ns = itself_is_false t s (task.not part) b ns
     each_is_false (imply premise conclusion) b ns =
-        elim (holds t premise b s) as (λ v. All IsFalse (if v then false_parts t conclusion b (behind premise ns) s else [])) [
-          | true ↦ each_is_false conclusion b (behind premise ns)
+        elim (holds t premise b s) as (λ v. All IsFalse (if v then false_parts t conclusion b (names_left premise ns) s else [])) [
+          | true ↦ each_is_false conclusion b (names_left premise ns)
           | false ↦ All-nil IsFalse
         ]
     each_is_false (exists types part) b ns = itself_is_false t s (exists types part) b ns
@@ -123,7 +123,7 @@ module _ (t : Task) (s : State) where
     each_of_all_is_false : (parts : Formulas) (b : List ℕ) (ns : List Name) → All IsFalse (false_parts_of_all t parts b ns s)
     each_of_all_is_false no_formula b ns = All-nil IsFalse
     each_of_all_is_false (more_formulas first rest) b ns =
-        All-append IsFalse (false_parts t first b ns s) (false_parts_of_all t rest b (behind first ns) s) (each_is_false first b ns) (each_of_all_is_false rest b (behind first ns))
+        All-append IsFalse (false_parts t first b ns s) (false_parts_of_all t rest b (names_left first ns) s) (each_is_false first b ns) (each_of_all_is_false rest b (names_left first ns))
 
 pub they_report : FalsePartsReport
 they_report = record {

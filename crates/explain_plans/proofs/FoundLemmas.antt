@@ -12,7 +12,7 @@ use Rattle.task.specs.declared.schemas.Formula as formula
 use Rattle.explain_plans.specs.declared.false_parts.Part as part
 use Rattle.explain_plans.specs.declared.false_parts.Found.{Found}
 use Rattle.explain_plans.specs.FalseParts.{Part, false_parts, false_parts_of_all, itself_if_false}
-use Rattle.explain_plans.specs.VariableNames.{behind, formulas}
+use Rattle.explain_plans.specs.VariableNames.{names_left, formulas}
 use Rattle.explain_plans.specs.Parts.{AreFirst, AreFound, Finds, FitsPart, IsFalseIn, most_reported, part_of}
 use Rattle.task.specs.TaskParts.{formula_of}
 use Rattle.explain_plans.proofs.FormulaLists.{conjunction, next_left}
@@ -155,14 +155,14 @@ module _ (t : task.Task) (s : State) where
 
 module _ (t : task.Task) (s : State) (objects : List ℕ) (names : List task.Name) (parts : List Formula) (i : ℕ) where
   -- what is found for the next part, and for the remaining ones
-  pub finds_next_part : (part : Formula) → i < length parts → part ≡ get_or parts i part → (left : List task.Name) → left ≡ behind (formula_of part) names
+  pub finds_next_part : (part : Formula) → i < length parts → part ≡ get_or parts i part → (left : List task.Name) → left ≡ names_left (formula_of part) names
       → (a b c : Found) → Finds t s (false_parts t (formula_of part) objects names s) a b
       → Finds t s (false_parts_of_all t (formulas (map formula_of (drop (i + 1) parts))) objects left s) b c
       → Finds t s (false_parts_of_all t (formulas (map formula_of (drop i parts))) objects names s) a c
   finds_next_part part lt at left is a b c here later =
       let others : List task.Name → List Part = λ ns. false_parts_of_all t (formulas (map formula_of (drop (i + 1) parts))) objects ns s in
       subst (λ l. Finds t s l a c) (sym (next_left (λ l. false_parts_of_all t (formulas (map formula_of l)) objects names s) parts i part lt at))
-      (finds_more t s (false_parts t (formula_of part) objects names s) (others (behind (formula_of part) names)) a b c here
+      (finds_more t s (false_parts t (formula_of part) objects names s) (others (names_left (formula_of part) names)) a b c here
       (subst (λ ns. Finds t s (others ns) b c) is later))
 
   -- at the end

@@ -1,7 +1,7 @@
 -- Why a formula does not hold: its minimal false parts, which make it false.
 use Rattle.std.specs.Prelude.{◌≡◌, ℕ, Bool, false, IsTrue, List, [], ◌∷◌, ◌++◌, drop, slice_get, Some, ◌↔◌, if◌then◌else◌}
 use Rattle.std.specs.List.{flat_map}
-use Rattle.explain_plans.specs.VariableNames.{behind}
+use Rattle.explain_plans.specs.VariableNames.{names_left}
 use Rattle.model.specs.Task.{Task, Name, Formula, Formulas, and, imply, forall, no_formula, more_formulas}
 use Rattle.model.specs.Meaning.{State, holds, objects_of}
 
@@ -29,7 +29,7 @@ abbrev mutual
   pub false_parts : Task → Formula → List ℕ → List Name → State → List Part
   false_parts task (and parts) objects names state = false_parts_of_all task parts objects names state
   false_parts task (imply premise conclusion) objects names state =
-      if holds task premise objects state then false_parts task conclusion objects (behind premise names) state else []
+      if holds task premise objects state then false_parts task conclusion objects (names_left premise names) state else []
   false_parts task (forall types part) objects names state =
       flat_map (λ one. false_parts task part (objects ++ one ∷ []) (drop 1 names) state) (objects_of task types)
   false_parts task formula objects names state = itself_if_false task formula objects names state
@@ -37,7 +37,7 @@ abbrev mutual
   pub false_parts_of_all : Task → Formulas → List ℕ → List Name → State → List Part
   false_parts_of_all task no_formula objects names state = []
   false_parts_of_all task (more_formulas first rest) objects names state =
-      false_parts task first objects names state ++ false_parts_of_all task rest objects (behind first names) state
+      false_parts task first objects names state ++ false_parts_of_all task rest objects (names_left first names) state
 
 -- a formula holds if it has no false part, and each false part is false
 pub record FalsePartsReport : Type 0 where

@@ -14,19 +14,19 @@ names_of_action names number = option_map_or (λ (those : List Name). those) (sl
 
 -- The names left over after those of a formula's variables, which come first.
 abbrev mutual
-  pub behind : Formula → List Name → List Name
-  behind (atom a) names = names
-  behind (equal left right) names = names
-  behind (and parts) names = after_all_lines parts names
-  behind (or parts) names = after_all_lines parts names
-  behind (not part) names = behind part names
-  behind (imply premise conclusion) names = behind conclusion (behind premise names)
-  behind (exists types part) names = behind part (drop 1 names)
-  behind (forall types part) names = behind part (drop 1 names)
+  pub names_left : Formula → List Name → List Name
+  names_left (atom a) names = names
+  names_left (equal left right) names = names
+  names_left (and parts) names = after_all_lines parts names
+  names_left (or parts) names = after_all_lines parts names
+  names_left (not part) names = names_left part names
+  names_left (imply premise conclusion) names = names_left conclusion (names_left premise names)
+  names_left (exists types part) names = names_left part (drop 1 names)
+  names_left (forall types part) names = names_left part (drop 1 names)
 
   pub after_all_lines : Formulas → List Name → List Name
   after_all_lines no_formula names = names
-  after_all_lines (more_formulas first rest) names = after_all_lines rest (behind first names)
+  after_all_lines (more_formulas first rest) names = after_all_lines rest (names_left first names)
 
 -- formulas from a list
 abbrev pub formulas : List Formula → Formulas

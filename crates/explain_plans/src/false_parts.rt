@@ -9,7 +9,7 @@ ghost use Rattle.explain_plans.specs.Parts.{AreFound, FindsIn, FitsIn, false_par
 ghost use Rattle.explain_plans.specs.VariableNames.{formulas};
 ghost use Rattle.model.specs.Task.{forall};
 
-use crate::variable_names::{names_behind, without_first};
+use crate::variable_names::{names_after, without_first};
 use faults::NoMemory;
 use formulas::{Binding, State, copied, holds, objects_of, with_object};
 use std::alloc::Global;
@@ -83,7 +83,7 @@ impl<'t> Context<'_, 't> {
             Formula::And(parts) => self.find_in_each(parts, found),
             Formula::Imply(premise, conclusion) => {
                 if holds(self.task, premise, self.objects, self.state) {
-                    let names = names_behind(premise, self.names);
+                    let names = names_after(premise, self.names);
                     Context { names, ..self }.find(conclusion, found)
                 } else {
                     Ok(())
@@ -103,7 +103,7 @@ impl<'t> Context<'_, 't> {
         let mut names = self.names;
         for part in parts {
             Context { names, ..self }.find(part, found)?;
-            names = names_behind(part, names);
+            names = names_after(part, names);
         }
         Ok(())
     }

@@ -13,7 +13,7 @@ ghost use Rattle.explain_plans.specs.NamesView.{names_in};
 ghost use Rattle.explain_plans.specs.ScopeView.{scope_of};
 ghost use Rattle.explain_plans.specs.VariableNames.{formulas};
 
-use crate::variable_names::{names_behind, without_first};
+use crate::variable_names::{names_after, without_first};
 use std::alloc::{AllocError, Global};
 use task::{Formula, LiftedAtom, ObjectId, Task, Term, TypeId, TypeUnion};
 
@@ -42,13 +42,13 @@ impl<'a> Scope<'a> {
     }
 
     /// The scope after the formula, whose quantified variables have used up their names.
-    fn behind(self, formula: &Formula) -> Scope<'a>
+    fn after(self, formula: &Formula) -> Scope<'a>
         ensures { scope_of result ≡ scope_after (scope_of self.entry) (formula_of formula.now) }
     {
         Scope {
             objects: self.objects,
             names: self.names,
-            coming: names_behind(formula, self.coming),
+            coming: names_after(formula, self.coming),
         }
     }
 
@@ -107,7 +107,7 @@ impl<'a> FormulaPrinter<'a> {
                 text.extend_from_slice(b"(imply ")?;
                 self.add_formula(premise, text)?;
                 text.extend_from_slice(b" ")?;
-                let scope = self.scope.behind(premise);
+                let scope = self.scope.after(premise);
                 FormulaPrinter { scope, ..self }.add_formula(conclusion, text)?;
                 text.extend_from_slice(b")")
             }
@@ -158,7 +158,7 @@ impl<'a> FormulaPrinter<'a> {
         for part in parts {
             text.extend_from_slice(b" ")?;
             FormulaPrinter { scope, ..self }.add_formula(part, text)?;
-            scope = scope.behind(part);
+            scope = scope.after(part);
         }
         text.extend_from_slice(b")")
     }

@@ -2,7 +2,7 @@
 ghost use Rattle.std.specs.Prelude.{◌≡◌, drop, map};
 ghost use Rattle.task.specs.TaskParts.{formula_of};
 ghost use Rattle.explain_plans.specs.NamesView.{names_in, names_of};
-ghost use Rattle.explain_plans.specs.VariableNames.{behind, after_all_lines, formulas, names_of_action};
+ghost use Rattle.explain_plans.specs.VariableNames.{names_left, after_all_lines, formulas, names_of_action};
 
 use task::{Formula, SchemaId};
 
@@ -28,32 +28,32 @@ impl<'a> VariableNames<'a> {
 }
 
 /// The names left over after those of the formula's variables, which come first.
-#[cycle(behind)]
-pub(crate) fn names_behind<'n, 'a>(formula: &Formula, names: &'n [&'a [u8]]) -> &'n [&'a [u8]]
-    ensures { names_in result.now ≡ behind (formula_of formula.now) (names_in names.now) }
+#[cycle(names_left)]
+pub(crate) fn names_after<'n, 'a>(formula: &Formula, names: &'n [&'a [u8]]) -> &'n [&'a [u8]]
+    ensures { names_in result.now ≡ names_left (formula_of formula.now) (names_in names.now) }
 {
     match formula {
         Formula::Atom(_) | Formula::Equal(_, _) => names,
         Formula::And(parts) => names_after_each(parts, names),
         Formula::Or(parts) => names_after_each(parts, names),
-        Formula::Not(part) => names_behind(part, names),
+        Formula::Not(part) => names_after(part, names),
         Formula::Imply(premise, conclusion) => {
-            names_behind(conclusion, names_behind(premise, names))
+            names_after(conclusion, names_after(premise, names))
         }
         Formula::Exists(_, part) | Formula::Forall(_, part) => {
-            names_behind(part, without_first(names))
+            names_after(part, without_first(names))
         }
     }
 }
 
 /// The same for each of the formulas.
-#[cycle(behind)]
+#[cycle(names_left)]
 fn names_after_each<'n, 'a>(parts: &[Formula], names: &'n [&'a [u8]]) -> &'n [&'a [u8]]
     ensures { names_in result.now ≡ after_all_lines (formulas (map formula_of parts.now)) (names_in names.now) }
 {
     let mut left = names;
     for part in parts {
-        left = names_behind(part, left);
+        left = names_after(part, left);
     }
     left
 }

@@ -79,8 +79,8 @@ module _ (t : Task) (limit : ℕ) where
       ]
 
   -- while there is room, an instance that lacks a value is reported
-  told_here : (found : List Instance) (x : Instance) → length found < limit → lacks_value t x ≡ true → list_any (lack_the_same t x) (next found x) ≡ true
-  told_here found x less lacks =
+  stated_here : (found : List Instance) (x : Instance) → length found < limit → lacks_value t x ≡ true → list_any (lack_the_same t x) (next found x) ≡ true
+  stated_here found x less lacks =
       let room : nat_lt (length found) limit ≡ true = grind (arith, nat_tests) in
       ap (λ b. list_any (lack_the_same t x) (cond (b && not (list_any (lack_the_same t x) found)) (found ++ x ∷ []) found)) (λ i. room i && lacks i)
       ∙ elim (list_any (lack_the_same t x) found) as (λ b. list_any (lack_the_same t x) found ≡ b → list_any (lack_the_same t x) (cond (not b) (found ++ x ∷ []) found) ≡ true) [
@@ -88,20 +88,20 @@ module _ (t : Task) (limit : ℕ) where
         | false ↦ λ is. list_any-append (lack_the_same t x) found (x ∷ []) ∙ (λ i. is i || (itself t x lacks i || false))
       ] refl
 
-  told : (found xs : List Instance) → length (fold next found xs) < limit → (i : Instance) → Contains xs i → lacks_value t i ≡ true → list_any (lack_the_same t i) (fold next found xs) ≡ true
-  told found [] few i at so = absurd (Contains-none i at)
-  told found (x ∷ xs) few i at so =
+  reported : (found xs : List Instance) → length (fold next found xs) < limit → (i : Instance) → Contains xs i → lacks_value t i ≡ true → list_any (lack_the_same t i) (fold next found xs) ≡ true
+  reported found [] few i at so = absurd (Contains-none i at)
+  reported found (x ∷ xs) few i at so =
       elim (Contains-cases x xs i at) [
         | inl is ↦
             let later = longer found (x ∷ xs) in
             let less : length found < limit = omega (arith, few, later) in
             subst (λ j. list_any (lack_the_same t j) (fold next (next found x) xs) ≡ true) is
-            (stays (lack_the_same t x) (next found x) xs (told_here found x less (subst (λ j. lacks_value t j ≡ true) (sym is) so)))
-        | inr rest ↦ told (next found x) xs few i rest so
+            (stays (lack_the_same t x) (next found x) xs (stated_here found x less (subst (λ j. lacks_value t j ≡ true) (sym is) so)))
+        | inr rest ↦ reported (next found x) xs few i rest so
       ]
 
   pub are_lacking : (instances : List Instance) → AreLacking t limit instances (lacking_among t limit [] instances)
   are_lacking instances = record {
     true_of_each = each_lacks [] instances refl;
-    each_told = told [] instances;
+    each_reported = reported [] instances;
   }

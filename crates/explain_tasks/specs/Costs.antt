@@ -72,7 +72,7 @@ passed_over t most = without (are_few t most) (length t.schemas)
 -- same as one of them.
 pub record AreLacking (t : Task) (limit : ℕ) (instances found : List Instance) : Type 0 where
   pub true_of_each : list_all (lacks_value t) found ≡ true
-  pub each_told : length found < limit → (i : Instance) → Contains instances i → lacks_value t i ≡ true → list_any (lack_the_same t i) found ≡ true
+  pub each_reported : length found < limit → (i : Instance) → Contains instances i → lacks_value t i ≡ true → list_any (lack_the_same t i) found ≡ true
 
 -- ---- intermediate definitions
 

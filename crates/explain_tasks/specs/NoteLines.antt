@@ -13,9 +13,9 @@ use Rattle.model.specs.PlanWriting.{object_name, object_text, schema_name}
 use Rattle.explain_tasks.specs.declared.ground_notes.GroundNotes.{GroundNotes}
 use Rattle.explain_tasks.specs.declared.notes.TaskNotes.{TaskNotes}
 
--- the maximum number of notes of a kind that are told
-abbrev pub most_told : ℕ
-most_told = 10
+-- the maximum number of notes of a kind that are written
+abbrev pub most_notes : ℕ
+most_notes = 10
 
 -- the line, if this is so
 abbrev pub line_if : Bool → List ℕ → List (List ℕ)
@@ -39,7 +39,7 @@ next_text name_of number = codes ", " ++ name_of number
 
 -- how many more there are
 abbrev pub others_text : (count : ℕ) → List ℕ
-others_text count = if nat_lt most_told count then codes " and " ++ (decimal (count - most_told) ++ codes " more") else []
+others_text count = if nat_lt most_notes count then codes " and " ++ (decimal (count - most_notes) ++ codes " more") else []
 
 -- the names of these numbers: the first few, and how many more there are
 abbrev pub names_text : (ℕ → Name) → (first : ℕ) (rest : List ℕ) → List ℕ
@@ -78,8 +78,8 @@ lacking_line t i = option_map_or (λ (s : Schema). lacking_text t i s.increase) 
 
 abbrev pub lacking_lines : Task → List Instance → List (List ℕ)
 lacking_lines t lacking =
-    flat_map (lacking_line t) (take most_told lacking)
-    ++ line_if (nat_lt most_told (length lacking)) (codes "More values that actions increase the total cost by are missing.")
+    flat_map (lacking_line t) (take most_notes lacking)
+    ++ line_if (nat_lt most_notes (length lacking)) (codes "More values that actions increase the total cost by are missing.")
 
 -- the schema whose instances were not checked
 abbrev pub passed_text : Task → (most : ℕ) → ℕ → List ℕ
@@ -98,7 +98,7 @@ missing_line t a = utf8_lossy (missing_text t a) ∷ []
 
 abbrev pub missing_lines : Task → List Atom → List (List ℕ)
 missing_lines t atoms =
-    flat_map (missing_line t) (take most_told atoms) ++ line_if (nat_lt most_told (length atoms)) (codes "The goal asks for more atoms that are never true.")
+    flat_map (missing_line t) (take most_notes atoms) ++ line_if (nat_lt most_notes (length atoms)) (codes "The goal asks for more atoms that are never true.")
 
 abbrev pub ground_lines : Task → GroundNotes → List (List ℕ)
 ground_lines t notes =

@@ -13,7 +13,7 @@ use grounding_instances::Numbering;
 use std::alloc::Global;
 
 /// The maximum number of missing values, and of unreachable goal atoms, that are reported.
-pub const MOST_TOLD: usize = 10;
+pub const MOST_NOTES: usize = 10;
 
 /// The maximum number that are searched for: one more shows that there are more.
 pub const MOST_FOUND: usize = 11;

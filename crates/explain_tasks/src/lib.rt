@@ -13,7 +13,7 @@ mod summary;
 mod tables;
 
 pub use forms::Forms;
-pub use ground_notes::{GroundNotes, MOST_FOUND, MOST_TOLD};
+pub use ground_notes::{GroundNotes, MOST_FOUND, MOST_NOTES};
 pub use notes::TaskNotes;
 pub use printing::add_bytes;
 pub use summary::Summary;

@@ -11,7 +11,7 @@ ghost use Rattle.explain_tasks.specs.KindNames.{name_by};
 ghost use Rattle.explain_tasks.specs.NoteLines as note;
 ghost use Rattle.explain_tasks.specs.NoteLines.{line_if};
 
-use crate::ground_notes::{GroundNotes, MOST_TOLD};
+use crate::ground_notes::{GroundNotes, MOST_NOTES};
 use crate::notes::TaskNotes;
 use faults::NoMemory;
 use formulas::{Atom, Instance, named_by};
@@ -156,12 +156,12 @@ fn ending_of(alloc: Global, most: u32) -> Result<String, NoMemory>
     Ok(format!(in alloc; "{most} instances.")?)
 }
 
-/// The notes of a kind that are told: the first few.
-fn told<T>(notes: &[T]) -> &[T]
+/// The notes of a kind that are written: the first few.
+fn reported<T>(notes: &[T]) -> &[T]
     ensures { result.now ≡ take 10 notes.now }
 {
-    if notes.len() > MOST_TOLD {
-        &notes[..MOST_TOLD]
+    if notes.len() > MOST_NOTES {
+        &notes[..MOST_NOTES]
     } else {
         notes
     }
@@ -176,8 +176,8 @@ fn add_lacking(
 ) -> Result<(), NoMemory>
     ensures { OnOk result (map string_bytes lines.new.items ≡ map string_bytes lines.old.items ++ note.lacking_lines (task_of task.now) (map instance_of lacking.now)) }
 {
-    add_lacking_lines(alloc, task, told(lacking), lines)?;
-    if lacking.len() > MOST_TOLD {
+    add_lacking_lines(alloc, task, reported(lacking), lines)?;
+    if lacking.len() > MOST_NOTES {
         let line = "More values that actions increase the total cost by are missing.";
         add_text(alloc, line, lines)
     } else {
@@ -248,8 +248,8 @@ fn add_missing_goals(
 ) -> Result<(), NoMemory>
     ensures { OnOk result (map string_bytes lines.new.items ≡ map string_bytes lines.old.items ++ note.missing_lines (task_of task.now) (map atom_of atoms.now)) }
 {
-    add_missing_lines(alloc, task, told(atoms), lines)?;
-    if atoms.len() > MOST_TOLD {
+    add_missing_lines(alloc, task, reported(atoms), lines)?;
+    if atoms.len() > MOST_NOTES {
         let line = "The goal asks for more atoms that are never true.";
         add_text(alloc, line, lines)
     } else {
@@ -324,12 +324,12 @@ impl NameList<'_> {
     }
 }
 
-/// The numbers whose names are told behind the first.
+/// The numbers whose names follow the first.
 fn first_of_rest(rest: &[usize]) -> &[usize]
     ensures { result.now ≡ take 9 rest.now }
 {
-    if rest.len() > MOST_TOLD - 1 {
-        &rest[..MOST_TOLD - 1]
+    if rest.len() > MOST_NOTES - 1 {
+        &rest[..MOST_NOTES - 1]
     } else {
         rest
     }
@@ -350,8 +350,8 @@ fn add_names(task: &Task, kind: Kind, numbers: &[usize], line: &mut Vec<u8>) -> 
 fn add_others(alloc: Global, count: usize, line: &mut Vec<u8>) -> Result<(), NoMemory>
     ensures { OnOk result (line.new.items ≡ line.old.items ++ note.others_text count) }
 {
-    if count > MOST_TOLD {
-        let others = count - MOST_TOLD;
+    if count > MOST_NOTES {
+        let others = count - MOST_NOTES;
         let text = format!(in alloc; " and {others} more")?;
         line.extend_from_slice(text.as_bytes())?;
         Ok(())

@@ -20,7 +20,7 @@ use Rattle.explain_words.specs.declared.frames.Frame.{Frame}
 use Rattle.explain_words.specs.declared.frames.Follows.{Follows}
 use Rattle.explain_words.specs.declared.level.Move.{Move}
 use Rattle.explain_words.specs.declared.level.Occurs.TheVariants as occurs
-use Rattle.explain_words.specs.Frames.{AreAfter, Follow, Requires, frames_in, wanted_by}
+use Rattle.explain_words.specs.Frames.{AreAfter, Follow, Requires, frames_in, expected_by}
 use Rattle.explain_words.specs.States.{State, Has, IsAt, Moves, Steps, at_start, below, is_below, moved, parts_with, sections_with}
 use Rattle.explain_words.specs.Expected.{MayFollow}
 use Rattle.explain_words.proofs.Stacked.{in_turn, opened}
@@ -30,8 +30,8 @@ use Rattle.explain_words.proofs.Levels.{at_level}
 
 -- the last frame of a stack is on top of it
 pub top : (stack : List Frame) (last : Frame) → slice_get stack (length stack - 1) ≡ Some last
-    → map wanted_by (reverse stack) ≡ wanted_by last ∷ drop 1 (map wanted_by (reverse stack))
-top stack last is = on_top (map wanted_by (reverse stack)) (wanted_by last) (map wanted_by (drop 1 (reverse stack))) (ap (map wanted_by) first)
+    → map expected_by (reverse stack) ≡ expected_by last ∷ drop 1 (map expected_by (reverse stack))
+top stack last is = on_top (map expected_by (reverse stack)) (expected_by last) (map expected_by (drop 1 (reverse stack))) (ap (map expected_by) first)
   where
     within : length stack - 1 < length stack
     within = slice_get_within stack (length stack - 1) last is
@@ -47,7 +47,7 @@ top stack last is = on_top (map wanted_by (reverse stack)) (wanted_by last) (map
     on_top sorts s rest are = are ∙ ap (λ l. s ∷ drop 1 l) (sym are)
 
 -- without a last frame nothing is on a stack
-pub bottom : (stack : List Frame) → slice_get stack (length stack - 1) ≡ None → map wanted_by (reverse stack) ≡ []
+pub bottom : (stack : List Frame) → slice_get stack (length stack - 1) ≡ None → map expected_by (reverse stack) ≡ []
 bottom [] is = refl
 bottom (x ∷ stack) is = absurd (let last = sym is ∙ slice_get-get_or (x ∷ stack) (length (x ∷ stack) - 1) x (omega arith) in cc)
 

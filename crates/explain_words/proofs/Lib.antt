@@ -2,4 +2,4 @@ pub mod Automaton
 pub mod Left
 pub mod Levels
 pub mod Stacked
-pub mod Told
+pub mod Reported

@@ -54,16 +54,16 @@ sort_of code.Terms = Grammar.many Grammar.term
 sort_of code.Keys = Grammar.many Grammar.key
 
 -- it, or lists of it
-abbrev pub wanted_by : Frame → Sort
-wanted_by (frame.One n) = sort_of n
-wanted_by (frame.Listed n) = Grammar.listed (sort_of n)
-wanted_by (frame.ManyListed n) = Grammar.many (Grammar.listed (sort_of n))
+abbrev pub expected_by : Frame → Sort
+expected_by (frame.One n) = sort_of n
+expected_by (frame.Listed n) = Grammar.listed (sort_of n)
+expected_by (frame.ManyListed n) = Grammar.many (Grammar.listed (sort_of n))
 
 abbrev pub frames_in : follows.Follows → List Sort
 frames_in Nothing = []
-frames_in (One a) = wanted_by a ∷ []
-frames_in (Two a b) = wanted_by a ∷ wanted_by b ∷ []
-frames_in (Three a b c) = wanted_by a ∷ wanted_by b ∷ wanted_by c ∷ []
+frames_in (One a) = expected_by a ∷ []
+frames_in (Two a b) = expected_by a ∷ expected_by b ∷ []
+frames_in (Three a b c) = expected_by a ∷ expected_by b ∷ expected_by c ∷ []
 frames_in (Head file) = Grammar.define_word ∷ Grammar.kind_list ∷ Grammar.kind_word (file_of file) ∷ Grammar.a_name ∷ Grammar.close ∷ []
 
 -- the phrase requires nothing more

@@ -10,7 +10,7 @@ use Rattle.explain_words.specs.declared.frames.Nonterminal.TheVariants as nonter
 use Rattle.explain_words.specs.declared.frames.Frame.TheVariants as frame
 use Rattle.explain_words.specs.declared.frames.Follows.{Follows}
 use Rattle.explain_words.specs.declared.frames.Follows.TheVariants.{Nothing, One, Two, Three, Head}
-use Rattle.explain_words.specs.Frames.{Requires, IsDone, frames_in, wanted_by}
+use Rattle.explain_words.specs.Frames.{Requires, IsDone, frames_in, expected_by}
 use Rattle.pddl_tree_parts.specs.declared.refusals.ListElement.TheVariants as listed
 use Rattle.pddl_tree_parts.specs.declared.token.Keyword.TheVariants as keyword
 use Rattle.pddl_tree_parts.specs.declared.token.PartKeyword as part_code
@@ -41,7 +41,7 @@ state_of s = record {
   level = s.level;
   sections = map section_view s.sections.items;
   parts = map part_view s.parts.items;
-  stack = map wanted_by (reverse s.stack.items);
+  stack = map expected_by (reverse s.stack.items);
 }
 
 abbrev pub at_start : task_file.TaskFile → State

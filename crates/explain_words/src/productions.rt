@@ -2,7 +2,7 @@
 ghost use Rattle.std.specs.Prelude.{◌≡◌};
 ghost use Rattle.pddl_tree_parts.specs.Token.{seen};
 ghost use Rattle.model.specs.Grammar as grammar;
-ghost use Rattle.explain_words.specs.Frames.{Follow, list_step, many_step, sort_of, wanted_by};
+ghost use Rattle.explain_words.specs.Frames.{Follow, list_step, many_step, sort_of, expected_by};
 
 use crate::frames::Follows::{Nothing, One, Three, Two};
 use crate::frames::Frame::{Listed, ManyListed};
@@ -265,10 +265,10 @@ fn after_group_variables(token: Token<'_>) -> Option<Follows>
 }
 
 /// What must follow this word where the nonterminal is required; nothing if the word may not stand there.
-fn after_one(wanted: Nonterminal, token: Token<'_>) -> Option<Follows>
-    ensures { Follow (sort_of wanted) (seen token.entry) result }
+fn after_one(nonterminal: Nonterminal, token: Token<'_>) -> Option<Follows>
+    ensures { Follow (sort_of nonterminal) (seen token.entry) result }
 {
-    match wanted {
+    match nonterminal {
         Nonterminal::Close => after_close(token),
         Nonterminal::Name => after_name(token),
         Nonterminal::ActionName => after_action_name(token),
@@ -334,10 +334,10 @@ fn after_lists(one: Nonterminal, token: Token<'_>) -> Option<Follows>
 }
 
 /// What must follow this word where the frame is required; nothing if the word may not stand there.
-pub(crate) fn after_frame(wanted: Frame, token: Token<'_>) -> Option<Follows>
-    ensures { Follow (wanted_by wanted) (seen token.entry) result }
+pub(crate) fn after_frame(frame: Frame, token: Token<'_>) -> Option<Follows>
+    ensures { Follow (expected_by frame) (seen token.entry) result }
 {
-    match wanted {
+    match frame {
         Frame::One(one) => after_one(one, token),
         Listed(one) => after_list(one, token),
         ManyListed(one) => after_lists(one, token),

@@ -4,7 +4,7 @@ ghost use Rattle.std.specs.List.{list_all};
 ghost use Rattle.pddl_tree_parts.specs.Token.{seen, part_view, section_view};
 ghost use Rattle.model.specs.Grammar as grammar;
 ghost use Rattle.model.specs.Grammar.{Tree, Phrase};
-ghost use Rattle.explain_words.specs.Frames.{frames_in, wanted_by};
+ghost use Rattle.explain_words.specs.Frames.{frames_in, expected_by};
 ghost use Rattle.explain_words.specs.States.{IsAt, Steps, at_start, below, file_step, keyword_step, parts_step, parts_with, section_after, section_step, sections_step, sections_with, state_of, to, value_after, value_step};
 
 use crate::frames::{Follows, Frame, Nonterminal};
@@ -58,7 +58,7 @@ impl State {
 
     /// The step for this word where this frame is required.
     fn within(&self, frame: Frame, token: Token<'_>) -> Option<Move>
-        ensures { (p : Phrase Tree) → IsAt (state_of self.now) p → (state_of self.now).stack ≡ wanted_by frame ∷ drop 1 (state_of self.now).stack → Steps (state_of self.now) result p (seen token.entry) }
+        ensures { (p : Phrase Tree) → IsAt (state_of self.now) p → (state_of self.now).stack ≡ expected_by frame ∷ drop 1 (state_of self.now).stack → Steps (state_of self.now) result p (seen token.entry) }
     {
         match after_frame(frame, token) {
             Some(frames) => Some(Move {
@@ -154,7 +154,7 @@ impl State {
         ensures level { OnOk result (self.new.level ≡ step.level) }
         ensures sections { OnOk result (map section_view self.new.sections.items ≡ sections_with (map section_view self.old.sections.items) step.occurs) }
         ensures parts { OnOk result (map part_view self.new.parts.items ≡ parts_with (map part_view self.old.parts.items) step.occurs) }
-        ensures stack { OnOk result (map wanted_by (reverse self.new.stack.items) ≡ frames_in step.frames ++ drop 1 (map wanted_by (reverse self.old.stack.items))) }
+        ensures stack { OnOk result (map expected_by (reverse self.new.stack.items) ≡ frames_in step.frames ++ drop 1 (map expected_by (reverse self.old.stack.items))) }
     {
         self.stack.pop();
         put_on(&mut self.stack, step.frames)?;
@@ -165,7 +165,7 @@ impl State {
 
 /// Puts frames on a stack, the first of them on top.
 fn put_on(stack: &mut Vec<Frame>, frames: Follows) -> Result<(), NoMemory>
-    ensures { OnOk result (map wanted_by (reverse stack.new.items) ≡ frames_in frames ++ map wanted_by (reverse stack.old.items)) }
+    ensures { OnOk result (map expected_by (reverse stack.new.items) ≡ frames_in frames ++ map expected_by (reverse stack.old.items)) }
 {
     match frames {
         Follows::Nothing => Ok(()),
@@ -191,7 +191,7 @@ fn put_on(stack: &mut Vec<Frame>, frames: Follows) -> Result<(), NoMemory>
 
 /// Puts a frame on a stack.
 fn put(stack: &mut Vec<Frame>, frame: Frame) -> Result<(), NoMemory>
-    ensures { OnOk result (map wanted_by (reverse stack.new.items) ≡ wanted_by frame ∷ map wanted_by (reverse stack.old.items)) }
+    ensures { OnOk result (map expected_by (reverse stack.new.items) ≡ expected_by frame ∷ map expected_by (reverse stack.old.items)) }
 {
     stack.push(frame)?;
     Ok(())

@@ -21,7 +21,7 @@ use Rattle.file_answers.specs.Files.{reported_in}
 use Rattle.file_answers.specs.Notes.{AreNoted, AreNotedOf}
 use Rattle.explain_faults.specs.SameMistake.{Texts}
 use Rattle.file_answers.specs.Complete.{IsComplete}
-use Rattle.file_answers.specs.FurtherFaults.{IsToldOf}
+use Rattle.file_answers.specs.FurtherFaults.{IsFurtherOf}
 use Rattle.file_answers.specs.declared.explanation.FurtherFault.{FurtherFault}
 use Rattle.explain_hints.specs.Files.{name_in}
 use Rattle.explain_hints.specs.Files.{text_in as bytes_in}
@@ -52,25 +52,25 @@ abbrev pub AreAmong : Files → NamedTexts → Type 0
 AreAmong files texts = (file : File) → IfSome (file_in files file) (λ named. named ≡ in_texts texts file)
 
 -- no further fault is reported
-none_told : (files : Files) (further : List FurtherFault) → further ≡ [] → All (IsReportedIn files) further
-none_told files further none = subst (All (IsReportedIn files)) (sym none) (λ k f below. absurd (omega (arith, below)))
+none_stated : (files : Files) (further : List FurtherFault) → further ≡ [] → All (IsReportedIn files) further
+none_stated files further none = subst (All (IsReportedIn files)) (sym none) (λ k f below. absurd (omega (arith, below)))
 
 -- ---- a fault
 
 module _ (traced : Bool) (texts : NamedTexts) (files : Files) (among : AreAmong files texts) (same : bytes_in texts ≡ bytes_of files) where
   -- a fault reported for the texts is reported for the files
-  told_in : (f : FurtherFault) → IsToldOf texts.domain.text.now texts.problem.text.now (name_in texts f.fault.file) (bytes_in texts f.fault.file) f → IsReportedIn files f
-  told_in f told = by_file (file_in files f.fault.file) (among f.fault.file)
+  told_in : (f : FurtherFault) → IsFurtherOf texts.domain.text.now texts.problem.text.now (name_in texts f.fault.file) (bytes_in texts f.fault.file) f → IsReportedIn files f
+  told_in f stated = by_file (file_in files f.fault.file) (among f.fault.file)
     where
-      of_files : (named : Named) → named ≡ in_texts texts f.fault.file → IsToldOf files.domain.text files.problem.text named.name named.text f
+      of_files : (named : Named) → named ≡ in_texts texts f.fault.file → IsFurtherOf files.domain.text files.problem.text named.name named.text f
       of_files named same =
           let domain : files.domain ≡ in_texts texts kind.Domain = among kind.Domain in
           let problem : files.problem ≡ in_texts texts kind.Problem = among kind.Problem in
-          subst (λ (n : Named). IsToldOf files.domain.text files.problem.text n.name n.text f) (sym same)
-          (subst (λ (d : Named). IsToldOf d.text files.problem.text (name_in texts f.fault.file) (bytes_in texts f.fault.file) f) (sym domain)
-          (subst (λ (p : Named). IsToldOf texts.domain.text.now p.text (name_in texts f.fault.file) (bytes_in texts f.fault.file) f) (sym problem) told))
+          subst (λ (n : Named). IsFurtherOf files.domain.text files.problem.text n.name n.text f) (sym same)
+          (subst (λ (d : Named). IsFurtherOf d.text files.problem.text (name_in texts f.fault.file) (bytes_in texts f.fault.file) f) (sym domain)
+          (subst (λ (p : Named). IsFurtherOf texts.domain.text.now p.text (name_in texts f.fault.file) (bytes_in texts f.fault.file) f) (sym problem) stated))
 
-      by_file : (o : Option Named) → IfSome o (λ named. named ≡ in_texts texts f.fault.file) → IfSome o (λ named. IsToldOf files.domain.text files.problem.text named.name named.text f)
+      by_file : (o : Option Named) → IfSome o (λ named. named ≡ in_texts texts f.fault.file) → IfSome o (λ named. IsFurtherOf files.domain.text files.problem.text named.name named.text f)
       by_file None same = tt
       by_file (Some named) same = of_files named same
 
@@ -231,34 +231,34 @@ step_located file runs.goal_missed found at is located = tt
 
 module _ (task : model.Task) (names : VariableNames) (steps : List model.Instance) where
   -- what is reported of the subject is true if the subject is
-  pub explained_told : (traced : Bool) (file : Named) (explained : PlanExplanation) → IsVerdict (system_of task) steps (plans.verdict_of explained)
+  pub explained_reported : (traced : Bool) (file : Named) (explained : PlanExplanation) → IsVerdict (system_of task) steps (plans.verdict_of explained)
       → IsExplained task names steps explained → (r : Result Explanation NoMemory) → IfOk r (IsPlanReported task steps traced file explained)
       → IfOk r (IsVerdictExplained task names steps traced file)
-  explained_told traced file explained is_true is_explained (Ok e) told = (explained, is_true, is_explained, told)
-  explained_told traced file explained is_true is_explained (Err failed) told = tt
+  explained_reported traced file explained is_true is_explained (Ok e) stated = (explained, is_true, is_explained, stated)
+  explained_reported traced file explained is_true is_explained (Err failed) stated = tt
 
   module _ (traced : Bool) (texts : NamedTexts) (is : IsNamedTask texts.domain.text.now texts.problem.text.now task names) (is_plan : IsPlanText task texts.plan.text.now steps) where
-    plan_said : (explained : PlanExplanation) (e : Explanation) → IsExplained task names steps explained → (told : IsPlanReported task steps traced (named_of texts.plan) explained e)
-        → IsPlanSaid traced (files_in texts) texts.plan.text.now (verdict_of told.code) e.location (string_bytes e.text)
-    plan_said explained e is_explained told = record {
+    plan_said : (explained : PlanExplanation) (e : Explanation) → IsExplained task names steps explained → (stated : IsPlanReported task steps traced (named_of texts.plan) explained e)
+        → IsPlanSaid traced (files_in texts) texts.plan.text.now (verdict_of stated.code) e.location (string_bytes e.text)
+    plan_said explained e is_explained stated = record {
       task = task;
       steps = steps;
       are_read = record { is_task = is.is_task; is_plan = is_plan };
       explained = explained;
       is_explained = subst (λ (those : VariableNames). IsExplained task those steps explained) is.are_names is_explained;
-      same = sym told.same;
-      says = told.says;
+      same = sym stated.same;
+      says = stated.says;
     }
 
     verdict_said : (e : Explanation) → IsVerdictExplained task names steps traced (named_of texts.plan) e → IsSaidOf traced (files_in texts) e
-    verdict_said e (explained, is_true, is_explained, told) = record {
-      located = subst (λ (s : Subject). IsSubjectLocated (files_in texts) s e.location) (sym told.subject)
-          (subst (λ (v : runs.Verdict). IsStepLocated (named_of texts.plan) v e.location) (sym told.same) told.located);
-      lines = subst (λ (s : Subject). SaySubject traced (files_in texts) s e.location (map string_bytes e.notes.items) (string_bytes e.text)) (sym told.subject)
-          (plan_said explained e is_explained told);
-      further = none_told (files_in texts) e.further.items told.no_further;
-      further_lines = subst (λ (s : Subject). SayFurther s e.further.items (string_bytes e.text)) (sym told.subject) told.no_further;
-      whole = subst (λ (s : Subject). IsWhole (files_in texts) s e.further.items) (sym told.subject) tt;
+    verdict_said e (explained, is_true, is_explained, stated) = record {
+      located = subst (λ (s : Subject). IsSubjectLocated (files_in texts) s e.location) (sym stated.subject)
+          (subst (λ (v : runs.Verdict). IsStepLocated (named_of texts.plan) v e.location) (sym stated.same) stated.located);
+      lines = subst (λ (s : Subject). SaySubject traced (files_in texts) s e.location (map string_bytes e.notes.items) (string_bytes e.text)) (sym stated.subject)
+          (plan_said explained e is_explained stated);
+      further = none_stated (files_in texts) e.further.items stated.no_further;
+      further_lines = subst (λ (s : Subject). SayFurther s e.further.items (string_bytes e.text)) (sym stated.subject) stated.no_further;
+      whole = subst (λ (s : Subject). IsWhole (files_in texts) s e.further.items) (sym stated.subject) tt;
     }
 
     pub steps_said : (r : Result Explanation NoMemory) → IfOk r (IsVerdictExplained task names steps traced (named_of texts.plan)) → IfOk r (IsSaidOf traced (files_in texts))
@@ -267,12 +267,12 @@ module _ (task : model.Task) (names : VariableNames) (steps : List model.Instanc
 
   module _ (domain problem : List ℕ) (is_task : IsTaskOf domain problem task) (most : ℕ) (text : List ℕ) (is_plan : IsPlanText task text steps) where
     verdict_true : (traced : Bool) (file : Named) (e : Explanation) → IsVerdictExplained task names steps traced file e → IsTrueOf domain problem (Some text) most e.subject
-    verdict_true traced file e (explained, is_true, is_explained, told) = subst (IsTrueOf domain problem (Some text) most) (sym told.subject)
+    verdict_true traced file e (explained, is_true, is_explained, stated) = subst (IsTrueOf domain problem (Some text) most) (sym stated.subject)
         (record {
           task = task;
           steps = steps;
           are_read = record { is_task = is_task; is_plan = is_plan };
-          is_true = subst (IsVerdict (system_of task) steps) (sym told.same) is_true;
+          is_true = subst (IsVerdict (system_of task) steps) (sym stated.same) is_true;
         })
 
     pub steps_explained : (traced : Bool) (file : Named) (r : Result Explanation NoMemory) → IfOk r (IsVerdictExplained task names steps traced file)
@@ -287,7 +287,7 @@ module _ (task : model.Task) (most : ℕ) where
   summary_said traced files e is = record {
     located = subst (λ (s : Subject). IsSubjectLocated files s e.location) (sym is.subject) tt;
     lines = subst (λ (s : Subject). SaySubject traced files s e.location (map string_bytes e.notes.items) (string_bytes e.text)) (sym is.subject) is.says;
-    further = none_told files e.further.items is.no_further;
+    further = none_stated files e.further.items is.no_further;
     further_lines = subst (λ (s : Subject). SayFurther s e.further.items (string_bytes e.text)) (sym is.subject) is.no_further;
     whole = subst (λ (s : Subject). IsWhole files s e.further.items) (sym is.subject) tt;
   }

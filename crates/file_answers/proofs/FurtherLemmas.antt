@@ -12,7 +12,7 @@ use Rattle.explain_hints.specs.Refusals.{FileRefusal}
 use Rattle.explain_hints.specs.declared.texts.NamedTexts.{NamedTexts}
 use Rattle.explain_faults.specs.Explained.{BeginsWith, IsHeading}
 use Rattle.file_answers.specs.ExplanationLines.{place_in}
-use Rattle.file_answers.specs.FurtherFaults.{AreFurther, IsToldOf, further_text}
+use Rattle.file_answers.specs.FurtherFaults.{AreFurther, IsFurtherOf, further_text}
 use Rattle.file_answers.specs.declared.explanation.FurtherFault.{FurtherFault}
 use Rattle.file_answers.specs.declared.explanation.Location.{Location}
 
@@ -28,30 +28,30 @@ says_before None form new old more is says = tt
 says_before (Some at) form new old more is says = begins_before new old (form at) more is says
 
 -- a report that begins with the first line of a fault begins with it for the location at this place
-pub begins_at : (texts : NamedTexts) (fault told : FileRefusal) (place : LineColumn) (at : Location) (text : List ℕ)
-    → told ≡ fault → string_bytes at.file ≡ name_in texts fault.file → place_in at ≡ place
-    → BeginsWith text (IsHeading (name_in texts told.file) (text_in texts told.file) told.span.start place told.code)
+pub begins_at : (texts : NamedTexts) (fault stated : FileRefusal) (place : LineColumn) (at : Location) (text : List ℕ)
+    → stated ≡ fault → string_bytes at.file ≡ name_in texts fault.file → place_in at ≡ place
+    → BeginsWith text (IsHeading (name_in texts stated.file) (text_in texts stated.file) stated.span.start place stated.code)
     → BeginsWith text (IsHeading (string_bytes at.file) (text_in texts fault.file) fault.span.start (place_in at) fault.code)
-begins_at texts fault told place at text is_fault is_name is_place begins =
+begins_at texts fault stated place at text is_fault is_name is_place begins =
     subst (λ (name : List ℕ). BeginsWith text (IsHeading name (text_in texts fault.file) fault.span.start (place_in at) fault.code)) (sym is_name)
     (subst (λ (p : LineColumn). BeginsWith text (IsHeading (name_in texts fault.file) (text_in texts fault.file) fault.span.start p fault.code)) (sym is_place)
     (subst (λ (f : FileRefusal). BeginsWith text (IsHeading (name_in texts f.file) (text_in texts f.file) f.span.start place f.code)) is_fault begins))
 
 -- one more fault is reported
-pub one_more_told : (texts : NamedTexts) (told : List FurtherFault) (f : FurtherFault)
-    → IsToldOf texts.domain.text.now texts.problem.text.now (name_in texts f.fault.file) (text_in texts f.fault.file) f
-    → AreFurther texts told → AreFurther texts (told ++ f ∷ [])
-one_more_told texts told f here are =
-    All-append (λ (g : FurtherFault). IsToldOf texts.domain.text.now texts.problem.text.now (name_in texts g.fault.file) (text_in texts g.fault.file) g) told (f ∷ []) are alone
+pub one_more_reported : (texts : NamedTexts) (stated : List FurtherFault) (f : FurtherFault)
+    → IsFurtherOf texts.domain.text.now texts.problem.text.now (name_in texts f.fault.file) (text_in texts f.fault.file) f
+    → AreFurther texts stated → AreFurther texts (stated ++ f ∷ [])
+one_more_reported texts stated f here are =
+    All-append (λ (g : FurtherFault). IsFurtherOf texts.domain.text.now texts.problem.text.now (name_in texts g.fault.file) (text_in texts g.fault.file) g) stated (f ∷ []) are alone
   where
     alone : AreFurther texts (f ∷ [])
     alone zero d below = here
     alone (suc k) d below = absurd (omega (arith, below))
 
 -- the lines of the maximum number of faults
-pub many_told : (further : List FurtherFault) (text : List ℕ) → 20 ≤ length further
+pub many_reported : (further : List FurtherFault) (text : List ℕ) → 20 ≤ length further
     → text ≡ flat_map (λ (f : FurtherFault). codes "\n" ++ string_bytes f.text) further ++ codes "\nthere may be more faults: mend these first\n" → text ≡ further_text further
-many_told further text many is =
+many_reported further text many is =
     let lines = flat_map (λ (f : FurtherFault). codes "\n" ++ string_bytes f.text) further in
     let full : nat_le 20 (length further) ≡ true = grind (arith, nat_tests) in
     is ∙ sym (ap (λ b. lines ++ (if b then codes "\nthere may be more faults: mend these first\n" else [])) full)

@@ -25,7 +25,7 @@ use Rattle.validator.specs.Verdict.{verdict_of}
 use Rattle.file_answers.specs.declared.explanation.Explanation.{Explanation}
 use Rattle.explain_faults.specs.SameMistake.{Texts}
 use Rattle.file_answers.specs.Complete.{IsComplete}
-use Rattle.file_answers.specs.FurtherFaults.{EndsWith, IsToldOf, further_text}
+use Rattle.file_answers.specs.FurtherFaults.{EndsWith, IsFurtherOf, further_text}
 use Rattle.file_answers.specs.declared.explanation.FurtherFault.{FurtherFault}
 use Rattle.file_answers.specs.declared.explanation.Location.{Location}
 use Rattle.file_answers.specs.declared.explanation.Subject.{Subject}
@@ -157,7 +157,7 @@ SaySubject traced files (Task holds grounded) at notes lines = lines ≡ summary
 
 -- a further fault is one of the domain and the problem, and its lines state it
 abbrev pub IsReportedIn : Files → FurtherFault → Type 0
-IsReportedIn files f = IfSome (file_in files f.fault.file) (λ named. IsToldOf files.domain.text files.problem.text named.name named.text f)
+IsReportedIn files f = IfSome (file_in files f.fault.file) (λ named. IsFurtherOf files.domain.text files.problem.text named.name named.text f)
 
 -- the lines of a fault end with those of the further faults; there are none for a subject that is not a fault
 abbrev pub SayFurther : Subject → List FurtherFault → (lines : List ℕ) → Type 0

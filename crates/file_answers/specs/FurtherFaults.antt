@@ -32,7 +32,7 @@ SayFault name text fault lines =
     (place : LineColumn) × IsPlace text fault.span.start place × BeginsWith lines (IsHeading name text fault.span.start place fault.code)
 
 -- the reported fault is one of these texts, and its lines state it
-pub record IsToldOf (domain problem name text : List ℕ) (f : FurtherFault) : Type 0 where
+pub record IsFurtherOf (domain problem name text : List ℕ) (f : FurtherFault) : Type 0 where
   pub typed : TypingFault
   pub is_fault : IsFaultOfTexts domain problem typed
   pub is_reported : IsReportedAt typed f.fault
@@ -53,4 +53,4 @@ further_text further =
 -- each of the further faults is one of these texts
 abbrev pub AreFurther : NamedTexts → List FurtherFault → Type 0
 AreFurther texts further =
-    All (λ f. IsToldOf texts.domain.text.now texts.problem.text.now (name_in texts f.fault.file) (text_in texts f.fault.file) f) further
+    All (λ f. IsFurtherOf texts.domain.text.now texts.problem.text.now (name_in texts f.fault.file) (text_in texts f.fault.file) f) further

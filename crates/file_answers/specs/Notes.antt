@@ -14,27 +14,27 @@ use Rattle.model.specs.Task as model
 use Rattle.model.specs.Files.{IsTaskOf}
 
 -- The lines are those of the notes that the kept instances of the task lead to, and then those of its goal, of which no more is said here.
-pub record AreGroundTold (t : model.Task) (most : ℕ) (lines : List (List ℕ)) : Type 0 where
+pub record AreGroundReported (t : model.Task) (most : ℕ) (lines : List (List ℕ)) : Type 0 where
   pub ground : GroundNotes
   pub are_ground : AreGroundNotesOf t most ground
   pub of_goal : List (List ℕ)
-  pub told : lines ≡ ground_lines t ground ++ of_goal
+  pub stated : lines ≡ ground_lines t ground ++ of_goal
 
 -- those of the notes that the files themselves lead to
-pub record AreTold (t : model.Task) (lines : List (List ℕ)) : Type 0 where
+pub record AreSuggested (t : model.Task) (lines : List (List ℕ)) : Type 0 where
   pub notes : TaskNotes
   pub are_notes : AreNotesOf t notes
-  pub told : lines ≡ task_lines t notes
+  pub stated : lines ≡ task_lines t notes
 
 -- the lines that grounding the task leads to; none where a limit is exceeded
 abbrev pub AreReportedOfGround : model.Task → (most : ℕ) → Grounded → List (List ℕ) → Type 0
-AreReportedOfGround t most (Within instances atoms) lines = AreGroundTold t most lines
+AreReportedOfGround t most (Within instances atoms) lines = AreGroundReported t most lines
 AreReportedOfGround t most (Beyond limit) lines = lines ≡ []
 
 -- the lines of all notes on the task, in order, and no others
 abbrev pub AreAllReported : model.Task → (most : ℕ) → Grounded → List (List ℕ) → Type 0
 AreAllReported t most grounded lines =
-    (first : List (List ℕ)) × (others : List (List ℕ)) × AreReportedOfGround t most grounded first × AreTold t others × (lines ≡ first ++ others)
+    (first : List (List ℕ)) × (others : List (List ℕ)) × AreReportedOfGround t most grounded first × AreSuggested t others × (lines ≡ first ++ others)
 
 -- the notes of an explanation of two texts, if they are a task and no plan is given
 abbrev pub AreNotedOf : (domain problem : List ℕ) → (most : ℕ) → Subject → List (List ℕ) → Type 0

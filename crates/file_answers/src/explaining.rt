@@ -64,7 +64,7 @@ pub fn explain_files(
     options: ExplainOptions,
 ) -> Result<Explanation, NoMemory>
     ensures subject { IfOk result (λ e. IsTrueOf files.entry.domain.text.now files.entry.problem.text.now (text_in files.entry.plan) options.max_instances e.subject) }
-    // The notes on a task are all that are found, in order, up to the numbers that are told.
+    // The notes on a task are all that are found, in order, up to the numbers that are written.
     ensures noted { IfOk result (AreNoted files.entry.domain.text.now files.entry.problem.text.now options.max_instances) }
     // The lines give the explanation, and the location is that of the fault or the step.
     ensures said { IfOk result (IsSaidOf (is_traced options.steps) (files_of files.entry.domain files.entry.problem files.entry.plan)) }

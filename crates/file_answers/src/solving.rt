@@ -1,7 +1,7 @@
 //! From the bytes of a domain file and a problem file to an optimal plan.
 ghost use Rattle.std.specs.Prelude.{◌≡◌, ℕ, List, IfOk, IfErr, IfSome, IsTrue, None};
 ghost use Rattle.task.specs.Task.{task_of};
-ghost use Rattle.devices.specs.Progress.{GoesOn};
+ghost use Rattle.devices.specs.Progress.{MayContinue};
 ghost use Rattle.solver.specs.Said.{HasEnded};
 ghost use Rattle.solver.specs.Solver.{HasVersionUpTo, IsTrueAnswer};
 ghost use Rattle.solver.specs.Versions.{number_of};
@@ -77,7 +77,7 @@ pub fn solve_files_and_say<E: Sink + Clock>(
     ensures taken { (task : model.Task) → IsTaskOf files.entry.domain.now files.entry.problem.now task → IfErr result (λ fault. reported_in fault ≡ None) }
 
     // Every progress line is true of the task of the two texts.
-    ensures said { GoesOn (IsTrueLineOf files.entry.domain.now files.entry.problem.now limits.seconds limits.states limits.instances) E.may_lack_memory (E.failures err.old) (E.taken err.old) (E.failures err.new) (E.taken err.new) }
+    ensures said { MayContinue (IsTrueLineOf files.entry.domain.now files.entry.problem.now limits.seconds limits.states limits.instances) E.may_lack_memory (E.failures err.old) (E.taken err.old) (E.failures err.new) (E.taken err.new) }
     ensures ended { IfOk result (λ s. HasEnded E.may_lack_memory (E.failures err.new) (E.taken err.new) s.answer) }
 {
     let task = task_of_files(alloc, files.domain, files.problem)?;
@@ -97,7 +97,7 @@ fn solve_task<E: Sink + Clock>(
     ensures version { IfOk result (λ s. HasVersionUpTo (number_of limits.version) s.answer) }
     ensures memory { IfErr result (λ fault. reported_in fault ≡ None) }
     ensures said { (domain problem : List ℕ) → IsTaskOf domain problem (task_of task)
-        → GoesOn (IsTrueLineOf domain problem limits.seconds limits.states limits.instances) E.may_lack_memory (E.failures err.old) (E.taken err.old) (E.failures err.new) (E.taken err.new) }
+        → MayContinue (IsTrueLineOf domain problem limits.seconds limits.states limits.instances) E.may_lack_memory (E.failures err.old) (E.taken err.old) (E.failures err.new) (E.taken err.new) }
     ensures ended { IfOk result (λ s. HasEnded E.may_lack_memory (E.failures err.new) (E.taken err.new) s.answer) }
 {
     match solve_and_say(alloc, &task, limits, err) {

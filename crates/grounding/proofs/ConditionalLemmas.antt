@@ -51,12 +51,12 @@ module _ (t : Task) (atoms : List Atom) where
   abbrev literals_by : Guard → List NumberedLiteral
   literals_by g = numbered_literals t atoms g.formula g.binding
 
-  abbrev wants_by : Guard → Bool
-  wants_by g = requires_unnumbered t atoms g.formula g.binding
+  abbrev requires_by : Guard → Bool
+  requires_by g = requires_unnumbered t atoms g.formula g.binding
 
   -- the change with the literals of its guard
   abbrev guarded : NumberedChange → Option Guard → ConditionalChange
-  guarded k guard = record { change = k; condition = option_map_or literals_by guard []; requires_unnumbered = option_map_or wants_by guard false }
+  guarded k guard = record { change = k; condition = option_map_or literals_by guard []; requires_unnumbered = option_map_or requires_by guard false }
 
   abbrev conditional_of_effect : NumberedEffect → ConditionalChange
   conditional_of_effect e = guarded (change_of_effect e) e.guard
@@ -106,9 +106,9 @@ module _ (t : Task) (atoms : List Atom) where
     asked-by (Some under) compiled not_false k =
         let g = guard_of_condition under in
         let is = compiled under refl in
-        let wants : not (may_hold_in under.value.condition) ≡ requires_unnumbered t atoms g.formula g.binding =
+        let needs : not (may_hold_in under.value.condition) ≡ requires_unnumbered t atoms g.formula g.binding =
         ap not is.may ∙ formula-may t atoms distinct fluent g.formula g.binding (not_false g refl) in
-        (λ j. record { change = k; condition = is.literals j; requires_unnumbered = wants j })
+        (λ j. record { change = k; condition = is.literals j; requires_unnumbered = needs j })
 
     -- all of an instance
     conditional-is : (i : Instance) (changes : Vec CountingChange) → AreChangesOf t atoms i changes
@@ -132,12 +132,12 @@ module _ (t : Task) (atoms : List Atom) where
 
     -- ---- and of a precondition
 
-    abbrev wants_in : Instance → Schema → Bool
-    wants_in i s = requires_unnumbered t atoms s.precondition i.objects
+    abbrev requires_in : Instance → Schema → Bool
+    requires_in i s = requires_unnumbered t atoms s.precondition i.objects
 
-    pub wants-of : (number : ℕ) (i : Instance) → slice_get (kept_instances t) number ≡ Some i → (c : Condition) → IsPrecondition t atoms i c
+    pub needs-of : (number : ℕ) (i : Instance) → slice_get (kept_instances t) number ≡ Some i → (c : Condition) → IsPrecondition t atoms i c
         → not (may_hold_in c) ≡ number_requires_unnumbered t atoms number
-    wants-of number i named c is =
+    needs-of number i named c is =
         let s = schema-of t i (kept-is_instance t number i named) in
         ap not (is s.0 s.1).may ∙ formula-may t atoms distinct fluent s.0.precondition i.objects (kept-not_false t number i named s.0 s.1)
-        ∙ sym (ap (λ o. option_map_or (instance_requires_unnumbered t atoms) o false) named ∙ ap (λ o. option_map_or (wants_in i) o false) s.1)
+        ∙ sym (ap (λ o. option_map_or (instance_requires_unnumbered t atoms) o false) named ∙ ap (λ o. option_map_or (requires_in i) o false) s.1)

@@ -75,7 +75,7 @@ matched width conditions lists tree are rows unwatched = record {
   few = omega (arith, length_permutation (filed lists) (filed_in tree) moved, are.few);
   each = λ n. times-is n (filed lists) (filed_in tree) moved ∙ are.each n;
   rows = λ a below. (rows.trees a below).tree;
-  wanted = λ a below. All-permutation (IsRequiredBy conditions a) (row_of lists a) (numbers_of tree a) ((rows.trees a below).same) (are.rows a);
+  required = λ a below. All-permutation (IsRequiredBy conditions a) (row_of lists a) (numbers_of tree a) ((rows.trees a below).same) (are.rows a);
   unwatched = unwatched.tree;
   unwatched_within = All-permutation (λ n. n < length conditions) lists.unwatched.items (numbers_in tree.unwatched.items) unwatched.same are.unwatched;
 }
@@ -169,9 +169,9 @@ module _ (g : Ground) (bits : List Bool) (long : length bits ≡ length (atoms_i
 
   -- nor is one that wants an atom that is false
   not_passed : (a n : ℕ) → get_or bits a false ≡ false → IsRequiredBy g.conditions.items a n → passes n ≡ false
-  not_passed a n off wanted =
-      let c = item-at g.conditions.items n wanted.0 in
-      not_met n wanted.0 (ap (λ o. list_all (agrees bits) (option_map_or literals_in o [])) c.1 ∙ wanted.1 c.0 c.1 bits off)
+  not_passed a n off required =
+      let c = item-at g.conditions.items n required.0 in
+      not_met n required.0 (ap (λ o. list_all (agrees bits) (option_map_or literals_in o [])) c.1 ∙ required.1 c.0 c.1 bits off)
 
   -- what a tree finds and passes is what passes of its numbers
   tree-passed : (given : List Bool → Type 0) (numbers : List ℕ) (nodes : List Node) → IsTree (length (atoms_in g)) g.conditions.items given numbers nodes → given bits
@@ -193,7 +193,7 @@ module _ (g : Ground) (bits : List Bool) (long : length bits ≡ length (atoms_i
   row = numbers_of g.tree
 
   row-numbers : (a : ℕ) → a < length (atoms_in g) → All (λ n. n < length g.conditions.items) (row a)
-  row-numbers a below k d within = (g.matched.wanted a below k d within).0
+  row-numbers a below k d within = (g.matched.required a below k d within).0
 
   -- the tree of an atom that is true
   module _ (a : ℕ) (below : a < length (atoms_in g)) (on : get_or bits a false ≡ true) where
@@ -246,7 +246,7 @@ module _ (g : Ground) (bits : List Bool) (long : length bits ≡ length (atoms_i
       )
 
   none_in_row : (a : ℕ) → a < length (atoms_in g) → get_or bits a false ≡ false → [] ≡ filter passes (row a)
-  none_in_row a below off = sym (filter-none passes (row a) (λ k d within. not_passed a (get_or (row a) k d) off (g.matched.wanted a below k d within)))
+  none_in_row a below off = sym (filter-none passes (row a) (λ k d within. not_passed a (get_or (row a) k d) off (g.matched.required a below k d within)))
 
   skipped : (a more : ℕ) → a + more ≤ length (atoms_in g) → ((k : ℕ) → a ≤ k → k < a + more → get_or bits k false ≡ false) → filter passes (filed_below row a) ≡ filter passes (filed_below row (a + more))
   skipped a zero few off = let same : a ≡ a + 0 = omega arith in ap (λ n. filter passes (filed_below row n)) same

@@ -17,7 +17,7 @@ use Rattle.grounding.specs.declared.condition.Condition.{Condition}
 use Rattle.grounding.specs.declared.match_tree.Node.{Node}
 use Rattle.grounding.specs.declared.match_tree.Node.TheVariants.{Test, Instance}
 use Rattle.grounding.specs.Conditions.{literals_in}
-use Rattle.grounding.specs.MatchNodes.{met, found, numbers_in, above, literals_at, agrees_at, AgreesWith, AreWithin, Implies, Wants, IsWithin, IsTree, IsTreeOf, IsGroup, IsTested}
+use Rattle.grounding.specs.MatchNodes.{met, found, numbers_in, above, literals_at, agrees_at, AgreesWith, AreWithin, Implies, Requires, IsWithin, IsTree, IsTreeOf, IsGroup, IsTested}
 use Rattle.grounding.proofs.FiledNumbers.{filter-append, filter-none}
 use Rattle.grounding.proofs.GroundLemmas.{got}
 use Rattle.grounding.proofs.LiteralLists.{below-at}
@@ -86,15 +86,15 @@ module _ (width : ℕ) (conditions : List Condition) where
     right = λ bits is. sym (ap (λ b. cond b (n ∷ []) []) is);
   }
 
-  not-agreed : (l : model.NumberedLiteral) (n : ℕ) (bits : List Bool) → Wants conditions l n → agrees bits l ≡ false → agrees_at conditions bits n ≡ false
-  not-agreed l n bits wants off = elim (agrees_at conditions bits n) as (λ b. agrees_at conditions bits n ≡ b → b ≡ false) [
-    | true ↦ λ is. absurd (true≢false (sym (wants bits is) ∙ off))
+  not-agreed : (l : model.NumberedLiteral) (n : ℕ) (bits : List Bool) → Requires conditions l n → agrees bits l ≡ false → agrees_at conditions bits n ≡ false
+  not-agreed l n bits needs off = elim (agrees_at conditions bits n) as (λ b. agrees_at conditions bits n ≡ b → b ≡ false) [
+    | true ↦ λ is. absurd (true≢false (sym (needs bits is) ∙ off))
     | false ↦ λ _. refl
   ] refl
 
   -- a test above a tree
   module _ (given more : List Bool → Type 0) (l : NumberedLiteral) (ns : List ℕ) (nodes : List Node) (atom : l.atom < width) (few : length nodes < 2 ^ 63)
-      (wanted : All (Wants conditions (numbered_of l)) ns) (implies : (bits : List Bool) → more bits → agrees bits (numbered_of l) ≡ true → given bits)
+      (required : All (Requires conditions (numbered_of l)) ns) (implies : (bits : List Bool) → more bits → agrees bits (numbered_of l) ≡ true → given bits)
       (tree : IsTree width conditions given ns nodes) where
     passed : (bits : List Bool) (rest : List Node) (b : Bool) → found bits (if b then 0 else length nodes) (nodes ++ rest) ≡ found bits (if b then 0 else length nodes) nodes ++ found bits 0 rest
     passed bits rest true = tree.closed bits rest
@@ -103,7 +103,7 @@ module _ (width : ℕ) (conditions : List Condition) where
     here : (bits : List Bool) → more bits → (b : Bool) → agrees bits (numbered_of l) ≡ b → found bits (if b then 0 else length nodes) nodes ≡ filter (agrees_at conditions bits) ns
     here bits is true on = tree.right bits (implies bits is on)
     here bits is false off =
-        found-none bits nodes ∙ sym (filter-none (agrees_at conditions bits) ns (λ k d lt. not-agreed (numbered_of l) (get_or ns k d) bits (wanted k d lt) off))
+        found-none bits nodes ∙ sym (filter-none (agrees_at conditions bits) ns (λ k d lt. not-agreed (numbered_of l) (get_or ns k d) bits (required k d lt) off))
 
     pub tree-above : IsTree width conditions more ns (above l nodes)
     tree-above = record {
@@ -115,10 +115,10 @@ module _ (width : ℕ) (conditions : List Condition) where
     }
 
   -- a literal of one instance that is tested above it, or is on the path
-  pub tree-tested : (path rest : List model.NumberedLiteral) (l : NumberedLiteral) (n : ℕ) (old new : List Node) → l.atom < width → length old < 2 ^ 63 → Wants conditions (numbered_of l) n
+  pub tree-tested : (path rest : List model.NumberedLiteral) (l : NumberedLiteral) (n : ℕ) (old new : List Node) → l.atom < width → length old < 2 ^ 63 → Requires conditions (numbered_of l) n
       → IsTested path l old new → IsTree width conditions (λ bits. AgreesWith path bits × AgreesWith (numbered_of l ∷ rest) bits) (n ∷ []) old
       → IsTree width conditions (λ bits. AgreesWith path bits × AgreesWith rest bits) (n ∷ []) new
-  tree-tested path rest l n old new atom few wants tested tree = elim tested [
+  tree-tested path rest l n old new atom few needs tested tree = elim tested [
     | inl same ↦
         subst (IsTree width conditions (λ bits. AgreesWith path bits × AgreesWith rest bits) (n ∷ [])) (sym same.1)
         (tree-given (λ bits. AgreesWith path bits × AgreesWith (numbered_of l ∷ rest) bits) (λ bits. AgreesWith path bits × AgreesWith rest bits) (n ∷ []) old
@@ -126,7 +126,7 @@ module _ (width : ℕ) (conditions : List Condition) where
     | inr put ↦
         subst (IsTree width conditions (λ bits. AgreesWith path bits × AgreesWith rest bits) (n ∷ [])) (sym put)
         (tree-above (λ bits. AgreesWith path bits × AgreesWith (numbered_of l ∷ rest) bits) (λ bits. AgreesWith path bits × AgreesWith rest bits) l (n ∷ []) old atom few
-        (All-cons (Wants conditions (numbered_of l)) n [] wants (All-nil (Wants conditions (numbered_of l))))
+        (All-cons (Requires conditions (numbered_of l)) n [] needs (All-nil (Requires conditions (numbered_of l))))
         (λ bits is on. (is.0, and_from (agrees bits (numbered_of l)) (list_all (agrees bits) rest) on is.1)) tree)
   ]
 
@@ -152,12 +152,12 @@ atom-within width conditions n c literals i d are within at same below =
     below-at width literals i d below (subst (All (λ (l : model.NumberedLiteral). l.atom < width)) (sym same) (are n c (got conditions n c within at)))
 
 -- one instance more that wants a literal
-pub wanted-more : (conditions : List Condition) (l : model.NumberedLiteral) (numbers : List ℕ) (i d : ℕ) (c : Condition) (literals : List NumberedLiteral) → i < length numbers → get_or numbers i d < length conditions
-    → c ≡ get_or conditions (get_or numbers i d) c → map numbered_of literals ≡ literals_in c → Implies (map numbered_of literals) l → All (Wants conditions l) (take i numbers)
-    → All (Wants conditions l) (take (i + 1) numbers)
-wanted-more conditions l numbers i d c literals below within at same implies before =
-    subst (All (Wants conditions l)) (sym (take_more numbers i d below))
-    (All-push (Wants conditions l) (take i numbers) (get_or numbers i d) before
+pub required-more : (conditions : List Condition) (l : model.NumberedLiteral) (numbers : List ℕ) (i d : ℕ) (c : Condition) (literals : List NumberedLiteral) → i < length numbers → get_or numbers i d < length conditions
+    → c ≡ get_or conditions (get_or numbers i d) c → map numbered_of literals ≡ literals_in c → Implies (map numbered_of literals) l → All (Requires conditions l) (take i numbers)
+    → All (Requires conditions l) (take (i + 1) numbers)
+required-more conditions l numbers i d c literals below within at same implies before =
+    subst (All (Requires conditions l)) (sym (take_more numbers i d below))
+    (All-push (Requires conditions l) (take i numbers) (get_or numbers i d) before
     (subst (λ ls. Implies ls l) (same ∙ sym (literals-at conditions (get_or numbers i d) c within at)) implies))
 
 -- one literal more of an instance's condition, which is tested or on the path
@@ -168,8 +168,8 @@ pub tree-step : (width : ℕ) (conditions : List Condition) (path : List model.N
 tree-step width conditions path literals i d n c old new below within at same are few tested tree =
     let l = get_or literals i d in
     let here : slice_get (map numbered_of literals) i ≡ Some (numbered_of l) = slice_get-map numbered_of literals i ∙ ap (option_map numbered_of) (slice_get-get_or literals i d below) in
-    let wants : Wants conditions (numbered_of l) n = subst (λ ls. Implies ls (numbered_of l)) (same ∙ sym (literals-at conditions n c within at)) (itself literals i d below) in
-    tree-tested width conditions path (drop (i + 1) (map numbered_of literals)) l n old new (atom-within width conditions n c literals i d are within at same below) few wants tested
+    let needs : Requires conditions (numbered_of l) n = subst (λ ls. Implies ls (numbered_of l)) (same ∙ sym (literals-at conditions n c within at)) (itself literals i d below) in
+    tree-tested width conditions path (drop (i + 1) (map numbered_of literals)) l n old new (atom-within width conditions n c literals i d are within at same below) few needs tested
     (subst (λ rest. IsTree width conditions (λ bits. AgreesWith path bits × AgreesWith rest bits) (n ∷ []) old) (drop-here (map numbered_of literals) i (numbered_of l) here) tree)
 
 -- ---- groups
@@ -204,11 +204,11 @@ tree-moved width conditions given old new nodes moved tree = record {
 
 -- a test above a tree of instances that all want its literal
 pub tree-branch : (width : ℕ) (conditions : List Condition) (given more : List Bool → Type 0) (l : NumberedLiteral) (numbers : List ℕ) (nodes : List Node) → l.atom < width → length nodes < 2 ^ 63
-    → All (Wants conditions (numbered_of l)) numbers → ((bits : List Bool) → more bits → agrees bits (numbered_of l) ≡ true → given bits)
+    → All (Requires conditions (numbered_of l)) numbers → ((bits : List Bool) → more bits → agrees bits (numbered_of l) ≡ true → given bits)
     → IsTreeOf width conditions given numbers nodes → IsTreeOf width conditions more numbers (above l nodes)
-tree-branch width conditions given more l numbers nodes atom few wanted implies tree = record {
+tree-branch width conditions given more l numbers nodes atom few required implies tree = record {
   same = tree.same;
-  tree = tree-above width conditions given more l (numbers_in nodes) nodes atom few (All-permutation (Wants conditions (numbered_of l)) numbers (numbers_in nodes) tree.same wanted) implies tree.tree;
+  tree = tree-above width conditions given more l (numbers_in nodes) nodes atom few (All-permutation (Requires conditions (numbered_of l)) numbers (numbers_in nodes) tree.same required) implies tree.tree;
 }
 
 -- one literal more on a path

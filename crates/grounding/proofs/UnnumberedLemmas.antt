@@ -46,11 +46,11 @@ fixed_may : (held : Bool) → (true && not held) ≡ false → not held ≡ fals
 fixed_may held not_false = not_false
 
 -- one literal after another
-both_may : (may some closed closes : Bool) (mays wants : Bool) → (closed || closes) ≡ false → (closed ≡ false → not may ≡ some) → (closes ≡ false → not mays ≡ wants)
-    → not (may && mays) ≡ (some || wants)
-both_may may some true closes mays wants not_false first rest = absurd (true≢false not_false)
-both_may true some false closes mays wants not_false first rest = rest not_false ∙ ap (λ b. b || wants) (first refl)
-both_may false some false closes mays wants not_false first rest = ap (λ b. b || wants) (first refl)
+both_may : (may some closed closes : Bool) (mays needs : Bool) → (closed || closes) ≡ false → (closed ≡ false → not may ≡ some) → (closes ≡ false → not mays ≡ needs)
+    → not (may && mays) ≡ (some || needs)
+both_may may some true closes mays needs not_false first rest = absurd (true≢false not_false)
+both_may true some false closes mays needs not_false first rest = rest not_false ∙ ap (λ b. b || needs) (first refl)
+both_may false some false closes mays needs not_false first rest = ap (λ b. b || needs) (first refl)
 
 module _ (t : Task) (atoms : List Atom) (distinct : are_distinct atoms ≡ true) (fluent : (q : Atom) → occurs_in atoms q ≡ true → is_fluent t q.predicate ≡ true) where
   numbered-occurs : (a : Atom) → is_some (number_of atoms a) ≡ occurs_in atoms a

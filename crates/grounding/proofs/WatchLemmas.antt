@@ -15,7 +15,7 @@ use Rattle.grounding.specs.declared.watch_lists.WatchLists.{WatchLists}
 use Rattle.grounding.specs.Conditions.{literals_in, can_hold_at}
 use Rattle.grounding.specs.InPlace.{AreInPlace}
 use Rattle.grounding.specs.Preconditions.{IsPrecondition}
-use Rattle.grounding.specs.Watched.{IsWanted, IsWatchable, IsEither}
+use Rattle.grounding.specs.Watched.{IsRequired, IsWatchable, IsEither}
 use Rattle.grounding.specs.WatchLists.{times, filed_below, row_of, filed, is_in_row, with_unwatched, IsFiled, IsRequiredBy, AreWatched}
 use Rattle.grounding.proofs.Conditions.{literals-within}
 use Rattle.grounding.proofs.FiledNumbers.{times-append, filed-more, filed-alike, filter-append, range-more}
@@ -27,9 +27,9 @@ use Rattle.model.proofs.Tests.{passes_not_index, passes_map}
 
 -- ---- the atom that is watched
 
-wanted-at : (literals : List NumberedLiteral) (i : ℕ) (d : NumberedLiteral) → i < length literals → (get_or literals i d).value ≡ true
-    → IsWanted (map numbered_of literals) (get_or literals i d).atom
-wanted-at literals i d within value bits off =
+required-at : (literals : List NumberedLiteral) (i : ℕ) (d : NumberedLiteral) → i < length literals → (get_or literals i d).value ≡ true
+    → IsRequired (map numbered_of literals) (get_or literals i d).atom
+required-at literals i d within value bits off =
     let test = agrees bits in
     let here : test (numbered_of (get_or literals i d)) ≡ false =
     ap (λ b. if b then get_or bits (get_or literals i d).atom false else not (get_or bits (get_or literals i d).atom false)) value ∙ off in
@@ -40,7 +40,7 @@ pub watchable-next : (width : ℕ) (literals : List NumberedLiteral) (i : ℕ) (
     → IfSome other (IsWatchable width (map numbered_of literals)) → IsEither other (numbered_of (get_or literals i d)) answer → IfSome answer (IsWatchable width (map numbered_of literals))
 watchable-next width literals i d other answer within below before either = elim either [
   | inl same ↦ subst (λ o. IfSome o (IsWatchable width (map numbered_of literals))) (sym same) before
-  | inr (value, is) ↦ subst (λ o. IfSome o (IsWatchable width (map numbered_of literals))) (sym is) (below, wanted-at literals i d within value)
+  | inr (value, is) ↦ subst (λ o. IfSome o (IsWatchable width (map numbered_of literals))) (sym is) (below, required-at literals i d within value)
 ]
 
 pub watchable-below : (width : ℕ) (literals : List model.NumberedLiteral) (watched : Option ℕ) → IfSome watched (IsWatchable width literals) → IfSome watched (λ a. a < width)
@@ -116,13 +116,13 @@ module _ (width : ℕ) (conditions : List Condition) where
       below : IfSome watched (λ a. a < length old.rows.items)
       below = subst (λ w. IfSome watched (λ a. a < w)) (sym so.wide) (watchable-below width (literals_in c) watched watchable)
 
-      wants : (a : ℕ) → IsWanted (literals_in c) a → IsRequiredBy conditions a number
-      wants a wanted = (within, λ d there. let same : c ≡ d = cc in subst (λ e. IsWanted (literals_in e) a) same wanted)
+      needs : (a : ℕ) → IsRequired (literals_in c) a → IsRequiredBy conditions a number
+      needs a required = (within, λ d there. let same : c ≡ d = cc in subst (λ e. IsRequired (literals_in e) a) same required)
 
       row : (a : ℕ) (watched : Option ℕ) → IfSome watched (IsWatchable width (literals_in c)) → All (IsRequiredBy conditions a) (if is_in_row watched a then row_of old a ++ number ∷ [] else row_of old a)
       row a None is = so.rows a
       row a (Some b) is = elim (a == b) as (λ t. a == b ≡ t → All (IsRequiredBy conditions a) (if t then row_of old a ++ number ∷ [] else row_of old a)) [
-        | true ↦ λ same. All-push (IsRequiredBy conditions a) (row_of old a) number (so.rows a) (wants a (subst (IsWanted (literals_in c)) (sym (eqb-true a b same)) is.1))
+        | true ↦ λ same. All-push (IsRequiredBy conditions a) (row_of old a) number (so.rows a) (needs a (subst (IsRequired (literals_in c)) (sym (eqb-true a b same)) is.1))
         | false ↦ λ _. so.rows a
       ] refl
 

@@ -62,8 +62,8 @@ abbrev pub Implies : List model.NumberedLiteral → model.NumberedLiteral → Ty
 Implies literals l = (bits : List Bool) → AgreesWith literals bits → agrees bits l ≡ true
 
 -- the condition of this number needs the literal
-abbrev pub Wants : List Condition → model.NumberedLiteral → ℕ → Type 0
-Wants conditions l n = Implies (literals_at conditions n) l
+abbrev pub Requires : List Condition → model.NumberedLiteral → ℕ → Type 0
+Requires conditions l n = Implies (literals_at conditions n) l
 
 -- the literals of the conditions are of atoms below the width
 abbrev pub AreWithin : ℕ → List Condition → Type 0
@@ -99,7 +99,7 @@ pub record IsRun (width : ℕ) (conditions : List Condition) (numbers : List ℕ
   pub some : 0 < count
   pub few : count ≤ length numbers
   pub atom : l.atom < width
-  pub wanted : All (Wants conditions l) (take count numbers)
+  pub required : All (Requires conditions l) (take count numbers)
 
 -- the literal is tested above the nodes, unless the path implies it
 abbrev pub IsTested : List model.NumberedLiteral → NumberedLiteral → List Node → List Node → Type 0

@@ -36,6 +36,6 @@ pub record AreMatched (width : ℕ) (conditions : List Condition) (tree : MatchT
   pub few : length (filed_in tree) ≤ length conditions
   pub each : (n : ℕ) → times n (filed_in tree) ≡ times n (filter (can_hold_at conditions) (range_with_len 0 (length conditions)))
   pub rows : (a : ℕ) → a < width → IsTree width conditions (λ bits. get_or bits a false ≡ true) (numbers_of tree a) (nodes_of tree a)
-  pub wanted : (a : ℕ) → a < width → All (IsRequiredBy conditions a) (numbers_of tree a)
+  pub required : (a : ℕ) → a < width → All (IsRequiredBy conditions a) (numbers_of tree a)
   pub unwatched : IsTree width conditions (AgreesWith []) (numbers_in tree.unwatched.items) tree.unwatched.items
   pub unwatched_within : All (λ n. n < length conditions) (numbers_in tree.unwatched.items)

@@ -6,7 +6,7 @@ use Rattle.std.specs.Global.{Vec}
 use Rattle.grounding.specs.declared.condition.Condition.{Condition}
 use Rattle.grounding.specs.declared.watch_lists.WatchLists.{WatchLists}
 use Rattle.grounding.specs.Conditions.{literals_in, can_hold_at}
-use Rattle.grounding.specs.Watched.{IsWanted}
+use Rattle.grounding.specs.Watched.{IsRequired}
 
 -- the number of times that a number is in a list
 abbrev pub once : Bool → ℕ
@@ -48,7 +48,7 @@ pub record IsFiled (number : ℕ) (watched : Option ℕ) (old new : WatchLists) 
 
 -- the number is of one of these conditions, which needs the atom
 abbrev pub IsRequiredBy : List Condition → ℕ → ℕ → Type 0
-IsRequiredBy conditions a n = (n < length conditions) × ((c : Condition) → slice_get conditions n ≡ Some c → IsWanted (literals_in c) a)
+IsRequiredBy conditions a n = (n < length conditions) × ((c : Condition) → slice_get conditions n ≡ Some c → IsRequired (literals_in c) a)
 
 -- Each of the first `count` conditions that may hold has its number in one list, once, and needs the atom of that list.
 pub record AreWatched (width : ℕ) (conditions : List Condition) (count : ℕ) (w : WatchLists) : Type 0 where

@@ -3,7 +3,7 @@ ghost use Rattle.std.specs.Prelude.{◌≡◌, ◌<◌, ◌≤◌, ◌^◌, ◌�
 ghost use Rattle.std.proofs.Props.{props};
 ghost use Rattle.grounding_instances.specs.Numbers.{numbered_of};
 ghost use Rattle.std.specs.List.Sorted.{IsPermutation};
-ghost use Rattle.grounding.specs.MatchNodes.{above, AreWithin, IsTree, IsTreeOf, IsGroup, IsRun, IsTested, AgreesWith, Implies, Wants};
+ghost use Rattle.grounding.specs.MatchNodes.{above, AreWithin, IsTree, IsTreeOf, IsGroup, IsRun, IsTested, AgreesWith, Implies, Requires};
 
 use crate::condition::Condition;
 use crate::match_tree::Node;
@@ -155,7 +155,7 @@ impl<'a> TreeBuilder<'a> {
     ) -> Result<Group, NoMemory>
         requires within { All (λ n. n < length self.now.conditions.now) numbers.now }
         requires atom { literal.atom < self.now.width }
-        requires shared { All (Wants self.now.conditions.now (numbered_of literal)) numbers.now }
+        requires shared { All (Requires self.now.conditions.now (numbered_of literal)) numbers.now }
         ensures count { IfOk result (λ group. group.count ≡ length numbers.now) }
         ensures tree { IfOk result (λ group. IsTreeOf self.now.width self.now.conditions.now (AgreesWith (map numbered_of path.entry.literals.now)) numbers.now group.nodes.items) }
     {
@@ -300,7 +300,7 @@ impl<'a> TreeBuilder<'a> {
     fn run_length(&self, literal: &NumberedLiteral, numbers: &[u32]) -> usize
         requires { All (λ n. n < length self.now.conditions.now) numbers.now }
         ensures within { result ≤ length numbers.now }
-        ensures wanted { All (Wants self.now.conditions.now (numbered_of literal.now)) (take result numbers.now) }
+        ensures required { All (Requires self.now.conditions.now (numbered_of literal.now)) (take result numbers.now) }
     {
         let mut length = 0;
         for &number in numbers {

@@ -112,7 +112,7 @@ fn ranks(
 {
     let mut ranks = first_ranks(alloc, width, often)?;
     for condition in conditions {
-        count_wanted(condition.literals(), &mut ranks);
+        count_required(condition.literals(), &mut ranks);
     }
     Ok(ranks)
 }
@@ -129,7 +129,7 @@ fn first_ranks(alloc: Global, width: u32, often: &Often) -> Result<Vec<u64>, NoM
 }
 
 /// Counts the atoms that the literals need.
-fn count_wanted(literals: &[NumberedLiteral], ranks: &mut [u64])
+fn count_required(literals: &[NumberedLiteral], ranks: &mut [u64])
     requires { All (λ l. l.atom < length ranks.old) (map numbered_of literals.now) }
     ensures { length ranks.new ≡ length ranks.old }
 {

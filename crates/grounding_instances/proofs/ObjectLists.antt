@@ -48,9 +48,9 @@ parameters-more t precondition items i count types before after p below at so_fa
     let first : length scope ≡ i = omega (arith, sym (choices-long t precondition 0 scope), ap length (sym so_far), length-map before choice_of, long) in
     let next : map union_of (take (i + 1) items) ≡ scope ++ union_of types ∷ [] =
     ap (map union_of) (take_more items i types below ∙ ap (λ u. take i items ++ u ∷ []) (sym at)) ∙ map_push union_of (take i items) types in
-    let wanted : count + 1 ≡ 0 + length scope + 1 = omega (arith, first, is) in (
+    let required : count + 1 ≡ 0 + length scope + 1 = omega (arith, first, is) in (
       ap (map choice_of) push ∙ map_push choice_of before p
-          ∙ (λ j. so_far j ++ record { objects = objects j; literals = (literals ∙ ap (λ n. decided_literals n precondition) wanted) j } ∷ [])
+          ∙ (λ j. so_far j ++ record { objects = objects j; literals = (literals ∙ ap (λ n. decided_literals n precondition) required) j } ∷ [])
           ∙ sym (choices-push t precondition 0 scope (union_of types))
           ∙ ap (choices_from t precondition 0) (sym next),
       omega (arith, ap length push, length-append before (p ∷ []), long),

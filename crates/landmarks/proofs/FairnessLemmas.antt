@@ -29,11 +29,11 @@ use Rattle.landmarks.proofs.ValueLemmas.{all-count}
 -- ---- all instances
 
 module _ (task : Task) (atoms : List Atom) (h : LandmarkFunction) (asked : List ℕ) (are : AreAsked task atoms h.tables asked) (within : All (λ number. number < length (kept_instances task)) asked)
-    (charged : ℕ → ℕ) (told : (number : ℕ) → charged number ≡ charged_at task atoms h.landmarks number)
+    (charged : ℕ → ℕ) (reported : (number : ℕ) → charged number ≡ charged_at task atoms h.landmarks number)
     (allowed : ℕ → ℕ) (allowance : Instance → ℕ) (agree : (number : ℕ) (i : Instance) → slice_get (kept_instances task) number ≡ Some i → allowed number ≡ allowance i) where
   same-charge : (number : ℕ) (i : Instance) → slice_get (kept_instances task) number ≡ Some i → charged number ≡ charges task atoms h.landmarks i
   same-charge number i at =
-      told number ∙ (λ k. sum_by (charge (option_map_or (literals_of_instance task atoms) (at k) []) (option_map_or (conditional_of_instance task atoms) (at k) [])) h.landmarks)
+      reported number ∙ (λ k. sum_by (charge (option_map_or (literals_of_instance task atoms) (at k) []) (option_map_or (conditional_of_instance task atoms) (at k) [])) h.landmarks)
 
   pub all-fair : list_all (has_one (literals_of_goal task atoms)) h.landmarks ≡ true → AreAllWithin allowed charged asked → AreFairAt allowance task atoms h
   all-fair goals all = record {
@@ -65,8 +65,8 @@ module _ (task : Task) (atoms : List Atom) (beside : List Table) (zones : List Z
   abbrev total : ℕ → ℕ
   total = total_at task atoms zones shares
 
-  told : (number : ℕ) → total number ≡ charged_at task atoms h.landmarks number
-  told number = all-count zones (charge (literals_of_number task atoms number) (conditional_of_number task atoms number)) shares
+  reported : (number : ℕ) → total number ≡ charged_at task atoms h.landmarks number
+  reported number = all-count zones (charge (literals_of_number task atoms number) (conditional_of_number task atoms number)) shares
 
   no-cost : (number : ℕ) (i : Instance) → slice_get (kept_instances task) number ≡ Some i → allowed_at task atoms Nothing number ≡ nothing i
   no-cost number i at = refl
@@ -75,17 +75,17 @@ module _ (task : Task) (atoms : List Atom) (beside : List Table) (zones : List Z
   same-cost number i at = ap (λ o. option_map_or (cost_of task) o 0) at
 
   pub dead-fair-as : list_all (has_one (literals_of_goal task atoms)) h.landmarks ≡ true → AreAllWithin (allowed_at task atoms Nothing) total asked → IsFairness task atoms h DeadFair
-  dead-fair-as goals all = all-fair task atoms h asked are within total told (allowed_at task atoms Nothing) nothing no-cost goals all
+  dead-fair-as goals all = all-fair task atoms h asked are within total reported (allowed_at task atoms Nothing) nothing no-cost goals all
 
   pub fair-as : list_all (has_one (literals_of_goal task atoms)) h.landmarks ≡ true → IsSomeBeyond (allowed_at task atoms Nothing) total asked → AreAllWithin (allowed_at task atoms Cost) total asked
       → IsFairness task atoms h Fair
   fair-as goals one all = (
-    all-fair task atoms h asked are within total told (allowed_at task atoms Cost) (cost_of task) same-cost goals all,
-    none-fair task atoms h asked are within total told (allowed_at task atoms Nothing) nothing no-cost one,
+    all-fair task atoms h asked are within total reported (allowed_at task atoms Cost) (cost_of task) same-cost goals all,
+    none-fair task atoms h asked are within total reported (allowed_at task atoms Nothing) nothing no-cost one,
   )
 
   pub unfair-as : IsSomeBeyond (allowed_at task atoms Cost) total asked → IsFairness task atoms h Unfair
-  unfair-as one = none-fair task atoms h asked are within total told (allowed_at task atoms Cost) (cost_of task) same-cost one
+  unfair-as one = none-fair task atoms h asked are within total reported (allowed_at task atoms Cost) (cost_of task) same-cost one
 
 -- a value with a zone without a literal of the goal is not fair
 pub not-of-goal : (task : Task) (atoms : List Atom) (h : LandmarkFunction) → list_all (has_one (literals_of_goal task atoms)) h.landmarks ≡ false → IsFairness task atoms h Unfair

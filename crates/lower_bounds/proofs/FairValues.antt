@@ -25,7 +25,7 @@ use Rattle.lower_bounds.specs.TableLaws.{are_over, IsOver, IsOfAtoms, TablesAreF
 use Rattle.lower_bounds.proofs.TableLists.{all-at, all-among, over-alike}
 use Rattle.lower_bounds.proofs.TableRows.{projection-alike, not-shut_out}
 use Rattle.lower_bounds.proofs.TableFalls.{IsStepWithin, has-next, total-falls, total-ends, value-falls, value-ends}
-use Rattle.lower_bounds.proofs.TableSteps.{all_changes-are, formula-bit, formula-within, pair-bits, untouched-bits, instance-wants_none, steps-within}
+use Rattle.lower_bounds.proofs.TableSteps.{all_changes-are, formula-bit, formula-within, pair-bits, untouched-bits, instance-requires_none, steps-within}
 
 -- ---- tables beside a value
 
@@ -43,7 +43,7 @@ module _ (task : Task) (atoms : List Atom) (tables : List Table) (numberable : A
   pub asked : (s next : State) (i : Instance) → IsOfAtoms task atoms s → step task s i ≡ Some next → has_rows tables (bits_of_state atoms s) ≡ true → is_asked task atoms tables i ≡ true
   asked s next i here leads has =
       neither (option_map_or (λ (schema : Schema). requires_unnumbered task atoms schema.precondition i.objects) (slice_get task.schemas i.schema) false) (is_shut_out (literals_of_instance task atoms i) tables)
-      (instance-wants_none task atoms numberable.distinct s next i here.statics leads here.numbered)
+      (instance-requires_none task atoms numberable.distinct s next i here.statics leads here.numbered)
       (not-shut_out (bits_of_state atoms s) (literals_of_instance task atoms i) tables has (λ t at. (steps-in s next i here leads t at).literals_hold))
     where
       neither : (x y : Bool) → x ≡ false → y ≡ false → not (x || y) ≡ true

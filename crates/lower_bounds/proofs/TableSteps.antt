@@ -91,19 +91,19 @@ module _ (task : Task) (atoms : List Atom) where
       taken k some false others conditional rest = rest
 
   -- if a formula holds in a state of numbered atoms, it requires no atom without a number
-  pub wants-none : (s : State) → HasNumberedFluents task atoms s → (f : Formula) (binding : List ℕ) → holds task f binding s ≡ true → requires_unnumbered task atoms f binding ≡ false
-  wants-none s numbered f binding holding =
-      false_from_ne_true (requires_unnumbered task atoms f binding) (λ wants.
-      let it = all-any (literal_holds s) (is_unnumbered task atoms) (sure task f binding) (sure_literals_hold task f binding s holding) wants in
+  pub needs-none : (s : State) → HasNumberedFluents task atoms s → (f : Formula) (binding : List ℕ) → holds task f binding s ≡ true → requires_unnumbered task atoms f binding ≡ false
+  needs-none s numbered f binding holding =
+      false_from_ne_true (requires_unnumbered task atoms f binding) (λ needs.
+      let it = all-any (literal_holds s) (is_unnumbered task atoms) (sure task f binding) (sure_literals_hold task f binding s holding) needs in
       never it.0 it.1 it.2)
     where
       never : (l : Literal) → literal_holds s l ≡ true → is_unnumbered task atoms l ≡ true → ⊥
-      never (is_true a) holding wants =
-          let parts = and_parts (is_fluent task a.predicate) (not (occurs_in atoms a)) wants in
+      never (is_true a) holding needs =
+          let parts = and_parts (is_fluent task a.predicate) (not (occurs_in atoms a)) needs in
           true≢false (sym (numbered a parts.0 holding) ∙ not-true (occurs_in atoms a) parts.1)
-      never (is_false a) holding wants = true≢false (sym wants)
-      never (are_same a b) holding wants = true≢false (sym wants)
-      never (are_different a b) holding wants = true≢false (sym wants)
+      never (is_false a) holding needs = true≢false (sym needs)
+      never (are_same a b) holding needs = true≢false (sym needs)
+      never (are_different a b) holding needs = true≢false (sym needs)
 
   module _ (distinct : are_distinct atoms ≡ true) where
     abbrev atom_at : ℕ → Atom
@@ -160,12 +160,12 @@ module _ (task : Task) (atoms : List Atom) where
       untouched-bits n below none = bit-is s n below ∙ step-untouched atoms distinct n (atom_at n) (at n below) task s next i statics leads none ∙ sym (bit-is next n below)
 
       -- its precondition requires no atom without a number
-      pub instance-wants_none : HasNumberedFluents task atoms s → option_map_or (λ (schema : Schema). requires_unnumbered task atoms schema.precondition i.objects) (slice_get task.schemas i.schema) false ≡ false
-      instance-wants_none numbered_fluents =
+      pub instance-requires_none : HasNumberedFluents task atoms s → option_map_or (λ (schema : Schema). requires_unnumbered task atoms schema.precondition i.objects) (slice_get task.schemas i.schema) false ≡ false
+      instance-requires_none numbered_fluents =
           elim (slice_get task.schemas i.schema) as (λ o. slice_get task.schemas i.schema ≡ o
           → option_map_or (λ (schema : Schema). requires_unnumbered task atoms schema.precondition i.objects) o false ≡ false) [
             | None ↦ λ _. refl
-            | Some schema ↦ λ named. wants-none s numbered_fluents schema.precondition i.objects
+            | Some schema ↦ λ named. needs-none s numbered_fluents schema.precondition i.objects
                 (held (fits task schema i.objects) (has_amount task schema i.objects) (holds task schema.precondition i.objects s) (after_changes task s (changes_of task schema.effect i.objects)) (sym (ap (option_and_then by) named) ∙ leads))
           ] refl
         where
@@ -190,7 +190,7 @@ module _ (task : Task) (atoms : List Atom) where
         fails : (c : Change) → ok c ≡ false → holds task c.condition c.binding s ≡ false
         fails c closed = false_from_ne_true (holds task c.condition c.binding s) (λ holding.
             true≢false (sym (and_from (not (requires_unnumbered task atoms c.condition c.binding)) (agrees (numbered_literals task atoms c.condition c.binding) scope (projection bits scope))
-            (ap not (wants-none s numbered_fluents c.condition c.binding holding))
+            (ap not (needs-none s numbered_fluents c.condition c.binding holding))
             (projection-agrees bits scope (numbered_literals task atoms c.condition c.binding) (formula-within scope below s c.condition c.binding holding))) ∙ closed))
 
         pub steps-within : IsStepWithin (literals_of_instance task atoms i) (conditional_of_instance task atoms i) bits nexts scope

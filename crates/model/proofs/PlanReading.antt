@@ -240,14 +240,14 @@ close : Placed
 close = record { start = 0; part = record { first = 41; others = [] } }
 
 -- these words continue to a plan text
-abbrev GoesOn : ℕ → List Placed → PlanPlace → Type 0
-GoesOn end words place = (more : List Placed) × (steps : List Step) × (outcome end (words ++ more) place ≡ reads steps)
+abbrev MayContinue : ℕ → List Placed → PlanPlace → Type 0
+MayContinue end words place = (more : List Placed) × (steps : List Step) × (outcome end (words ++ more) place ≡ reads steps)
 
-any_goes_on : (end : ℕ) (place : PlanPlace) → GoesOn end [] place
+any_continues : (end : ℕ) (place : PlanPlace) → MayContinue end [] place
 unfolding letter close
-any_goes_on end outside = ([], [], refl)
-any_goes_on end opened = (letter ∷ close ∷ [], record { action = name_at letter; objects = [] } ∷ [], refl)
-any_goes_on end (inside action objects) = (close ∷ [], record { action = action; objects = objects } ∷ [], refl)
+any_continues end outside = ([], [], refl)
+any_continues end opened = (letter ∷ close ∷ [], record { action = name_at letter; objects = [] } ∷ [], refl)
+any_continues end (inside action objects) = (close ∷ [], record { action = action; objects = objects } ∷ [], refl)
 
 -- these words leave no step open
 abbrev LeavesNone : ℕ → List Placed → PlanPlace → Type 0
@@ -263,13 +263,13 @@ record StopsAt (end : ℕ) (words : List Placed) (place : PlanPlace) (fault : Fa
   after : List Placed
   word : Placed
   in_order : words ≡ before ++ word ∷ after
-  may_continue : GoesOn end before place
+  may_continue : MayContinue end before place
   dead : (more : List Placed) → outcome end (before ++ word ∷ more) place ≡ refuses fault
   number : StopsWith end before place word fault.code
   span_is : fault.span ≡ span_at word
 
 record IsOpen (end : ℕ) (words : List Placed) (place : PlanPlace) (fault : Fault) : Type 0 where
-  may_continue : GoesOn end words place
+  may_continue : MayContinue end words place
   fault_is : fault ≡ open_at end
 
 rest_refused : (step : Step) (fault : Fault) (o : Outcome) → with_step step o ≡ refuses fault → o ≡ refuses fault
@@ -281,8 +281,8 @@ module _ (end : ℕ) (word : Placed) (place next : PlanPlace) (give : Outcome �
     (given : (steps : List Step) → (more : List Step) × (give (reads steps) ≡ reads more))
     (kept : (fault : Fault) → give (refuses fault) ≡ refuses fault)
     (on : (words : List Placed) → outcome end (word ∷ words) place ≡ give (outcome end words next)) where
-  more_goes_on : (words : List Placed) → GoesOn end words next → GoesOn end (word ∷ words) place
-  more_goes_on words (more, steps, e) = (more, (given steps).0, on (words ++ more) ∙ ap give e ∙ (given steps).1)
+  more_continues : (words : List Placed) → MayContinue end words next → MayContinue end (word ∷ words) place
+  more_continues words (more, steps, e) = (more, (given steps).0, on (words ++ more) ∙ ap give e ∙ (given steps).1)
 
   more_none : (words : List Placed) → LeavesNone end words next → LeavesNone end (word ∷ words) place
   more_none words (steps, e) = ((given steps).0, on words ∙ ap give e ∙ (given steps).1)
@@ -304,14 +304,14 @@ module _ (end : ℕ) (word : Placed) (place next : PlanPlace) (give : Outcome �
     after = s.after;
     word = s.word;
     in_order = ap (λ ws. word ∷ ws) s.in_order;
-    may_continue = more_goes_on s.before s.may_continue;
+    may_continue = more_continues s.before s.may_continue;
     dead = λ more. on (s.before ++ s.word ∷ more) ∙ ap give (s.dead more) ∙ kept fault;
     number = more_with s.before s.word fault.code s.number;
     span_is = s.span_is;
   }
 
   more_open : (words : List Placed) (fault : Fault) → IsOpen end words next fault → IsOpen end (word ∷ words) place fault
-  more_open words fault o = record { may_continue = more_goes_on words o.may_continue; fault_is = o.fault_is }
+  more_open words fault o = record { may_continue = more_continues words o.may_continue; fault_is = o.fault_is }
 
   more_found : (words : List Placed) (fault : Fault) → StopsAt end words next fault ⊎ IsOpen end words next fault → StopsAt end (word ∷ words) place fault ⊎ IsOpen end (word ∷ words) place fault
   more_found words fault (inl s) = inl (more_stops words fault s)
@@ -353,7 +353,7 @@ word_found end word words place (stops code) fault is e inner =
       after = words;
       word = word;
       in_order = refl;
-      may_continue = any_goes_on end place;
+      may_continue = any_continues end place;
       dead = λ more. ap (λ t. after_turn (span_at word) t (outcome end more)) is ∙ ap refuses same;
       number = subst (StopsWith end [] place word) (ap (λ (f : Fault). f.code) same) (first_with end word place (sort_of word.part) code refl is);
       span_is = sym (ap (λ (f : Fault). f.span) same);
@@ -366,11 +366,11 @@ word_found end word words place (ends step) fault is e inner =
 
 found : (end : ℕ) (words : List Placed) (place : PlanPlace) (fault : Fault) → outcome end words place ≡ refuses fault → StopsAt end words place fault ⊎ IsOpen end words place fault
 found end [] outside fault e = absurd (cc)
-found end [] opened fault e = inr (record { may_continue = any_goes_on end opened; fault_is = let same : open_at end ≡ fault = cc in sym same })
-found end [] (inside action objects) fault e = inr (record { may_continue = any_goes_on end (inside action objects); fault_is = let same : open_at end ≡ fault = cc in sym same })
+found end [] opened fault e = inr (record { may_continue = any_continues end opened; fault_is = let same : open_at end ≡ fault = cc in sym same })
+found end [] (inside action objects) fault e = inr (record { may_continue = any_continues end (inside action objects); fault_is = let same : open_at end ≡ fault = cc in sym same })
 found end (word ∷ words) place fault e = word_found end word words place (turn place (sort_of word.part) (name_at word)) fault refl e (λ next. found end words next fault)
 
-begins : (end : ℕ) (words : List Placed) → GoesOn end words outside → BeginsSteps words
+begins : (end : ℕ) (words : List Placed) → MayContinue end words outside → BeginsSteps words
 begins end words (more, steps, e) = (more, steps, steps_of_reads end (words ++ more) steps e)
 
 number_reported : (end : ℕ) (before : List Placed) (word : Placed) (code : ℕ) → StopsWith end before outside word code → IsNumberOfWord before word code

@@ -56,11 +56,11 @@ name_byte_is_run byte e = ⊎_elim (λ (marked : (is_ascii_alphabetic byte || is
     (λ (low_line : (byte == 95) ≡ true). let is = eqb-true byte 95 low_line in printable_is_run byte (omega arith) (omega arith) (λ i. omega arith))
     (or_cases (is_ascii_alphabetic byte || is_ascii_digit byte || byte == 45) (byte == 95) e)
 
-name_goes_on : (others : List ℕ) → list_all is_name_byte others ≡ true → list_all (may_continue run) others ≡ true
-name_goes_on [] all = refl
-name_goes_on (byte ∷ others) all =
+name_continues : (others : List ℕ) → list_all is_name_byte others ≡ true → list_all (may_continue run) others ≡ true
+name_continues [] all = refl
+name_continues (byte ∷ others) all =
     let here = and_parts (is_name_byte byte) (list_all is_name_byte others) all in
-    λ i. ap is_run (name_byte_is_run byte here.0) i && name_goes_on others here.1 i
+    λ i. ap is_run (name_byte_is_run byte here.0) i && name_continues others here.1 i
 
 -- a name as a part
 record IsRunOf (name : Name) : Type 0 where
@@ -79,7 +79,7 @@ run_of (first ∷ others) e =
       part = record { first = first; others = others };
       bytes_are = refl;
       a_run = here;
-      to_its_end = ap (λ f. list_all (may_continue f) others) here ∙ name_goes_on others letters.1;
+      to_its_end = ap (λ f. list_all (may_continue f) others) here ∙ name_continues others letters.1;
       named = e;
     }
 
@@ -335,14 +335,14 @@ module _ (task : Task) (schemas_named : are_lower_names (schema_names task) ≡ 
       by_last true later = longer
       by_last false later = later longer
 
-  decimal_goes_on : (cost : ℕ) → list_all (may_continue comment) (decimal cost) ≡ true
+  decimal_continues : (cost : ℕ) → list_all (may_continue comment) (decimal cost) ≡ true
   unfolding digits
-  decimal_goes_on cost = digits_go_on 64 cost [] refl
+  decimal_continues cost = digits_go_on 64 cost [] refl
 
   plan_read : (plan : List Instance) → list_all (is_instance task) plan ≡ true → (cost start : ℕ) → ReadsFrom task start (plan_text task plan cost) plan
   plan_read [] all cost start = record {
     parts = record { first = 59; others = codes " cost = " ++ decimal cost } ∷ alone 10 ∷ [];
-    cut = (10 ∷ [], refl, decimal_goes_on cost, refl, ([], refl, refl, tt, refl));
+    cut = (10 ∷ [], refl, decimal_continues cost, refl, ([], refl, refl, tt, refl));
     steps = [];
     in_steps = refl;
     mean = tt;

@@ -97,17 +97,17 @@ got_later (union ∷ unions) place = refl
 -- 17 and 19, for the terms
 terms_report : {table : ℕ → Placed → Type 0} (file : TaskFile) (known : Known) (arguments : List task.Union) (terms : List tree.Term)
     → ((t : tree.Term) → Contains terms t → IsUnknown known t → table 17 (placed file (word_of t)))
-    → ((place : ℕ) (wanted : task.Union) (t : tree.Term) → slice_get arguments place ≡ Some wanted → slice_get terms place ≡ Some t → fits_in known wanted (term_in known t) ≡ false → table 19 (placed file (word_of t)))
+    → ((place : ℕ) (required_types : task.Union) (t : tree.Term) → slice_get arguments place ≡ Some required_types → slice_get terms place ≡ Some t → fits_in known required_types (term_in known t) ≡ false → table 19 (placed file (word_of t)))
     → AllReport table (terms_faults file known arguments terms)
 terms_report file known arguments [] unknown misfit = none_detects
 terms_report {table} file known arguments (t ∷ terms) unknown misfit =
     both_report (both_report (term_reports file known t (unknown t (Contains-here t terms)))
-    (unless_reports (fits_required known (slice_get arguments 0) (term_in known t)) 19 (placed file (word_of t)) (λ other. wanted_misfit (slice_get arguments 0) refl other)))
-    (terms_report file known (drop 1 arguments) terms (λ s at. unknown s (Contains-there t terms s at)) (λ place wanted s of. misfit (suc place) wanted s (sym (got_later arguments place) ∙ of)))
+    (unless_reports (fits_required known (slice_get arguments 0) (term_in known t)) 19 (placed file (word_of t)) (λ other. required_misfit (slice_get arguments 0) refl other)))
+    (terms_report file known (drop 1 arguments) terms (λ s at. unknown s (Contains-there t terms s at)) (λ place required_types s of. misfit (suc place) required_types s (sym (got_later arguments place) ∙ of)))
   where
-    wanted_misfit : (found : Option task.Union) → slice_get arguments 0 ≡ found → fits_required known found (term_in known t) ≡ false → table 19 (placed file (word_of t))
-    wanted_misfit None of other = absurd (cc)
-    wanted_misfit (Some wanted) of other = misfit 0 wanted t of refl other
+    required_misfit : (found : Option task.Union) → slice_get arguments 0 ≡ found → fits_required known found (term_in known t) ≡ false → table 19 (placed file (word_of t))
+    required_misfit None of other = absurd (cc)
+    required_misfit (Some required_types) of other = misfit 0 required_types t of refl other
 
 -- an unknown term
 unknown_term_listed : (file : TaskFile) (known : Known) (arguments : List task.Union) (terms : List tree.Term) (t : tree.Term) → Contains terms t → IsUnknown known t
@@ -120,25 +120,25 @@ unknown_term_listed file known arguments (s ∷ terms) t at unknown =
     ]
 
 -- a term that does not fit its argument
-misfit_listed : (file : TaskFile) (known : Known) (arguments : List task.Union) (terms : List tree.Term) (place : ℕ) (wanted : task.Union) (t : tree.Term)
-    → slice_get arguments place ≡ Some wanted → slice_get terms place ≡ Some t → fits_in known wanted (term_in known t) ≡ false
+misfit_listed : (file : TaskFile) (known : Known) (arguments : List task.Union) (terms : List tree.Term) (place : ℕ) (required_types : task.Union) (t : tree.Term)
+    → slice_get arguments place ≡ Some required_types → slice_get terms place ≡ Some t → fits_in known required_types (term_in known t) ≡ false
     → Contains (terms_faults file known arguments terms) (fault_at 19 (placed file (word_of t)))
-misfit_listed file known arguments [] place wanted t of at misfit = absurd (cc)
-misfit_listed file known arguments (s ∷ terms) zero wanted t of at misfit =
+misfit_listed file known arguments [] place required_types t of at misfit = absurd (cc)
+misfit_listed file known arguments (s ∷ terms) zero required_types t of at misfit =
     let is : s ≡ t = cc in
     on_left _ _ (on_right (term_faults file known s) _ (subst (λ u. Contains (misfit_faults file known (slice_get arguments 0) u) (fault_at 19 (placed file (word_of t)))) (sym is)
     (unless_listed (fits_required known (slice_get arguments 0) (term_in known t)) (fault_at 19 (placed file (word_of t))) (ap (λ found. fits_required known found (term_in known t)) of ∙ misfit))))
-misfit_listed file known arguments (s ∷ terms) (suc place) wanted t of at misfit =
+misfit_listed file known arguments (s ∷ terms) (suc place) required_types t of at misfit =
     on_right (term_faults file known s ++ misfit_faults file known (slice_get arguments 0) s) _
-    (misfit_listed file known (drop 1 arguments) terms place wanted t (got_later arguments place ∙ of) at misfit)
+    (misfit_listed file known (drop 1 arguments) terms place required_types t (got_later arguments place ∙ of) at misfit)
 
 -- ---- the atom
 
 -- the arguments are those of the declaration
-argument_declared : (found : Option task.Predicate) (place : ℕ) (wanted : task.Union) → slice_get (option_map_or (λ (p : task.Predicate). p.arguments) found []) place ≡ Some wanted
-    → (p : task.Predicate) × (found ≡ Some p) × (slice_get p.arguments place ≡ Some wanted)
-argument_declared None place wanted at = absurd (cc)
-argument_declared (Some p) place wanted at = (p, refl, at)
+argument_declared : (found : Option task.Predicate) (place : ℕ) (required_types : task.Union) → slice_get (option_map_or (λ (p : task.Predicate). p.arguments) found []) place ≡ Some required_types
+    → (p : task.Predicate) × (found ≡ Some p) × (slice_get p.arguments place ≡ Some required_types)
+argument_declared None place required_types at = absurd (cc)
+argument_declared (Some p) place required_types at = (p, refl, at)
 
 -- each listed fault of an atom is in the table for it
 pub atom_reports : {table : ℕ → Placed → Type 0} (file : TaskFile) (known : Known) (a : tree.Atom) → ((code : ℕ) (w : Placed) → IsAtomFault file known a code w → table code w)
@@ -147,9 +147,9 @@ atom_reports file known a fault =
     both_report (predicate_reports file known a fault)
     (terms_report file known (arguments_in known a.predicate) a.terms
     (λ t at unknown. fault 17 (placed file (word_of t)) (unknown_term t at unknown))
-    (λ place wanted t of at misfit.
-    let declared = argument_declared (predicate_in_known known a.predicate) place wanted of in
-    fault 19 (placed file (word_of t)) (wrong_type declared.0 place wanted t declared.1 declared.2 at misfit)))
+    (λ place required_types t of at misfit.
+    let declared = argument_declared (predicate_in_known known a.predicate) place required_types of in
+    fault 19 (placed file (word_of t)) (wrong_type declared.0 place required_types t declared.1 declared.2 at misfit)))
 
 -- and the converse
 pub atom_listed : (file : TaskFile) (known : Known) (a : tree.Atom) (code : ℕ) (w : Placed) → IsAtomFault file known a code w → Contains (atom_faults file known a) (fault_at code w)
@@ -157,8 +157,8 @@ atom_listed file known a code w (unknown_predicate unknown) = on_left _ _ (unkno
 atom_listed file known a code w (unknown_term t at unknown) =
     on_right (predicate_faults file known a.predicate (length a.terms)) _ (unknown_term_listed file known (arguments_in known a.predicate) a.terms t at unknown)
 atom_listed file known a code w (wrong_count p at other) = on_left _ _ (count_listed file known a p at other)
-atom_listed file known a code w (wrong_type p place wanted t found of at misfit) =
-    on_right (predicate_faults file known a.predicate (length a.terms)) _ (misfit_listed file known (arguments_in known a.predicate) a.terms place wanted t
+atom_listed file known a code w (wrong_type p place required_types t found of at misfit) =
+    on_right (predicate_faults file known a.predicate (length a.terms)) _ (misfit_listed file known (arguments_in known a.predicate) a.terms place required_types t
     (ap (λ (o : Option task.Predicate). slice_get (option_map_or (λ (q : task.Predicate). q.arguments) o []) place) found ∙ of) at misfit)
 
 -- ---- formulas and effects

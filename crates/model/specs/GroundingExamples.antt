@@ -164,7 +164,7 @@ pub record AreGrounded : Type 0 where
   pub not_yet_at_c : Meets (walk_to 2) at_places at_b false
   pub ends_at_c : Meets (walk_to 2) at_places at_c true
   pub needs_a : literals_of_instance (walk_to 2) at_places (instance 0 (0 ∷ 1 ∷ [])) ≡ value 0 true ∷ []
-  pub wants_c : literals_of_goal (walk_to 2) at_places ≡ value 2 true ∷ []
+  pub requires_c : literals_of_goal (walk_to 2) at_places ≡ value 2 true ∷ []
   -- An equality is not a literal of an atom, and a negated atom must be false.
   pub needs_false : literals_of_instance (acting [] (and (formulas (equal the_truck the_truck ∷ not (atom q) ∷ atom p ∷ []))) (adds q) (p ∷ [])) (ground 2 [] ∷ []) (instance 0 []) ≡ value 0 false ∷ []
   -- The cost of an instance, by its number, is its cost in the task, here with the metric.

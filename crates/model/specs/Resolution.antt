@@ -408,10 +408,10 @@ predicate_in_known known name = slice_get known.predicates (number_in (names_of_
 -- A term fits an argument of these types: a variable if each of its types is one of them or a subtype of one, an object if its
 -- type is. Unknown terms fit.
 abbrev pub fits_in : Known → task.Union → task.Term → Bool
-fits_in known wanted (task.variable number) =
-    option_map_or (λ (v : Variable). list_all (is_below_in known.types wanted) v.types) (slice_get known.variables number) true
-fits_in known wanted (task.object number) =
-    option_map_or (λ (o : task.Object). is_below_in known.types wanted o.type) (slice_get known.objects number) true
+fits_in known required_types (task.variable number) =
+    option_map_or (λ (v : Variable). list_all (is_below_in known.types required_types) v.types) (slice_get known.variables number) true
+fits_in known required_types (task.object number) =
+    option_map_or (λ (o : task.Object). is_below_in known.types required_types o.type) (slice_get known.objects number) true
 
 -- the word of a term
 abbrev pub word_of : tree.Term → Name

@@ -67,11 +67,11 @@ term_faults file known (tree.object name) = unknown_faults file 17 (names_of_obj
 
 -- the term fits the required types, if there are any
 abbrev pub fits_required : Known → Option task.Union → task.Term → Bool
-fits_required known wanted term = option_map_or (λ types. fits_in known types term) wanted true
+fits_required known required_types term = option_map_or (λ types. fits_in known types term) required_types true
 
 -- 19: a term that does not fit its argument, if there is such an argument
 abbrev pub misfit_faults : TaskFile → Known → Option task.Union → tree.Term → List TypingFault
-misfit_faults file known wanted term = if fits_required known wanted (term_in known term) then [] else refused_word file 19 (word_of term)
+misfit_faults file known required_types term = if fits_required known required_types (term_in known term) then [] else refused_word file 19 (word_of term)
 
 -- for terms at the positions of these arguments
 abbrev pub terms_faults : TaskFile → Known → List task.Union → List tree.Term → List TypingFault

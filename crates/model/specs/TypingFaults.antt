@@ -92,8 +92,8 @@ pub data IsAtomFault (file : TaskFile) (known : Known) (a : tree.Atom) : ℕ →
   wrong_count : (p : task.Predicate) → predicate_in_known known a.predicate ≡ Some p → length a.terms ≢ length p.arguments
       → IsAtomFault file known a 18 (placed file a.predicate)
   -- a term that does not fit its argument
-  wrong_type : (p : task.Predicate) (place : ℕ) (wanted : task.Union) (t : tree.Term) → predicate_in_known known a.predicate ≡ Some p
-      → slice_get p.arguments place ≡ Some wanted → slice_get a.terms place ≡ Some t → fits_in known wanted (term_in known t) ≡ false
+  wrong_type : (p : task.Predicate) (place : ℕ) (required_types : task.Union) (t : tree.Term) → predicate_in_known known a.predicate ≡ Some p
+      → slice_get p.arguments place ≡ Some required_types → slice_get a.terms place ≡ Some t → fits_in known required_types (term_in known t) ≡ false
       → IsAtomFault file known a 19 (placed file (word_of t))
 
 -- with this number, this word of a list of variables is refused, given the visible names

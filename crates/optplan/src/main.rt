@@ -54,20 +54,30 @@ fn arguments(rt: &HostRuntime) -> Result<Vec<String>, AllocError> {
 
 /// After an I/O error of `explain`: reports the problem of the first file that cannot be read.
 fn report_files<E: Sink>(rt: &HostRuntime, words: &[&str], err: &mut E) {
-    if let Ok(
-        Order::Explain {
-            domain,
-            problem,
-            plan,
-            ..
-        },
-    ) = read_words(rt.alloc(), words)
-    {
-        let plan = plan.unwrap_or(problem);
-        let _ = report_file(rt, domain, err)
-            || report_file(rt, problem, err)
-            || report_file(rt, plan, err);
-    }
+    let (domain, problem, cert, plan) = match read_words(rt.alloc(), words) {
+        Ok(
+            Order::Explain {
+                domain,
+                problem,
+                plan,
+                ..
+            },
+        ) => (domain, problem, problem, plan),
+        Ok(
+            Order::ExplainCert {
+                domain,
+                problem,
+                cert,
+                plan,
+                ..
+            },
+        ) => (domain, problem, cert, plan),
+        _ => return,
+    };
+    let _ = report_file(rt, domain, err)
+        || report_file(rt, problem, err)
+        || report_file(rt, cert, err)
+        || report_file(rt, plan.unwrap_or(problem), err);
 }
 
 /// Reports the problem of the file with this name, as far as a second attempt shows. Returns whether there was one.

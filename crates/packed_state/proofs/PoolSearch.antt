@@ -22,10 +22,10 @@ search_begins stride pool count entries keys words key linked =
       other = λ earlier n small before. absurd (omega arith);
     }
 
-pub search_goes_on : (stride : ℕ) (pool : List ℕ) (count : ℕ) (entries keys words : List ℕ) (key step slot entry : ℕ) → AreLinked stride pool count entries keys
+pub search_continues : (stride : ℕ) (pool : List ℕ) (count : ℕ) (entries keys words : List ℕ) (key step slot entry : ℕ) → AreLinked stride pool count entries keys
     → IsSearch stride pool entries words key step → slot ≡ slot_at (length entries) key step → entry ≡ get_or entries slot 0 → (entry ≡ 0 → ⊥)
     → ((tag_in entry ≡ tag_of key) × (row_at stride pool (number_of entry) ≡ words) → ⊥) → IsSearch stride pool entries words key (step + 1)
-search_goes_on stride pool count entries keys words key step slot entry linked walk at read taken unlike =
+search_continues stride pool count entries keys words key step slot entry linked walk at read taken unlike =
     let here : entry ≡ get_or entries (slot_at (length entries) key step) 0 = read ∙ ap (λ k. get_or entries k 0) at in
     let more = further entries key step (has_free _ count entries linked.table) walk.within walk.taken (λ free. taken (here ∙ free)) in
     record {

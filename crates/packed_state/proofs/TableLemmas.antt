@@ -84,7 +84,7 @@ slot_met slots key slot within =
     let inside : start ≤ slots - 1 = and_le_r key (slots - 1) in
     elim (cases_lt slot start) [
       | inl before ↦ (slot + slots - start, (omega arith, slot_round slots key (slot + slots - start) (omega arith) ∙ omega arith))
-      | inr behind ↦ (slot - start, (omega arith, slot_before slots key (slot - start) (omega arith) ∙ omega arith))
+      | inr needed ↦ (slot - start, (omega arith, slot_before slots key (slot - start) (omega arith) ∙ omega arith))
     ]
 
 some_free : (entries : List ℕ) (key : ℕ) → 0 < free_in entries
@@ -173,7 +173,7 @@ met_new entries key entry slot first inside taken step within is_free other =
     elim (cases_order step first.step) [
       | inl same ↦ apart (ap at same ∙ sym first.is)
       | inr (inl before) ↦ first.taken step before (sym (get_or-set_other entries slot (at step) entry 0 apart) ∙ is_free)
-      | inr (inr behind) ↦ other first.step behind (ap (λ k. get_or (set entries slot entry) k 0) (sym first.is) ∙ get_or-set_same entries slot entry 0 inside)
+      | inr (inr needed) ↦ other first.step needed (ap (λ k. get_or (set entries slot entry) k 0) (sym first.is) ∙ get_or-set_same entries slot entry 0 inside)
     ]
 
 pub first_within : (entries : List ℕ) (key slot : ℕ) → IsFirstFree entries key slot → slot < length entries

@@ -1,5 +1,5 @@
 -- The sections of a file, one after another.
-use Rattle.pddl_tree_parts.proofs.Names.{◌≡◌, ℕ, ◌+◌, true, false, cond, ◌||◌, List, [], ◌∷◌, map, fold, Option, Some, None, Result, Ok, Err, refl, sym, ◌∙◌, ap, arith, option_and_then, section_view, Word, from, first, WordFault, made, stops, bind, part, phrase, number_seen, closes_first, opens_first, ReadsInto, GoesOn, Stops, TaskFile, Token, opens, closes, keyword, of_section, of_part, Section, Contents, Phrase, gives, ◌>>=◌, and_then, after, sections, define_word, with_section, is_section, has_section, sections_of, required_of}
+use Rattle.pddl_tree_parts.proofs.Names.{◌≡◌, ℕ, ◌+◌, true, false, cond, ◌||◌, List, [], ◌∷◌, map, fold, Option, Some, None, Result, Ok, Err, refl, sym, ◌∙◌, ap, arith, option_and_then, section_view, Word, from, first, WordFault, made, stops, bind, part, phrase, number_seen, closes_first, opens_first, ReadsInto, MayContinue, Stops, TaskFile, Token, opens, closes, keyword, of_section, of_part, Section, Contents, Phrase, gives, ◌>>=◌, and_then, after, sections, define_word, with_section, is_section, has_section, sections_of, required_of}
 use Rattle.std.proofs.Common.{Bool, ◌&&◌}
 use Rattle.std.specs.List.{list_all}
 use Rattle.model.proofs.Tests.{passes_map}
@@ -86,7 +86,7 @@ begun f seen j c list at o e here new = by_left (left_of (sections_of f) seen) r
         ∙ ap (λ n. bind (phrase (section_into j c) (from list n)) (λ d w. phrase (sections_on f (seen_with seen j) d) w)) (omega arith)
 
 pub section_answers : (f : TaskFile) (seen : List SectionKeyword) (j : SectionKeyword) (c d : Contents) (list : List Word) (at : ℕ) (r : Result ℕ WordFault) → first (from list at) ≡ Some opens → first (from list (at + 1)) ≡ Some (keyword (of_section j))
-    → has_section (sections_of f) j ≡ true → has_section seen j ≡ false → ReadsInto (phrase (section_into j c)) list (at + 2) d r → GoesOn (phrase (sections_on f seen c)) (phrase (sections_on f (seen_with seen j) d)) list at r
+    → has_section (sections_of f) j ≡ true → has_section seen j ≡ false → ReadsInto (phrase (section_into j c)) list (at + 2) d r → MayContinue (phrase (sections_on f seen c)) (phrase (sections_on f (seen_with seen j) d)) list at r
 section_answers f seen j c d list at (Ok next) o e here new h = (begun f seen j c list at o e here new ∙ ap (λ r. bind r (λ d w. phrase (sections_on f (seen_with seen j) d) w)) h.0, (omega (arith, h.1.0), h.1.1))
 section_answers f seen j c d list at (Err fault) o e here new h =
     reported_along list _ _ fault (begun f seen j c list at o e here new) (reported_first list _ (λ d w. phrase (sections_on f (seen_with seen j) d) w) fault h)

@@ -1,5 +1,5 @@
 -- The parts of an action, one after another.
-use Rattle.pddl_tree_parts.proofs.Names.{◌≡◌, ℕ, ◌+◌, true, false, cond, List, [], ◌∷◌, ◌++◌, fold, Option, Some, None, Result, Ok, Err, refl, sym, ◌∙◌, ap, arith, option_and_then, Word, from, first, WordFault, made, stops, bind, part, phrase, number_seen, closes_first, opens_first, ReadsInto, GoesOn, formulas, Token, opens, closes, keyword, of_part, gives, ◌>>=◌, after, formula, has_part}
+use Rattle.pddl_tree_parts.proofs.Names.{◌≡◌, ℕ, ◌+◌, true, false, cond, List, [], ◌∷◌, ◌++◌, fold, Option, Some, None, Result, Ok, Err, refl, sym, ◌∙◌, ap, arith, option_and_then, Word, from, first, WordFault, made, stops, bind, part, phrase, number_seen, closes_first, opens_first, ReadsInto, MayContinue, formulas, Token, opens, closes, keyword, of_part, gives, ◌>>=◌, after, formula, has_part}
 use Rattle.pddl_tree.specs.Sections.{parts_on, part_into}
 use Rattle.pddl_tree_parts.proofs.Read.{part_here, part_none, part_of, taken, read_in_turn}
 use Rattle.pddl_tree_parts.proofs.Looks.{is_closes, refused_here, reported_first, reported_along}
@@ -19,7 +19,7 @@ begun seen p a list at e new =
     ∙ sym (read_in_turn one (λ x. gives (with_part a x)) (λ b. parts_on (seen ++ p ∷ []) b) (from list (at + 1)))
 
 pub part_answers : (seen : List PartKeyword) (p : PartKeyword) (a b : Action) (list : List Word) (at : ℕ) (r : Result ℕ WordFault) → first (from list at) ≡ Some (keyword (of_part p)) → has_part seen p ≡ false
-    → ReadsInto (phrase (part_into (seen ++ p ∷ []) p a)) list (at + 1) b r → GoesOn (phrase (parts_on seen a)) (phrase (parts_on (seen ++ p ∷ []) b)) list at r
+    → ReadsInto (phrase (part_into (seen ++ p ∷ []) p a)) list (at + 1) b r → MayContinue (phrase (parts_on seen a)) (phrase (parts_on (seen ++ p ∷ []) b)) list at r
 part_answers seen p a b list at (Ok next) e new h = (begun seen p a list at e new ∙ ap (λ r. bind r (λ b w. phrase (parts_on (seen ++ p ∷ []) b) w)) h.0, (omega (arith, h.1.0), h.1.1))
 part_answers seen p a b list at (Err fault) e new h =
     reported_along list _ _ fault (begun seen p a list at e new) (reported_first list _ (λ b w. phrase (parts_on (seen ++ p ∷ []) b) w) fault h)

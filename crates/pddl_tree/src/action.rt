@@ -3,7 +3,7 @@ ghost use Rattle.std.specs.Prelude.{◌≡◌, [], IfOk, IfErr, map, Some, false
 ghost use Rattle.model.specs.GrammarWords.{keyword, of_part};
 ghost use Rattle.model.specs.Grammar as grammar;
 ghost use Rattle.pddl_tree_parts.specs.Token.{from, first, part_view};
-ghost use Rattle.pddl_tree_parts.specs.Reading.{part, phrase, Reads, ReadsInto, GoesOn, Stops, closes_first};
+ghost use Rattle.pddl_tree_parts.specs.Reading.{part, phrase, Reads, ReadsInto, MayContinue, Stops, closes_first};
 ghost use Rattle.pddl_tree_parts.specs.Terms.{name_of};
 ghost use Rattle.pddl_tree_parts.specs.Tree.{action_of, formula_of};
 ghost use Rattle.pddl_tree.specs.Sections.{the_action, parts_on, part_into};
@@ -71,7 +71,7 @@ fn part<'a>(
     seen: &mut Vec<PartKeyword>,
 ) -> Result<usize, WordFault>
     requires { closes_first (first (from words.now at)) ≡ false }
-    ensures { GoesOn (phrase (parts_on (map part_view seen.old.items) (action_of action.old))) (phrase (parts_on (map part_view seen.new.items) (action_of action.new))) words.now at result }
+    ensures { MayContinue (phrase (parts_on (map part_view seen.old.items) (action_of action.old))) (phrase (parts_on (map part_view seen.new.items) (action_of action.new))) words.now at result }
 {
     let keyword = part_keyword(words, at, seen)?;
     seen.push(keyword)?;

@@ -5,7 +5,7 @@ ghost use Rattle.model.specs.GrammarWords.{opens, keyword, of_section};
 ghost use Rattle.model.specs.Grammar as grammar;
 ghost use Rattle.pddl_tree_parts.specs.Terms.{name_of};
 ghost use Rattle.pddl_tree_parts.specs.Token.{from, first, section_view};
-ghost use Rattle.pddl_tree_parts.specs.Reading.{part, phrase, Reads, ReadsInto, GoesOn, Stops, closes_first};
+ghost use Rattle.pddl_tree_parts.specs.Reading.{part, phrase, Reads, ReadsInto, MayContinue, Stops, closes_first};
 ghost use Rattle.pddl_tree_parts.specs.Tree.{file_of};
 ghost use Rattle.pddl_tree.specs.Sections.{contents_of, sections_on, section_into, the_domain, IsNotNew};
 
@@ -90,7 +90,7 @@ fn section<'a>(
     seen: &mut Vec<SectionKeyword>,
 ) -> Result<usize, WordFault>
     requires { closes_first (first (from words.now at)) ≡ false }
-    ensures { GoesOn (phrase (sections_on (file_of file) (map section_view seen.old.items) (contents_of contents.old))) (phrase (sections_on (file_of file) (map section_view seen.new.items) (contents_of contents.new))) words.now at result }
+    ensures { MayContinue (phrase (sections_on (file_of file) (map section_view seen.old.items) (contents_of contents.old))) (phrase (sections_on (file_of file) (map section_view seen.new.items) (contents_of contents.new))) words.now at result }
 {
     let keyword = section_head(words, at, file, seen)?;
     see(seen, keyword)?;

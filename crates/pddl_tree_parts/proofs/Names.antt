@@ -8,7 +8,7 @@ pub use Rattle.model.specs.GrammarWords.{Token, closes, dash, free, keyword, of_
 pub use Rattle.model.specs.Refusals.{number_at, start}
 pub use Rattle.model.specs.Trees.{TaskFile, Name, effects, formulas}
 pub use Rattle.pddl_tree_parts.specs.Place.{listed_view}
-pub use Rattle.pddl_tree_parts.specs.Reading.{GoesOn, Reading, Reads, ReadsInto, Stops, Reports, bind, by_rule, closes_first, made, number_seen, one_of, opens_first, part, phrase, stops}
+pub use Rattle.pddl_tree_parts.specs.Reading.{MayContinue, Reading, Reads, ReadsInto, Stops, Reports, bind, by_rule, closes_first, made, number_seen, one_of, opens_first, part, phrase, stops}
 pub use Rattle.pddl_tree_parts.specs.Typed.{the_either}
 pub use Rattle.pddl_tree_parts.specs.Terms.{name_of}
 pub use Rattle.pddl_tree_parts.specs.Refusal.{WordFault, reported}

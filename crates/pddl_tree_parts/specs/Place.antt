@@ -15,15 +15,15 @@ listed_view listed.Names = grammar.names
 listed_view listed.Variables = grammar.variables
 
 -- a nonterminal required there, with the refusal numbers of the place
-abbrev pub wanted : Place → Sort
-wanted place.Incomplete = define_word
-wanted place.Parts = parts []
-wanted (place.Value seen) = value (map part_view seen.now)
-wanted (place.Section f) = section (file_of f) requirements []
-wanted place.Keys = key
-wanted (place.Type l) = type (listed_view l)
-wanted place.UnderWhen = conditional
-wanted place.TotalCost = total_cost
-wanted place.Metric = minimize_word
-wanted place.Number = amount
-wanted place.Elsewhere = close
+abbrev pub expected : Place → Sort
+expected place.Incomplete = define_word
+expected place.Parts = parts []
+expected (place.Value seen) = value (map part_view seen.now)
+expected (place.Section f) = section (file_of f) requirements []
+expected place.Keys = key
+expected (place.Type l) = type (listed_view l)
+expected place.UnderWhen = conditional
+expected place.TotalCost = total_cost
+expected place.Metric = minimize_word
+expected place.Number = amount
+expected place.Elsewhere = close

@@ -8,7 +8,7 @@ use Rattle.faults.specs.Fault.{number_of}
 use Rattle.pddl_tree_parts.specs.declared.word_fault.WordRefusal.{WordRefusal}
 use Rattle.pddl_tree_parts.specs.Refusal.{WordFault}
 use Rattle.pddl_tree_parts.specs.declared.refusals.Place.{Place}
-use Rattle.pddl_tree_parts.specs.Place.{wanted}
+use Rattle.pddl_tree_parts.specs.Place.{expected}
 use Rattle.model.specs.GrammarWords.{Token, opens, closes, reserved, and}
 use Rattle.model.specs.Grammar.{Sort, Value, Phrase, gives, ◌>>=◌, after}
 use Rattle.model.specs.Refusals.{number_at}
@@ -88,9 +88,9 @@ IsPut (Ok (x, next)) placed result = (placed ≡ x) × (result ≡ Ok next)
 IsPut (Err fault) placed result = result ≡ Err fault
 
 -- the index from which the rest is read as this
-abbrev pub GoesOn : {A : Type 0} → (List Token → Reading A) → (List Token → Reading A) → List Word → ℕ → Result ℕ WordFault → Type 0
-GoesOn read other words at (Ok next) = (read (from words at) ≡ other (from words next)) × IsAfter words at next
-GoesOn read other words at (Err fault) = Reports words (read (from words at)) fault
+abbrev pub MayContinue : {A : Type 0} → (List Token → Reading A) → (List Token → Reading A) → List Word → ℕ → Result ℕ WordFault → Type 0
+MayContinue read other words at (Ok next) = (read (from words at) ≡ other (from words next)) × IsAfter words at next
+MayContinue read other words at (Err fault) = Reports words (read (from words at)) fault
 
 -- one more element of a list, and the index from which the list continues
 abbrev pub one_of : {X : Type 0} → (List Token → Reading (List X)) → X → List Token → Reading (List X)
@@ -117,4 +117,4 @@ opens_first _ = false
 -- `(` was read, or was not there
 abbrev pub Opens : List Word → ℕ → Place → Result ℕ WordRefusal → Type 0
 Opens words at place (Ok next) = (first (from words at) ≡ Some opens) × ((next ≡ at + 1) × (next ≤ length words))
-Opens words at place (Err refusal) = (opens_first (first (from words at)) ≡ false) × ((number_of refusal.code ≡ number_seen (wanted place) (first (from words at))) × (refusal.at ≡ at))
+Opens words at place (Err refusal) = (opens_first (first (from words at)) ≡ false) × ((number_of refusal.code ≡ number_seen (expected place) (first (from words at))) × (refusal.at ≡ at))

@@ -1,6 +1,6 @@
 //! Costs: `:metric`, increases of the total cost, and the values in `:init`.
 ghost use Rattle.std.specs.Prelude.{◌≡◌};
-ghost use Rattle.model.specs.Grammar.{total_cost as wants_total_cost, increase_amount, atom, listed};
+ghost use Rattle.model.specs.Grammar.{total_cost as requires_total_cost, increase_amount, atom, listed};
 ghost use Rattle.pddl_tree_parts.specs.Terms.{name_of};
 ghost use Rattle.pddl_tree_parts.specs.Costs.{the_metric, the_increase, the_last_number, the_initial_fact};
 ghost use Rattle.pddl_tree_parts.specs.Reading.{part, phrase, Reads, ReadsWords};
@@ -20,7 +20,7 @@ use tokens::Word;
 /// Parses `( total-cost )`: its name, and the index after the parenthesis.
 #[tactic(auto, using(crate::proofs::Looks::of_lists_inside))]
 fn listed_total_cost<'a>(words: &[Word<'a>], at: usize) -> Result<(Name<'a>, usize), WordRefusal>
-    ensures { ReadsWords (part (listed wants_total_cost)) words.now at name_of result }
+    ensures { ReadsWords (part (listed requires_total_cost)) words.now at name_of result }
 {
     let inside = open(words, at, Place::Elsewhere)?;
     total_cost(words, inside)

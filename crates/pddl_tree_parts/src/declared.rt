@@ -1,6 +1,6 @@
 //! Declarations of predicates and functions, and the facts of `:init`.
 ghost use Rattle.std.specs.Prelude.{◌≡◌, map, false};
-ghost use Rattle.model.specs.Grammar.{listed, declaration, function_list, function_declaration, fact as wants_fact, ground_atom as wants_ground_atom};
+ghost use Rattle.model.specs.Grammar.{listed, declaration, function_list, function_declaration, fact as requires_fact, ground_atom as requires_ground_atom};
 ghost use Rattle.pddl_tree_parts.specs.Token.{from, first};
 ghost use Rattle.pddl_tree_parts.specs.Reading.{part, Reads, ReadsOne, closes_first};
 ghost use Rattle.pddl_tree_parts.specs.Tree.{predicate_of, fact_of, ground_atom_of};
@@ -84,7 +84,7 @@ fn declared_function<'a>(alloc: Global, words: &[Word<'a>], at: usize) -> Parsed
 }
 
 impl<'a> Item<'a> for Fact<'a> {
-    ghost sort = { listed wants_fact };
+    ghost sort = { listed requires_fact };
 
     ghost view = { fact_of };
 
@@ -98,7 +98,7 @@ impl<'a> Item<'a> for Fact<'a> {
 /// Parses a fact after its `(`: the fact, and the index after its `)`.
 #[tactic(auto, using(crate::proofs::Read::part_here))]
 fn fact<'a>(alloc: Global, words: &[Word<'a>], at: usize) -> Parsed<Fact<'a>>
-    ensures { Reads (part wants_fact) words.now at fact_of result }
+    ensures { Reads (part requires_fact) words.now at fact_of result }
 {
     match token_at(words, at) {
         Token::Free(_, predicate) => {
@@ -118,7 +118,7 @@ fn fact<'a>(alloc: Global, words: &[Word<'a>], at: usize) -> Parsed<Fact<'a>>
 /// Parses a ground atom in parentheses: the atom, and the index after them.
 #[tactic(auto, using(crate::proofs::Looks::of_words_inside))]
 fn ground_atom<'a>(alloc: Global, words: &[Word<'a>], at: usize) -> Parsed<GroundAtom<'a>>
-    ensures { Reads (part (listed wants_ground_atom)) words.now at ground_atom_of result }
+    ensures { Reads (part (listed requires_ground_atom)) words.now at ground_atom_of result }
 {
     let inside = open(words, at, Place::Elsewhere)?;
     match token_at(words, inside) {

@@ -2,7 +2,7 @@
 ghost use Rattle.std.specs.Prelude.{◌≡◌, [], map};
 ghost use Rattle.model.specs.Trees as tree;
 ghost use Rattle.model.specs.Trees.{both};
-ghost use Rattle.model.specs.Grammar.{many, listed, effect_list, conditional as wants_conditional, conditional_literal};
+ghost use Rattle.model.specs.Grammar.{many, listed, effect_list, conditional as requires_conditional, conditional_literal};
 ghost use Rattle.pddl_tree_parts.specs.Phrases.{the_last_effect, the_when, the_last_atom};
 ghost use Rattle.pddl_tree_parts.specs.Reading.{part, phrase, Reads};
 ghost use Rattle.pddl_tree_parts.specs.Tree.{atom_of, effect_of, effect_literal_of};
@@ -100,7 +100,7 @@ fn effects<'a>(alloc: Global, words: &[Word<'a>], at: usize) -> Parsed<Vec<Effec
 /// Parses what is under a `when`, after its `(`: the literals, and the index after its `)`.
 #[tactic(auto, using(crate::proofs::Looks::of_conditional))]
 fn conditional<'a>(alloc: Global, words: &[Word<'a>], at: usize) -> Parsed<Vec<EffectLiteral<'a>>>
-    ensures { Reads (part wants_conditional) words.now at (λ ls. map effect_literal_of ls.items) result }
+    ensures { Reads (part requires_conditional) words.now at (λ ls. map effect_literal_of ls.items) result }
 {
     if is_and(words, at) {
         return list(alloc, words, at + 1);

@@ -1,7 +1,7 @@
 //! Formulas, each from the word after its `(`.
 ghost use Rattle.std.specs.Prelude.{◌≡◌, [], map};
 ghost use Rattle.model.specs.Trees as tree;
-ghost use Rattle.model.specs.Grammar.{many, listed, formula as wants_formula};
+ghost use Rattle.model.specs.Grammar.{many, listed, formula as requires_formula};
 ghost use Rattle.pddl_tree_parts.specs.Phrases.{the_equality, the_last, the_implication};
 ghost use Rattle.pddl_tree_parts.specs.Reading.{part, phrase, Reads};
 ghost use Rattle.pddl_tree_parts.specs.Tree.{formula_of};
@@ -27,7 +27,7 @@ pub fn no_condition<'a>(alloc: Global) -> Formula<'a>
 #[cycle(formula)]
 #[tactic(auto, using(crate::proofs::Read::part_here))]
 pub fn formula<'a>(alloc: Global, words: &[Word<'a>], at: usize) -> Parsed<Formula<'a>>
-    ensures { Reads (part wants_formula) words.now at formula_of result }
+    ensures { Reads (part requires_formula) words.now at formula_of result }
 {
     match token_at(words, at) {
         Token::Free(_, predicate) => {
@@ -96,7 +96,7 @@ pub fn last<'a>(alloc: Global, words: &[Word<'a>], at: usize) -> Parsed<Box<Form
 #[cycle(formula)]
 #[tactic(auto, using(crate::proofs::Looks::of_lists_inside))]
 pub(crate) fn part<'a>(alloc: Global, words: &[Word<'a>], at: usize) -> Parsed<Box<Formula<'a>>>
-    ensures { Reads (part (listed wants_formula)) words.now at (λ f. formula_of f.value) result }
+    ensures { Reads (part (listed requires_formula)) words.now at (λ f. formula_of f.value) result }
 {
     let inside = open(words, at, Place::Elsewhere)?;
     let (part, next) = formula(alloc, words, inside)?;
@@ -108,7 +108,7 @@ pub(crate) fn part<'a>(alloc: Global, words: &[Word<'a>], at: usize) -> Parsed<B
 #[cycle(formula)]
 #[tactic(auto, using(crate::proofs::Looks::of_lists))]
 fn formulas<'a>(alloc: Global, words: &[Word<'a>], at: usize) -> Parsed<Vec<Formula<'a>>>
-    ensures { Reads (part (many (listed wants_formula))) words.now at (λ parts. map formula_of parts.items) result }
+    ensures { Reads (part (many (listed requires_formula))) words.now at (λ parts. map formula_of parts.items) result }
 {
     let mut parts = Vec::new(alloc);
     let mut next = at;

@@ -1,6 +1,6 @@
 //! Lists of any kind of item, up to the parenthesis that closes them.
 ghost use Rattle.std.specs.Prelude.{map};
-ghost use Rattle.model.specs.Grammar.{Sort, Value, many, a_name, term as wants_term, key as wants_key};
+ghost use Rattle.model.specs.Grammar.{Sort, Value, many, a_name, term as requires_term, key as requires_key};
 ghost use Rattle.pddl_tree_parts.specs.Terms.{name_of, term_of};
 ghost use Rattle.pddl_tree_parts.specs.Reading.{part, Reads};
 
@@ -50,7 +50,7 @@ impl<'a> Item<'a> for Name<'a> {
 }
 
 impl<'a> Item<'a> for Term<'a> {
-    ghost sort = { wants_term };
+    ghost sort = { requires_term };
 
     ghost view = { term_of };
 
@@ -65,7 +65,7 @@ impl<'a> Item<'a> for Term<'a> {
 pub struct Key;
 
 impl<'a> Item<'a> for Key {
-    ghost sort = { wants_key };
+    ghost sort = { requires_key };
 
     ghost view = { λ _. tt };
 

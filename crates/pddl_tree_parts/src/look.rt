@@ -1,7 +1,7 @@
 //! Single words: each function reads or tests the word at an index.
 ghost use Rattle.std.specs.Prelude.{◌≡◌, ◌<◌, IfSome, IsTrue, length};
 ghost use Rattle.std.specs.Option.{option_map, option_and_then};
-ghost use Rattle.model.specs.Grammar.{a_name, action_name as wants_action_name, term as wants_term, close as wants_close, either_word as wants_either, define_word, kind_word, total_cost as wants_total_cost, amount as wants_amount, number_type, minimize_word};
+ghost use Rattle.model.specs.Grammar.{a_name, action_name as requires_action_name, term as requires_term, close as requires_close, either_word as requires_either, define_word, kind_word, total_cost as requires_total_cost, amount as requires_amount, number_type, minimize_word};
 ghost use Rattle.pddl_tree_parts.specs.Terms.{name_of, term_of};
 ghost use Rattle.pddl_tree_parts.specs.Token.{from, first};
 ghost use Rattle.pddl_tree_parts.specs.Tree.{file_of};
@@ -77,7 +77,7 @@ pub fn open(words: &[Word], at: usize, place: Place) -> Result<usize, WordRefusa
 /// Reads `)`: the index after it.
 #[tactic(auto, using(crate::proofs::Read::part_here))]
 pub fn close(words: &[Word], at: usize) -> Result<usize, WordRefusal>
-    ensures { Passes (part wants_close) words.now at tt result }
+    ensures { Passes (part requires_close) words.now at tt result }
 {
     match token_at(words, at) {
         Token::Close => Ok(at + 1),
@@ -100,7 +100,7 @@ pub fn name<'a>(words: &[Word<'a>], at: usize) -> Result<(Name<'a>, usize), Word
 /// Reads the name of an action: the name, and the index after it.
 #[tactic(auto, using(crate::proofs::Read::part_here))]
 pub fn action_name<'a>(words: &[Word<'a>], at: usize) -> Result<(Name<'a>, usize), WordRefusal>
-    ensures { ReadsWords (part wants_action_name) words.now at name_of result }
+    ensures { ReadsWords (part requires_action_name) words.now at name_of result }
 {
     let place = Place::Incomplete;
     match token_at(words, at) {
@@ -132,7 +132,7 @@ pub(crate) fn listed_name<'a>(
 /// Reads a term: the term, and the index after it.
 #[tactic(auto, using(crate::proofs::Read::part_here))]
 pub(crate) fn term<'a>(words: &[Word<'a>], at: usize) -> Result<(Term<'a>, usize), WordRefusal>
-    ensures { ReadsWords (part wants_term) words.now at term_of result }
+    ensures { ReadsWords (part requires_term) words.now at term_of result }
 {
     match token_at(words, at) {
         Token::Variable(variable) => Ok((Term::Variable(variable), at + 1)),
@@ -173,7 +173,7 @@ pub fn kind(words: &[Word], at: usize, file: TaskFile) -> Result<usize, WordRefu
 /// Reads `either`: the index after it.
 #[tactic(auto, using(crate::proofs::Read::part_here))]
 pub(crate) fn either_word(words: &[Word], at: usize) -> Result<usize, WordRefusal>
-    ensures { Passes (part wants_either) words.now at tt result }
+    ensures { Passes (part requires_either) words.now at tt result }
 {
     match token_at(words, at) {
         Token::Reserved(ReservedName::Either, _) => Ok(at + 1),
@@ -187,7 +187,7 @@ pub(crate) fn total_cost<'a>(
     words: &[Word<'a>],
     at: usize,
 ) -> Result<(Name<'a>, usize), WordRefusal>
-    ensures { ReadsWords (part wants_total_cost) words.now at name_of result }
+    ensures { ReadsWords (part requires_total_cost) words.now at name_of result }
 {
     match token_at(words, at) {
         Token::Reserved(ReservedName::TotalCost, name) => {
@@ -204,7 +204,7 @@ pub(crate) fn number<'a>(
     words: &[Word<'a>],
     at: usize,
 ) -> Result<((u32, Name<'a>), usize), WordRefusal>
-    ensures { ReadsWords (part wants_amount) words.now at (λ v. (v.0, name_of v.1)) result }
+    ensures { ReadsWords (part requires_amount) words.now at (λ v. (v.0, name_of v.1)) result }
 {
     match token_at(words, at) {
         Token::Number(number, name) => Ok(((number, name), at + 1)),

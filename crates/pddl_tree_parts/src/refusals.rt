@@ -5,7 +5,7 @@ ghost use Rattle.pddl_tree_parts.specs.Token.{from, first, seen, part_view, sect
 ghost use Rattle.model.specs.Grammar as grammar;
 ghost use Rattle.pddl_tree_parts.specs.Reading.{number_seen};
 ghost use Rattle.pddl_tree_parts.specs.Tree.{file_of};
-ghost use Rattle.pddl_tree_parts.specs.Place.{wanted};
+ghost use Rattle.pddl_tree_parts.specs.Place.{expected};
 
 use crate::token::{FreeName, Keyword, PartKeyword, ReservedName, SectionKeyword, Token, token_at};
 use crate::tree::TaskFile;
@@ -112,7 +112,7 @@ pub fn has_section(sections: &[SectionKeyword], section: SectionKeyword) -> bool
 
 /// The refusal of the word at an index.
 pub fn refusal(words: &[Word], at: usize, place: Place) -> WordRefusal
-    ensures number { number_of result.code ≡ number_seen (wanted place.entry) (first (from words.now at)) }
+    ensures number { number_of result.code ≡ number_seen (expected place.entry) (first (from words.now at)) }
     ensures at { result.at ≡ at }
 {
     WordRefusal {
@@ -125,7 +125,7 @@ pub fn refusal(words: &[Word], at: usize, place: Place) -> WordRefusal
 /// unknown. An `(either ..)` as the type of a name is left out of the language, as are other metrics, and other functions where
 /// only `total-cost` may occur.
 fn code_of(token: Token, place: Place) -> Code
-    ensures { number_of result ≡ number_seen (wanted place.entry) (seen token.entry) }
+    ensures { number_of result ≡ number_seen (expected place.entry) (seen token.entry) }
 {
     match (token, place) {
         (Token::Reserved(ReservedName::LeftOut, _), _) => Code::LeftOut,

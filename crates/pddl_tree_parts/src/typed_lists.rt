@@ -1,6 +1,6 @@
 //! Typed lists of names or variables, in groups of one type, up to the parenthesis that closes them.
 ghost use Rattle.std.specs.Prelude.{◌≡◌, map, false};
-ghost use Rattle.model.specs.Grammar.{listed, typed as wants_typed, type as wants_type, variables};
+ghost use Rattle.model.specs.Grammar.{listed, typed as requires_typed, type as requires_type, variables};
 ghost use Rattle.pddl_tree_parts.specs.Terms.{name_of};
 ghost use Rattle.pddl_tree_parts.specs.Token.{from, first};
 ghost use Rattle.pddl_tree_parts.specs.Place.{listed_view};
@@ -26,7 +26,7 @@ pub fn typed<'a>(
     at: usize,
     listed: ListElement,
 ) -> Parsed<Vec<Group<'a>>>
-    ensures { Reads (part (wants_typed (listed_view listed))) words.now at groups_of result }
+    ensures { Reads (part (requires_typed (listed_view listed))) words.now at groups_of result }
 {
     let mut groups = Vec::new(alloc);
     let mut next = at;
@@ -41,7 +41,7 @@ pub fn typed<'a>(
 /// Parses a typed list of variables in parentheses: its groups, and the index after them.
 #[tactic(auto, using(crate::proofs::Looks::of_lists_inside))]
 pub(crate) fn variables<'a>(alloc: Global, words: &[Word<'a>], at: usize) -> Parsed<Vec<Group<'a>>>
-    ensures { Reads (part (listed (wants_typed variables))) words.now at groups_of result }
+    ensures { Reads (part (listed (requires_typed variables))) words.now at groups_of result }
 {
     let inside = open(words, at, Place::Elsewhere)?;
     typed(alloc, words, inside, ListElement::Variables)
@@ -51,7 +51,7 @@ pub(crate) fn variables<'a>(alloc: Global, words: &[Word<'a>], at: usize) -> Par
 #[tactic(auto, using(crate::proofs::Groups::of_groups))]
 fn group<'a>(alloc: Global, words: &[Word<'a>], at: usize, listed: ListElement) -> Parsed<Group<'a>>
     requires { closes_first (first (from words.now at)) ≡ false }
-    ensures { ReadsOne (part (wants_typed (listed_view listed))) words.now at group_of result }
+    ensures { ReadsOne (part (requires_typed (listed_view listed))) words.now at group_of result }
 {
     let (first, mut next) = listed_name(words, at, listed)?;
     let mut names = vec![in alloc; first]?;
@@ -76,7 +76,7 @@ fn types<'a>(
     at: usize,
     listed: ListElement,
 ) -> Parsed<Vec<Name<'a>>>
-    ensures { Reads (part (wants_type (listed_view listed))) words.now at (λ names. map name_of names.items) result }
+    ensures { Reads (part (requires_type (listed_view listed))) words.now at (λ names. map name_of names.items) result }
 {
     match token_at(words, at) {
         Token::Open => match listed {

@@ -1,6 +1,6 @@
 //! The value of an `:effect`: an effect and increases of the total cost.
 ghost use Rattle.std.specs.Prelude.{◌≡◌};
-ghost use Rattle.model.specs.Grammar.{effect_value as wants_effect_value};
+ghost use Rattle.model.specs.Grammar.{effect_value as requires_effect_value};
 ghost use Rattle.pddl_tree_parts.specs.Reading.{part, phrase, Reads};
 ghost use Rattle.pddl_tree_parts.specs.Phrases.{value_tree, the_items};
 
@@ -25,7 +25,7 @@ pub struct EffectValue<'a> {
 /// Parses the value of an `:effect` after its `(`: the value, and the index after its `)`. An empty value is `(and)`.
 #[tactic(auto, using(crate::proofs::EffectValues::value_here))]
 pub fn effect_value<'a>(alloc: Global, words: &[Word<'a>], at: usize) -> Parsed<EffectValue<'a>>
-    ensures { Reads (part wants_effect_value) words.now at value_tree result }
+    ensures { Reads (part requires_effect_value) words.now at value_tree result }
 {
     match token_at(words, at) {
         Token::Close => {

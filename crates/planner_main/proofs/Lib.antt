@@ -1,7 +1,8 @@
 pub mod ProgramWords
 pub mod ProgramReported
 pub mod CertificateReported
-pub mod OrderWanted
+pub mod CertExplained
+pub mod OrderRequest
 pub mod ProgressReported
 mod CountedFiles
 mod HistoryWalks

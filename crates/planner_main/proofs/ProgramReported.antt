@@ -4,7 +4,7 @@ use Rattle.std.specs.Prelude.{Option, None, Some, Bool, true, false, IsTrue, if�
 use Rattle.std.specs.Borrow.{Bor}
 use Rattle.std.specs.Option.{option_map}
 use Rattle.std.specs.Str.{bytes_eq}
-use Rattle.command_line.specs.Orders.{Asks, Wanted}
+use Rattle.command_line.specs.Orders.{Asks, Request}
 use Rattle.devices.specs.Written.{NamedText, HoldsBeginning, with_file, with_files, AreWritten, AreWrittenPartly}
 use Rattle.planner_main.specs.Asked.{Outputs, outputs_of}
 use Rattle.file_answers.specs.Files.{text_in}
@@ -65,10 +65,10 @@ module _ (P Q : List ℕ → ℕ → List NamedText → Type 0) (means : (text :
       on_the_output text status written (means text status written is) said (λ is_known. written_since before now after kept written (held is_known))
 
 -- What states the result states what the order asks for.
-pub report_written : (contents : List ℕ → Option (List ℕ)) (wanted : Wanted) (found : Report) → IsReportOn contents wanted found
-    → (outputs : Outputs) → outputs ≡ outputs_of wanted
-    → (text : List ℕ) (status : ℕ) (written : List NamedText) → WritesReport found outputs text status written → IsAnswerTo contents wanted text status written
-report_written contents wanted found is outputs same text status written says =
+pub report_written : (contents : List ℕ → Option (List ℕ)) (request : Request) (found : Report) → IsReportOn contents request found
+    → (outputs : Outputs) → outputs ≡ outputs_of request
+    → (text : List ℕ) (status : ℕ) (written : List NamedText) → WritesReport found outputs text status written → IsAnswerTo contents request text status written
+report_written contents request found is outputs same text status written says =
     (found, is, subst (λ (o : Outputs). WritesReport found o text status written) same says)
 
 -- What is printed on standard output: the line of JSON if that is asked for, otherwise the text.
@@ -108,17 +108,17 @@ partly_in_cert r outputs known before after cert cert_is (next, is, held) =
     (refl, refl, ap (λ files. files ++ rest) (sym is) ∙ ap (λ cert. in_file outputs.cert cert ++ rest) cert_is) refl held
 
 -- What is reported for the order is reported for the words that give it.
-module _ (words : List (List ℕ)) (wanted : Wanted) (asks : Asks words wanted) (known : Bool) (files after : List ℕ → Option (List ℕ)) (out out_after : Option (List ℕ)) where
-  answers_words : (text : List ℕ) (status : ℕ) (written : List NamedText) → IsAnswerTo files wanted text status written → IsAnswer files words text status written
-  answers_words text status written is = (wanted, asks, is)
+module _ (words : List (List ℕ)) (request : Request) (asks : Asks words request) (known : Bool) (files after : List ℕ → Option (List ℕ)) (out out_after : Option (List ℕ)) where
+  answers_words : (text : List ℕ) (status : ℕ) (written : List NamedText) → IsAnswerTo files request text status written → IsAnswer files words text status written
+  answers_words text status written is = (request, asks, is)
 
-  pub reported_of_words : (status : ℕ) → ReportsFor wanted known files after out out_after status → Reports words known files after out out_after status
+  pub reported_of_words : (status : ℕ) → ReportsFor request known files after out out_after status → Reports words known files after out out_after status
   reported_of_words status said =
-      reported_as (IsAnswerTo files wanted) (IsAnswer files words) answers_words known files files after (λ name. refl) out out_after status said
+      reported_as (IsAnswerTo files request) (IsAnswer files words) answers_words known files files after (λ name. refl) out out_after status said
 
-  pub partly_of_words : ReportsPartlyFor wanted known files after out out_after → ReportsPartly words known files after out out_after
+  pub partly_of_words : ReportsPartlyFor request known files after out out_after → ReportsPartly words known files after out out_after
   partly_of_words said =
-      partly_as (IsAnswerTo files wanted) (IsAnswer files words) answers_words known files files after (λ name. refl) out out_after said
+      partly_as (IsAnswerTo files request) (IsAnswer files words) answers_words known files files after (λ name. refl) out out_after said
 
-  pub reported_status : (status : ℕ) → ReportsFor wanted known files after out out_after status → IsOfReport status
-  reported_status status (text, written, is, appended, held) = answered_status files wanted text status written is
+  pub reported_status : (status : ℕ) → ReportsFor request known files after out out_after status → IsOfReport status
+  reported_status status (text, written, is, appended, held) = answered_status files request text status written is

@@ -8,10 +8,10 @@ use Rattle.planner_main.specs.declared.failures.Failure.{Failure}
 use Rattle.planner_main.specs.declared.failures.Failure.TheVariants as failure
 use Rattle.file_answers.specs.declared.files.FileFault.TheVariants as refusal
 use Rattle.devices.specs.declared.device.IoFault.TheVariants as device
-use Rattle.command_line.specs.Orders.{Asks, IsCommand, Wanted, to_solve, to_validate, to_check, to_explain}
+use Rattle.command_line.specs.Orders.{Asks, IsCommand, Request, to_solve, to_validate, to_check, to_explain, to_explain_cert}
 use Rattle.command_line.specs.View.{IsOfWords}
 use Rattle.command_line.specs.declared.fault.WordsFault.{WordsFault}
-use Rattle.command_line.proofs.OrderLemmas.{one_wanted}
+use Rattle.command_line.proofs.OrderLemmas.{one_request}
 use Rattle.devices.specs.Written.{NamedText}
 use Rattle.file_answers.specs.Inputs.{IsInputFault}
 use Rattle.printed_answers.specs.CheckReported as check
@@ -56,22 +56,22 @@ text_if_named_kept before after kept (Some name) (Some text) is = text_kept befo
 
 -- A refusal for the order is a refusal for the words that give it: the exit status for a text comes with the line of the fault in
 -- the failure.
-module _ (contents : List ℕ → Option (List ℕ)) (words : List (List ℕ)) (wanted : Wanted) (asks : Asks words wanted) (after : List ℕ → Option (List ℕ)) (out out_after : Option (List ℕ)) (Says : List ℕ → Type 0) where
+module _ (contents : List ℕ → Option (List ℕ)) (words : List (List ℕ)) (request : Request) (asks : Asks words request) (after : List ℕ → Option (List ℕ)) (out out_after : Option (List ℕ)) (Says : List ℕ → Type 0) where
   pub refuses_of_words : (f : Failure) (status : ℕ) → IsReportedOn f Says status → status ≡ 20
-      → IfSome (fault_in f) (λ fault. IsFaultFor contents wanted fault × (out_after ≡ out) × AreKept contents after)
+      → IfSome (fault_in f) (λ fault. IsFaultFor contents request fault × (out_after ≡ out) × AreKept contents after)
       → Refuses words contents after out out_after Says
   refuses_of_words (failure.Text (refusal.At file code span)) status (inl (is, line)) same (fault, kept, files_kept) =
-      (fault_at file code span, (wanted, asks, fault), kept, files_kept, line)
+      (fault_at file code span, (request, asks, fault), kept, files_kept, line)
   refuses_of_words (failure.Text (refusal.At file code span)) status (inr (is, line)) same h = absurd (omega arith)
   refuses_of_words (failure.Text refusal.NoMemory) status (is, line) same h = absurd (omega arith)
   refuses_of_words (failure.Device device.Device) status (is, line) same h = absurd (omega arith)
   refuses_of_words (failure.Device device.NoMemory) status (is, line) same h = absurd (omega arith)
 
 -- The files that words name are those of their order.
-pub files_named : (files_of : Wanted → List (List ℕ)) (words : List (List ℕ)) (wanted : Wanted) (name : List ℕ) → Asks words wanted
-    → (other : Wanted) × Asks words other × IsOneOf (files_of other) name → IsOneOf (files_of wanted) name
-files_named files_of words wanted name asks (other, others, is) =
-    subst (λ (w : Wanted). IsOneOf (files_of w) name) (one_wanted words other wanted others asks) is
+pub files_named : (files_of : Request → List (List ℕ)) (words : List (List ℕ)) (request : Request) (name : List ℕ) → Asks words request
+    → (other : Request) × Asks words other × IsOneOf (files_of other) name → IsOneOf (files_of request) name
+files_named files_of words request name asks (other, others, is) =
+    subst (λ (w : Request). IsOneOf (files_of w) name) (one_request words other request others asks) is
 
 -- The exit status of a result is not that of a failure, except that of a refused text, if it is explained.
 abbrev pub IsOfReport : ℕ → Type 0
@@ -102,18 +102,22 @@ report_status (report.Solve solved) = inl (answer_status solved.answer)
 report_status (report.Validate v) = inl (verdict_status (verdict_of v))
 report_status (report.Check checked) = inl (checked_status checked.answer)
 report_status (report.Explain e) = explanation_status e.subject
+report_status (report.ExplainCheck e) = inl (checked_status e.checked.answer)
 
-pub answered_status : (contents : List ℕ → Option (List ℕ)) (wanted : Wanted) (text : List ℕ) (status : ℕ) (written : List NamedText)
-    → IsAnswerTo contents wanted text status written → IsOfReport status
-answered_status contents wanted text status written (found, is_found, (is_text, is_status, files)) = subst IsOfReport (sym is_status) (report_status found)
+pub answered_status : (contents : List ℕ → Option (List ℕ)) (request : Request) (text : List ℕ) (status : ℕ) (written : List NamedText)
+    → IsAnswerTo contents request text status written → IsOfReport status
+answered_status contents request text status written (found, is_found, (is_text, is_status, files)) = subst IsOfReport (sym is_status) (report_status found)
 
 -- the result for files can be printed
-pub can_be_reported : (contents : List ℕ → Option (List ℕ)) (wanted : Wanted) (found : Report) → IsReportOn contents wanted found → reported.IsReported found
+pub can_be_reported : (contents : List ℕ → Option (List ℕ)) (request : Request) (found : Report) → IsReportOn contents request found → reported.IsReported found
 can_be_reported contents (to_validate domain problem plan json) found (v, is, on) = subst reported.IsReported (sym is) tt
 can_be_reported contents (to_solve domain problem asked) found (s, is, version, on) = subst reported.IsReported (sym is) tt
 can_be_reported contents (to_check domain problem cert asked) found (c, is, (d, p, l, d_is, p_is, l_is, (text, steps, whole, is_task, handed, is_true, said))) =
     subst reported.IsReported (sym is) said
 can_be_reported contents (to_explain domain problem asked) found (e, is, on) = subst reported.IsReported (sym is) tt
+can_be_reported contents (to_explain_cert domain problem cert asked) found (inl (e, is, (d, p, l, d_is, p_is, l_is, (text, steps, whole, is_task, handed, is_true, said)))) =
+    subst reported.IsReported (sym is) said
+can_be_reported contents (to_explain_cert domain problem cert asked) found (inr (faulty, (e, is, on))) = subst reported.IsReported (sym is) tt
 
 pub no_failure : (n status : ℕ) → IsOfReport status → is_failure n ≡ true → (n ≡ 20 → ⊥) → status ≡ n → ⊥
 no_failure n status (inl answers) fails other same = absurd (cc (ap is_failure same))
@@ -249,6 +253,6 @@ module _ (contents : List ℕ → Option (List ℕ)) where
 pub written_by : {T : Type 0} (may_lack_memory : Bool) (failures failures_after : ℕ) (before after : Option (List ℕ)) (bytes : List ℕ) (r : Result T IoFault)
     → OnOk r (Appends before after bytes) → AppendsBeginning before after bytes → CountsDevice failures failures_after r
     → (r ≡ Err device.NoMemory → IsTrue may_lack_memory) → IsWritten may_lack_memory failures failures_after before after bytes
-written_by may_lack_memory failures failures_after before after bytes (Ok done) all beginning counted wants = (beginning, inl all)
-written_by may_lack_memory failures failures_after before after bytes (Err device.Device) all beginning counted wants = (beginning, inr (inl counted))
-written_by may_lack_memory failures failures_after before after bytes (Err device.NoMemory) all beginning counted wants = (beginning, inr (inr (wants refl)))
+written_by may_lack_memory failures failures_after before after bytes (Ok done) all beginning counted needs = (beginning, inl all)
+written_by may_lack_memory failures failures_after before after bytes (Err device.Device) all beginning counted needs = (beginning, inr (inl counted))
+written_by may_lack_memory failures failures_after before after bytes (Err device.NoMemory) all beginning counted needs = (beginning, inr (inr (needs refl)))

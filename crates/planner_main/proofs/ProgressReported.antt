@@ -1,8 +1,8 @@
 -- Progress reports, and what is reported after them.
 use Rattle.std.proofs.Common.{◌≡◌, ◌∙◌, ℕ, ◌⊎◌, inl, inr, Bool, true, false, List, ◌++◌, refl, sym, ap, subst, arith}
 use Rattle.std.specs.Prelude.{Option, None, Some, Result, Ok, Err, IfOk, IfSome, IsTrue}
-use Rattle.command_line.proofs.OrderLemmas.{one_wanted}
-use Rattle.command_line.specs.Orders.{Asks, Wanted, to_solve, to_validate, to_check, to_explain}
+use Rattle.command_line.proofs.OrderLemmas.{one_request}
+use Rattle.command_line.specs.Orders.{Asks, Request, to_solve, to_validate, to_check, to_explain, to_explain_cert}
 use Rattle.certificate_definitions.specs.CertificateText.{text_of}
 use Rattle.devices.specs.Devices.{IsKept, IsWritten}
 use Rattle.devices.specs.Texts.{AreKept}
@@ -65,12 +65,13 @@ no_line r json line (inl (inr is)) = absurd (cc)
 no_line r json line (inr (is, named)) = absurd (cc)
 
 -- a line about the written files is one that was asked for
-pub written_is_progress : (contents : List ℕ → Option (List ℕ)) (wanted : Wanted) (found : Report) → IsReportOn contents wanted found → (line : List ℕ)
-    → IsWritingLine found (outputs_of wanted) line → IsProgressOn contents wanted line
+pub written_is_progress : (contents : List ℕ → Option (List ℕ)) (request : Request) (found : Report) → IsReportOn contents request found → (line : List ℕ)
+    → IsWritingLine found (outputs_of request) line → IsProgressOn contents request line
 written_is_progress contents (to_validate domain problem plan json) found on line is = absurd (no_line found json line is)
 written_is_progress contents (to_solve domain problem asked) found on line is = inr (found, on, is)
 written_is_progress contents (to_check domain problem cert asked) found on line is = absurd (no_line found asked.json line is)
 written_is_progress contents (to_explain domain problem asked) found on line is = absurd (no_line found asked.json line is)
+written_is_progress contents (to_explain_cert domain problem cert asked) found on line is = absurd (no_line found asked.json line is)
 
 -- what holds of what was read of a file holds of its contents, if they are known
 known_if_kept : (known came : Option (List ℕ)) → IsKept known came → (P : List ℕ → Type 0) → IfSome came P → IfSome known P
@@ -88,32 +89,33 @@ size_asked : (progress : Bool) (size : Option ℕ) (line : List ℕ) → line_if
 size_asked true size line is = search
 size_asked false size line is = absurd (cc)
 
-pub wanted_of_line : (contents : List ℕ → Option (List ℕ)) (wanted : Wanted) (line : List ℕ) → IsProgressOn contents wanted line → RequestsProgress wanted
-wanted_of_line contents (to_validate domain problem plan json) line is = absurd is
-wanted_of_line contents (to_solve domain problem asked) line (inl (is, on)) = is
-wanted_of_line contents (to_solve domain problem asked) line (inr (found, on, inl (inl (is, named)))) = is
-wanted_of_line contents (to_solve domain problem asked) line (inr (found, on, inl (inr is))) = size_asked asked.progress _ line is
-wanted_of_line contents (to_solve domain problem asked) line (inr (found, on, inr (is, named))) = is
-wanted_of_line contents (to_check domain problem cert asked) line is = is.0
-wanted_of_line contents (to_explain domain problem asked) line is = absurd is
+pub request_of_line : (contents : List ℕ → Option (List ℕ)) (request : Request) (line : List ℕ) → IsProgressOn contents request line → RequestsProgress request
+request_of_line contents (to_validate domain problem plan json) line is = absurd is
+request_of_line contents (to_solve domain problem asked) line (inl (is, on)) = is
+request_of_line contents (to_solve domain problem asked) line (inr (found, on, inl (inl (is, named)))) = is
+request_of_line contents (to_solve domain problem asked) line (inr (found, on, inl (inr is))) = size_asked asked.progress _ line is
+request_of_line contents (to_solve domain problem asked) line (inr (found, on, inr (is, named))) = is
+request_of_line contents (to_check domain problem cert asked) line is = is.0
+request_of_line contents (to_explain domain problem asked) line is = absurd is
+request_of_line contents (to_explain_cert domain problem cert asked) line is = absurd is
 
-module _ (contents : List ℕ → Option (List ℕ)) (words : List (List ℕ)) (wanted : Wanted) (asks : Asks words wanted) (may_lack_memory : Bool) (before after : Stream)
-    (said : AreSaid (IsProgressOn contents wanted) may_lack_memory before after) where
+module _ (contents : List ℕ → Option (List ℕ)) (words : List (List ℕ)) (request : Request) (asks : Asks words request) (may_lack_memory : Bool) (before after : Stream)
+    (said : AreSaid (IsProgressOn contents request) may_lack_memory before after) where
   -- progress of the order is progress for the words that give it
   pub said_of_words : AreSaid (IsProgress contents words) may_lack_memory before after
-  said_of_words = said_of_more (λ line is. (wanted, asks, is)) said
+  said_of_words = said_of_more (λ line is. (request, asks, is)) said
 
   -- nothing is reported if it is not asked for
   pub quiet_unasked : (AsksForProgress words → ⊥) → after.taken ≡ before.taken
   quiet_unasked unasked =
-      ap (λ (s : Stream). s.taken) (none_said (IsProgressOn contents wanted) may_lack_memory before after (λ line is. unasked (wanted, asks, wanted_of_line contents wanted line is)) said)
+      ap (λ (s : Stream). s.taken) (none_said (IsProgressOn contents request) may_lack_memory before after (λ line is. unasked (request, asks, request_of_line contents request line is)) said)
 
 -- progress while the result is computed, and then about the files written for it
-pub said_of_both : (contents : List ℕ → Option (List ℕ)) (wanted : Wanted) (found : Report) → IsReportOn contents wanted found → (outputs : Outputs) → outputs ≡ outputs_of wanted
+pub said_of_both : (contents : List ℕ → Option (List ℕ)) (request : Request) (found : Report) → IsReportOn contents request found → (outputs : Outputs) → outputs ≡ outputs_of request
     → (may_lack_memory : Bool) (before now after : Stream)
-    → AreSaid (IsProgressOn contents wanted) may_lack_memory before now → AreSaid (IsWritingLine found outputs) may_lack_memory now after → AreSaid (IsProgressOn contents wanted) may_lack_memory before after
-said_of_both contents wanted found on outputs same may_lack_memory before now after first then =
-    said_after first (said_of_more (λ line is. written_is_progress contents wanted found on line (subst (λ (o : Outputs). IsWritingLine found o line) same is)) then)
+    → AreSaid (IsProgressOn contents request) may_lack_memory before now → AreSaid (IsWritingLine found outputs) may_lack_memory now after → AreSaid (IsProgressOn contents request) may_lack_memory before after
+said_of_both contents request found on outputs same may_lack_memory before now after first then =
+    said_after first (said_of_more (λ line is. written_is_progress contents request found on line (subst (λ (o : Outputs). IsWritingLine found o line) same is)) then)
 
 -- ---- the end
 
@@ -126,40 +128,42 @@ ended_of_answer may_lack_memory failures taken (Unknown limit) status ended is (
 
 -- The end of a search, followed by the written certificate, is reported as the exit status implies.
 module _ (contents contents_after : List ℕ → Option (List ℕ)) (known may_lack_memory : Bool) (after : Stream) where
-  pub ended_by_status : (before : Stream) (wanted : Wanted) (found : Report) (status : ℕ) → IsReportOn contents wanted found
-      → HasEndedFor wanted may_lack_memory before.failures before.taken found
-      → (IsTrue known → AreWritten contents contents_after (files_for found (outputs_of wanted)))
-      → SaysIf (size_line_for (outputs_of wanted).cert (cert_text found) (outputs_of wanted).progress) may_lack_memory before after
-      → status ≡ status_of found → HasSaidEnd contents contents_after known wanted may_lack_memory after status
+  pub ended_by_status : (before : Stream) (request : Request) (found : Report) (status : ℕ) → IsReportOn contents request found
+      → HasEndedFor request may_lack_memory before.failures before.taken found
+      → (IsTrue known → AreWritten contents contents_after (files_for found (outputs_of request)))
+      → SaysIf (size_line_for (outputs_of request).cert (cert_text found) (outputs_of request).progress) may_lack_memory before after
+      → status ≡ status_of found → HasSaidEnd contents contents_after known request may_lack_memory after status
   ended_by_status before (to_validate domain problem plan json) found status is ended held sized same = tt
   ended_by_status before (to_solve domain problem asked) found status (s, is, version, on) ended held sized same = λ asks which.
       let answered = ended_of_answer may_lack_memory before.failures before.taken s.answer status (subst (HasEndedIf asked.progress may_lack_memory before.failures before.taken) is ended asks) (same ∙ ap status_of is) which in
       (found, (s, is, version, on), held, (before, answered, sized))
   ended_by_status before (to_check domain problem cert asked) found status is ended held sized same = tt
   ended_by_status before (to_explain domain problem asked) found status is ended held sized same = tt
+  ended_by_status before (to_explain_cert domain problem cert asked) found status is ended held sized same = tt
 
-  end_wanted : (wanted : Wanted) (status : ℕ) → HasSaidEnd contents contents_after known wanted may_lack_memory after status → RequestsSearchProgress wanted → (status ≡ 0) ⊎ (status ≡ 10)
-      → EndsFor contents contents_after known wanted may_lack_memory after
-  end_wanted (to_validate domain problem plan json) status ended wants which = absurd wants
-  end_wanted (to_solve domain problem asked) status ended wants which = ended wants which
-  end_wanted (to_check domain problem cert asked) status ended wants which = absurd wants
-  end_wanted (to_explain domain problem asked) status ended wants which = absurd wants
+  end_requested : (request : Request) (status : ℕ) → HasSaidEnd contents contents_after known request may_lack_memory after status → RequestsSearchProgress request → (status ≡ 0) ⊎ (status ≡ 10)
+      → EndsFor contents contents_after known request may_lack_memory after
+  end_requested (to_validate domain problem plan json) status ended needs which = absurd needs
+  end_requested (to_solve domain problem asked) status ended needs which = ended needs which
+  end_requested (to_check domain problem cert asked) status ended needs which = absurd needs
+  end_requested (to_explain domain problem asked) status ended needs which = absurd needs
+  end_requested (to_explain_cert domain problem cert asked) status ended needs which = absurd needs
 
-  pub end_of_words : (words : List (List ℕ)) (wanted : Wanted) → Asks words wanted → (status : ℕ) → HasSaidEnd contents contents_after known wanted may_lack_memory after status
+  pub end_of_words : (words : List (List ℕ)) (request : Request) → Asks words request → (status : ℕ) → HasSaidEnd contents contents_after known request may_lack_memory after status
       → AsksForSearchProgress words → (status ≡ 0) ⊎ (status ≡ 10) → Ends contents contents_after known words may_lack_memory after
-  end_of_words words wanted asks status ended (other, others, wants) which =
-      (wanted, asks, end_wanted wanted status ended (subst RequestsSearchProgress (one_wanted words other wanted others asks) wants) which)
+  end_of_words words request asks status ended (other, others, needs) which =
+      (request, asks, end_requested request status ended (subst RequestsSearchProgress (one_request words other request others asks) needs) which)
 
 -- The same once everything is written.
-pub ended_written : (may_lack_memory : Bool) (before after : Stream) (contents : List ℕ → Option (List ℕ)) (wanted : Wanted) (found : Report) → IsReportOn contents wanted found
-    → HasEndedFor wanted may_lack_memory before.failures before.taken found
-    → (known : Bool) (now files_after : List ℕ → Option (List ℕ)) → AreKept contents now → (out out_after : Option (List ℕ)) (outputs : Outputs) → outputs ≡ outputs_of wanted
+pub ended_written : (may_lack_memory : Bool) (before after : Stream) (contents : List ℕ → Option (List ℕ)) (request : Request) (found : Report) → IsReportOn contents request found
+    → HasEndedFor request may_lack_memory before.failures before.taken found
+    → (known : Bool) (now files_after : List ℕ → Option (List ℕ)) → AreKept contents now → (out out_after : Option (List ℕ)) (outputs : Outputs) → outputs ≡ outputs_of request
     → (result : Result ℕ Failure) → IfOk result (IsReported (WritesReport found outputs) known now files_after out out_after)
     → IfOk result (λ _. SaysIf (size_line_for outputs.cert (cert_text found) outputs.progress) may_lack_memory before after)
-    → IfOk result (HasSaidEnd contents files_after known wanted may_lack_memory after)
-ended_written may_lack_memory before after contents wanted found is ended known now files_after kept out out_after outputs asked (Ok status) (text, written, (is_text, same, files), appended, held) sized =
-    ended_by_status contents files_after known may_lack_memory after before wanted found status is ended
+    → IfOk result (HasSaidEnd contents files_after known request may_lack_memory after)
+ended_written may_lack_memory before after contents request found is ended known now files_after kept out out_after outputs asked (Ok status) (text, written, (is_text, same, files), appended, held) sized =
+    ended_by_status contents files_after known may_lack_memory after before request found status is ended
     (λ is_known. subst (λ (o : Outputs). AreWritten contents files_after (files_for found o)) asked
     (subst (AreWritten contents files_after) files (written_since contents now files_after kept written (held is_known))))
     (subst (λ (o : Outputs). SaysIf (size_line_for o.cert (cert_text found) o.progress) may_lack_memory before after) asked sized) same
-ended_written may_lack_memory before after contents wanted found is ended known now files_after kept out out_after outputs asked (Err failure) said sized = tt
+ended_written may_lack_memory before after contents request found is ended known now files_after kept out out_after outputs asked (Err failure) said sized = tt

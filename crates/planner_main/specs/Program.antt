@@ -1,5 +1,5 @@
 -- The behaviour of the program: the order given by its words, the texts of its files, what it prints, and its exit status.
-use Rattle.std.specs.Prelude.{◌≡◌, ℕ, ◌⊎◌, Bool, List, [], ◌∷◌, ◌++◌, Option, None, Some, IfOk, IfErr, IfSome, IsTrue, Result, Ok, Err}
+use Rattle.std.specs.Prelude.{◌≡◌, ℕ, ◌⊎◌, Bool, false, List, [], ◌∷◌, ◌++◌, Option, None, Some, IfOk, IfErr, IfSome, IsTrue, Result, Ok, Err}
 use Rattle.std.specs.Io.KnownBytes.{Appends}
 use Rattle.solver.specs.Solver.{HasVersionUpTo, IsTrueAnswer}
 use Rattle.task.specs.Task.{task_of}
@@ -7,6 +7,7 @@ use Rattle.validator.specs.declared.verdict.Verdict.{Verdict}
 use Rattle.validator.specs.Verdict.{verdict_of}
 use Rattle.file_answers.specs.declared.checking.Checked.{Checked}
 use Rattle.file_answers.specs.declared.solving.Solved.{Solved}
+use Rattle.printed_answers.specs.declared.explained_check.ExplainedCheck.{ExplainedCheck}
 use Rattle.printed_answers.specs.declared.reports.Report.{Report}
 use Rattle.printed_answers.specs.declared.reports.Report.TheVariants as report
 use Rattle.planner_main.specs.declared.failures.Failure.{Failure}
@@ -17,7 +18,7 @@ use Rattle.devices.specs.declared.device.IoFault.TheVariants as device
 use Rattle.devices.specs.Devices.{AppendsBeginning, one_more}
 use Rattle.planner_main.specs.Failures.{line_of_fault, device_line, no_memory_line, nothing_done_line}
 use Rattle.file_answers.specs.Files.{fault_at, reported_in}
-use Rattle.command_line.specs.Orders.{Asks, Wanted, to_solve, to_validate, to_check, to_explain}
+use Rattle.command_line.specs.Orders.{Asks, Request, to_solve, to_validate, to_check, to_explain, to_explain_cert}
 use Rattle.command_line.specs.View.{IsOfWords}
 use Rattle.command_line.specs.declared.fault.WordsFault.{WordsFault}
 use Rattle.file_answers.specs.Checked.{IsTrueCheck}
@@ -47,25 +48,27 @@ if_named None = []
 if_named (Some name) = name ∷ []
 
 -- the names of the input files
-abbrev pub inputs_of : Wanted → List (List ℕ)
+abbrev pub inputs_of : Request → List (List ℕ)
 inputs_of (to_validate domain problem plan json) = domain ∷ problem ∷ plan ∷ []
 inputs_of (to_solve domain problem asked) = domain ∷ problem ∷ []
 inputs_of (to_check domain problem cert asked) = domain ∷ problem ∷ cert ∷ if_named asked.plan
 inputs_of (to_explain domain problem asked) = domain ∷ problem ∷ if_named asked.plan
+inputs_of (to_explain_cert domain problem cert asked) = domain ∷ problem ∷ cert ∷ if_named asked.plan
 
 -- the names of the files that are read whole: all but that of the certificate
-abbrev pub texts_of : Wanted → List (List ℕ)
+abbrev pub texts_of : Request → List (List ℕ)
 texts_of (to_validate domain problem plan json) = domain ∷ problem ∷ plan ∷ []
 texts_of (to_solve domain problem asked) = domain ∷ problem ∷ []
 texts_of (to_check domain problem cert asked) = domain ∷ problem ∷ if_named asked.plan
 texts_of (to_explain domain problem asked) = domain ∷ problem ∷ if_named asked.plan
+texts_of (to_explain_cert domain problem cert asked) = domain ∷ problem ∷ if_named asked.plan
 
 -- The words are a command that reads the file with this name; and that reads its text whole.
 abbrev pub NamesInput : List (List ℕ) → List ℕ → Type 0
-NamesInput words name = (wanted : Wanted) × Asks words wanted × IsOneOf (inputs_of wanted) name
+NamesInput words name = (request : Request) × Asks words request × IsOneOf (inputs_of request) name
 
 abbrev pub NamesText : List (List ℕ) → List ℕ → Type 0
-NamesText words name = (wanted : Wanted) × Asks words wanted × IsOneOf (texts_of wanted) name
+NamesText words name = (request : Request) × Asks words request × IsOneOf (texts_of request) name
 
 -- this holds for the texts of a domain file and a problem file
 abbrev pub OnTwo : (List ℕ → Option (List ℕ)) → (domain problem : List ℕ) → (List ℕ → List ℕ → Type 0) → Type 0
@@ -125,21 +128,35 @@ IsExplanationOn contents domain problem plan traced most found =
     × OnInputs contents domain problem plan (λ d p l. IsTrueOf d p l most e.subject × IsSaidOf traced (named_inputs domain problem plan d p l) e
     × AreNoted d p most e)
 
+-- or the checker's answer with words beside it,
+abbrev pub IsWordedCheckOn : (List ℕ → Option (List ℕ)) → (domain problem cert : List ℕ) → (plan : Option (List ℕ)) → (most : ℕ) → Report → Type 0
+IsWordedCheckOn contents domain problem cert plan most found =
+    (e : ExplainedCheck) × (found ≡ report.ExplainCheck e)
+    × OnInputs contents domain problem plan (λ d p l. IsCheckedIn (contents cert) d p l most (task_of e.checked.task) e.checked.answer)
+
+-- or, if a text beside the certificate is refused, its explanation.
+abbrev pub IsCertExplanationOn : (List ℕ → Option (List ℕ)) → (domain problem cert : List ℕ) → (plan : Option (List ℕ)) → (most : ℕ) → Report → Type 0
+IsCertExplanationOn contents domain problem cert plan most found =
+    IsWordedCheckOn contents domain problem cert plan most found
+    ⊎ (((fault : FileFault) × OnInputs contents domain problem plan (λ d p l. IsInputFault d p l fault))
+    × IsExplanationOn contents domain problem plan false most found)
+
 -- the result is the one asked for, and correct
-abbrev pub IsReportOn : (List ℕ → Option (List ℕ)) → Wanted → Report → Type 0
+abbrev pub IsReportOn : (List ℕ → Option (List ℕ)) → Request → Report → Type 0
 IsReportOn contents (to_validate domain problem plan json) = IsVerdictOn contents domain problem plan
 IsReportOn contents (to_solve domain problem asked) = IsSolutionOn contents domain problem asked.seconds asked.states asked.instances asked.cert_version
 IsReportOn contents (to_check domain problem cert asked) = IsCheckOn contents domain problem cert asked.plan asked.instances
 IsReportOn contents (to_explain domain problem asked) = IsExplanationOn contents domain problem asked.plan asked.trace asked.instances
+IsReportOn contents (to_explain_cert domain problem cert asked) = IsCertExplanationOn contents domain problem cert asked.plan asked.instances
 
 -- This text, with this exit status and the files written before it, states a result that is correct for the texts of the files,
 -- as the order asks; and as the words ask.
-abbrev pub IsAnswerTo : (List ℕ → Option (List ℕ)) → Wanted → (text : List ℕ) → (status : ℕ) → List NamedText → Type 0
-IsAnswerTo contents wanted text status written =
-    (found : Report) × IsReportOn contents wanted found × WritesReport found (outputs_of wanted) text status written
+abbrev pub IsAnswerTo : (List ℕ → Option (List ℕ)) → Request → (text : List ℕ) → (status : ℕ) → List NamedText → Type 0
+IsAnswerTo contents request text status written =
+    (found : Report) × IsReportOn contents request found × WritesReport found (outputs_of request) text status written
 
 abbrev pub IsAnswer : (List ℕ → Option (List ℕ)) → List (List ℕ) → (text : List ℕ) → (status : ℕ) → List NamedText → Type 0
-IsAnswer contents words text status written = (wanted : Wanted) × Asks words wanted × IsAnswerTo contents wanted text status written
+IsAnswer contents words text status written = (request : Request) × Asks words request × IsAnswerTo contents request text status written
 
 -- A correct answer is printed: its files hold their texts, if files are known, and standard output has grown by its text.
 abbrev pub IsReported : (IsTrueText : List ℕ → ℕ → List NamedText → Type 0) → (known : Bool)
@@ -167,15 +184,16 @@ abbrev pub ReportsPartly : List (List ℕ) → (known : Bool) → (files files_a
 ReportsPartly words known files files_after = IsReportedPartly (IsAnswer files words) known files files_after
 
 -- The texts of the named files are refused, and this is the first fault. For `explain` that is the answer.
-abbrev pub IsFaultFor : (List ℕ → Option (List ℕ)) → Wanted → FileFault → Type 0
+abbrev pub IsFaultFor : (List ℕ → Option (List ℕ)) → Request → FileFault → Type 0
 IsFaultFor contents (to_validate domain problem plan json) fault = OnThree contents domain problem plan (λ d p l. IsFileFault d p l fault)
 IsFaultFor contents (to_solve domain problem asked) fault = OnTwo contents domain problem (λ d p. IsTaskFault d p fault)
 IsFaultFor contents (to_check domain problem cert asked) fault = OnInputs contents domain problem asked.plan (λ d p l. IsInputFault d p l fault)
 IsFaultFor contents (to_explain domain problem asked) fault = ⊥
+IsFaultFor contents (to_explain_cert domain problem cert asked) fault = ⊥
 
 -- The texts of the files that the words name are refused, and this is the first fault.
 abbrev pub IsRefusedFor : (List ℕ → Option (List ℕ)) → List (List ℕ) → FileFault → Type 0
-IsRefusedFor contents words fault = (wanted : Wanted) × Asks words wanted × IsFaultFor contents wanted fault
+IsRefusedFor contents words fault = (request : Request) × Asks words request × IsFaultFor contents request fault
 
 -- The texts are refused: standard output and the files are unchanged, and standard error has the line of the fault.
 abbrev pub Refuses : List (List ℕ) → (files files_after : List ℕ → Option (List ℕ)) → (out out_after : Option (List ℕ)) → (Says : List ℕ → Type 0) → Type 0
@@ -191,11 +209,11 @@ abbrev pub HasNotFailed : (files files_after out out_after : ℕ) → Type 0
 HasNotFailed files files_after out out_after = (files_after ≡ files) × (out_after ≡ out)
 
 -- the order is carried out, with whole or partial output
-abbrev pub ReportsFor : Wanted → (known : Bool) → (files files_after : List ℕ → Option (List ℕ)) → (out out_after : Option (List ℕ)) → ℕ → Type 0
-ReportsFor wanted known files files_after = IsReported (IsAnswerTo files wanted) known files files_after
+abbrev pub ReportsFor : Request → (known : Bool) → (files files_after : List ℕ → Option (List ℕ)) → (out out_after : Option (List ℕ)) → ℕ → Type 0
+ReportsFor request known files files_after = IsReported (IsAnswerTo files request) known files files_after
 
-abbrev pub ReportsPartlyFor : Wanted → (known : Bool) → (files files_after : List ℕ → Option (List ℕ)) → (out out_after : Option (List ℕ)) → Type 0
-ReportsPartlyFor wanted known files files_after = IsReportedPartly (IsAnswerTo files wanted) known files files_after
+abbrev pub ReportsPartlyFor : Request → (known : Bool) → (files files_after : List ℕ → Option (List ℕ)) → (out out_after : Option (List ℕ)) → Type 0
+ReportsPartlyFor request known files files_after = IsReportedPartly (IsAnswerTo files request) known files files_after
 
 -- the fault of a text in the failure; None for a device or memory
 abbrev pub fault_in : Failure → Option FileFault
@@ -246,8 +264,8 @@ IsUnread (Err failure) = fault_in failure ≡ None
 
 -- The result is correct for these files, or the fault is the first of their texts; if an input file is missing or a text cannot
 -- be read, there is neither.
-pub record IsFound (contents : List ℕ → Option (List ℕ)) (is_missing is_unreadable : List ℕ → Bool) (wanted : Wanted) (result : Result Report Failure) : Type 0 where
-  pub report : IfOk result (IsReportOn contents wanted)
-  pub refused : IfErr result (λ failure. IfSome (fault_in failure) (IsFaultFor contents wanted))
-  pub unread : (name : List ℕ) → IsOneOf (inputs_of wanted) name → IsTrue (is_missing name) → IsUnread result
-  pub unreadable : (name : List ℕ) → IsOneOf (texts_of wanted) name → IsTrue (is_unreadable name) → IsUnread result
+pub record IsFound (contents : List ℕ → Option (List ℕ)) (is_missing is_unreadable : List ℕ → Bool) (request : Request) (result : Result Report Failure) : Type 0 where
+  pub report : IfOk result (IsReportOn contents request)
+  pub refused : IfErr result (λ failure. IfSome (fault_in failure) (IsFaultFor contents request))
+  pub unread : (name : List ℕ) → IsOneOf (inputs_of request) name → IsTrue (is_missing name) → IsUnread result
+  pub unreadable : (name : List ℕ) → IsOneOf (texts_of request) name → IsTrue (is_unreadable name) → IsUnread result

@@ -2,7 +2,7 @@
 use Rattle.std.specs.Prelude.{◌≡◌, ℕ, ◌⊎◌, ◌-◌, ◌^◌, min, Bool, if◌then◌else◌, IsTrue, List, ◌++◌, length, codes, Option, None, Some, ⊤}
 use Rattle.std.specs.Fmt.{decimal}
 use Rattle.std.specs.Option.{option_map}
-use Rattle.command_line.specs.Orders.{Asks, Asked, Wanted, to_solve, to_validate, to_check, to_explain}
+use Rattle.command_line.specs.Orders.{Asks, Asked, Request, to_solve, to_validate, to_check, to_explain, to_explain_cert}
 use Rattle.devices.specs.Devices.{IsWritten}
 use Rattle.devices.specs.Written.{AreWritten}
 use Rattle.file_answers.specs.SaidOf.{IsCheckLineOf, IsTrueLineOf}
@@ -63,41 +63,44 @@ abbrev pub IsWritingLine : Report → Outputs → List ℕ → Type 0
 IsWritingLine r outputs line = IsCertificateLine outputs.progress outputs.cert (cert_text r) line ⊎ IsFailedLineOf outputs.progress outputs.plan line
 
 -- a line about the files written for a result that is correct for the texts of the input files
-abbrev pub IsWritingLineOn : (List ℕ → Option (List ℕ)) → Wanted → List ℕ → Type 0
-IsWritingLineOn contents wanted line = (found : Report) × IsReportOn contents wanted found × IsWritingLine found (outputs_of wanted) line
+abbrev pub IsWritingLineOn : (List ℕ → Option (List ℕ)) → Request → List ℕ → Type 0
+IsWritingLineOn contents request line = (found : Report) × IsReportOn contents request found × IsWritingLine found (outputs_of request) line
 
 -- An order reports this line as progress: `solve`, if progress is asked for, a line that is true of the task, or that one of its
 -- output files failed, or the size of its certificate; and `check` a line that is true of the certificate.
-abbrev pub IsProgressOn : (List ℕ → Option (List ℕ)) → Wanted → List ℕ → Type 0
+abbrev pub IsProgressOn : (List ℕ → Option (List ℕ)) → Request → List ℕ → Type 0
 IsProgressOn contents (to_validate domain problem plan json) line = ⊥
 IsProgressOn contents (to_solve domain problem asked) line =
     IsSearchLine contents domain problem asked.seconds asked.states asked.instances asked.progress line ⊎ IsWritingLineOn contents (to_solve domain problem asked) line
 IsProgressOn contents (to_check domain problem cert asked) line = IsCheckingLine contents domain problem cert asked.progress line
 IsProgressOn contents (to_explain domain problem asked) line = ⊥
+IsProgressOn contents (to_explain_cert domain problem cert asked) line = ⊥
 
 abbrev pub IsProgress : (List ℕ → Option (List ℕ)) → List (List ℕ) → List ℕ → Type 0
-IsProgress contents words line = (wanted : Wanted) × Asks words wanted × IsProgressOn contents wanted line
+IsProgress contents words line = (request : Request) × Asks words request × IsProgressOn contents request line
 
 -- ---- whether progress is asked for
 
-abbrev pub RequestsProgress : Wanted → Type 0
+abbrev pub RequestsProgress : Request → Type 0
 RequestsProgress (to_validate domain problem plan json) = ⊥
 RequestsProgress (to_solve domain problem asked) = IsTrue asked.progress
 RequestsProgress (to_check domain problem cert asked) = IsTrue asked.progress
 RequestsProgress (to_explain domain problem asked) = ⊥
+RequestsProgress (to_explain_cert domain problem cert asked) = ⊥
 
 abbrev pub AsksForProgress : List (List ℕ) → Type 0
-AsksForProgress words = (wanted : Wanted) × Asks words wanted × RequestsProgress wanted
+AsksForProgress words = (request : Request) × Asks words request × RequestsProgress request
 
 -- and of a search
-abbrev pub RequestsSearchProgress : Wanted → Type 0
+abbrev pub RequestsSearchProgress : Request → Type 0
 RequestsSearchProgress (to_validate domain problem plan json) = ⊥
 RequestsSearchProgress (to_solve domain problem asked) = IsTrue asked.progress
 RequestsSearchProgress (to_check domain problem cert asked) = ⊥
 RequestsSearchProgress (to_explain domain problem asked) = ⊥
+RequestsSearchProgress (to_explain_cert domain problem cert asked) = ⊥
 
 abbrev pub AsksForSearchProgress : List (List ℕ) → Type 0
-AsksForSearchProgress words = (wanted : Wanted) × Asks words wanted × RequestsSearchProgress wanted
+AsksForSearchProgress words = (request : Request) × Asks words request × RequestsSearchProgress request
 
 -- ---- standard error then
 
@@ -123,13 +126,13 @@ EndsBy line may_lack_memory after = (now : Stream) × EndsByEnd may_lack_memory 
 
 -- The same for a correct result of an order: if the certificate is written to a file, the last line has its size. The files hold
 -- what is written, if they are known.
-abbrev pub EndsFor : (contents contents_after : List ℕ → Option (List ℕ)) → (known : Bool) → Wanted → (may_lack_memory : Bool) → (after : Stream) → Type 0
-EndsFor contents contents_after known wanted may_lack_memory after =
-    (found : Report) × IsReportOn contents wanted found × (IsTrue known → AreWritten contents contents_after (files_for found (outputs_of wanted)))
-    × EndsBy (size_line_for (outputs_of wanted).cert (cert_text found) (outputs_of wanted).progress) may_lack_memory after
+abbrev pub EndsFor : (contents contents_after : List ℕ → Option (List ℕ)) → (known : Bool) → Request → (may_lack_memory : Bool) → (after : Stream) → Type 0
+EndsFor contents contents_after known request may_lack_memory after =
+    (found : Report) × IsReportOn contents request found × (IsTrue known → AreWritten contents contents_after (files_for found (outputs_of request)))
+    × EndsBy (size_line_for (outputs_of request).cert (cert_text found) (outputs_of request).progress) may_lack_memory after
 
 abbrev pub Ends : (contents contents_after : List ℕ → Option (List ℕ)) → (known : Bool) → List (List ℕ) → (may_lack_memory : Bool) → (after : Stream) → Type 0
-Ends contents contents_after known words may_lack_memory after = (wanted : Wanted) × Asks words wanted × EndsFor contents contents_after known wanted may_lack_memory after
+Ends contents contents_after known words may_lack_memory after = (request : Request) × Asks words request × EndsFor contents contents_after known request may_lack_memory after
 
 -- If progress is asked for, the last line describes the listing of the answer's certificate, if it has one.
 abbrev pub HasEndedIf : (progress may_lack_memory : Bool) → (failures : ℕ) → (taken : Option (List ℕ)) → Report → Type 0
@@ -137,17 +140,20 @@ HasEndedIf progress may_lack_memory failures taken (report.Solve solved) = IsTru
 HasEndedIf progress may_lack_memory failures taken (report.Validate verdict) = ⊤
 HasEndedIf progress may_lack_memory failures taken (report.Check checked) = ⊤
 HasEndedIf progress may_lack_memory failures taken (report.Explain e) = ⊤
+HasEndedIf progress may_lack_memory failures taken (report.ExplainCheck e) = ⊤
 
-abbrev pub HasEndedFor : Wanted → (may_lack_memory : Bool) → (failures : ℕ) → (taken : Option (List ℕ)) → Report → Type 0
+abbrev pub HasEndedFor : Request → (may_lack_memory : Bool) → (failures : ℕ) → (taken : Option (List ℕ)) → Report → Type 0
 HasEndedFor (to_validate domain problem plan json) may_lack_memory failures taken found = ⊤
 HasEndedFor (to_solve domain problem asked) may_lack_memory failures taken found = HasEndedIf asked.progress may_lack_memory failures taken found
 HasEndedFor (to_check domain problem cert asked) may_lack_memory failures taken found = ⊤
 HasEndedFor (to_explain domain problem asked) may_lack_memory failures taken found = ⊤
+HasEndedFor (to_explain_cert domain problem cert asked) may_lack_memory failures taken found = ⊤
 
 -- the report of the end, by exit status: an answer with a plan or without any plan has a certificate
-abbrev pub HasSaidEnd : (contents contents_after : List ℕ → Option (List ℕ)) → (known : Bool) → Wanted → (may_lack_memory : Bool) → (after : Stream) → (status : ℕ) → Type 0
+abbrev pub HasSaidEnd : (contents contents_after : List ℕ → Option (List ℕ)) → (known : Bool) → Request → (may_lack_memory : Bool) → (after : Stream) → (status : ℕ) → Type 0
 HasSaidEnd contents contents_after known (to_validate domain problem plan json) may_lack_memory after status = ⊤
 HasSaidEnd contents contents_after known (to_solve domain problem asked) may_lack_memory after status =
     IsTrue asked.progress → (status ≡ 0) ⊎ (status ≡ 10) → EndsFor contents contents_after known (to_solve domain problem asked) may_lack_memory after
 HasSaidEnd contents contents_after known (to_check domain problem cert asked) may_lack_memory after status = ⊤
 HasSaidEnd contents contents_after known (to_explain domain problem asked) may_lack_memory after status = ⊤
+HasSaidEnd contents contents_after known (to_explain_cert domain problem cert asked) may_lack_memory after status = ⊤

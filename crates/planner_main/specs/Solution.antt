@@ -32,6 +32,7 @@ cert_text (report.Solve solved) = option_map (λ (cert : Cert). certificate_text
 cert_text (report.Validate verdict) = None
 cert_text (report.Check checked) = None
 cert_text (report.Explain e) = None
+cert_text (report.ExplainCheck e) = None
 
 -- the text of the printed plan, if there is one
 abbrev pub answer_plan : Task → Answer → Option (List ℕ)
@@ -44,6 +45,7 @@ plan_text (report.Solve solved) = answer_plan (task_of solved.task) solved.answe
 plan_text (report.Validate verdict) = None
 plan_text (report.Check checked) = None
 plan_text (report.Explain e) = None
+plan_text (report.ExplainCheck e) = None
 
 -- the text, if there is one, for the file with this name, if one is given
 abbrev pub in_file : (name text : Option (List ℕ)) → List NamedText

@@ -2,7 +2,7 @@
 ghost use Rattle.std.specs.Prelude.{◌≡◌, ℕ, ◌⊎◌, IfErr, IfOk, IfSome, IsTrue, List, false};
 ghost use Rattle.command_line.specs.Orders.{IsCommand};
 ghost use Rattle.command_line.specs.Versions as words;
-ghost use Rattle.command_line.specs.View.{number_in, texts, wanted_of};
+ghost use Rattle.command_line.specs.View.{number_in, texts, request_of};
 ghost use Rattle.solver.specs.Versions as solver;
 ghost use Rattle.planner_main.specs.Failures.{device_line, is_failure, no_memory_line};
 ghost use Rattle.planner_main.specs.Program.{Reports, ReportsFor, ReportsPartly, ReportsPartlyFor, Refuses, HasFailed, HasNotFailed, CountsEither, CountsFailure, NamesInput, NamesText, IsFaultFor, IsFound, IsOneOf, IsUnread, SaysOfWords, fault_in, inputs_of, texts_of};
@@ -15,6 +15,7 @@ ghost use Rattle.file_answers.specs.StepLines.{is_traced};
 mod acceptance;
 mod counting;
 mod explaining;
+mod explaining_cert;
 mod inputs;
 mod outputs;
 mod solution;
@@ -27,6 +28,7 @@ use command_line::{CertVersion, MaxCount, Order, read_words};
 use devices::{Files, Sink};
 use devices_clock::Clock;
 use explaining::{ExplainAsked, report_of_explain};
+use explaining_cert::report_of_cert;
 use file_answers::{ExplainOptions, StepLines};
 use inputs::PairNames;
 use outputs::outputs_of;
@@ -35,7 +37,7 @@ use solution::{SolveAsked, report_of_solve};
 use solver::{Limits, MaxVersion};
 use std::alloc::Global;
 use validation::report_of_validate;
-use writing::write_report;
+use writing::write_result;
 
 /// The whole program: executes the order given by the words, with its answer on standard output and its faults on standard error,
 /// and returns the exit status. The words are parsed by `read_words`.
@@ -48,7 +50,7 @@ use writing::write_report;
 /// ones are not touched, and neither is a file for which there is nothing to write. `validate` judges whether the plan solves the
 /// task. `check` prints what the certificate shows: with a plan, read from the file of `--plan`, that it is optimal; otherwise
 /// that no plan costs less, or that there is none. `explain` says what is wrong with a text or a plan, and where; if
-/// nothing is, it summarizes the task. At most 16,777,217 bytes of a file are read and taken as its whole text, and all files are
+/// nothing is, it summarizes the task. For a certificate it prints what `check` does, and what that means. At most 16,777,217 bytes of a file are read and taken as its whole text, and all files are
 /// read before any fault in them is reported. The exception is the certificate: it is only opened then, and later read line by
 /// line, to its end or its first fault, whatever its length.
 ///
@@ -65,6 +67,7 @@ use writing::write_report;
 /// | it is not | `not accepted CODE Name line L`, `not accepted 46 Unfair (ACTION OBJECT ..)`, `not accepted 56 DeadUnfair (ACTION OBJECT ..)` or `not accepted CODE Name` | | 12 |
 /// | the words are no command, or ask for help | | what is wrong, or the help, and `optplan: nothing was done` | 2 |
 /// | a file's text is refused | | `fault CODE Name in FILE at S..E` | 20 |
+/// | `explain`: the certificate is accepted, or not | the line of `check`, and what it means in words | | 0 or 12 |
 /// | `explain`: a text is refused | where and why, in some lines | | 20 |
 /// | `explain`: the plan does not solve the task | the step or the goal, and why | | 12 |
 /// | `explain`: it does | its steps and their costs | | 0 |
@@ -144,19 +147,19 @@ fn carry_out<F: Files, O: Sink, E: Sink + Clock>(
     out: &mut O,
     err: &mut E,
 ) -> Result<u8, Failure>
-    ensures said { IfOk result (ReportsFor (wanted_of order.entry) F.is_known (F.contents files.old) (F.contents files.new) (O.taken out.old) (O.taken out.new)) }
-    ensures refused { IfErr result (λ failure. IfSome (fault_in failure) (λ fault. IsFaultFor (F.contents files.old) (wanted_of order.entry) fault
+    ensures said { IfOk result (ReportsFor (request_of order.entry) F.is_known (F.contents files.old) (F.contents files.new) (O.taken out.old) (O.taken out.new)) }
+    ensures refused { IfErr result (λ failure. IfSome (fault_in failure) (λ fault. IsFaultFor (F.contents files.old) (request_of order.entry) fault
         × (O.taken out.new ≡ O.taken out.old) × AreKept (F.contents files.old) (F.contents files.new))) }
-    ensures partly { IfErr result (λ failure. ReportsPartlyFor (wanted_of order.entry) F.is_known (F.contents files.old) (F.contents files.new) (O.taken out.old) (O.taken out.new)) }
+    ensures partly { IfErr result (λ failure. ReportsPartlyFor (request_of order.entry) F.is_known (F.contents files.old) (F.contents files.new) (O.taken out.old) (O.taken out.new)) }
     ensures unfailed { IfOk result (λ _. HasNotFailed (F.failures files.old) (F.failures files.new) (O.failures out.old) (O.failures out.new)) }
     ensures failures { IfErr result (CountsEither (F.failures files.old) (F.failures files.new) (O.failures out.old) (O.failures out.new)) }
-    ensures unread { (name : List ℕ) → IsOneOf (inputs_of (wanted_of order.entry)) name → IsTrue (F.is_missing files.old name) → IsUnread result }
-    ensures unreadable { (name : List ℕ) → IsOneOf (texts_of (wanted_of order.entry)) name → IsTrue (F.is_unreadable files.old name) → IsUnread result }
-    ensures progress { AreSaid (IsProgressOn (F.contents files.old) (wanted_of order.entry)) E.may_lack_memory (stream (E.failures err.old) (E.taken err.old)) (stream (E.failures err.new) (E.taken err.new)) }
-    ensures ended { IfOk result (HasSaidEnd (F.contents files.old) (F.contents files.new) F.is_known (wanted_of order.entry) E.may_lack_memory (stream (E.failures err.new) (E.taken err.new))) }
+    ensures unread { (name : List ℕ) → IsOneOf (inputs_of (request_of order.entry)) name → IsTrue (F.is_missing files.old name) → IsUnread result }
+    ensures unreadable { (name : List ℕ) → IsOneOf (texts_of (request_of order.entry)) name → IsTrue (F.is_unreadable files.old name) → IsUnread result }
+    ensures progress { AreSaid (IsProgressOn (F.contents files.old) (request_of order.entry)) E.may_lack_memory (stream (E.failures err.old) (E.taken err.old)) (stream (E.failures err.new) (E.taken err.new)) }
+    ensures ended { IfOk result (HasSaidEnd (F.contents files.old) (F.contents files.new) F.is_known (request_of order.entry) E.may_lack_memory (stream (E.failures err.new) (E.taken err.new))) }
 {
     let report = report_of(alloc, order, files, err)?;
-    write_report(alloc, &report, outputs_of(order), files, out, err)
+    write_result(alloc, report, outputs_of(order), files, out, err)
 }
 
 /// Computes the result of the order.
@@ -166,12 +169,12 @@ fn report_of<F: Files, E: Sink + Clock>(
     files: &mut F,
     err: &mut E,
 ) -> Result<Report, Failure>
-    ensures found { IsFound (F.contents files.old) (F.is_missing files.old) (F.is_unreadable files.old) (wanted_of order.entry) result }
+    ensures found { IsFound (F.contents files.old) (F.is_missing files.old) (F.is_unreadable files.old) (request_of order.entry) result }
     ensures kept { AreKept (F.contents files.old) (F.contents files.new) }
     ensures unfailed { IfOk result (λ _. F.failures files.new ≡ F.failures files.old) }
     ensures failures { IfErr result (CountsFailure (F.failures files.old) (F.failures files.new)) }
-    ensures progress { AreSaid (IsProgressOn (F.contents files.old) (wanted_of order.entry)) E.may_lack_memory (stream (E.failures err.old) (E.taken err.old)) (stream (E.failures err.new) (E.taken err.new)) }
-    ensures ended { IfOk result (HasEndedFor (wanted_of order.entry) E.may_lack_memory (E.failures err.new) (E.taken err.new)) }
+    ensures progress { AreSaid (IsProgressOn (F.contents files.old) (request_of order.entry)) E.may_lack_memory (stream (E.failures err.old) (E.taken err.old)) (stream (E.failures err.new) (E.taken err.new)) }
+    ensures ended { IfOk result (HasEndedFor (request_of order.entry) E.may_lack_memory (E.failures err.new) (E.taken err.new)) }
 {
     match order {
         Order::Validate {
@@ -242,6 +245,28 @@ fn report_of<F: Files, E: Sink + Clock>(
             let asked = ExplainAsked { plan, options };
             let names = PairNames { domain, problem };
             report_of_explain(alloc, names, asked, files)
+        }
+        Order::ExplainCert {
+            domain,
+            problem,
+            cert,
+            plan,
+            instances,
+            ..
+        } => {
+            let most = instances.number();
+            let names = InputNames {
+                domain,
+                problem,
+                cert,
+                plan,
+            };
+            let asked = CheckAsked {
+                names,
+                instances: most,
+                progress: false,
+            };
+            report_of_cert(alloc, asked, files)
         }
     }
 }

@@ -18,14 +18,15 @@ use Rattle.model.specs.Runs.{Verdict, valid, not_applicable, goal_missed}
 use Rattle.printed_answers.specs.JsonText.{Member, number, text, texts}
 use Rattle.printed_answers.specs.Objects.{member, command, result}
 
-abbrev explain : Member
+-- the command, and the text as a member
+abbrev pub explain : Member
 explain = command (codes "explain")
 
 abbrev numbered : List ℕ → ℕ → Member
 numbered key n = member key (number n)
 
-abbrev told : (lines : List ℕ) → Member
-told lines = member (codes "text") (text lines)
+abbrev pub text_member : (lines : List ℕ) → Member
+text_member lines = member (codes "text") (text lines)
 
 abbrev code_member : Code → Member
 code_member code = numbered (codes "code") (number_of code)
@@ -37,11 +38,11 @@ name_member code = member (codes "name") (text (name_in names (number_of code)))
 abbrev pub of_located_fault : Code → (name : List ℕ) → (line column length : ℕ) → (further hints : List (List ℕ)) → (lines : List ℕ) → List Member
 of_located_fault code name line column length further hints lines =
     code_member code ∷ numbered (codes "column") column ∷ explain ∷ member (codes "file") (text name) ∷ member (codes "further") (texts further)
-    ∷ member (codes "hints") (texts hints) ∷ numbered (codes "length") length ∷ numbered (codes "line") line ∷ name_member code ∷ result (codes "fault") ∷ told lines ∷ []
+    ∷ member (codes "hints") (texts hints) ∷ numbered (codes "length") length ∷ numbered (codes "line") line ∷ name_member code ∷ result (codes "fault") ∷ text_member lines ∷ []
 
 abbrev pub of_plain_fault : Code → (further hints : List (List ℕ)) → (lines : List ℕ) → List Member
 of_plain_fault code further hints lines =
-    code_member code ∷ explain ∷ member (codes "further") (texts further) ∷ member (codes "hints") (texts hints) ∷ name_member code ∷ result (codes "fault") ∷ told lines ∷ []
+    code_member code ∷ explain ∷ member (codes "further") (texts further) ∷ member (codes "hints") (texts hints) ∷ name_member code ∷ result (codes "fault") ∷ text_member lines ∷ []
 
 abbrev pub of_fault : Code → Option Location → (further hints : List (List ℕ)) → (lines : List ℕ) → List Member
 of_fault code (Some at) further hints lines = of_located_fault code (string_bytes at.file) at.line at.column at.length further hints lines
@@ -49,19 +50,19 @@ of_fault code None further hints lines = of_plain_fault code further hints lines
 
 -- a plan that solves the task, or misses the goal
 abbrev pub of_valid : (cost : ℕ) → (lines : List ℕ) → List Member
-of_valid cost lines = explain ∷ numbered (codes "cost") cost ∷ result (codes "valid") ∷ told lines ∷ []
+of_valid cost lines = explain ∷ numbered (codes "cost") cost ∷ result (codes "valid") ∷ text_member lines ∷ []
 
 abbrev pub of_missed : (lines : List ℕ) → List Member
-of_missed lines = explain ∷ result (codes "goal missed") ∷ told lines ∷ []
+of_missed lines = explain ∷ result (codes "goal missed") ∷ text_member lines ∷ []
 
 -- an inapplicable step, at this place in the file with this name
 abbrev pub of_located_step : (step : ℕ) → (name : List ℕ) → (line column length : ℕ) → (lines : List ℕ) → List Member
 of_located_step step name line column length lines =
     numbered (codes "column") column ∷ explain ∷ member (codes "file") (text name) ∷ numbered (codes "length") length
-    ∷ numbered (codes "line") line ∷ result (codes "not applicable") ∷ numbered (codes "step") step ∷ told lines ∷ []
+    ∷ numbered (codes "line") line ∷ result (codes "not applicable") ∷ numbered (codes "step") step ∷ text_member lines ∷ []
 
 abbrev pub of_plain_step : (step : ℕ) → (lines : List ℕ) → List Member
-of_plain_step step lines = explain ∷ result (codes "not applicable") ∷ numbered (codes "step") step ∷ told lines ∷ []
+of_plain_step step lines = explain ∷ result (codes "not applicable") ∷ numbered (codes "step") step ∷ text_member lines ∷ []
 
 abbrev pub of_step : (step : ℕ) → Option Location → (lines : List ℕ) → List Member
 of_step step (Some at) lines = of_located_step step (string_bytes at.file) at.line at.column at.length lines
@@ -77,14 +78,14 @@ abbrev pub of_grounded : Summary → (kept width : ℕ) → (notes : List (List 
 of_grounded holds kept width notes lines =
     numbered (codes "actions") holds.actions ∷ numbered (codes "atoms") width ∷ explain ∷ numbered (codes "functions") holds.functions
     ∷ numbered (codes "instances") kept ∷ member (codes "notes") (texts notes) ∷ numbered (codes "objects") holds.objects
-    ∷ numbered (codes "predicates") holds.predicates ∷ result (codes "task") ∷ told lines ∷ numbered (codes "types") holds.types ∷ []
+    ∷ numbered (codes "predicates") holds.predicates ∷ result (codes "task") ∷ text_member lines ∷ numbered (codes "types") holds.types ∷ []
 
 -- the same with the limit that it exceeds
 abbrev pub of_beyond : Summary → (limit : List ℕ) → (notes : List (List ℕ)) → (lines : List ℕ) → List Member
 of_beyond holds limit notes lines =
     numbered (codes "actions") holds.actions ∷ explain ∷ numbered (codes "functions") holds.functions
     ∷ member (codes "notes") (texts notes) ∷ numbered (codes "objects") holds.objects ∷ numbered (codes "predicates") holds.predicates
-    ∷ member (codes "reason") (text limit) ∷ result (codes "unknown") ∷ told lines ∷ numbered (codes "types") holds.types ∷ []
+    ∷ member (codes "reason") (text limit) ∷ result (codes "unknown") ∷ text_member lines ∷ numbered (codes "types") holds.types ∷ []
 
 abbrev pub limit_name : GroundLimit → List ℕ
 limit_name Instances = codes "instances"

@@ -8,4 +8,5 @@ pub mod ExplanationReported
 pub mod ExplanationObjects
 pub mod AnswerReported
 pub mod CheckReported
+pub mod ExplainedCheckReported
 pub mod Reported

@@ -10,6 +10,8 @@ use Rattle.printed_answers.specs.AnswerReported as answers
 use Rattle.printed_answers.specs.VerdictReported as verdicts
 use Rattle.printed_answers.specs.CheckReported as checks
 use Rattle.printed_answers.specs.ExplanationReported as explanations
+use Rattle.printed_answers.specs.ExplainedCheckReported as explained
+use Rattle.printed_answers.specs.ExplainedCheckReported.{of_explained_check}
 use Rattle.printed_answers.specs.CheckReported.{IsReportedRefusal}
 use Rattle.printed_answers.specs.declared.reports.Format.{Format}
 use Rattle.printed_answers.specs.declared.reports.Format.TheVariants.{Text, Json}
@@ -22,6 +24,7 @@ of_report (report.Solve solved) = of_answer (task_of solved.task) solved.answer
 of_report (report.Validate verdict) = of_verdict (verdict_of verdict)
 of_report (report.Check checked) = of_checked checked.answer
 of_report (report.Explain e) = of_explanation e
+of_report (report.ExplainCheck e) = of_explained_check e
 
 -- the result can be printed: its refusal, if any, is one that is printed
 abbrev pub IsReported : Report → Type 0
@@ -29,13 +32,15 @@ IsReported (report.Solve solved) = Unit {0}
 IsReported (report.Validate verdict) = Unit {0}
 IsReported (report.Check checked) = IsReportedRefusal checked.answer
 IsReported (report.Explain e) = Unit {0}
+IsReported (report.ExplainCheck e) = IsReportedRefusal e.checked.answer
 
--- the text of a result: a plan, a line, or the lines of an explanation
+-- the text of a result: a plan, a line, or lines
 abbrev pub text_of : Report → List ℕ
 text_of (report.Solve solved) = answers.text_of (task_of solved.task) solved.answer
 text_of (report.Validate verdict) = verdicts.line_of (verdict_of verdict)
 text_of (report.Check checked) = checks.line_of (task_of checked.task) checked.answer
 text_of (report.Explain e) = string_bytes e.text
+text_of (report.ExplainCheck e) = explained.text_of e
 
 -- whether JSON is asked for
 abbrev pub is_json : Format → Bool
@@ -52,3 +57,4 @@ status_of (report.Solve solved) = answers.status_of solved.answer
 status_of (report.Validate verdict) = verdicts.status_of (verdict_of verdict)
 status_of (report.Check checked) = checks.status_of checked.answer
 status_of (report.Explain e) = explanations.status_of e.subject
+status_of (report.ExplainCheck e) = checks.status_of e.checked.answer

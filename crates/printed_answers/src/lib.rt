@@ -3,6 +3,7 @@
 
 mod answer;
 mod check;
+mod explained_check;
 mod explanations;
 mod members;
 mod objects;
@@ -11,6 +12,7 @@ mod statuses;
 mod verdict;
 
 pub use check::failure_of;
+pub use explained_check::ExplainedCheck;
 pub use members::json_examples_are_written;
 pub use reports::{Format, Report, json_line, json_text, report_text, said};
 pub use statuses::{REFUSED, status_of};

@@ -8,6 +8,7 @@ ghost use Rattle.printed_answers.specs.Reported.{IsReported, is_json, of_report,
 
 use crate::answer::answer_text;
 use crate::check::checked_line;
+use crate::explained_check::{ExplainedCheck, explained_object, explained_text};
 use crate::explanations::explanation_object;
 use crate::objects::{answer_object, checked_object, verdict_object};
 use crate::verdict::verdict_line;
@@ -27,6 +28,8 @@ pub enum Report {
     Check(Checked),
     /// For files: an explanation.
     Explain(Explanation),
+    /// For a certificate: what it shows, or its refusal, in words.
+    ExplainCheck(ExplainedCheck),
 }
 
 /// The format of the standard output.
@@ -53,6 +56,7 @@ pub enum Format {
 /// | it is refused | `{"code":50,"command":"check","name":"SuccessorDearer","result":"not accepted"}` |
 /// | `explain`: a fault | `{"code":17,"column":58,"command":"explain","file":"domain.pddl","further":[],"hints":[],"length":9,"line":15,"name":"UnknownName","result":"fault","text":".."}` |
 /// | `explain`: a verdict | `{"command":"explain","cost":6,"result":"valid","text":".."}`, or `"goal missed"` and no cost, or `"not applicable"` with its `step` and where this is, as of a fault |
+/// | `explain`: a certificate | as of `check`, with `"explain"` and with `"text"` |
 /// | `explain`: a task | `{"actions":1,"atoms":2,"command":"explain","functions":0,"instances":1,"notes":[],"objects":0,"predicates":2,"result":"task","text":"..","types":1}`, or `"unknown"` with the `reason` `"instances"` or `"atoms"` in place of both |
 ///
 /// # Errors
@@ -66,11 +70,12 @@ pub fn json_line(alloc: Global, report: &Report) -> Result<String, NoMemory>
         Report::Validate(verdict) => verdict_object(alloc, *verdict),
         Report::Check(checked) => checked_object(alloc, &checked.answer),
         Report::Explain(explanation) => explanation_object(alloc, explanation),
+        Report::ExplainCheck(explained) => explained_object(alloc, explained),
     };
     Ok(text?)
 }
 
-/// The result as text: a plan, a line, or the lines of an explanation. A refusal for want of memory or by a device does not occur
+/// The result as text: a plan, a line, or lines. A refusal for want of memory or by a device does not occur
 /// here.
 ///
 /// # Errors
@@ -86,6 +91,7 @@ pub fn report_text(alloc: Global, report: &Report) -> Result<Vec<u8>, NoMemory>
             Ok(checked_line(alloc, &checked.task, &checked.answer)?.into_bytes())
         }
         Report::Explain(explanation) => Ok(Vec::from_slice(alloc, explanation.text.as_bytes())?),
+        Report::ExplainCheck(explained) => Ok(explained_text(alloc, explained)?.into_bytes()),
     }
 }
 

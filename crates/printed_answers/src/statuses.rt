@@ -3,10 +3,12 @@ ghost use Rattle.std.specs.Prelude.{◌≡◌};
 ghost use Rattle.printed_answers.specs.Reported.{status_of};
 ghost use Rattle.validator.specs.Verdict.{verdict_of};
 ghost use Rattle.printed_answers.specs.AnswerReported as answers;
+ghost use Rattle.printed_answers.specs.CheckReported as checks;
 ghost use Rattle.printed_answers.specs.VerdictReported as verdicts;
 ghost use Rattle.printed_answers.specs.ExplanationReported as explanations;
 
 use crate::reports::Report;
+use cert_checker::{Accepted, Refusal};
 use file_answers::{Grounded, Subject};
 use solver::Answer;
 use validator::Verdict;
@@ -35,11 +37,9 @@ pub fn status_of(report: &Report) -> u8
     match report {
         Report::Solve(solved) => answer_status(&solved.answer),
         Report::Validate(verdict) => verdict_status(*verdict),
-        Report::Check(checked) => match &checked.answer {
-            Ok(_) => YES,
-            Err(_) => NO,
-        },
+        Report::Check(checked) => check_status(&checked.answer),
         Report::Explain(explanation) => explanation_status(explanation.subject),
+        Report::ExplainCheck(explained) => check_status(&explained.checked.answer),
     }
 }
 
@@ -50,6 +50,15 @@ fn answer_status(answer: &Answer) -> u8
         Answer::Plan { .. } => YES,
         Answer::Unsolvable { .. } => UNSOLVABLE,
         Answer::Unknown(_) => UNKNOWN,
+    }
+}
+
+fn check_status(answer: &Result<Accepted, Refusal>) -> u8
+    ensures { result ≡ checks.status_of answer.now }
+{
+    match answer {
+        Ok(_) => YES,
+        Err(_) => NO,
     }
 }
 

@@ -71,7 +71,7 @@ const NOTHING: Left<'static> = Left {
 
 /// Whether a run leaves this if this operation on the plan file fails. Standard error reports a failed device, and nothing
 /// otherwise.
-fn leaves_where(alloc: Global, failing: Failing, wanted: Left<'_>) -> Result<bool, NoMemory> {
+fn leaves_where(alloc: Global, failing: Failing, required: Left<'_>) -> Result<bool, NoMemory> {
     let mut files = FailingFiles::new(table(alloc)?, failing);
     let ran = run_with(alloc, &SOLVE, &mut files);
     let reported: &[u8] = if ran.status == 21 {
@@ -80,9 +80,9 @@ fn leaves_where(alloc: Global, failing: Failing, wanted: Left<'_>) -> Result<boo
         b""
     };
     Ok(
-        ran.status == wanted.status
-            && files.table.get("out") == Some(wanted.file)
-            && ran.out.as_slice() == wanted.out
+        ran.status == required.status
+            && files.table.get("out") == Some(required.file)
+            && ran.out.as_slice() == required.out
             && ran.err.as_slice() == reported,
     )
 }
@@ -90,11 +90,11 @@ fn leaves_where(alloc: Global, failing: Failing, wanted: Left<'_>) -> Result<boo
 /// A plan file that fails at a write has a prefix of the plan.
 fn fails_at_each_write(rt: &impl Abort, alloc: Global) -> Result<(), Fail> {
     for (writes, file) in BEGINNINGS.iter().enumerate() {
-        let wanted = Left {
+        let required = Left {
             file: *file,
             ..NOTHING
         };
-        assert!(rt; leaves_where(alloc, Failing::Write(writes as u64), wanted)?);
+        assert!(rt; leaves_where(alloc, Failing::Write(writes as u64), required)?);
     }
     Ok(())
 }

@@ -130,8 +130,8 @@ fn lines_of(alloc: Global, row: &Row) -> Result<Option<usize>, NoMemory> {
 #[test]
 fn certificates_keep_their_limits(rt: HostRuntime) -> Result<(), Fail> {
     for (number, row) in ROWS.iter().enumerate() {
-        let wanted = row.5.then_some(1);
-        assert_eq!(rt; lines_of(rt.alloc(), row)?, wanted, "row {number}");
+        let required = row.5.then_some(1);
+        assert_eq!(rt; lines_of(rt.alloc(), row)?, required, "row {number}");
     }
     Ok(())
 }

@@ -99,7 +99,7 @@ fn value_line(alloc: Global) -> Result<CertLine, AllocError> {
 }
 
 /// The lines of the zones, of the landmark value, and of the states.
-fn wanted(alloc: Global) -> Result<Vec<CertLine>, AllocError> {
+fn required(alloc: Global) -> Result<Vec<CertLine>, AllocError> {
     let mut lines = Vec::new(alloc);
     lines.push(zone_line(alloc, &[1], &[])?)?;
     lines.push(zone_line(alloc, &[0], &[1])?)?;
@@ -128,7 +128,7 @@ fn read(alloc: Global, text: &[u8]) -> Result<Option<Vec<CertLine>>, AllocError>
 fn lines_of_landmark_values_are_read_back(rt: HostRuntime) -> Result<(), Fail> {
     let alloc = rt.alloc();
     let lines = read(alloc, TEXT)?.ok_or("no certificate")?;
-    let wanted = wanted(alloc)?;
-    assert!(rt; lines.len() == 12 && lines[5..11] == wanted[..]);
+    let required = required(alloc)?;
+    assert!(rt; lines.len() == 12 && lines[5..11] == required[..]);
     Ok(())
 }

@@ -61,7 +61,7 @@ fn states_name_the_value_that_they_rest_on(rt: HostRuntime) -> Result<(), Fail> 
 }
 
 #[test]
-fn limits_of_a_text_are_told(rt: HostRuntime) -> Result<(), Fail> {
+fn limits_of_a_text_are_reported(rt: HostRuntime) -> Result<(), Fail> {
     let alloc = rt.alloc();
     let mut within = Landmarks::none(alloc);
     within.push_zone(ZoneRef {

@@ -90,9 +90,9 @@ fn is_listed(state: &State, atoms: &[Atom]) -> Result<bool, NoMemory> {
 }
 
 /// Whether the state into which the first atoms were inserted lists the second ones in this order, and so does its copy.
-fn lists(alloc: Global, put: &[Application], wanted: &[Application]) -> Result<bool, NoMemory> {
+fn lists(alloc: Global, put: &[Application], required: &[Application]) -> Result<bool, NoMemory> {
     let state = state(alloc, put)?;
-    is_listed(&state, &atoms(alloc, wanted)?)
+    is_listed(&state, &atoms(alloc, required)?)
 }
 
 /// Whether the states with these atoms are equal.

@@ -15,8 +15,8 @@ fn names_lead_to_numbers(rt: &impl Abort, task: &Task) {
     let objects = (task.object_named(b"two"), task.object_named(b"three"));
     let schemas = (task.schema_named(b"go"), task.schema_named(b"p"));
     let found = (task.object_count(), objects, task.schema_count(), schemas);
-    let wanted = (2, (Some(ObjectId(1)), None), 1, (Some(SchemaId(0)), None));
-    assert_eq!(rt; found, wanted);
+    let required = (2, (Some(ObjectId(1)), None), 1, (Some(SchemaId(0)), None));
+    assert_eq!(rt; found, required);
 }
 
 /// The names of numbers.
@@ -31,8 +31,8 @@ fn numbers_lead_to_names(rt: &impl Abort, task: &Task) {
 fn has_one_type(rt: &impl Abort, task: &Task) {
     let names = (task.type_name(TypeId(0)), task.type_name(TypeId(1)));
     let found = (task.type_count(), task.type_named(b"object"), names);
-    let wanted = (1, Some(TypeId(0)), (Some(b"object".as_slice()), None));
-    assert_eq!(rt; found, wanted);
+    let required = (1, Some(TypeId(0)), (Some(b"object".as_slice()), None));
+    assert_eq!(rt; found, required);
 }
 
 #[test]
@@ -59,11 +59,11 @@ fn functions_have_names(rt: &impl Abort, task: &Task) {
         task.function_name(PredicateId(1)),
         task.function_name(PredicateId(3)),
     );
-    let wanted = (
+    let required = (
         (Some(PredicateId(1)), None),
         (Some(b"len".as_slice()), None),
     );
-    assert_eq!(rt; (named, names), wanted);
+    assert_eq!(rt; (named, names), required);
 }
 
 /// Functions applied to objects, and their values.

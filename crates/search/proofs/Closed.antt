@@ -13,6 +13,7 @@ use Rattle.search.specs.Estimates.{IsAdmissible, IsConsistent}
 use Rattle.search.specs.DeadEnds.{DetectsDeadEnds, ReportsDeadEnds}
 use Rattle.search.specs.Outcome.{AreOfOneClass, AreOwnClasses, AreClassesOf, is_expanded, is_marked_dead, line_of, lines_of, IsReachableAt, ReachingCostsAtLeast, AreFound, AreExpandedWithin}
 use Rattle.search.specs.Nodes.{Waiting, Found, found_of, IsWaiting, total_of, AreNodes, IsFoundWithin, AreClosed, parent_of, begins, follows, IsPath, IsReachedIn, IsWay, dearest}
+use Rattle.search.proofs.Kept.{later_same}
 use Rattle.search.proofs.NodesLemmas.{run-push}
 use Rattle.search.proofs.ShortWays.{short_way}
 use Rattle.search.proofs.Linked.{found_of-get, get-found_of, length-found_of}
@@ -63,17 +64,17 @@ dead_if false true estimate is = refl
 dead_if false false estimate is = absurd (cc)
 
 -- a cut is told with the estimate of its state
-pub cut_told : {S : Type 0} (value : S → ℕ) (is_dead : S → Bool) (states : List S) (all : List Node) (line : Line S) (rest : ℕ) → Contains (lines_of value is_dead states all) line → line.mark ≡ cut rest
+pub cut_reported : {S : Type 0} (value : S → ℕ) (is_dead : S → Bool) (states : List S) (all : List Node) (line : Line S) (rest : ℕ) → Contains (lines_of value is_dead states all) line → line.mark ≡ cut rest
     → rest ≡ value line.state
-cut_told {S} value is_dead states all line rest at mark =
+cut_reported {S} value is_dead states all line rest at mark =
     let (k, s, r, is_s, is_r, is) = line-at value is_dead states all line at in
     let (waits, alive, is_value) = cut_if (is_expanded r) (is_dead s) (value s) rest (ap (λ (l : Line S). l.mark) is ∙ mark) in
     is_value ∙ ap (λ (l : Line S). value l.state) is
 
 -- what is told to be a dead end is reported dead
-pub dead_told : {S : Type 0} (value : S → ℕ) (is_dead : S → Bool) (states : List S) (all : List Node) (line : Line S) → Contains (lines_of value is_dead states all) line → line.mark ≡ dead
+pub dead_reported : {S : Type 0} (value : S → ℕ) (is_dead : S → Bool) (states : List S) (all : List Node) (line : Line S) → Contains (lines_of value is_dead states all) line → line.mark ≡ dead
     → is_dead line.state ≡ true
-dead_told {S} value is_dead states all line at mark =
+dead_reported {S} value is_dead states all line at mark =
     let (k, s, r, is_s, is_r, is) = line-at value is_dead states all line at in
     ap (λ (l : Line S). is_dead l.state) (sym is) ∙ dead_if (is_expanded r) (is_dead s) (value s) (ap (λ (l : Line S). l.mark) is ∙ mark)
 
@@ -81,8 +82,8 @@ dead_told {S} value is_dead states all line at mark =
 pub lines_are_true : {S A : Type 0} (t : System S A) (value : S → ℕ) (is_dead : S → Bool) (states : List S) (all : List Node) → IsAdmissible t value → ReportsDeadEnds t is_dead
     → AreTrue t (lines_of value is_dead states all)
 lines_are_true t value is_dead states all admissible reports = record {
-  cuts = λ line rest end plan at mark runs goal. omega (arith, cut_told value is_dead states all line rest at mark, admissible line.state end plan runs goal);
-  dead_ends = λ line end plan at mark runs. reports line.state end plan (dead_told value is_dead states all line at mark) runs;
+  cuts = λ line rest end plan at mark runs goal. omega (arith, cut_reported value is_dead states all line rest at mark, admissible line.state end plan runs goal);
+  dead_ends = λ line end plan at mark runs. reports line.state end plan (dead_reported value is_dead states all line at mark) runs;
 }
 
 -- what a listing needs of the found states
@@ -104,7 +105,7 @@ are_listed {S} t class_of value is_dead nodes open_list are = record {
   cheap = are.cheap;
   reachable = are.reachable;
   no_goal = are.no_goal;
-  cheapest = are.cheapest;
+  cheapest = λ own consistent detects. are.cheapest own value is_dead (later_same value is_dead nodes) consistent detects;
   alive = are.alive;
   marked = are.marked;
 }

@@ -1,10 +1,11 @@
 -- What stays true of the found states while each keeps its place, at no higher cost, and its state if it has been expanded.
-use Rattle.std.proofs.Common.{◌≡◌, ℕ, ◌+◌, ◌≤◌, ◌≢◌, List, [], Bool, Some, true, refl, sym, ap, ◌∙◌, arith}
+use Rattle.std.proofs.Common.{◌≡◌, ℕ, ◌+◌, ◌≤◌, ◌≢◌, List, [], Bool, Some, true, false, refl, sym, ap, ◌∙◌, subst, le_refl, arith}
 use Rattle.std.specs.Prelude.{slice_get, All}
+use Rattle.std.proofs.lemmas.Bool.{false≢true}
 use Rattle.std.proofs.lemmas.List.Elements.{All-weaker}
 use Rattle.model.specs.Runs.{System}
-use Rattle.search.specs.Outcome.{AreOfOneClass}
-use Rattle.search.specs.Nodes.{Waiting, place_of, IsEntryOf, has_been_expanded, parent_of, begins, follows, IsWay, HasWay, Found, Leads, IsFoundWithin, IsClosedAt}
+use Rattle.search.specs.Outcome.{AreOfOneClass, AreOwnClasses}
+use Rattle.search.specs.Nodes.{Waiting, place_of, IsEntryOf, has_been_expanded, parent_of, begins, follows, IsWay, HasWay, Found, Leads, IsFoundWithin, IsClosedAt, AreSettled, IsLater}
 
 -- The node's place has one of its class still, which costs no more: another one only where it costs less and the node has never been
 -- expanded.
@@ -33,6 +34,30 @@ module _ {S : Type 0} (nodes after : List (Found S)) where
 
     pub open_kept : (t : System S ℕ) (n : Found S) → IsClosedAt t class_of nodes n → IsClosedAt t class_of after n
     open_kept t n is_open a next step = found_kept next (n.node.cost + t.cost a) (is_open a next step)
+
+    -- later values that are settled there are settled before
+    pub settled_before : (value later : S → ℕ) → AreSettled value later after → AreSettled value later nodes
+    settled_before value later settled k n at expanded =
+        let is = kept k n at in
+        let (same, been) = is.expanded expanded in
+        ap later (sym same) ∙ settled k is.now is.there been ∙ ap value same
+
+    -- if each state is a class of its own, no other takes its place
+    pub later_before : AreOwnClasses class_of → (value later : S → ℕ) (is_dead later_dead : S → Bool) → IsLater value later is_dead later_dead after → IsLater value later is_dead later_dead nodes
+    later_before own value later is_dead later_dead is_later = record {
+      settled = settled_before value later is_later.settled;
+      settled_dead = λ k n at expanded.
+          let is = kept k n at in
+          let (same, been) = is.expanded expanded in
+          ap later_dead (sym same) ∙ is_later.settled_dead k is.now is.there been ∙ ap is_dead same;
+      no_less = λ k n at.
+          let is = kept k n at in
+          subst (λ (x : S). value x ≤ later x) (own is.now.state n.state is.alike) (is_later.no_less k is.now is.there);
+      stays_dead = λ k n at dead.
+          let is = kept k n at in
+          let same : is.now.state ≡ n.state = own is.now.state n.state is.alike in
+          ap later_dead (sym same) ∙ is_later.stays_dead k is.now is.there (ap is_dead same ∙ dead);
+    }
 
     -- a node's parent may be reached more cheaply, and is the same state
     pub leads_kept : (t : System S ℕ) (value : S → ℕ) (is_dead : S → Bool) (n : Found S) → Leads t value is_dead nodes n → Leads t value is_dead after n
@@ -64,3 +89,16 @@ module _ {S : Type 0} (nodes after : List (Found S)) where
 
     pub entries_kept : (value : S → ℕ) (is_dead : S → Bool) (open_list : List Waiting) → All (IsEntryOf value is_dead nodes) open_list → All (IsEntryOf value is_dead after) open_list
     entries_kept value is_dead open_list all = All-weaker (IsEntryOf value is_dead nodes) (IsEntryOf value is_dead after) (entry_kept value is_dead) open_list all
+
+module _ {S : Type 0} (value : S → ℕ) (is_dead : S → Bool) (nodes : List (Found S)) where
+  -- the search's own values are among those to which it may come
+  pub later_same : IsLater value value is_dead is_dead nodes
+  later_same = record { settled = λ _ _ _ _. refl; settled_dead = λ _ _ _ _. refl; no_less = λ _ n _. le_refl (value n.state); stays_dead = λ _ _ _ dead. dead }
+
+  -- what is not reported dead later is not now
+  pub alive_before : (later : S → ℕ) (later_dead : S → Bool) → IsLater value later is_dead later_dead nodes → (k : ℕ) (n : Found S) → slice_get nodes k ≡ Some n → later_dead n.state ≡ false → is_dead n.state ≡ false
+  alive_before later later_dead is_later k n at alive =
+      elim (is_dead n.state) as (λ d. is_dead n.state ≡ d → d ≡ false) [
+        | false ↦ λ _. refl
+        | true ↦ λ dead. absurd (false≢true (sym alive ∙ is_later.stays_dead k n at dead))
+      ] refl

@@ -1,6 +1,9 @@
+pub mod BaseWords
 pub mod Closed
 pub mod Consistent
 pub mod DeadEnds
+pub mod Deferred
+pub mod Halts
 pub mod Limit
 pub mod Linked
 pub mod Lists
@@ -11,9 +14,16 @@ pub mod Noted
 pub mod OpenList
 pub mod OpenListLemmas
 pub mod Paused
+pub mod Raised
 pub mod Reached
+pub mod Reaching
+pub mod Results
+pub mod Single
+pub mod Standings
 pub mod Steps
 pub mod ShortWays
 pub mod Stopped
+pub mod Updated
+pub mod Valued
 pub mod Ways
 pub mod Work

@@ -1,6 +1,7 @@
 -- The found states are the two lists put together, place by place.
-use Rattle.std.proofs.Common.{◌≡◌, ℕ, zero, suc, ◌<◌, List, [], ◌∷◌, ◌++◌, length, set, Some, true, false, refl, sym, ap, ◌∙◌, subst, arith}
+use Rattle.std.proofs.Common.{◌≡◌, ℕ, zero, suc, ◌<◌, ◌≢◌, ◌⊎◌, inl, inr, List, [], ◌∷◌, ◌++◌, length, set, Some, true, false, refl, sym, ap, ◌∙◌, subst, arith}
 use Rattle.std.specs.Prelude.{slice_get}
+use Rattle.std.proofs.lemmas.Bool.{cases_eq}
 use Rattle.std.proofs.lemmas.Option.{same_Some, slice_get_within}
 use Rattle.std.proofs.lemmas.List.{length-set, length-append}
 use Rattle.search.specs.declared.nodes.Node.{Node}
@@ -98,3 +99,42 @@ module _ {S : Type 0} where
         longer = omega (arith, length-set nodes j m);
         less = λ most _ _. work_cheaper nodes j n m most at waits cheaper;
       }
+
+module _ {S : Type 0} (states : List S) (all : List Node) (s : S) (now : Node) (states' : List S) (all' : List Node) where
+  -- the found states once one joins them, is reached at less, or takes the place of another
+  pub after_new : length all ≡ length states → states' ≡ states ++ s ∷ [] → all' ≡ all ++ now ∷ [] → found_of states' all' ≡ found_of states all ++ record { state = s; node = now } ∷ []
+  after_new one_each is_states is_all = ap (λ (ss : List S). found_of ss all') is_states ∙ ap (found_of (states ++ s ∷ [])) is_all ∙ found_of-push states all s now one_each
+
+  pub after_cheaper : (j : ℕ) (n : Found S) → slice_get (found_of states all) j ≡ Some n → n.state ≡ s → states' ≡ states → all' ≡ set all j now → found_of states' all' ≡ set (found_of states all) j (record { state = s; node = now })
+  after_cheaper j n stood is is_states is_all =
+      ap (λ (ss : List S). found_of ss all') is_states ∙ ap (found_of states) is_all ∙ found_of-set states all j n now stood
+      ∙ ap (λ (x : S). set (found_of states all) j (record { state = x; node = now })) is
+
+  pub after_replaced : (j : ℕ) (n : Found S) → slice_get (found_of states all) j ≡ Some n → states' ≡ set states j s → all' ≡ set all j now → found_of states' all' ≡ set (found_of states all) j (record { state = s; node = now })
+  after_replaced j n stood is_states is_all =
+      ap (λ (ss : List S). found_of ss all') is_states ∙ ap (found_of (set states j s)) is_all ∙ found_of-replace states all j n s now stood
+
+module _ {S : Type 0} (nodes : List (Found S)) (m : Found S) where
+  -- what is there was there, or is new
+  pub cases_push : (j : ℕ) → j ≡ length nodes → (k : ℕ) (n : Found S) → slice_get (nodes ++ m ∷ []) k ≡ Some n → ((k ≡ j) × (n.state ≡ m.state)) ⊎ ((k ≢ j) × (slice_get nodes k ≡ Some n))
+  cases_push j last k n at =
+      elim (cases_eq k j) [
+        | inl is ↦ inl (is, ap (λ (x : Found S). x.state) (same_Some n m (sym at ∙ ap (slice_get (nodes ++ m ∷ [])) (is ∙ last) ∙ get-push_new nodes m)))
+        | inr other ↦ inr (other, sym (get-push_other nodes m k (λ is. other (is ∙ sym last))) ∙ at)
+      ]
+
+  pub cases_set : (j : ℕ) (one : Found S) → slice_get nodes j ≡ Some one → (k : ℕ) (n : Found S) → slice_get (set nodes j m) k ≡ Some n → ((k ≡ j) × (n.state ≡ m.state)) ⊎ ((k ≢ j) × (slice_get nodes k ≡ Some n))
+  cases_set j one stood k n at =
+      elim (cases_eq k j) [
+        | inl is ↦ inl (is, ap (λ (x : Found S). x.state) (same_Some n m (sym at ∙ ap (slice_get (set nodes j m)) is ∙ get-set_here nodes j m one stood)))
+        | inr other ↦ inr (other, sym (get-set_other nodes j m k other) ∙ at)
+      ]
+
+  -- where a state keeps its place
+  pub set_was : (j : ℕ) (one : Found S) → slice_get nodes j ≡ Some one → m.state ≡ one.state → (k : ℕ) (n : Found S) → slice_get (set nodes j m) k ≡ Some n
+      → (x : Found S) × (slice_get nodes k ≡ Some x) × (x.state ≡ n.state)
+  set_was j one stood same k n at =
+      elim (cases_set j one stood k n at) [
+        | inl (is, now) ↦ (one, ap (slice_get nodes) is ∙ stood, sym same ∙ sym now)
+        | inr (other, there) ↦ (n, there, refl)
+      ]

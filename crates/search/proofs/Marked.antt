@@ -10,9 +10,9 @@ use Rattle.search.specs.declared.nodes.NodeStatus.{NodeStatus}
 use Rattle.search.specs.declared.nodes.NodeStatus.TheVariants.{Reopened, Expanded}
 use Rattle.search.specs.Estimates.{IsConsistent}
 use Rattle.search.specs.DeadEnds.{DetectsDeadEnds}
-use Rattle.search.specs.Nodes.{Waiting, entry, IsWaiting, total_of, IsEntryOf, has_been_expanded_status, parent_of, follows, HasWay, Found, Leads, dearest, AreNodes, IsClosedAt, AreClosed, AreClosedBut, IsTurn, marked}
+use Rattle.search.specs.Nodes.{Waiting, entry, IsWaiting, total_of, IsEntryOf, has_been_expanded_status, has_been_expanded, parent_of, follows, HasWay, Found, Leads, dearest, AreSettled, IsLater, AreNodes, IsClosedAt, AreClosed, AreClosedBut, IsTurn, marked}
 use Rattle.search.specs.Outcome.{AreOwnClasses, is_expanded, is_marked_dead, IsReachableAt, ReachingCostsAtLeast}
-use Rattle.search.proofs.Kept.{AreKept, way_kept, open_kept, leads_kept, entries_kept}
+use Rattle.search.proofs.Kept.{AreKept, way_kept, open_kept, settled_before, later_before, leads_kept, entries_kept}
 
 -- what holds of the found states however far the search is with them
 pub record AreReached {S : Type 0} (t : System S ℕ) (value : S → ℕ) (is_dead : S → Bool) (nodes : List (Found S)) : Type 0 where
@@ -23,8 +23,9 @@ pub record AreReached {S : Type 0} (t : System S ℕ) (value : S → ℕ) (is_de
   pub reached : (k : ℕ) (n : Found S) → slice_get nodes k ≡ Some n → HasWay nodes k
   pub reachable : (k : ℕ) (n : Found S) → slice_get nodes k ≡ Some n → IsReachableAt t n.state n.node.cost
 
--- the node at one place has another status now, that of one that has been expanded
-module _ {S : Type 0} (status : NodeStatus) (lasting : has_been_expanded_status status ≡ true) (nodes after : List (Found S)) (i : ℕ) (one : Found S) (stood : slice_get nodes i ≡ Some one)
+-- the node at one place has another status now, that of one that has been expanded if it was
+module _ {S : Type 0} (status : NodeStatus) (nodes after : List (Found S)) (i : ℕ) (one : Found S) (stood : slice_get nodes i ≡ Some one)
+    (lasting : has_been_expanded one.node ≡ true → has_been_expanded_status status ≡ true)
     (here : slice_get after i ≡ Some (marked status one)) (others : (k : ℕ) → k ≢ i → slice_get after k ≡ slice_get nodes k) where
   pub each_marked : (P : ℕ → Found S → Type 0) → P i (marked status one) → ((k : ℕ) (n : Found S) → k ≢ i → slice_get nodes k ≡ Some n → P k n) → (k : ℕ) (n : Found S) → slice_get after k ≡ Some n → P k n
   each_marked P at_i elsewhere k n at =
@@ -48,7 +49,7 @@ module _ {S : Type 0} (status : NodeStatus) (lasting : has_been_expanded_status 
               alike = ap class_of same_state;
               cheaper = omega (arith, ap (λ (x : Found S). x.node.cost) same);
               same_cost = λ _. same_state;
-              expanded = λ _. (same_state, lasting);
+              expanded = λ been. (same_state, lasting (ap (λ (x : Found S). has_been_expanded x.node) same ∙ been));
             }
         | inr other ↦ record { now = n; there = others k other ∙ at; alike = refl; cheaper = omega arith; same_cost = λ _. refl; expanded = λ expanded. (refl, expanded) }
       ]
@@ -105,17 +106,17 @@ module _ {S : Type 0} (nodes after : List (Found S)) (i : ℕ) (one : Found S) (
     (here : slice_get after i ≡ Some (marked Expanded one)) (others : (k : ℕ) → k ≢ i → slice_get after k ≡ slice_get nodes k) (long : length after ≡ length nodes)
     (t : System S ℕ) (class_of : S → S) (value : S → ℕ) (is_dead : S → Bool) (open_list open_list' : List Waiting) (old : AreNodes t class_of value is_dead nodes open_list) (alive : is_dead one.state ≡ false) where
   each : (P : ℕ → Found S → Type 0) → P i (marked Expanded one) → ((k : ℕ) (n : Found S) → k ≢ i → slice_get nodes k ≡ Some n → P k n) → (k : ℕ) (n : Found S) → slice_get after k ≡ Some n → P k n
-  each = each_marked Expanded refl nodes after i one stood here others
+  each = each_marked Expanded nodes after i one stood (λ _. refl) here others
 
   kept : AreKept class_of nodes after
-  kept = kept_marked Expanded refl nodes after i one stood here others class_of
+  kept = kept_marked Expanded nodes after i one stood (λ _. refl) here others class_of
 
-  pub nodes_marked : t.meets_goal one.state ≡ false → CostsAtLeast t (total_of value one) → (AreOwnClasses class_of → IsConsistent t value → DetectsDeadEnds t is_dead → ReachingCostsAtLeast t one.state one.node.cost)
+  pub nodes_marked : t.meets_goal one.state ≡ false → CostsAtLeast t (total_of value one) → (AreOwnClasses class_of → (later : S → ℕ) (later_dead : S → Bool) → IsLater value later is_dead later_dead after → IsConsistent t later → DetectsDeadEnds t later_dead → ReachingCostsAtLeast t one.state one.node.cost)
       → ((k : ℕ) (n : Found S) → slice_get nodes k ≡ Some n → IsWaiting is_dead n → total_of value one ≤ total_of value n)
       → ((k : ℕ) (n : Found S) → slice_get nodes k ≡ Some n → IsWaiting is_dead n → k ≢ i → Contains open_list' (entry n.node.cost (value n.state) k))
       → All (IsEntryOf value is_dead nodes) open_list' → AreNodes t class_of value is_dead after open_list'
   nodes_marked no_goal no_dearer cheapest least queued entries =
-      let are = reached_marked Expanded refl nodes after i one stood here others t class_of value is_dead open_list old long in
+      let are = reached_marked Expanded nodes after i one stood (λ _. refl) here others t class_of value is_dead open_list old long in
       record {
         root = are.root;
         linked = are.linked;
@@ -125,20 +126,20 @@ module _ {S : Type 0} (nodes after : List (Found S)) (i : ℕ) (one : Found S) (
         reachable = are.reachable;
         no_goal = each (λ k n. is_expanded n.node ≡ true → t.meets_goal n.state ≡ false) (λ _. no_goal) (λ k n _ at. old.no_goal k n at);
         no_dearer = each (λ k n. is_expanded n.node ≡ true → CostsAtLeast t (total_of value n)) (λ _. no_dearer) (λ k n _ at. old.no_dearer k n at);
-        cheapest = λ own consistent detects. each (λ k n. is_expanded n.node ≡ true → ReachingCostsAtLeast t n.state n.node.cost)
-            (λ _. cheapest own consistent detects)
-            (λ k n _ at. old.cheapest own consistent detects k n at);
+        cheapest = λ own later later_dead is_later consistent detects. each (λ k n. is_expanded n.node ≡ true → ReachingCostsAtLeast t n.state n.node.cost)
+            (λ _. cheapest own later later_dead is_later consistent detects)
+            (λ k n _ at. old.cheapest own later later_dead (later_before nodes after class_of kept own value later is_dead later_dead is_later) consistent detects k n at);
         alive = each (λ k n. is_expanded n.node ≡ true → is_dead n.state ≡ false) (λ _. alive) (λ k n _ at. old.alive k n at);
         marked = each (λ k n. is_marked_dead n.node ≡ is_dead n.state) (sym alive) (λ k n _ at. old.marked k n at);
-        ordered = λ consistent p k x n at_p at_k expanded waits.
-            each (λ k n. IsWaiting is_dead n → total_of value x ≤ total_of value n)
+        ordered = λ later settled consistent p k x n at_p at_k expanded waits no_less.
+            each (λ k n. IsWaiting is_dead n → value n.state ≤ later n.state → total_of later x ≤ total_of later n)
             (λ is_waiting. absurd (false≢true (sym is_waiting.0)))
-            (λ k n _ at is_waiting.
-            each (λ p x. is_expanded x.node ≡ true → total_of value x ≤ total_of value n)
-            (λ _. least k n at is_waiting)
-            (λ p x _ at_x was_expanded. old.ordered consistent p k x n at_x at was_expanded is_waiting)
+            (λ k n _ at is_waiting rises.
+            each (λ p x. is_expanded x.node ≡ true → total_of later x ≤ total_of later n)
+            (λ _. omega (arith, least k n at is_waiting, settled i (marked Expanded one) here refl, rises))
+            (λ p x _ at_x was_expanded. old.ordered later (settled_before nodes after class_of kept value later settled) consistent p k x n at_x at was_expanded is_waiting rises)
             p x at_p expanded)
-            k n at_k waits;
+            k n at_k waits no_less;
         queued = each (λ k n. IsWaiting is_dead n → Contains open_list' (entry n.node.cost (value n.state) k))
             (λ waits. absurd (false≢true (sym waits.0)))
             (λ k n other at waits. queued k n at waits other);
@@ -150,9 +151,10 @@ module _ {S : Type 0} (nodes after : List (Found S)) (i : ℕ) (one : Found S) (
     found = marked Expanded one;
     occurs = here;
     expanded = refl;
-    greatest = λ consistent. each (λ k n. is_expanded n.node ≡ true → total_of value n ≤ total_of value one)
+    greatest = λ later settled consistent. each (λ k n. is_expanded n.node ≡ true → total_of later n ≤ total_of later one)
         (λ _. omega arith)
-        (λ k n _ at expanded. old.ordered consistent k i n one at stood expanded (waited, alive));
+        (λ k n _ at expanded. old.ordered later (settled_before nodes after class_of kept value later settled) consistent k i n one at stood expanded (waited, alive)
+        (omega (arith, settled i (marked Expanded one) here refl)));
   }
 
   pub open_but_marked : AreClosed t class_of nodes → AreClosedBut t class_of after i
@@ -164,10 +166,10 @@ module _ {S : Type 0} (nodes after : List (Found S)) (i : ℕ) (one : Found S) (
 module _ {S : Type 0} (t : System S ℕ) (class_of : S → S) (value : S → ℕ) (is_dead : S → Bool) (nodes after : List (Found S)) (i : ℕ) (turn : IsTurn t value nodes i)
     (here : slice_get after i ≡ Some (marked Reopened turn.found)) (others : (k : ℕ) → k ≢ i → slice_get after k ≡ slice_get nodes k) where
   back : (P : ℕ → Found S → Type 0) → P i (marked Reopened turn.found) → ((k : ℕ) (n : Found S) → k ≢ i → slice_get nodes k ≡ Some n → P k n) → (k : ℕ) (n : Found S) → slice_get after k ≡ Some n → P k n
-  back = each_marked Reopened refl nodes after i turn.found turn.occurs here others
+  back = each_marked Reopened nodes after i turn.found turn.occurs (λ _. refl) here others
 
   kept_back : AreKept class_of nodes after
-  kept_back = kept_marked Reopened refl nodes after i turn.found turn.occurs here others class_of
+  kept_back = kept_marked Reopened nodes after i turn.found turn.occurs (λ _. refl) here others class_of
 
   -- of those that are expanded still, each was there
   expanded_back : (P : ℕ → Found S → Type 0) → ((k : ℕ) (n : Found S) → k ≢ i → slice_get nodes k ≡ Some n → is_expanded n.node ≡ true → P k n)
@@ -183,7 +185,7 @@ module _ {S : Type 0} (t : System S ℕ) (class_of : S → S) (value : S → ℕ
       let one = turn.found in
       let first = entry one.node.cost (value one.state) i in
       let alive = old.alive i one turn.occurs turn.expanded in
-      let are = reached_marked Reopened refl nodes after i one turn.occurs here others t class_of value is_dead open_list old long in
+      let are = reached_marked Reopened nodes after i one turn.occurs (λ _. refl) here others t class_of value is_dead open_list old long in
       let of : IsEntryOf value is_dead after first = record { found = marked Reopened one; occurs = here; no_dearer = omega arith; alive = λ _. alive; estimate = λ _. refl } in
       record {
         root = are.root;
@@ -194,16 +196,18 @@ module _ {S : Type 0} (t : System S ℕ) (class_of : S → S) (value : S → ℕ
         reachable = are.reachable;
         no_goal = expanded_back (λ k n. t.meets_goal n.state ≡ false) (λ k n _ at. old.no_goal k n at);
         no_dearer = expanded_back (λ k n. CostsAtLeast t (total_of value n)) (λ k n _ at. old.no_dearer k n at);
-        cheapest = λ own consistent detects. expanded_back (λ k n. ReachingCostsAtLeast t n.state n.node.cost) (λ k n _ at. old.cheapest own consistent detects k n at);
+        cheapest = λ own later later_dead is_later consistent detects. expanded_back (λ k n. ReachingCostsAtLeast t n.state n.node.cost)
+            (λ k n _ at. old.cheapest own later later_dead (later_before nodes after class_of kept_back own value later is_dead later_dead is_later) consistent detects k n at);
         alive = expanded_back (λ k n. is_dead n.state ≡ false) (λ k n _ at. old.alive k n at);
         marked = back (λ k n. is_marked_dead n.node ≡ is_dead n.state) (sym alive) (λ k n _ at. old.marked k n at);
-        ordered = λ consistent p k x n at_p at_k expanded waits.
-            expanded_back (λ p x. total_of value x ≤ total_of value n)
+        ordered = λ later settled consistent p k x n at_p at_k expanded waits no_less.
+            let was = settled_before nodes after class_of kept_back value later settled in
+            expanded_back (λ p x. total_of later x ≤ total_of later n)
             (λ p x _ at_x was_expanded.
-            back (λ k n. IsWaiting is_dead n → total_of value x ≤ total_of value n)
-            (λ _. turn.greatest consistent p x at_x was_expanded)
-            (λ k n _ at is_waiting. old.ordered consistent p k x n at_x at was_expanded is_waiting)
-            k n at_k waits)
+            back (λ k n. IsWaiting is_dead n → value n.state ≤ later n.state → total_of later x ≤ total_of later n)
+            (λ _ _. turn.greatest later was consistent p x at_x was_expanded)
+            (λ k n _ at is_waiting rises. old.ordered later was consistent p k x n at_x at was_expanded is_waiting rises)
+            k n at_k waits no_less)
             p x at_p expanded;
         queued = back (λ k n. IsWaiting is_dead n → Contains (first ∷ open_list) (entry n.node.cost (value n.state) k))
             (λ _. Contains-here first open_list)

@@ -14,9 +14,9 @@ use Rattle.search.specs.declared.nodes.NodeStatus.{NodeStatus}
 use Rattle.search.specs.declared.nodes.NodeStatus.TheVariants.{Unexpanded, Reopened, Expanded, Dead}
 use Rattle.search.specs.Estimates.{IsConsistent}
 use Rattle.search.specs.Outcome.{is_expanded_status, is_expanded, is_marked_dead, IsReachableAt, ReachingCostsAtLeast}
-use Rattle.search.specs.Nodes.{Waiting, entry, IsWaiting, total_of, IsEntryOf, has_been_expanded_status, parent_of, begins, follows, IsWay, HasWay, Found, Leads, dearest, AreNodes, IsClosedAt, AreClosedBut, IsTurn, Updates}
+use Rattle.search.specs.Nodes.{Waiting, entry, IsWaiting, total_of, IsEntryOf, has_been_expanded_status, parent_of, begins, follows, IsWay, HasWay, Found, Leads, dearest, AreSettled, IsLater, AreNodes, IsClosedAt, AreClosedBut, IsTurn, Updates}
 use Rattle.search.specs.Progress.{Continues, IsListed}
-use Rattle.search.proofs.Kept.{AreKept, way_kept, found_kept, open_kept, leads_kept, entries_kept}
+use Rattle.search.proofs.Kept.{AreKept, way_kept, found_kept, open_kept, settled_before, later_before, leads_kept, entries_kept}
 
 -- What holds of the nodes after a step of an expansion, by which the state is reached by the action.
 pub record Stepped {S : Type 0} (t : System S ℕ) (class_of : S → S) (value : S → ℕ) (is_dead : S → Bool) (nodes after : List (Found S)) (open_list : List Waiting) (i : ℕ) (a : ℕ) (s : S) : Type 0 where
@@ -142,7 +142,7 @@ module _ {S : Type 0} (class_of : S → S) (nodes after : List (Found S)) (j : �
       found = turn.found;
       occurs = stays;
       expanded = turn.expanded;
-      greatest = λ consistent. each_expanded (λ k n. total_of value n ≤ total_of value turn.found) (turn.greatest consistent);
+      greatest = λ later settled consistent. each_expanded (λ k n. total_of later n ≤ total_of later turn.found) (turn.greatest later (settled_before nodes after class_of kept_updated value later settled) consistent);
     }
 
     open_but_still : AreClosedBut t class_of nodes i → AreClosedBut t class_of after i
@@ -176,9 +176,8 @@ module _ {S : Type 0} (class_of : S → S) (nodes after : List (Found S)) (j : �
         ]
 
     nodes_updated : (open_list' : List Waiting) → m.node.cost ≤ length after * dearest → t.step turn.found.state m.node.action ≡ Some m.state
-        → (IsConsistent t value → value turn.found.state ≤ t.cost m.node.action + value m.state)
         → is_marked_dead m.node ≡ is_dead m.state → HasJoined value is_dead open_list open_list' → AreNodes t class_of value is_dead after open_list'
-    nodes_updated open_list' affordable step falls reported joined =
+    nodes_updated open_list' affordable step reported joined =
         let leads : Leads t value is_dead after m = record {
           parent = turn.found;
           occurs = ap (slice_get after) parent ∙ stays;
@@ -207,15 +206,17 @@ module _ {S : Type 0} (class_of : S → S) (nodes after : List (Found S)) (j : �
               (λ k n other at. old.reachable k n at);
           no_goal = each_expanded (λ k n. t.meets_goal n.state ≡ false) old.no_goal;
           no_dearer = each_expanded (λ k n. CostsAtLeast t (total_of value n)) old.no_dearer;
-          cheapest = λ own consistent detects. each_expanded (λ k n. ReachingCostsAtLeast t n.state n.node.cost) (old.cheapest own consistent detects);
+          cheapest = λ own later later_dead is_later consistent detects. each_expanded (λ k n. ReachingCostsAtLeast t n.state n.node.cost)
+              (old.cheapest own later later_dead (later_before nodes after class_of kept_updated own value later is_dead later_dead is_later) consistent detects);
           alive = each_expanded (λ k n. is_dead n.state ≡ false) old.alive;
           marked = each_after (λ k n. is_marked_dead n.node ≡ is_dead n.state) reported (λ k n other at. old.marked k n at);
-          ordered = λ consistent p k x n at_p at_k expanded waits.
+          ordered = λ later settled consistent p k x n at_p at_k expanded waits no_less.
               let was = expanded_before p x at_p expanded in
-              each_after (λ k n. IsWaiting is_dead n → total_of value x ≤ total_of value n)
-              (λ _. omega (arith, turn.greatest consistent p x was expanded, cost, falls consistent))
-              (λ k n other at is_waiting. old.ordered consistent p k x n was at expanded is_waiting)
-              k n at_k waits;
+              let before = settled_before nodes after class_of kept_updated value later settled in
+              each_after (λ k n. IsWaiting is_dead n → value n.state ≤ later n.state → total_of later x ≤ total_of later n)
+              (λ _ _. omega (arith, turn.greatest later before consistent p x was expanded, cost, consistent.falls_by_no_more turn.found.state m.state m.node.action step))
+              (λ k n other at is_waiting rises. old.ordered later before consistent p k x n was at expanded is_waiting rises)
+              k n at_k waits no_less;
           queued = each_after (λ k n. IsWaiting is_dead n → Contains open_list' (entry n.node.cost (value n.state) k))
               joined.queued
               (λ k n other at waits. joined.keeps (entry n.node.cost (value n.state) k) (old.queued k n at waits));
@@ -224,12 +225,11 @@ module _ {S : Type 0} (class_of : S → S) (nodes after : List (Found S)) (j : �
 
     -- all that a step keeps
     pub stepped : (open_list' : List Waiting) → AreClosedBut t class_of nodes i → m.node.cost ≤ length after * dearest → t.step turn.found.state m.node.action ≡ Some m.state
-        → (IsConsistent t value → value turn.found.state ≤ t.cost m.node.action + value m.state)
         → is_marked_dead m.node ≡ is_dead m.state → IsJoined (is_dead m.state) (entry m.node.cost (value m.state) j) open_list open_list'
         → Stepped t class_of value is_dead nodes after open_list' i m.node.action m.state
-    stepped open_list' others affordable step falls reported joins =
+    stepped open_list' others affordable step reported joins =
         record {
-          sound = nodes_updated open_list' affordable step falls reported (has_joined value is_dead open_list open_list' old.entries joins);
+          sound = nodes_updated open_list' affordable step reported (has_joined value is_dead open_list open_list' old.entries joins);
           turn = turn_still;
           others = open_but_still others;
           continues = record {

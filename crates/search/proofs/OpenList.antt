@@ -12,11 +12,12 @@ use Rattle.model.proofs.ListLemmas.{Contains-cases, Contains-got}
 use Rattle.search.specs.declared.nodes.Node.{Node}
 use Rattle.search.specs.declared.turns.Turn.{Turn}
 use Rattle.search.specs.Outcome.{is_expanded}
-use Rattle.search.specs.Nodes.{Waiting, sum_of, estimate_of, place_of, IsEntry, IsCurrent, parent_of, IsPath, begins, follows, IsReachedIn}
+use Rattle.search.specs.Nodes.{Waiting, sum_of, estimate_of, place_of, AreSingle, IsEntry, IsCurrent, parent_of, IsPath, begins, follows, IsReachedIn}
 use Rattle.search.specs.OpenList.{by_sum}
 use Rattle.search.specs.Progress.{TakesNext, IsLeastWith}
 use Rattle.search.proofs.Lists.{get_there}
 use Rattle.search.proofs.OpenListLemmas.{IsFirst}
+use Rattle.search.proofs.Single.{single_permutation, single_tail}
 
 -- what is not below another in the open list's order has no greater sum
 sum-le : (x w : Waiting) → is_lt (by_sum x w) ≡ false → sum_of x ≤ sum_of w
@@ -43,6 +44,7 @@ pub record KeepsCurrent (initial now : List Waiting) (all : List Node) : Type 0 
   pub kept : (w : Waiting) → Contains now w → Contains initial w
   pub entries : All (IsEntry (length all)) now
   pub current : (w : Waiting) → Contains initial w → IsCurrent all w → Contains now w
+  pub single : AreSingle initial → AreSingle now
 
 popped-cases : (old new : List Waiting) (x w : Waiting) → IsPermutation old (x ∷ new) → Contains old w → (x ≡ w) ⊎ Contains new w
 popped-cases old new x w moved at = Contains-cases x new w (Contains-permutation old (x ∷ new) w moved at)
@@ -72,6 +74,7 @@ module _ (initial old new : List Waiting) (all : List Node) (x : Waiting) (keeps
           | inl is ↦ absurd (stale (subst (λ y. IsCurrent all y) (sym is) now))
           | inr there ↦ there
         ];
+    single = λ single. single_tail x new (single_permutation old (x ∷ new) moved (keeps.single single));
   }
 
   -- a current entry is taken
@@ -91,6 +94,7 @@ module _ (initial old new : List Waiting) (all : List Node) (x : Waiting) (keeps
           | inl is ↦ absurd (other (ap place_of (sym is) ∙ place))
           | inr there ↦ there
         ];
+    single = λ single. single_permutation old (x ∷ new) moved (keeps.single single);
   }
 
 -- the least of a sum and those of the current entries, of which one is taken

@@ -20,7 +20,7 @@ module _ {S Store : Type 0} (t : System S ℕ) (class_of : S → S) (value : S �
     (search : IsSearch t class_of value is_dead states_of p) (turn : Turn) (left : List Waiting) (takes : TakesNext (waiting_in p.open_list) left p.nodes.items turn)
     (kept : (w : Waiting) → Contains left w → Contains (waiting_in p.open_list) w) where
   pub next : IsNext value is_dead (states_of p.store) p.nodes.items left turn
-  next = at_turn t class_of value is_dead (states_of p.store) p.nodes.items (waiting_in p.open_list) search.one_each search.nodes left turn takes
+  next = at_turn t class_of value is_dead (states_of p.store) p.nodes.items (waiting_in p.open_list) search.one_each search.nodes search.single left turn takes
 
   pub turn_there : turn.id.0 < length p.nodes.items
   turn_there = slice_get_within p.nodes.items turn.id.0 next.found.node next.node

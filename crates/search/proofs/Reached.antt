@@ -12,17 +12,18 @@ use Rattle.search.specs.declared.listing.Place.TheVariants.{New, Listed, Alike}
 use Rattle.search.specs.declared.nodes.Node.{Node}
 use Rattle.search.specs.declared.nodes.NodeStatus.{NodeStatus}
 use Rattle.search.specs.declared.nodes.NodeStatus.TheVariants.{Unexpanded, Reopened, Expanded, Dead}
+use Rattle.search.specs.declared.on_demand.Basis.{Basis}
 use Rattle.search.specs.declared.progress.Progress.{Progress}
-use Rattle.search.specs.Estimates.{IsConsistent}
 use Rattle.search.specs.DeadEnds.{IsValueUnlessDead}
 use Rattle.search.specs.Listing.{IsAlikeAt, IsPlacedBy}
 use Rattle.search.specs.Outcome.{AreOfOneClass, is_expanded_status, is_dead_status, is_expanded, is_marked_dead}
-use Rattle.search.specs.Nodes.{Waiting, entry, has_been_expanded_status, has_been_expanded, status_again, parent_of, Found, found_of, dearest, AreNodes, AreClosedBut, IsTurn}
+use Rattle.search.specs.Nodes.{Waiting, entry, AreSingle, has_been_expanded_status, has_been_expanded, status_again, parent_of, Found, found_of, dearest, AreNodes, AreClosedBut, IsTurn}
 use Rattle.search.specs.OpenList.{waiting_in, IsOpenList}
 use Rattle.search.specs.Progress.{IsPlaceAmong, IsFreeFor, IsReachedWithin, IsReachedCheaper, TakesPlace}
 use Rattle.search.proofs.Lists.{get-push_new}
 use Rattle.search.proofs.Linked.{length-found_of, found_of-get, get-found_of, found_of-push, found_of-set, found_of-replace, updates-push, updates-set}
 use Rattle.search.proofs.NodesLemmas.{IsJoined, Stepped, stepped}
+use Rattle.search.proofs.Single.{single_joined}
 use Rattle.search.proofs.Steps.{joined_by}
 
 -- the node is that of a state to which its action leads from the one that is being expanded
@@ -32,7 +33,6 @@ pub record IsChild {S : Type 0} (t : System S ℕ) (value : S → ℕ) (is_dead 
   pub cost : now.cost ≡ one.node.cost + t.cost now.action
   pub affordable : t.cost now.action ≤ dearest
   pub step : t.step one.state now.action ≡ Some s
-  pub falls : IsConsistent t value → value one.state ≤ t.cost now.action + value s
   pub reported : is_marked_dead now ≡ is_dead s
 
 -- how a state is marked that is reached again, by what is reported for it
@@ -73,7 +73,7 @@ module _ {S : Type 0} (t : System S ℕ) (class_of : S → S) (value : S → ℕ
         let joins' : IsJoined (is_dead s) (entry now.cost (value s) (length (found_of states all))) open_list open_list' = subst (λ p. IsJoined (is_dead s) (entry now.cost (value s) p) open_list open_list') (sym place) joins in
         subst (λ after. Stepped t class_of value is_dead (found_of states all) after open_list' i now.action s) (sym (found_of-push states all s now one_each))
         (stepped class_of (found_of states all) (found_of states all ++ m ∷ []) (length (found_of states all)) m updates t value is_dead i turn open_list nodes child.parent child.cost open_list' others
-        (omega (arith, child.cost, child.affordable, nodes.cheap i turn.found turn.occurs, length-append (found_of states all) (m ∷ []))) child.step child.falls child.reported joins')
+        (omega (arith, child.cost, child.affordable, nodes.cheap i turn.found turn.occurs, length-append (found_of states all) (m ∷ []))) child.step child.reported joins')
 
     stepped_new : (¬ Contains states s) → (states' : List S) (all' : List Node) (place : ℕ) (open_list' : List Waiting)
         → states' ≡ states ++ s ∷ [] → all' ≡ all ++ now ∷ [] → place ≡ length states
@@ -97,7 +97,7 @@ module _ {S : Type 0} (t : System S ℕ) (class_of : S → S) (value : S → ℕ
           let m : Found S = record { state = s; node = now } in
           let updates = updates-set class_of (found_of states all) j n m stood child.waits alike same cheaper only in
           stepped class_of (found_of states all) (set (found_of states all) j m) j m updates t value is_dead i turn open_list nodes child.parent child.cost open_list' others
-          (omega (arith, cheaper, nodes.cheap j n stood, mul-le-mul_right dearest updates.longer)) child.step child.falls child.reported joins
+          (omega (arith, cheaper, nodes.cheap j n stood, mul-le-mul_right dearest updates.longer)) child.step child.reported joins
 
       -- it was there
       stepped_cheaper : s ≡ n.state → (states' : List S) (all' : List Node) (open_list' : List Waiting) → states' ≡ states → all' ≡ set all j now
@@ -213,21 +213,42 @@ module _ {S Store : Type 0} (t : System S ℕ) (class_of : S → S) (value : S �
     (one_each : length old.nodes.items ≡ length states)
     (nodes : AreNodes t class_of value is_dead (found_of states old.nodes.items) (waiting_in old.open_list)) (turn : IsTurn t value (found_of states old.nodes.items) i)
     (others : AreClosedBut t class_of (found_of states old.nodes.items) i)
-    (is_current : ℕ → Type 0) (s : S) (now : Node) (child : IsChild t value is_dead turn.found i s now) (estimate : Option ℕ) (of : IsValueUnlessDead value is_dead s estimate) where
+    (is_current : ℕ → Type 0) (s : S) (now : Node) (child : IsChild t value is_dead turn.found i s now) (estimate : Option ℕ) (of : IsValueUnlessDead value is_dead s estimate) (basis : Option Basis) where
   pub record IsTaken : Type 0 where
     pub each : length new.nodes.items ≡ length (states_of new.store)
     pub stepped : Stepped t class_of value is_dead (found_of states old.nodes.items) (found_of (states_of new.store) new.nodes.items) (waiting_in new.open_list) i now.action s
     pub within : length (states_of new.store) ≤ max_states
     pub heap : IsOpenList old.open_list → IsOpenList new.open_list
+    pub single : AreSingle (waiting_in old.open_list) → AreSingle (waiting_in new.open_list)
+
+  -- the entry that joins is cheaper than what is at its place
+  joins_single : (dead : Bool) (cost estimate place : ℕ) → ((n : Found S) → slice_get (found_of states old.nodes.items) place ≡ Some n → cost < n.node.cost)
+      → IsJoined dead (entry cost estimate place) (waiting_in old.open_list) (waiting_in new.open_list) → AreSingle (waiting_in old.open_list) → AreSingle (waiting_in new.open_list)
+  joins_single = single_joined value is_dead (found_of states old.nodes.items) (waiting_in old.open_list) (waiting_in new.open_list) nodes.entries
+
+  last_free : (place : ℕ) → place ≡ length states → (n : Found S) → slice_get (found_of states old.nodes.items) place ≡ Some n → now.cost < n.node.cost
+  last_free place at_end n at =
+      absurd (omega (arith, slice_get_within (found_of states old.nodes.items) place n at, length-found_of states old.nodes.items one_each, at_end))
+
+  lower_at : (place : ℕ) (node : Node) → slice_get old.nodes.items place ≡ Some node → now.cost < node.cost → (n : Found S) → slice_get (found_of states old.nodes.items) place ≡ Some n → now.cost < n.node.cost
+  lower_at place node at_node cheaper n at =
+      let same : node ≡ n.node = same_Some node n.node (sym at_node ∙ (found_of-get states old.nodes.items place n at).1) in
+      subst (λ (r : Node). now.cost < r.cost) same cheaper
 
   pub taken : length states ≤ max_states → (place : Place) → IsPlacedBy class_of is_current states (states_of old.store) s max_states (Some place) → IsReachedCheaper old.nodes.items now.cost place
-      → TakesPlace states_of old new s now estimate max_states place → IsTaken
+      → TakesPlace states_of old new s now estimate basis max_states place → IsTaken
   taken within (New place) (is_new, room, stored, at_end) cheaper takes =
       let joined = joined_by value is_dead s estimate old.open_list new.open_list now.cost place of takes.open_list in
       let is : states_of new.store ≡ states ++ s ∷ [] = takes.states ∙ stored in
       let step = stepped_new t class_of value is_dead states old.nodes.items (waiting_in old.open_list) i one_each nodes turn others s now child is_new
       (states_of new.store) new.nodes.items place (waiting_in new.open_list) is takes.nodes at_end joined.0 in
-      record { each = step.0; stepped = step.1; within = omega (arith, ap length is, length-append states (s ∷ []), room); heap = joined.1 }
+      record {
+        each = step.0;
+        stepped = step.1;
+        within = omega (arith, ap length is, length-append states (s ∷ []), room);
+        heap = joined.1;
+        single = joins_single (is_dead s) now.cost (value s) place (last_free place at_end) joined.0;
+      }
   taken within (Listed place) (there, stored) (node, at, cheaper) takes =
       let known = takes.known in
       let again : Node = record now { status = status_again known.status estimate } in
@@ -238,7 +259,6 @@ module _ {S Store : Type 0} (t : System S ℕ) (class_of : S → S) (value : S �
         cost = child.cost;
         affordable = child.affordable;
         step = child.step;
-        falls = child.falls;
         reported = marks.1;
       } in
       let n : Found S = record { state = s; node = known } in
@@ -251,7 +271,13 @@ module _ {S Store : Type 0} (t : System S ℕ) (class_of : S → S) (value : S �
       (omega (arith, cheaper, ap (λ (r : Node). r.cost) same_node))
       (λ k x at_x same. nodes.distinct k place x n at_x stood same)
       refl (states_of new.store) new.nodes.items (waiting_in new.open_list) is takes.nodes joined.0 in
-      record { each = step.0; stepped = step.1; within = omega (arith, ap length is, within); heap = joined.1 }
+      record {
+        each = step.0;
+        stepped = step.1;
+        within = omega (arith, ap length is, within);
+        heap = joined.1;
+        single = joins_single (is_dead s) now.cost (value s) place (lower_at place node at cheaper) joined.0;
+      }
   taken within (Alike place) (is_new, alike, current, stored) (node, at, cheaper) (inl replaces) =
       let other = replaces.other in
       let n : Found S = record { state = alike.other; node = other } in
@@ -264,10 +290,22 @@ module _ {S Store : Type 0} (t : System S ℕ) (class_of : S → S) (value : S �
       (omega (arith, cheaper, ap (λ (r : Node). r.cost) same_node))
       (λ k x at_x same. absurd (is_new (subst (λ (y : S). Contains states y) same (Contains-got states k x.state (found_of-get states old.nodes.items k x at_x).0))))
       (states_of new.store) new.nodes.items (waiting_in new.open_list) is replaces.nodes joined.0 in
-      record { each = step.0; stepped = step.1; within = omega (arith, ap length is, length-set states place s, within); heap = joined.1 }
+      record {
+        each = step.0;
+        stepped = step.1;
+        within = omega (arith, ap length is, length-set states place s, within);
+        heap = joined.1;
+        single = joins_single (is_dead s) now.cost (value s) place (lower_at place node at cheaper) joined.0;
+      }
   taken within (Alike place) (is_new, alike, current, stored) cheaper (inr appends) =
       let joined = joined_by value is_dead s estimate old.open_list new.open_list now.cost (length old.nodes.items) of appends.open_list in
       let is : states_of new.store ≡ states ++ s ∷ [] = appends.states ∙ ap (λ (ss : List S). ss ++ s ∷ []) stored in
       let step = stepped_new t class_of value is_dead states old.nodes.items (waiting_in old.open_list) i one_each nodes turn others s now child is_new
       (states_of new.store) new.nodes.items (length old.nodes.items) (waiting_in new.open_list) is appends.nodes one_each joined.0 in
-      record { each = step.0; stepped = step.1; within = omega (arith, ap length is, ap length stored, length-append states (s ∷ []), appends.room); heap = joined.1 }
+      record {
+        each = step.0;
+        stepped = step.1;
+        within = omega (arith, ap length is, ap length stored, length-append states (s ∷ []), appends.room);
+        heap = joined.1;
+        single = joins_single (is_dead s) now.cost (value s) (length old.nodes.items) (last_free (length old.nodes.items) one_each) joined.0;
+      }

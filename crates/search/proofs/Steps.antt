@@ -18,17 +18,19 @@ use Rattle.search.specs.declared.turns.Turn.{Turn}
 use Rattle.search.specs.Estimates.{IsAdmissible}
 use Rattle.search.specs.DeadEnds.{ReportsDeadEnds, IsValueUnlessDead}
 use Rattle.search.specs.Outcome.{AreClassesOf, is_expanded_status, is_dead_status, is_expanded, is_marked_dead, IsReachableAt, ReachingCostsAtLeast}
-use Rattle.search.specs.Nodes.{Waiting, place_of, sum_of, estimate_of, entry, IsEntry, IsWaiting, total_of, IsEntryOf, status_of_reached, begins, HasWay, Found, found_of, dearest, work_left, Leads, AreNodes, IsFoundWithin, IsClosedAt, AreClosed, AreClosedBut, IsTurn, IsCurrent, marked_as, marked}
+use Rattle.search.specs.Nodes.{Waiting, place_of, sum_of, estimate_of, entry, entries_at, AreSingle, IsEntry, IsWaiting, total_of, IsEntryOf, status_of_reached, begins, HasWay, Found, found_of, dearest, work_left, Leads, AreNodes, IsFoundWithin, IsClosedAt, AreClosed, AreClosedBut, IsTurn, IsCurrent, marked_as, marked}
 use Rattle.search.specs.declared.open_list.OpenList.{OpenList}
 use Rattle.search.specs.OpenList.{waiting_in, IsOpenList, JoinsBy}
 use Rattle.search.specs.Progress.{Continues, IsListed, TakesNext}
 use Rattle.search.proofs.Lists.{get-set_here, get-set_other}
-use Rattle.search.proofs.Linked.{length-found_of, found_of-get, found_of-set}
+use Rattle.search.proofs.Linked.{length-found_of, found_of-get, found_of-set, set_was}
 use Rattle.search.proofs.Closed.{no_plan_cheaper}
-use Rattle.search.proofs.Marked.{nodes_marked, turn_marked, open_but_marked}
+use Rattle.search.proofs.Kept.{later_before, alive_before}
+use Rattle.search.proofs.Marked.{kept_marked, nodes_marked, turn_marked, open_but_marked}
 use Rattle.search.proofs.Ways.{cheapest_way}
 use Rattle.search.proofs.Work.{work_marked}
 use Rattle.search.proofs.NodesLemmas.{IsJoined}
+use Rattle.search.proofs.Single.{single_gone, single_tail}
 
 -- the open list after a state is found, by what is reported for the state
 pub joined_by : {S : Type 0} (value : S → ℕ) (is_dead : S → Bool) (s : S) (reported : Option ℕ) (old new : OpenList) (cost place : ℕ) → IsValueUnlessDead value is_dead s reported → JoinsBy old new cost place reported
@@ -112,10 +114,10 @@ module _ {S : Type 0} (t : System S ℕ) (class_of : S → S) (value : S → ℕ
           reachable = each (λ k n. IsReachableAt t n.state n.node.cost) ([], ap Some (sym initial), refl);
           no_goal = each (λ k n. is_expanded n.node ≡ true → t.meets_goal n.state ≡ false) (λ expanded. absurd (false≢true (sym waits ∙ expanded)));
           no_dearer = each (λ k n. is_expanded n.node ≡ true → CostsAtLeast t (total_of value n)) (λ expanded. absurd (false≢true (sym waits ∙ expanded)));
-          cheapest = λ _ _ _. each (λ k n. is_expanded n.node ≡ true → ReachingCostsAtLeast t n.state n.node.cost) (λ expanded. absurd (false≢true (sym waits ∙ expanded)));
+          cheapest = λ _ _ _ _ _ _. each (λ k n. is_expanded n.node ≡ true → ReachingCostsAtLeast t n.state n.node.cost) (λ expanded. absurd (false≢true (sym waits ∙ expanded)));
           alive = each (λ k n. is_expanded n.node ≡ true → is_dead n.state ≡ false) (λ expanded. absurd (false≢true (sym waits ∙ expanded)));
           marked = each (λ k n. is_marked_dead n.node ≡ is_dead n.state) reported;
-          ordered = λ _ j k m n at_j _ expanded _. absurd (each (λ j m. is_expanded m.node ≡ true → ⊥) (λ expanded. false≢true (sym waits ∙ expanded)) j m at_j expanded);
+          ordered = λ _ _ _ j k m n at_j _ expanded _ _. absurd (each (λ j m. is_expanded m.node ≡ true → ⊥) (λ expanded. false≢true (sym waits ∙ expanded)) j m at_j expanded);
           queued = each (λ k n. IsWaiting is_dead n → Contains open_list' (entry n.node.cost (value n.state) k)) started.queued;
           entries = started.entries;
         }),
@@ -191,6 +193,8 @@ pub record IsNext {S : Type 0} (value : S → ℕ) (is_dead : S → Bool) (state
   pub least : (k : ℕ) (n : Found S) → slice_get (found_of states all) k ≡ Some n → IsWaiting is_dead n → total_of value found ≤ total_of value n
   pub rest : (k : ℕ) (n : Found S) → slice_get (found_of states all) k ≡ Some n → IsWaiting is_dead n → k ≢ turn.id.0 → Contains open_list' (entry n.node.cost (value n.state) k)
   pub estimate : turn.estimate ≡ value found.state
+  pub single : AreSingle open_list'
+  pub gone : entries_at turn.id.0 found.node.cost open_list' ≡ 0
 
 -- whose turn it is
 module _ {S : Type 0} (t : System S ℕ) (class_of : S → S) (value : S → ℕ) (is_dead : S → Bool) (states : List S) (all : List Node) (open_list : List Waiting)
@@ -218,8 +222,8 @@ module _ {S : Type 0} (t : System S ℕ) (class_of : S → S) (value : S → ℕ
       let estimate = of.estimate current in
       (of.found, of.occurs, (ap (λ (r : Node). is_expanded r) (sym same) ∙ waits, of.alive current), omega (arith, current, estimate), estimate)
 
-  pub at_turn : (open_list' : List Waiting) (turn : Turn) → TakesNext open_list open_list' all turn → IsNext value is_dead states all open_list' turn
-  at_turn open_list' turn takes =
+  pub at_turn : (single : AreSingle open_list) (open_list' : List Waiting) (turn : Turn) → TakesNext open_list open_list' all turn → IsNext value is_dead states all open_list' turn
+  at_turn single open_list' turn takes =
       let i = turn.id.0 in
       let (one, there, waits, sum, estimate) = entry_waits takes.next takes.among takes.current in
       let at_one : slice_get (found_of states all) i ≡ Some one = ap (slice_get (found_of states all)) (sym takes.occurs) ∙ there in
@@ -234,6 +238,8 @@ module _ {S : Type 0} (t : System S ℕ) (class_of : S → S) (value : S → ℕ
         least = λ k m at waits. omega (arith, sum, takes.least (entry m.node.cost (value m.state) k) (nodes.queued k m at waits) (current_entry k m at waits));
         rest = λ k m at waits elsewhere. takes.rest (entry m.node.cost (value m.state) k) (nodes.queued k m at waits) (current_entry k m at waits) elsewhere;
         estimate = sym takes.estimate ∙ estimate;
+        single = single_tail takes.next open_list' (takes.single single);
+        gone = single_gone takes.next open_list' (takes.single single) i one.node.cost takes.occurs (omega (arith, sum, estimate));
       }
 
 -- what holds where the turn of a state has begun: of what was found, it alone is marked as expanded
@@ -244,6 +250,7 @@ pub record HasBegun {S : Type 0} (t : System S ℕ) (class_of : S → S) (value 
   pub others_open : AreClosedBut t class_of (found_of states all) i
   pub occurs : slice_get (found_of states all) i ≡ Some (marked Expanded one)
   pub less : (most : ℕ) → work_left most (found_of states all) < work_left most before
+  pub was : (k : ℕ) (n : Found S) → slice_get (found_of states all) k ≡ Some n → (x : Found S) × (slice_get before k ≡ Some x) × (x.state ≡ n.state)
 
 -- a turn begins
 module _ {S : Type 0} (t : System S ℕ) (class_of : S → S) (classes : AreClassesOf t class_of) (value : S → ℕ) (is_dead : S → Bool) (admissible : IsAdmissible t value) (reports : ReportsDeadEnds t is_dead) (states : List S) (all : List Node) (open_list open_list' : List Waiting)
@@ -271,11 +278,17 @@ module _ {S : Type 0} (t : System S ℕ) (class_of : S → S) (classes : AreClas
         one_each = omega (arith, count_states, count_all, one_each);
         nodes = nodes_marked (found_of states all) after i one occurs waits.0 here others long t class_of value is_dead open_list open_list' nodes waits.1 no_goal
             (no_plan_cheaper t class_of value is_dead states all one_each open_list nodes classes admissible reports one are_open least)
-            (λ own consistent detects. cheapest_way t class_of own value is_dead consistent detects (found_of states all) are_open (total_of value one) least open_list nodes i one occurs waits.1 (omega arith))
+            (λ own later later_dead is_later consistent detects.
+            let now = later_before (found_of states all) after class_of (kept_marked Expanded (found_of states all) after i one occurs (λ _. refl) here others class_of) own value later is_dead later_dead is_later in
+            let same : later one.state ≡ value one.state = is_later.settled i (marked Expanded one) here refl in
+            cheapest_way t class_of own later later_dead consistent detects (found_of states all) are_open (total_of value one)
+            (λ k n at waits'. omega (arith, least k n at (waits'.0, alive_before value is_dead (found_of states all) later later_dead now k n at waits'.1), now.no_less k n at))
+            value is_dead open_list nodes i one occurs (is_later.settled_dead i (marked Expanded one) here refl ∙ waits.1) (omega (arith, same)))
             least rest entries;
         turn = turn_marked (found_of states all) after i one occurs waits.0 here others long t class_of value is_dead open_list open_list' nodes waits.1;
         others_open = open_but_marked (found_of states all) after i one occurs waits.0 here others long t class_of value is_dead open_list open_list' nodes waits.1 are_open;
         occurs = here;
         less = λ most. subst (λ (ns : List (Found S)). work_left most ns < work_left most (found_of states all)) (sym is)
             (work_marked (found_of states all) i one (marked Expanded one) most occurs waits.0 refl refl);
+        was = λ k n at. set_was (found_of states all) (marked Expanded one) i one occurs refl k n (ap (λ (ns : List (Found S)). slice_get ns k) (sym is) ∙ at);
       }

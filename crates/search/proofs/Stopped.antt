@@ -1,5 +1,5 @@
 -- What the found states prove where a search stops at the limit, once the state whose turn it is waits again.
-use Rattle.std.proofs.Common.{◌≡◌, ℕ, ◌<◌, ◌≤◌, ◌∷◌, inl, inr, List, length, Bool, Some, sym, ap, ◌∙◌, arith}
+use Rattle.std.proofs.Common.{◌≡◌, ℕ, ◌<◌, ◌≤◌, ◌∷◌, inl, inr, List, length, Bool, Some, refl, sym, ap, ◌∙◌, le_refl, arith}
 use Rattle.std.specs.Prelude.{slice_get, All}
 use Rattle.std.proofs.lemmas.List.Elements.{All-tail}
 use Rattle.std.proofs.lemmas.Option.{slice_get_within}
@@ -39,7 +39,7 @@ module _ {S : Type 0} (t : System S ℕ) (class_of : S → S) (value : S → ℕ
         of_some_cut = (i, one.state, one.node, parts.0, parts.1, waits, is);
         expanded_no_dearer = λ k s r at_s at_r expanded. nodes.no_dearer k (record { state = s; node = r }) (there k s r at_s at_r) expanded;
         expanded_within = λ consistent k s r at_s at_r expanded.
-            omega (arith, is, nodes.ordered consistent k i (record { state = s; node = r }) one (there k s r at_s at_r) occurs expanded waits);
+            omega (arith, is, nodes.ordered value (λ _ _ _ _. refl) consistent k i (record { state = s; node = r }) one (there k s r at_s at_r) occurs expanded waits (le_refl (value one.state)));
         start_within = λ consistent.
             let (actions, runs, costs) = nodes.reachable i one occurs in
             omega (arith, falls_along t value consistent actions t.initial one.state runs, costs, is);

@@ -44,9 +44,9 @@ module _ {S : Type 0} (t : System S ℕ) (class_of : S → S) (own : AreOwnClass
       ] refl
 
   -- a waiting state of the least sum is reached by a cheapest way
-  pub cheapest_way : (open_list : List Waiting) → AreNodes t class_of value is_dead nodes open_list → (i : ℕ) (one : Found S) → slice_get nodes i ≡ Some one → is_dead one.state ≡ false
+  pub cheapest_way : (now : S → ℕ) (now_dead : S → Bool) (open_list : List Waiting) → AreNodes t class_of now now_dead nodes open_list → (i : ℕ) (one : Found S) → slice_get nodes i ≡ Some one → is_dead one.state ≡ false
       → total_of value one ≤ least → ReachingCostsAtLeast t one.state one.node.cost
-  cheapest_way open_list old i one occurs alive is_least actions runs =
+  cheapest_way now now_dead open_list old i one occurs alive is_least actions runs =
       let (root, at, is, free) = old.root in
       elim (from_found actions one.state 0 root alive at (subst (λ (s : S). run t s actions ≡ Some one.state) (sym is) runs)) [
         | inl waits ↦ omega (arith, waits, free, is_least)

@@ -25,6 +25,9 @@ no_more w w' one one' is le = omega (arith, is, le)
 less_by_one : (w w' one one' : ℕ) → w' + one ≡ w + one' → one' + 1 ≡ one → w' < w
 less_by_one w w' one one' is less = omega (arith, is, less)
 
+same_work : (w w' one one' : ℕ) → w' + one ≡ w + one' → one' ≡ one → w' ≡ w
+same_work w w' one one' is same = omega (arith, is, same)
+
 module _ {S : Type 0} where
   -- a node that waits may be turned to once more than one that is expanded
   work_waits : (n : Found S) → is_expanded n.node ≡ false → work_at n ≡ n.node.cost * 2 + 1
@@ -68,3 +71,17 @@ module _ {S : Type 0} where
   work_marked nodes j n m most at waits expanded same =
       let less : work_at m + 1 ≡ work_at n = omega (arith, work_waits n waits, work_expanded m expanded, same) in
       less_by_one (work_left most nodes) (work_left most (set nodes j m)) (work_at n) (work_at m) (work_set nodes j n m most at) less
+
+  -- a node that waits has another status, and is not expanded
+  pub work_same : (nodes : List (Found S)) (j : ℕ) (n m : Found S) (most : ℕ) → slice_get nodes j ≡ Some n → is_expanded n.node ≡ false → is_expanded m.node ≡ false → m.node.cost ≡ n.node.cost
+      → work_left most (set nodes j m) ≡ work_left most nodes
+  work_same nodes j n m most at waits still same =
+      let equal : work_at m ≡ work_at n = omega (arith, work_waits n waits, work_waits m still, same) in
+      same_work (work_left most nodes) (work_left most (set nodes j m)) (work_at n) (work_at m) (work_set nodes j n m most at) equal
+
+-- a turn takes something of what is left: an answer, or an expansion
+pub less_by_ask : (work work' asks asks' : ℕ) → work' ≡ work → asks' < asks → work' * 4294967296 + asks' < work * 4294967296 + asks
+less_by_ask work work' asks asks' same fewer = omega (arith, same, fewer)
+
+pub less_by_work : (work work' asks asks' : ℕ) → work' < work → asks' ≡ asks → work' * 4294967296 + asks' < work * 4294967296 + asks
+less_by_work work work' asks asks' less same = omega (arith, less, same)

@@ -4,6 +4,8 @@ pub mod Transitions
 pub mod Outcome
 pub mod Nodes
 pub mod OpenList
+pub mod OnDemand
+pub mod Standing
 pub mod Progress
 pub mod Listing
 pub mod UnderWay

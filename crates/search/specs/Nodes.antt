@@ -1,5 +1,5 @@
 -- What a search keeps true of its found states.
-use Rattle.std.specs.Prelude.{◌≡◌, ℕ, ◌+◌, ◌-◌, ◌*◌, ◌≤◌, ◌<◌, ◌≢◌, Bool, true, false, if◌then◌else◌, Option, None, Some, List, [], ◌∷◌, ◌++◌, length, slice_get, Contains, sum_by, All}
+use Rattle.std.specs.Prelude.{◌≡◌, ◌==◌, ℕ, ◌+◌, ◌-◌, ◌*◌, ◌≤◌, ◌<◌, ◌≢◌, Bool, true, false, if◌then◌else◌, Option, None, Some, List, [], ◌∷◌, ◌++◌, length, slice_get, Contains, sum_by, All}
 use Rattle.std.specs.declared.cmp.Reverse.{Reverse}
 use Rattle.model.specs.Runs.{System, CostsAtLeast}
 use Rattle.search.specs.declared.nodes.StateId.{StateId}
@@ -29,6 +29,18 @@ entry_at sum estimate place = record { 0 = (sum, estimate, record { 0 = place })
 
 abbrev pub entry : ℕ → ℕ → ℕ → Waiting
 entry cost estimate place = entry_at (cost + estimate) estimate place
+
+-- 1 for an entry of this place and this cost
+abbrev pub times_at : ℕ → ℕ → Waiting → ℕ
+times_at place cost w = if place_of w == place then (if cost + estimate_of w == sum_of w then 1 else 0) else 0
+
+-- how many entries are of this place and this cost
+abbrev pub entries_at : ℕ → ℕ → List Waiting → ℕ
+entries_at place cost open_list = sum_by (times_at place cost) open_list
+
+-- at most one entry is of one place and one cost, so a state that waits has one current entry
+abbrev pub AreSingle : List Waiting → Type 0
+AreSingle open_list = (place cost : ℕ) → entries_at place cost open_list ≤ 1
 
 -- the entry's place is below this count, and its estimate is no greater than its sum
 abbrev pub IsEntry : ℕ → Waiting → Type 0
@@ -139,9 +151,21 @@ IsWay {S} nodes k path = IsPathBy (λ (n : Found S). n.node) nodes k path
 abbrev pub HasWay : {S : Type 0} → List (Found S) → ℕ → Type 0
 HasWay {S} nodes k = (path : List ℕ) × IsWay nodes k path
 
+-- these later values are the search's own in states that have been expanded
+abbrev pub AreSettled : {S : Type 0} → (value later : S → ℕ) → List (Found S) → Type 0
+AreSettled {S} value later nodes = (k : ℕ) (n : Found S) → slice_get nodes k ≡ Some n → has_been_expanded n.node ≡ true → later n.state ≡ value n.state
+
+-- Values and a test for dead ends to which a search may still come. Values of listed states only rise, and reported dead ends stay
+-- reported. Where a state has been expanded, nothing changes.
+pub record IsLater {S : Type 0} (value later : S → ℕ) (is_dead later_dead : S → Bool) (nodes : List (Found S)) : Type 0 where
+  pub settled : AreSettled value later nodes
+  pub settled_dead : (k : ℕ) (n : Found S) → slice_get nodes k ≡ Some n → has_been_expanded n.node ≡ true → later_dead n.state ≡ is_dead n.state
+  pub no_less : (k : ℕ) (n : Found S) → slice_get nodes k ≡ Some n → value n.state ≤ later n.state
+  pub stays_dead : (k : ℕ) (n : Found S) → slice_get nodes k ≡ Some n → is_dead n.state ≡ true → later_dead n.state ≡ true
+
 module _ {S : Type 0} (t : System S ℕ) (class_of : S → S) (value : S → ℕ) (is_dead : S → Bool) (nodes : List (Found S)) where
   -- What holds of the found states at any time. Each waiting state has an entry of its cost and estimate. With a consistent estimate,
-  -- no waiting state has a lesser sum than an expanded one.
+  -- no waiting state has a lesser sum than an expanded one; and so it is if the values become consistent later.
   pub record AreNodes (open_list : List Waiting) : Type 0 where
     pub root : (n : Found S) × (slice_get nodes 0 ≡ Some n) × (n.state ≡ t.initial) × (n.node.cost ≡ 0)
     pub linked : (k : ℕ) (n : Found S) → slice_get nodes k ≡ Some n → k ≢ 0 → Leads t value is_dead nodes n
@@ -151,11 +175,11 @@ module _ {S : Type 0} (t : System S ℕ) (class_of : S → S) (value : S → ℕ
     pub reachable : (k : ℕ) (n : Found S) → slice_get nodes k ≡ Some n → IsReachableAt t n.state n.node.cost
     pub no_goal : (k : ℕ) (n : Found S) → slice_get nodes k ≡ Some n → is_expanded n.node ≡ true → t.meets_goal n.state ≡ false
     pub no_dearer : (k : ℕ) (n : Found S) → slice_get nodes k ≡ Some n → is_expanded n.node ≡ true → CostsAtLeast t (n.node.cost + value n.state)
-    pub cheapest : AreOwnClasses class_of → IsConsistent t value → DetectsDeadEnds t is_dead → (k : ℕ) (n : Found S) → slice_get nodes k ≡ Some n → is_expanded n.node ≡ true → ReachingCostsAtLeast t n.state n.node.cost
+    pub cheapest : AreOwnClasses class_of → (later : S → ℕ) (later_dead : S → Bool) → IsLater value later is_dead later_dead nodes → IsConsistent t later → DetectsDeadEnds t later_dead → (k : ℕ) (n : Found S) → slice_get nodes k ≡ Some n → is_expanded n.node ≡ true → ReachingCostsAtLeast t n.state n.node.cost
     pub alive : (k : ℕ) (n : Found S) → slice_get nodes k ≡ Some n → is_expanded n.node ≡ true → is_dead n.state ≡ false
     pub marked : (k : ℕ) (n : Found S) → slice_get nodes k ≡ Some n → is_marked_dead n.node ≡ is_dead n.state
-    pub ordered : IsConsistent t value → (j k : ℕ) (m n : Found S) → slice_get nodes j ≡ Some m → slice_get nodes k ≡ Some n → is_expanded m.node ≡ true → IsWaiting is_dead n
-        → total_of value m ≤ total_of value n
+    pub ordered : (later : S → ℕ) → AreSettled value later nodes → IsConsistent t later → (j k : ℕ) (m n : Found S) → slice_get nodes j ≡ Some m → slice_get nodes k ≡ Some n → is_expanded m.node ≡ true → IsWaiting is_dead n
+        → value n.state ≤ later n.state → total_of later m ≤ total_of later n
     pub queued : (k : ℕ) (n : Found S) → slice_get nodes k ≡ Some n → IsWaiting is_dead n → Contains open_list (entry n.node.cost (value n.state) k)
     pub entries : All (IsEntryOf value is_dead nodes) open_list
 
@@ -175,12 +199,12 @@ AreClosed {S} t class_of nodes = (k : ℕ) (n : Found S) → slice_get nodes k �
 abbrev pub AreClosedBut : {S : Type 0} → System S ℕ → (S → S) → List (Found S) → ℕ → Type 0
 AreClosedBut {S} t class_of nodes i = (k : ℕ) (n : Found S) → slice_get nodes k ≡ Some n → is_expanded n.node ≡ true → k ≢ i → IsClosedAt t class_of nodes n
 
--- the state at this place is being expanded; with a consistent estimate, no expanded state has a greater sum
+-- the state at this place is being expanded; with a consistent estimate, or one that becomes so, no expanded state has a greater sum
 pub record IsTurn {S : Type 0} (t : System S ℕ) (value : S → ℕ) (nodes : List (Found S)) (i : ℕ) : Type 0 where
   pub found : Found S
   pub occurs : slice_get nodes i ≡ Some found
   pub expanded : is_expanded found.node ≡ true
-  pub greatest : IsConsistent t value → (k : ℕ) (n : Found S) → slice_get nodes k ≡ Some n → is_expanded n.node ≡ true → total_of value n ≤ total_of value found
+  pub greatest : (later : S → ℕ) → AreSettled value later nodes → IsConsistent t later → (k : ℕ) (n : Found S) → slice_get nodes k ≡ Some n → is_expanded n.node ≡ true → total_of later n ≤ total_of later found
 
 -- Except at one place, the nodes are the same. There a node is new, or is cheaper and waits: with the same state, or with another of its
 -- class if that was never expanded.

@@ -1,17 +1,19 @@
 -- What a search keeps true during an expansion, and between two of them.
-use Rattle.std.specs.Prelude.{◌≡◌, ◌≢◌, ℕ, ◌+◌, ◌≤◌, ◌<◌, ◌⊎◌, ⊤, Bool, true, false, List, [], ◌∷◌, ◌++◌, length, replicate, set, slice_get, slice_set, Option, Some, Contains, All}
+use Rattle.std.specs.Prelude.{◌≡◌, ◌≢◌, ℕ, ◌+◌, ◌*◌, ◌≤◌, ◌<◌, ◌⊎◌, ⊤, Bool, true, false, List, [], ◌∷◌, ◌++◌, length, replicate, set, slice_get, slice_set, Option, Some, Contains, All}
 use Rattle.model.specs.Runs.{System}
 use Rattle.search.specs.declared.nodes.Node.{Node}
 use Rattle.packed_state.specs.Packed.{bits_of}
-use Rattle.search.specs.declared.progress.Buffers.{Buffers}
+use Rattle.search.specs.declared.buffers.Buffers.{Buffers}
 use Rattle.search.specs.declared.progress.Progress.{Progress}
 use Rattle.search.specs.declared.turns.Turn.{Turn}
 use Rattle.search.specs.declared.listing.Place.{Place}
 use Rattle.search.specs.declared.listing.Place.TheVariants.{New, Listed, Alike}
 use Rattle.search.specs.Listing.{IsAlikeAt}
+use Rattle.search.specs.declared.on_demand.Basis.{Basis}
+use Rattle.search.specs.OnDemand.{OnDemand, HoldsBy, IsBased, basis_at}
 use Rattle.search.specs.OpenList.{waiting_in, AreNoted, IsOpenList, JoinsBy}
 use Rattle.search.specs.Outcome.{AreMoreReachable}
-use Rattle.search.specs.Nodes.{Waiting, sum_of, estimate_of, place_of, entry, IsCurrent, IsWaiting, total_of, IsEntryOf, has_been_expanded, status_again, Found, found_of, work_left, AreNodes, IsFoundWithin, AreClosed, AreClosedBut, IsTurn}
+use Rattle.search.specs.Nodes.{Waiting, sum_of, estimate_of, place_of, entry, entries_at, AreSingle, IsCurrent, IsWaiting, total_of, IsEntryOf, has_been_expanded, status_again, Found, found_of, work_left, AreNodes, IsFoundWithin, AreClosed, AreClosedBut, IsTurn}
 
 -- The state of this turn has the least sum of the waiting states, of these the least estimate, and of these the least place. It leaves the
 -- open list, and the others stay in it.
@@ -26,6 +28,7 @@ pub record TakesNext (old new : List Waiting) (all : List Node) (turn : Turn) : 
   pub nearest : (w : Waiting) → Contains old w → IsCurrent all w → sum_of w ≡ sum_of next → estimate_of next ≤ estimate_of w
   pub first : (w : Waiting) → Contains old w → IsCurrent all w → sum_of w ≡ sum_of next → estimate_of w ≡ estimate_of next → place_of next ≤ place_of w
   pub rest : (w : Waiting) → Contains old w → IsCurrent all w → place_of w ≢ turn.id.0 → Contains new w
+  pub single : AreSingle old → AreSingle (next ∷ new)
 
 -- the least of this sum and the sums of the current entries
 pub record IsLeastWith (sum : ℕ) (open_list : List Waiting) (all : List Node) (least : ℕ) : Type 0 where
@@ -41,12 +44,17 @@ AreNotedWith all turn open_list estimates = AreNoted all open_list (set (replica
 abbrev pub nodes_in : {S Store : Type 0} → (Store → List S) → Progress Store → List (Found S)
 nodes_in states_of p = found_of (states_of p.store) p.nodes.items
 
+-- this holds by the values of the search, and by its dead states
+abbrev pub HoldsIn : {S Store : Type 0} → System S ℕ → (S → ℕ) → (S → Bool) → OnDemand S → (Store → List S) → Progress Store → ((S → ℕ) → (S → Bool) → Type 0) → Type 0
+HoldsIn t estimate reported shown states_of p P = HoldsBy t estimate reported shown (nodes_in states_of p) p.bases P
+
 module _ {S Store : Type 0} (t : System S ℕ) (class_of : S → S) (value : S → ℕ) (is_dead : S → Bool) (states_of : Store → List S) (p : Progress Store) where
   -- between two expansions
   pub record IsSearch : Type 0 where
     pub one_each : length p.nodes.items ≡ length (states_of p.store)
     pub nodes : AreNodes t class_of value is_dead (nodes_in states_of p) (waiting_in p.open_list)
     pub heap : IsOpenList p.open_list
+    pub single : AreSingle (waiting_in p.open_list)
 
   -- a state is about to be expanded: it waits, but is no longer in the open list
   pub record IsAtTurn (turn : Turn) : Type 0 where
@@ -62,6 +70,9 @@ module _ {S Store : Type 0} (t : System S ℕ) (class_of : S → S) (value : S �
     pub least : (k : ℕ) (n : Found S) → slice_get (nodes_in states_of p) k ≡ Some n → IsWaiting is_dead n → total_of value found ≤ total_of value n
     pub rest : (k : ℕ) (n : Found S) → slice_get (nodes_in states_of p) k ≡ Some n → IsWaiting is_dead n → k ≢ turn.id.0 → Contains (waiting_in p.open_list) (entry n.node.cost (value n.state) k)
     pub entries : All (IsEntryOf value is_dead (nodes_in states_of p)) (waiting_in p.open_list)
+    pub single : AreSingle (waiting_in p.open_list)
+    -- and no entry of its cost is left
+    pub gone : entries_at turn.id.0 found.node.cost (waiting_in p.open_list) ≡ 0
 
   -- the search has stopped at the limit: the state of this turn waits again, but is not in the open list
   pub record IsStopped (turn : Turn) (max_states : ℕ) : Type 0 where
@@ -126,7 +137,7 @@ IsFreeFor class_of is_current states count s (New place) = ⊤
 IsFreeFor class_of is_current states count s (Listed place) = ⊤
 IsFreeFor class_of is_current states count s (Alike place) = (count ≡ length states) × (¬ Contains states s) × IsAlikeAt class_of states s place × is_current place
 
-module _ {S Store : Type 0} (states_of : Store → List S) (old new : Progress Store) (s : S) (node : Node) (estimate : Option ℕ) (max_states : ℕ) where
+module _ {S Store : Type 0} (states_of : Store → List S) (old new : Progress Store) (s : S) (node : Node) (estimate : Option ℕ) (basis : Option Basis) (max_states : ℕ) where
   -- the state and its node are appended, beside the state at this place, which has been expanded
   pub record Appends (place : ℕ) : Type 0 where
     pub other : Node
@@ -136,6 +147,7 @@ module _ {S Store : Type 0} (states_of : Store → List S) (old new : Progress S
     pub states : states_of new.store ≡ states_of old.store ++ s ∷ []
     pub nodes : new.nodes.items ≡ old.nodes.items ++ node ∷ []
     pub open_list : JoinsBy old.open_list new.open_list node.cost (length old.nodes.items) estimate
+    pub bases : IsBased old.bases new.bases (length old.nodes.items) basis
 
   -- the state and its node replace those at this place, which was never expanded
   pub record Replaces (place : ℕ) : Type 0 where
@@ -145,6 +157,7 @@ module _ {S Store : Type 0} (states_of : Store → List S) (old new : Progress S
     pub states : states_of new.store ≡ slice_set (states_of old.store) place s
     pub nodes : new.nodes.items ≡ slice_set old.nodes.items place node
     pub open_list : JoinsBy old.open_list new.open_list node.cost place estimate
+    pub bases : IsBased old.bases new.bases place basis
 
   -- the state at this place has the node now, and waits again if it was expanded
   pub record Improves (place : ℕ) : Type 0 where
@@ -153,12 +166,14 @@ module _ {S Store : Type 0} (states_of : Store → List S) (old new : Progress S
     pub states : states_of new.store ≡ states_of old.store
     pub nodes : new.nodes.items ≡ slice_set old.nodes.items place (record node { status = status_again known.status estimate })
     pub open_list : JoinsBy old.open_list new.open_list node.cost place estimate
+    pub bases : new.bases ≡ old.bases
 
   -- the state, listed last already, has the node
   pub record IsCompleted (place : ℕ) : Type 0 where
     pub states : states_of new.store ≡ states_of old.store
     pub nodes : new.nodes.items ≡ old.nodes.items ++ node ∷ []
     pub open_list : JoinsBy old.open_list new.open_list node.cost place estimate
+    pub bases : IsBased old.bases new.bases place basis
 
   -- the state is listed with the node
   abbrev pub TakesPlace : Place → Type 0
@@ -173,6 +188,7 @@ pub record IsLeftOut {S Store : Type 0} (states_of : Store → List S) (old new 
   pub store : states_of new.store ≡ states_of old.store
   pub nodes : new.nodes.items ≡ old.nodes.items
   pub open_list : new.open_list ≡ old.open_list
+  pub bases : new.bases ≡ old.bases
 
 -- The action's successor, or one of its class, is listed during the expansion of the state at this place.
 pub record Reaches {S Store : Type 0} (t : System S ℕ) (class_of : S → S) (value : S → ℕ) (is_dead : S → Bool) (states_of : Store → List S) (old new : Progress Store) (i max_states : ℕ) (a : ℕ) (s : S) : Type 0 where
@@ -180,6 +196,7 @@ pub record Reaches {S Store : Type 0} (t : System S ℕ) (class_of : S → S) (v
   pub within : length (states_of new.store) ≤ max_states
   pub continues : Continues class_of (nodes_in states_of old) (nodes_in states_of new) i
   pub listed : IsListed t class_of (nodes_in states_of new) i a s
+  pub basis : basis_at new.bases i ≡ basis_at old.bases i
 
 -- The limit allows no more states, and nothing has changed.
 pub record IsFull {S Store : Type 0} (t : System S ℕ) (value : S → ℕ) (is_dead : S → Bool) (states_of : Store → List S) (old new : Progress Store) (max_states : ℕ) : Type 0 where
@@ -188,6 +205,7 @@ pub record IsFull {S Store : Type 0} (t : System S ℕ) (value : S → ℕ) (is_
   pub store : states_of new.store ≡ states_of old.store
   pub nodes : new.nodes.items ≡ old.nodes.items
   pub open_list : new.open_list ≡ old.open_list
+  pub bases : new.bases ≡ old.bases
 
 -- The expansion is over.
 pub record Expands {S Store : Type 0} (t : System S ℕ) (class_of : S → S) (value : S → ℕ) (is_dead : S → Bool) (states_of : Store → List S) (old new : Progress Store) (max_states : ℕ) : Type 0 where
@@ -195,6 +213,23 @@ pub record Expands {S Store : Type 0} (t : System S ℕ) (class_of : S → S) (v
   pub are_open : AreClosed t class_of (nodes_in states_of new)
   pub within : length (states_of new.store) ≤ max_states
   pub less : work_left max_states (nodes_in states_of new) < work_left max_states (nodes_in states_of old)
+
+-- how much is left to do: each turn takes something of it, since it expands a state, or changes a value
+abbrev pub turns_left : {S R : Type 0} → (most : ℕ) → List (Found S) → Buffers R → ℕ
+turns_left most nodes buffers = work_left most nodes * 4294967296 + buffers.asks
+
+-- The value of the state whose turn it was is raised, or it is dead.
+pub record Defers {S Store : Type 0} (t : System S ℕ) (class_of : S → S) (value : S → ℕ) (is_dead : S → Bool) (states_of : Store → List S) (old new : Progress Store) : Type 0 where
+  pub search : IsSearch t class_of value is_dead states_of new
+  pub are_open : AreClosed t class_of (nodes_in states_of new)
+  pub work : (most : ℕ) → work_left most (nodes_in states_of new) ≡ work_left most (nodes_in states_of old)
+
+-- The turn of a state is over.
+pub record TurnsOver {S Store R : Type 0} (t : System S ℕ) (class_of : S → S) (value : S → ℕ) (is_dead : S → Bool) (states_of : Store → List S) (old new : Progress Store) (before after : Buffers R) (max_states : ℕ) : Type 0 where
+  pub search : IsSearch t class_of value is_dead states_of new
+  pub are_open : AreClosed t class_of (nodes_in states_of new)
+  pub within : length (states_of new.store) ≤ max_states
+  pub less : turns_left max_states (nodes_in states_of new) after < turns_left max_states (nodes_in states_of old) before
 
 -- the buffers hold states of this width
 pub record AreWide {R : Type 0} (width : ℕ) (buffers : Buffers R) : Type 0 where

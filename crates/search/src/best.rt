@@ -106,11 +106,13 @@ impl<S> FoundStates<OwnClasses<S>> {
         let FoundStates {
             store,
             nodes,
+            bases,
             estimates,
         } = self;
         FoundStates {
             store: store.0,
             nodes,
+            bases,
             estimates,
         }
     }

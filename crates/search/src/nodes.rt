@@ -1,8 +1,9 @@
 //! The found states of a search, and how they were reached.
 ghost use Rattle.std.specs.Prelude.{◌≡◌, ◌+◌, ◌*◌, ◌<◌, ◌≤◌, length, IfOk};
-ghost use Rattle.search.specs.Outcome.{is_expanded};
+ghost use Rattle.search.specs.Outcome.{is_expanded, is_marked_dead};
 ghost use Rattle.search.specs.Nodes.{has_been_expanded_status, place_in, status_again, status_of_reached, IsPath, IsReachedIn};
 
+use crate::bases::Bases;
 use crate::best::MAX_STATES;
 use faults::NoMemory;
 use std::alloc::Global;
@@ -54,6 +55,8 @@ pub struct FoundStates<L> {
     pub store: L,
     /// How each of them was reached, in the same order.
     pub nodes: Vec<Node>,
+    /// What their values stand on beside the guide, by place.
+    pub bases: Bases,
     /// In the same order, the estimate of each waiting state. For any other state the number means nothing.
     pub estimates: Vec<u64>,
 }
@@ -93,6 +96,13 @@ impl Node {
         ensures { result ≡ is_expanded self.now }
     {
         matches!(self.status, NodeStatus::Expanded)
+    }
+
+    /// Whether the state is marked dead.
+    pub fn is_marked_dead(&self) -> bool
+        ensures { result ≡ is_marked_dead self.now }
+    {
+        matches!(self.status, NodeStatus::Dead)
     }
 }
 

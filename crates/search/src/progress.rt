@@ -1,21 +1,25 @@
 //! The progress of a search: the found states, and which of them wait.
-ghost use Rattle.std.specs.Prelude.{◌≡◌, ◌≢◌, ℕ, ◌+◌, ◌<◌, ◌≤◌, ◌^◌, Bool, true, false, List, [], ◌∷◌, ◌++◌, length, slice_get, slice_set, Contains, All, MatchBool, MatchOption, IfOk, IfNone, IfSome, OnOk, OnSome, Some};
+ghost use Rattle.std.specs.Prelude.{◌≡◌, ◌≢◌, ℕ, ◌+◌, ◌<◌, ◌≤◌, ◌^◌, Bool, true, false, List, [], ◌∷◌, ◌++◌, length, slice_get, slice_set, Contains, All, MatchBool, MatchOption, IfOk, IfNone, IfSome, None, OnOk, OnSome, Some};
 ghost use Rattle.packed_state.specs.Packed.{bits_of};
 ghost use Rattle.search.specs.Outcome.{AreClassesOf};
 ghost use Rattle.search.specs.Nodes.{Waiting, IsEntry, IsCurrent, AreClosed, IsPath, IsReachedIn};
-ghost use Rattle.search.specs.Transitions.{AreApplicable};
+ghost use Rattle.search.specs.OnDemand.{basis_at, IsBased};
+ghost use Rattle.search.specs.Standing.{IsStandingAt};
 ghost use Rattle.search.specs.OpenList.{waiting_in, IsOpenList, JoinsBy};
-ghost use Rattle.search.specs.Progress.{AreNotedWith, TakesNext, IsLeastWith, nodes_in, IsSearch, IsAtTurn, IsStopped, IsExpanding, IsPlaceAmong, IsReachedWithin, IsReachedCheaper, IsFreeFor, TakesPlace, IsLeftOut, Reaches, IsFull, Expands, AreWide};
+ghost use Rattle.search.specs.Progress.{AreNotedWith, HoldsIn, TakesNext, IsLeastWith, nodes_in, IsSearch, IsAtTurn, IsStopped, IsExpanding, IsPlaceAmong, IsReachedWithin, IsReachedCheaper, IsFreeFor, TakesPlace, IsLeftOut, Reaches, IsFull, Expands, AreWide};
 
+use crate::bases::Bases;
 use crate::best::MAX_STATES;
+use crate::buffers::Buffers;
 use crate::guide::Guide;
 use crate::listing::{Place, StateListing};
 use crate::nodes::{FoundStates, Node, NodeStatus, ShortId, StateId, steps_to};
+use crate::on_demand::ValuesOnDemand;
 use crate::open_list::OpenList;
+use crate::problem::Problem;
 use crate::transitions::TransitionSystem;
-use crate::turns::{Reached, Successor, Turn};
+use crate::turns::{Reached, Standing, Successor, Turn};
 use faults::NoMemory;
-use packed_state::Packed;
 use std::alloc::Global;
 use std::cmp::Reverse;
 
@@ -24,69 +28,11 @@ use std::cmp::Reverse;
 pub(crate) struct Progress<L> {
     pub(crate) store: L,
     pub(crate) nodes: Vec<Node>,
+    /// What the states' values stand on beside the guide, by place.
+    pub(crate) bases: Bases,
     /// An entry for each waiting state, and stale ones: the state was expanded at this cost, or was reached at a lower cost since, or
     /// another took its place.
     pub(crate) open_list: OpenList,
-}
-
-/// Buffers that all expansions share.
-#[derive(Drop)]
-pub(crate) struct Buffers<R> {
-    /// The state that is being expanded.
-    pub(crate) state: Packed,
-    /// One of its successors.
-    pub(crate) next: Packed,
-    /// The actions that are applicable in the expanded state.
-    pub(crate) applicable: Vec<u32>,
-    /// The guide's scratch.
-    pub(crate) scratch: R,
-    /// The keys of the successors.
-    pub(crate) keys: Vec<u32>,
-    /// What was read of their slots. Nothing depends on it.
-    pub(crate) touched: u32,
-}
-
-impl<R: Drop> Buffers<R> {
-    /// Buffers for states of this width, with the guide's scratch.
-    pub(crate) fn new(alloc: Global, width: u32, scratch: R) -> Result<Buffers<R>, NoMemory>
-        ensures wide { IfOk result (AreWide width) }
-        ensures scratch { IfOk result (λ buffers. buffers.scratch ≡ scratch) }
-    {
-        Ok(Buffers {
-            state: Packed::empty(alloc, width)?,
-            next: Packed::empty(alloc, width)?,
-            applicable: Vec::new(alloc),
-            scratch,
-            keys: Vec::new(alloc),
-            touched: 0,
-        })
-    }
-
-    /// Touches the keys of all successors in a large listing, before they are looked up one after another. To make a successor twice
-    /// takes less time than to wait for its slot.
-    fn touch_successors<T: TransitionSystem, L: StateListing>(
-        &mut self,
-        system: &T,
-        store: &L,
-    ) -> Result<(), NoMemory>
-        requires buffers { AreWide (T.width_of system.now) self.old }
-        requires applicable { AreApplicable (T.means system.now) (bits_of self.old.state) self.old.applicable.items }
-        ensures state { OnOk result (self.new.state ≡ self.old.state) }
-        ensures next { OnOk result (length (bits_of self.new.next) ≡ T.width_of system.now) }
-        ensures applicable { OnOk result (self.new.applicable ≡ self.old.applicable) }
-        ensures scratch { OnOk result (self.new.scratch ≡ self.old.scratch) }
-    {
-        if !store.is_large() {
-            return Ok(());
-        }
-        self.keys.clear();
-        for &action in &self.applicable {
-            system.successor(action, &self.state, &mut self.next);
-            self.keys.push(store.key(&self.next))?;
-        }
-        self.touched = store.touch(&self.keys);
-        Ok(())
-    }
 }
 
 impl<L: StateListing> Progress<L> {
@@ -106,6 +52,7 @@ impl<L: StateListing> Progress<L> {
         ensures search { IfOk result (λ p. IsSearch (T.means system.now) (L.class_of store) (G.estimate_of guide.now) (G.is_dead guide.now) L.states p) }
         ensures open { IfOk result (λ p. AreClosed (T.means system.now) (L.class_of store) (nodes_in L.states p)) }
         ensures one { IfOk result (λ p. length (L.states p.store) ≡ 1) }
+        ensures bases { IfOk result (λ p. (place : ℕ) → basis_at p.bases place ≡ None) }
         ensures width { IfOk result (λ p. L.width_of p.store ≡ T.width_of system.now) }
         ensures class { IfOk result (λ p. L.class_of p.store ≡ L.class_of store) }
     {
@@ -114,6 +61,7 @@ impl<L: StateListing> Progress<L> {
         let mut progress = Progress {
             store,
             nodes: Vec::new(alloc),
+            bases: Bases::new(alloc),
             open_list: OpenList::new(alloc),
         };
         let value = guide.value(&initial, scratch);
@@ -134,6 +82,7 @@ impl<L: StateListing> Progress<L> {
         requires entries { All (IsEntry (length self.old.nodes.items)) (waiting_in self.old.open_list) }
         ensures store { self.new.store ≡ self.old.store }
         ensures nodes { self.new.nodes.items ≡ self.old.nodes.items }
+        ensures bases { self.new.bases ≡ self.old.bases }
         ensures heap { OnSome result (IsOpenList self.new.open_list) }
         ensures kept { OnSome result ((w : Waiting) →
             Contains (waiting_in self.new.open_list) w → Contains (waiting_in self.old.open_list) w) }
@@ -157,6 +106,7 @@ impl<L: StateListing> Progress<L> {
         requires entries { All (IsEntry (length self.old.nodes.items)) (waiting_in self.old.open_list) }
         ensures store { self.new.store ≡ self.old.store }
         ensures nodes { self.new.nodes.items ≡ self.old.nodes.items }
+        ensures bases { self.new.bases ≡ self.old.bases }
         ensures least { IsLeastWith sum (waiting_in self.old.open_list) self.old.nodes.items result }
     {
         match self.next_waiting() {
@@ -171,11 +121,43 @@ impl<L: StateListing> Progress<L> {
         requires place { id.0 < MAX_STATES }
         ensures store { self.new.store ≡ self.old.store }
         ensures nodes { OnOk result (self.new.nodes.items ≡ self.old.nodes.items ++ node ∷ []) }
+        ensures bases { self.new.bases ≡ self.old.bases }
         ensures open_list { OnOk result
             (JoinsBy self.old.open_list self.new.open_list node.cost id.0 estimate) }
     {
         self.nodes.push(node)?;
         self.enqueue(id, node.cost, estimate)
+    }
+
+    /// Adds the node of a state that is reached for the first time, and its basis.
+    fn add_reached(&mut self, id: StateId, reached: Reached<'_>) -> Result<(), NoMemory>
+        requires sum { IfSome reached.estimate (λ e. reached.node.cost + e < 2 ^ 64) }
+        requires place { id.0 < MAX_STATES }
+        ensures store { self.new.store ≡ self.old.store }
+        ensures nodes { OnOk result (self.new.nodes.items ≡ self.old.nodes.items ++ reached.entry.node ∷ []) }
+        ensures bases { OnOk result (IsBased self.old.bases self.new.bases id.0 reached.entry.basis) }
+        ensures open_list { OnOk result
+            (JoinsBy self.old.open_list self.new.open_list reached.entry.node.cost id.0 reached.entry.estimate) }
+    {
+        self.bases.set(id, reached.basis)?;
+        self.add(id, reached.node, reached.estimate)?;
+        Ok(())
+    }
+
+    /// Replaces the node of a state by that of another one of its class, which takes its place, and has its own basis.
+    fn replace_node(&mut self, id: StateId, reached: Reached<'_>) -> Result<(), NoMemory>
+        requires found { id.0 < length self.old.nodes.items }
+        requires sum { IfSome reached.estimate (λ e. reached.node.cost + e < 2 ^ 64) }
+        requires place { id.0 < MAX_STATES }
+        ensures store { self.new.store ≡ self.old.store }
+        ensures nodes { OnOk result (self.new.nodes.items ≡ slice_set self.old.nodes.items id.0 reached.entry.node) }
+        ensures bases { OnOk result (IsBased self.old.bases self.new.bases id.0 reached.entry.basis) }
+        ensures open_list { OnOk result
+            (JoinsBy self.old.open_list self.new.open_list reached.entry.node.cost id.0 reached.entry.estimate) }
+    {
+        self.bases.set(id, reached.basis)?;
+        self.improve(id, reached.node, reached.estimate)?;
+        Ok(())
     }
 
     /// Replaces a node by that of a cheaper way. The state waits at this cost if it has an estimate.
@@ -185,6 +167,7 @@ impl<L: StateListing> Progress<L> {
         requires place { id.0 < MAX_STATES }
         ensures store { self.new.store ≡ self.old.store }
         ensures nodes { self.new.nodes.items ≡ slice_set self.old.nodes.items id.0 node }
+        ensures bases { self.new.bases ≡ self.old.bases }
         ensures open_list { OnOk result
             (JoinsBy self.old.open_list self.new.open_list node.cost id.0 estimate) }
     {
@@ -193,11 +176,17 @@ impl<L: StateListing> Progress<L> {
     }
 
     /// Adds the state to the open list at this cost, if it has an estimate.
-    fn enqueue(&mut self, id: StateId, cost: u64, estimate: Option<u64>) -> Result<(), NoMemory>
+    pub(crate) fn enqueue(
+        &mut self,
+        id: StateId,
+        cost: u64,
+        estimate: Option<u64>,
+    ) -> Result<(), NoMemory>
         requires sum { IfSome estimate (λ e. cost + e < 2 ^ 64) }
         requires place { id.0 < MAX_STATES }
         ensures store { self.new.store ≡ self.old.store }
         ensures nodes { self.new.nodes.items ≡ self.old.nodes.items }
+        ensures bases { self.new.bases ≡ self.old.bases }
         ensures open_list { OnOk result
             (JoinsBy self.old.open_list self.new.open_list cost id.0 estimate) }
     {
@@ -210,11 +199,12 @@ impl<L: StateListing> Progress<L> {
     }
 
     /// Sets the state's status.
-    fn mark(&mut self, id: StateId, status: NodeStatus)
+    pub(crate) fn mark(&mut self, id: StateId, status: NodeStatus)
         requires { id.0 < length self.old.nodes.items }
         ensures store { self.new.store ≡ self.old.store }
         ensures nodes { (node : _) → slice_get self.old.nodes.items id.0 ≡ Some node
             → self.new.nodes.items ≡ slice_set self.old.nodes.items id.0 (record node { status = status }) }
+        ensures bases { self.new.bases ≡ self.old.bases }
         ensures open_list { self.new.open_list ≡ self.old.open_list }
     {
         self.nodes[id.0 as usize].status = status;
@@ -222,44 +212,52 @@ impl<L: StateListing> Progress<L> {
 
     /// Lists a successor of the state that is being expanded, unless it or the current one of its class is reached at no greater cost.
     /// `false`: the limit does not allow it.
-    fn reach<T: TransitionSystem, G: Guide>(
+    fn reach<T: TransitionSystem, G: Guide, V: ValuesOnDemand>(
         &mut self,
-        system: &T,
-        guide: &G,
+        problem: &Problem<'_, T, G>,
+        values: &V,
         scratch: &mut G::Scratch,
         to: Successor<'_>,
-        max_states: u32,
     ) -> Result<bool, NoMemory>
-        requires guide_width { G.width_of guide.now ≡ L.width_of self.old.store }
-        requires expanding { IsExpanding (T.means system.now) (L.class_of self.old.store) (G.estimate_of guide.now) (G.is_dead guide.now) L.states self.old to.parent.0 }
-        requires scratch { G.fits guide.now scratch.old }
-        requires leads { (s : List Bool) → slice_get (L.states self.old.store) to.parent.0 ≡ Some s → (T.means system.now).step s to.action ≡ Some (bits_of to.state.now) }
+        requires made_for { G.system_of problem.now.guide.now ≡ T.means problem.now.system.now }
+        requires values_for { V.system_of values.now ≡ T.means problem.now.system.now }
+        requires guide_width { G.width_of problem.now.guide.now ≡ L.width_of self.old.store }
+        requires values_width { V.width_of values.now ≡ L.width_of self.old.store }
+        requires expanding { HoldsIn (T.means problem.now.system.now) (G.estimate_of problem.now.guide.now) (G.is_dead problem.now.guide.now) (V.shows values.now) L.states self.old
+            (λ value is_dead. IsExpanding (T.means problem.now.system.now) (L.class_of self.old.store) value is_dead L.states self.old to.parent.0) }
+        requires scratch { G.fits problem.now.guide.now scratch.old }
+        requires leads { (s : List Bool) → slice_get (L.states self.old.store) to.parent.0 ≡ Some s → (T.means problem.now.system.now).step s to.action ≡ Some (bits_of to.state.now) }
         requires width { length (bits_of to.state.now) ≡ L.width_of self.old.store }
-        requires within { length (L.states self.old.store) ≤ max_states }
-        requires limit { max_states ≤ MAX_STATES }
+        requires within { length (L.states self.old.store) ≤ problem.now.max_states }
+        requires limit { problem.now.max_states ≤ MAX_STATES }
         ensures width { L.width_of self.new.store ≡ L.width_of self.old.store }
         ensures class { L.class_of self.new.store ≡ L.class_of self.old.store }
-        ensures scratch { IfOk result (λ _. G.fits guide.now scratch.new) }
+        ensures scratch { IfOk result (λ _. G.fits problem.now.guide.now scratch.new) }
         ensures listed { IfOk result (λ is_listed. MatchBool is_listed
-            (Reaches (T.means system.now) (L.class_of self.old.store) (G.estimate_of guide.now) (G.is_dead guide.now) L.states self.old self.new to.entry.parent.0 max_states to.entry.action (bits_of to.entry.state.now))
-            (IsFull (T.means system.now) (G.estimate_of guide.now) (G.is_dead guide.now) L.states self.old self.new max_states)) }
+            (HoldsIn (T.means problem.now.system.now) (G.estimate_of problem.now.guide.now) (G.is_dead problem.now.guide.now) (V.shows values.now) L.states self.new
+            (λ value is_dead. Reaches (T.means problem.now.system.now) (L.class_of self.old.store) value is_dead L.states self.old self.new to.entry.parent.0 problem.now.max_states to.entry.action (bits_of to.entry.state.now)))
+            (HoldsIn (T.means problem.now.system.now) (G.estimate_of problem.now.guide.now) (G.is_dead problem.now.guide.now) (V.shows values.now) L.states self.old
+            (λ value is_dead. IsExpanding (T.means problem.now.system.now) (L.class_of self.old.store) value is_dead L.states self.old to.entry.parent.0
+            × IsFull (T.means problem.now.system.now) value is_dead L.states self.old self.new problem.now.max_states))) }
     {
         let before = self.nodes[to.parent.0 as usize];
-        let cost = before.cost + u64::from(system.cost(to.action));
-        let Some(place) = self.store.place(to.state, max_states)? else {
+        let cost = before.cost + u64::from(problem.system.cost(to.action));
+        let Some(place) = self.store.place(to.state, problem.max_states)? else {
             return Ok(false);
         };
         if self.is_reached_within(place, cost) {
             return Ok(true);
         }
-        let estimate = guide.value(to.state, scratch);
+        let standing = self.standing_at(place, to.parent);
+        let estimate = standing.estimate(problem.guide, values, to.state, scratch);
         let node = to.node(cost, NodeStatus::of_reached(estimate));
         let reached = Reached {
             state: to.state,
             node,
             estimate,
+            basis: standing.basis(),
         };
-        self.take_place(place, reached, max_states)
+        self.take_place(place, reached, problem.max_states)
     }
 
     /// Whether the state at this place, itself or the current one of its class, is reached at no more than this cost.
@@ -271,6 +269,21 @@ impl<L: StateListing> Progress<L> {
             Place::New(_) => false,
             Place::Listed(place) => self.nodes[place as usize].cost <= cost,
             Place::Alike(place) => self.nodes[place as usize].cost <= cost,
+        }
+    }
+
+    /// What the value of a state stands on that is reached at this place, from this parent.
+    fn standing_at(&self, place: Place, parent: StateId) -> Standing
+        requires { IsPlaceAmong (length self.now.nodes.items) place }
+        ensures { IsStandingAt self.now.nodes.items self.now.bases parent.0 place result }
+    {
+        match place {
+            Place::New(_) => Standing::Based(self.bases.at(parent.0)),
+            Place::Listed(place) => match self.nodes[place as usize].is_marked_dead() {
+                true => Standing::Dead,
+                false => Standing::Based(self.bases.at(place)),
+            },
+            Place::Alike(_) => Standing::Based(self.bases.at(parent.0)),
         }
     }
 
@@ -293,11 +306,11 @@ impl<L: StateListing> Progress<L> {
         ensures width { L.width_of self.new.store ≡ L.width_of self.old.store }
         ensures class { L.class_of self.new.store ≡ L.class_of self.old.store }
         ensures taken { IfOk result (λ is_taken. MatchBool is_taken
-            (TakesPlace L.states self.old self.new (bits_of reached.entry.state.now) reached.entry.node reached.entry.estimate max_states place)
+            (TakesPlace L.states self.old self.new (bits_of reached.entry.state.now) reached.entry.node reached.entry.estimate reached.entry.basis max_states place)
             (IsLeftOut L.states self.old self.new (bits_of reached.entry.state.now) max_states)) }
     {
         match place {
-            Place::New(place) => self.add(StateId(place), reached.node, reached.estimate)?,
+            Place::New(place) => self.add_reached(StateId(place), reached)?,
             Place::Listed(place) => {
                 let mut node = reached.node;
                 node.status = self.nodes[place as usize].status.again(reached.estimate);
@@ -306,11 +319,11 @@ impl<L: StateListing> Progress<L> {
             Place::Alike(place) => {
                 if !self.nodes[place as usize].status.has_been_expanded() {
                     self.store.replace(place, reached.state);
-                    self.improve(StateId(place), reached.node, reached.estimate)?;
+                    self.replace_node(StateId(place), reached)?;
                 } else if self.store.len() < max_states as usize {
                     let last = StateId(self.nodes.len() as u32);
                     self.store.append(reached.state, place)?;
-                    self.add(last, reached.node, reached.estimate)?;
+                    self.add_reached(last, reached)?;
                 } else {
                     return Ok(false);
                 }
@@ -321,46 +334,55 @@ impl<L: StateListing> Progress<L> {
 
     /// Expands the state in the buffers, whose turn it is: lists its successors. `false`: the limit does not allow it. Then the state
     /// waits again, but is not in the open list.
-    pub(crate) fn expand<T: TransitionSystem, G: Guide>(
+    pub(crate) fn expand<T: TransitionSystem, G: Guide, V: ValuesOnDemand>(
         &mut self,
-        system: &T,
-        guide: &G,
+        problem: &Problem<'_, T, G>,
+        values: &V,
         buffers: &mut Buffers<G::Scratch>,
         turn: Turn,
-        max_states: u32,
     ) -> Result<bool, NoMemory>
-        requires made_for { G.system_of guide.now ≡ T.means system.now }
-        requires guide_width { G.width_of guide.now ≡ T.width_of system.now }
-        requires turn { IsAtTurn (T.means system.now) (L.class_of self.old.store) (G.estimate_of guide.now) (G.is_dead guide.now) L.states self.old turn }
-        requires classes { AreClassesOf (T.means system.now) (L.class_of self.old.store) }
-        requires scratch { G.fits guide.now buffers.old.scratch }
-        requires open { AreClosed (T.means system.now) (L.class_of self.old.store) (nodes_in L.states self.old) }
+        requires made_for { G.system_of problem.now.guide.now ≡ T.means problem.now.system.now }
+        requires values_for { V.system_of values.now ≡ T.means problem.now.system.now }
+        requires guide_width { G.width_of problem.now.guide.now ≡ T.width_of problem.now.system.now }
+        requires values_width { V.width_of values.now ≡ T.width_of problem.now.system.now }
+        requires turn { HoldsIn (T.means problem.now.system.now) (G.estimate_of problem.now.guide.now) (G.is_dead problem.now.guide.now) (V.shows values.now) L.states self.old
+            (λ value is_dead. IsAtTurn (T.means problem.now.system.now) (L.class_of self.old.store) value is_dead L.states self.old turn) }
+        requires classes { AreClassesOf (T.means problem.now.system.now) (L.class_of self.old.store) }
+        requires scratch { G.fits problem.now.guide.now buffers.old.scratch }
+        requires open { AreClosed (T.means problem.now.system.now) (L.class_of self.old.store) (nodes_in L.states self.old) }
         requires state { slice_get (L.states self.old.store) turn.id.0 ≡ Some (bits_of buffers.old.state) }
-        requires no_goal { (T.means system.now).meets_goal (bits_of buffers.old.state) ≡ false }
-        requires width { L.width_of self.old.store ≡ T.width_of system.now }
-        requires buffers { AreWide (T.width_of system.now) buffers.old }
-        requires within { length (L.states self.old.store) ≤ max_states }
-        requires limit { max_states ≤ MAX_STATES }
-        ensures width { IfOk result (λ _. L.width_of self.new.store ≡ T.width_of system.now) }
+        requires no_goal { (T.means problem.now.system.now).meets_goal (bits_of buffers.old.state) ≡ false }
+        requires width { L.width_of self.old.store ≡ T.width_of problem.now.system.now }
+        requires buffers { AreWide (T.width_of problem.now.system.now) buffers.old }
+        requires within { length (L.states self.old.store) ≤ problem.now.max_states }
+        requires limit { problem.now.max_states ≤ MAX_STATES }
+        ensures width { IfOk result (λ _. L.width_of self.new.store ≡ T.width_of problem.now.system.now) }
         ensures class { IfOk result (λ _. L.class_of self.new.store ≡ L.class_of self.old.store) }
-        ensures buffers { IfOk result (λ _. AreWide (T.width_of system.now) buffers.new) }
-        ensures scratch { IfOk result (λ _. G.fits guide.now buffers.new.scratch) }
+        ensures buffers { IfOk result (λ _. AreWide (T.width_of problem.now.system.now) buffers.new) }
+        ensures scratch { IfOk result (λ _. G.fits problem.now.guide.now buffers.new.scratch) }
+        ensures asks { IfOk result (λ _. buffers.new.asks ≡ buffers.old.asks) }
         ensures listed { IfOk result (λ is_listed. MatchBool is_listed
-            (Expands (T.means system.now) (L.class_of self.old.store) (G.estimate_of guide.now) (G.is_dead guide.now) L.states self.old self.new max_states)
-            (IsStopped (T.means system.now) (L.class_of self.old.store) (G.estimate_of guide.now) (G.is_dead guide.now) L.states self.new turn max_states)) }
+            (HoldsIn (T.means problem.now.system.now) (G.estimate_of problem.now.guide.now) (G.is_dead problem.now.guide.now) (V.shows values.now) L.states self.new
+            (λ value is_dead. Expands (T.means problem.now.system.now) (L.class_of self.old.store) value is_dead L.states self.old self.new problem.now.max_states))
+            (HoldsIn (T.means problem.now.system.now) (G.estimate_of problem.now.guide.now) (G.is_dead problem.now.guide.now) (V.shows values.now) L.states self.new
+            (λ value is_dead. IsStopped (T.means problem.now.system.now) (L.class_of self.old.store) value is_dead L.states self.new turn problem.now.max_states))) }
     {
-        system.applicable(&buffers.state, &mut buffers.applicable)?;
+        problem
+            .system
+            .applicable(&buffers.state, &mut buffers.applicable)?;
         self.mark(turn.id, NodeStatus::Expanded);
-        guide.move_to(&buffers.state, &mut buffers.scratch);
-        buffers.touch_successors(system, &self.store)?;
+        problem.guide.move_to(&buffers.state, &mut buffers.scratch);
+        buffers.touch_successors(problem.system, &self.store)?;
         for &action in &buffers.applicable {
-            system.successor(action, &buffers.state, &mut buffers.next);
+            problem
+                .system
+                .successor(action, &buffers.state, &mut buffers.next);
             let to = Successor {
                 parent: turn.id,
                 action,
                 state: &buffers.next,
             };
-            if !self.reach(system, guide, &mut buffers.scratch, to, max_states)? {
+            if !self.reach(problem, values, &mut buffers.scratch, to)? {
                 self.mark(turn.id, NodeStatus::Reopened);
                 return Ok(false);
             }
@@ -393,6 +415,7 @@ impl<L: StateListing> Progress<L> {
         ensures short { IfOk result (λ r. length r.0.items ≤ length self.nodes.items) }
         ensures store { IfOk result (λ r. r.1.store ≡ self.store) }
         ensures nodes { IfOk result (λ r. r.1.nodes.items ≡ self.nodes.items) }
+        ensures bases { IfOk result (λ r. r.1.bases ≡ self.bases) }
         ensures estimates { IfOk result (λ r. AreNotedWith self.nodes.items goal (waiting_in self.open_list) r.1.estimates.items) }
     {
         let steps = steps_to(alloc, &self.nodes, goal.id)?;
@@ -412,6 +435,7 @@ impl<L: StateListing> Progress<L> {
         ensures least { IfOk result (λ r. IsLeastWith turn.sum (waiting_in self.open_list) self.nodes.items r.0) }
         ensures store { IfOk result (λ r. r.1.store ≡ self.store) }
         ensures nodes { IfOk result (λ r. r.1.nodes.items ≡ self.nodes.items) }
+        ensures bases { IfOk result (λ r. r.1.bases ≡ self.bases) }
         ensures estimates { IfOk result (λ r. AreNotedWith self.nodes.items turn (waiting_in self.open_list) r.1.estimates.items) }
     {
         let estimates = self.noted_estimates(alloc, turn)?;
@@ -423,6 +447,7 @@ impl<L: StateListing> Progress<L> {
     pub(crate) fn into_states(self, alloc: Global) -> Result<FoundStates<L>, NoMemory>
         ensures store { IfOk result (λ found. found.store ≡ self.store) }
         ensures nodes { IfOk result (λ found. found.nodes.items ≡ self.nodes.items) }
+        ensures bases { IfOk result (λ found. found.bases ≡ self.bases) }
         ensures estimates { IfOk result (λ found. length found.estimates.items ≡ length self.nodes.items) }
     {
         let estimates = vec![in alloc; 0; self.nodes.len()]?;
@@ -433,16 +458,19 @@ impl<L: StateListing> Progress<L> {
     fn into_found(self, estimates: Vec<u64>) -> FoundStates<L>
         ensures store { result.store ≡ self.store }
         ensures nodes { result.nodes.items ≡ self.nodes.items }
+        ensures bases { result.bases ≡ self.bases }
         ensures estimates { result.estimates.items ≡ estimates.items }
     {
         let Progress {
             store,
             nodes,
+            bases,
             open_list: _,
         } = self;
         FoundStates {
             store,
             nodes,
+            bases,
             estimates,
         }
     }

@@ -1,9 +1,13 @@
 //! The state that is expanded next, its successors, and a state as it is reached.
-ghost use Rattle.std.specs.Prelude.{◌≡◌, ◌<◌};
+ghost use Rattle.std.specs.Prelude.{◌≡◌, ◌<◌, length};
+ghost use Rattle.packed_state.specs.Packed.{bits_of};
 ghost use Rattle.search.specs.Nodes.{parent_of};
+ghost use Rattle.search.specs.Standing.{basis_of, IsEstimateBy, IsNamedAt};
 
 use crate::best::MAX_STATES;
+use crate::guide::Guide;
 use crate::nodes::{Node, NodeStatus, ShortId, StateId};
+use crate::on_demand::{Basis, ValuesOnDemand};
 use packed_state::Packed;
 
 /// The state that is expanded next, with its estimate, and the sum of its cost and estimate.
@@ -22,12 +26,61 @@ pub(crate) struct Successor<'a> {
     pub(crate) state: &'a Packed,
 }
 
-/// A state as it is reached now, with its node and its estimate. `None`: it is reported dead.
+/// What the value of a state stands on where it is reached.
+#[derive(Clone, Copy)]
+pub(crate) enum Standing {
+    /// It is listed, and marked dead.
+    Dead,
+    /// On the guide, and on this basis if there is one.
+    Based(Option<Basis>),
+}
+
+/// A state as it is reached now, with its node, its estimate, and what that stands on beside the guide. Without an estimate it is dead.
 #[derive(Clone, Copy)]
 pub(crate) struct Reached<'a> {
     pub(crate) state: &'a Packed,
     pub(crate) node: Node,
     pub(crate) estimate: Option<u64>,
+    pub(crate) basis: Option<Basis>,
+}
+
+impl Standing {
+    /// The basis, if there is one.
+    pub(crate) fn basis(self) -> Option<Basis>
+        ensures { result ≡ basis_of self }
+    {
+        match self {
+            Standing::Dead => None,
+            Standing::Based(basis) => basis,
+        }
+    }
+
+    /// The estimate of a state by the guide and by what it stands on, or `None` if it is dead.
+    pub(crate) fn estimate<G: Guide, V: ValuesOnDemand>(
+        self,
+        guide: &G,
+        values: &V,
+        state: &Packed,
+        scratch: &mut G::Scratch,
+    ) -> Option<u64>
+        requires width { length (bits_of state.now) ≡ G.width_of guide.now }
+        requires values_width { V.width_of values.now ≡ G.width_of guide.now }
+        requires scratch { G.fits guide.now scratch.old }
+        requires named { IsNamedAt (V.shows values.now) self }
+        ensures estimate { IsEstimateBy (G.estimate_of guide.now) (G.is_dead guide.now) (V.shows values.now) (bits_of state.now) self result }
+        ensures scratch { G.fits guide.now scratch.new }
+    {
+        let Standing::Based(basis) = self else {
+            return None;
+        };
+        let Some(estimate) = guide.value(state, scratch) else {
+            return None;
+        };
+        match basis {
+            Some(basis) => Some(estimate.max(values.value(basis, state))),
+            None => Some(estimate),
+        }
+    }
 }
 
 impl Successor<'_> {

@@ -12,6 +12,10 @@
 //! **Dead ends** that the guide reports are listed and never expanded. The guide is asked where a state is found, and again where it
 //! is reached at a lower cost.
 //!
+//! **Values on demand.** `go_on_asking` asks for a better value of a state when its turn comes (`ValuesOnDemand`). If the value is
+//! higher, the state waits again, by the higher sum; if the state is dead, it is marked so. A state that has been expanded is not asked
+//! for: its value has decided which states were reached from it. All that is proved holds by the values that the states have at the end.
+//!
 //! **Classes.** From states of one class the goal is reached alike: at the same costs. So a state need not be expanded if one of its
 //! class is, at no greater cost. If classes are the states that symmetries map to each other, this prunes by symmetries (Domshlak,
 //! Katz & Shleyfman, Enhanced Symmetry Breaking in Cost-Optimal Planning as Forward Search, 2012; as orbit space search: Symmetry
@@ -51,19 +55,24 @@
 //! Left open are which of several cheapest plans is answered, which states whose sum equals its cost are expanded before, and the
 //! order of the listing. `next_waiting` promises the order above; that its state is the one to expand or answer, and that states are
 //! found in the order of successors, is only tested.
-ghost use Rattle.std.specs.Prelude.{◌≡◌, ◌≤◌, ℕ, [], IfOk, length};
+ghost use Rattle.std.specs.Prelude.{◌≡◌, ◌≤◌, ℕ, [], IfOk, None, length};
 ghost use Rattle.model.specs.Limits.{max_states_listed};
+ghost use Rattle.search.specs.OnDemand.{basis_at, Extends};
 ghost use Rattle.search.specs.OpenList.{IsLeastSum};
 ghost use Rattle.search.specs.Outcome.{AreClassesOf, HasEstimates, IsTrueOutcome};
 ghost use Rattle.search.specs.Nodes.{AreClosed};
-ghost use Rattle.search.specs.Progress.{IsSearch, nodes_in};
-ghost use Rattle.search.specs.UnderWay.{store_in, nodes_of, IsUnderWay, IsTrueHalt, IsTrueStop};
+ghost use Rattle.search.specs.Progress.{HoldsIn, IsSearch, nodes_in};
+ghost use Rattle.search.specs.UnderWay.{store_in, nodes_of, IsUnderWay, IsUnderWayBy, IsTrueHalt, IsTrueHaltBy, IsTrueStop, IsTrueStopBy};
 
+use crate::bases::Bases;
 use crate::best::Outcome;
+use crate::buffers::Buffers;
 use crate::guide::Guide;
 use crate::listing::StateListing;
 use crate::nodes::{FoundStates, Node};
-use crate::progress::{Buffers, Progress};
+use crate::on_demand::{GuideAlone, ValuesOnDemand};
+use crate::problem::Problem;
+use crate::progress::Progress;
 use crate::transitions::TransitionSystem;
 use faults::NoMemory;
 use std::alloc::Global;
@@ -99,6 +108,32 @@ pub enum Stop<L> {
 }
 
 impl<L: StateListing, R> Search<L, R> {
+    /// The same search, whose states stand on the guide alone.
+    fn without_bases(self, alloc: Global) -> Search<L, R>
+        ensures store { result.progress.store ≡ self.progress.store }
+        ensures nodes { result.progress.nodes ≡ self.progress.nodes }
+        ensures open_list { result.progress.open_list ≡ self.progress.open_list }
+        ensures bases { (place : ℕ) → basis_at result.progress.bases place ≡ None }
+        ensures buffers { result.buffers ≡ self.buffers }
+    {
+        let Search { progress, buffers } = self;
+        let Progress {
+            store,
+            nodes,
+            bases: _,
+            open_list,
+        } = progress;
+        Search {
+            progress: Progress {
+                store,
+                nodes,
+                bases: Bases::new(alloc),
+                open_list,
+            },
+            buffers,
+        }
+    }
+
     /// The listed states, in the order in which they were found. A state may have taken the place of another of its class.
     pub fn store(&self) -> &L
         ensures { result.now ≡ store_in self.now }
@@ -138,6 +173,42 @@ pub fn begin<T: TransitionSystem, G: Guide, L: StateListing>(
     ensures { IfOk result (λ search. (max_states : ℕ) → 1 ≤ max_states
         → IsUnderWay (T.means system.now) (L.class_of store) (G.estimate_of guide.now) (G.is_dead guide.now) (G.fits guide.now) L.states L.class_of L.width_of (T.width_of system.now) max_states search) }
 {
+    start(alloc, system, guide, store)
+}
+
+/// Begins a search as `begin` does, whose values are to be asked for. No state stands on a basis yet.
+///
+/// # Errors
+/// Memory is refused.
+pub fn begin_asking<T: TransitionSystem, G: Guide, V: ValuesOnDemand, L: StateListing>(
+    problem: &Problem<'_, T, G>,
+    _values: &V,
+    store: L,
+) -> Result<Search<L, G::Scratch>, NoMemory>
+    requires made_for { G.system_of problem.now.guide.now ≡ T.means problem.now.system.now }
+    requires guide_width { G.width_of problem.now.guide.now ≡ T.width_of problem.now.system.now }
+    requires empty { L.states store ≡ [] }
+    requires width { L.width_of store ≡ T.width_of problem.now.system.now }
+    ensures { IfOk result (λ search. (max_states : ℕ) → 1 ≤ max_states
+        → IsUnderWayBy (T.means problem.now.system.now) (L.class_of store) (G.estimate_of problem.now.guide.now) (G.is_dead problem.now.guide.now) (V.shows _values.now) (G.fits problem.now.guide.now) L.states L.class_of L.width_of (T.width_of problem.now.system.now) max_states search) }
+{
+    start(problem.alloc, problem.system, problem.guide, store)
+}
+
+/// A search whose initial state alone is found, and stands on the guide.
+fn start<T: TransitionSystem, G: Guide, L: StateListing>(
+    alloc: Global,
+    system: &T,
+    guide: &G,
+    store: L,
+) -> Result<Search<L, G::Scratch>, NoMemory>
+    requires guide_width { G.width_of guide.now ≡ T.width_of system.now }
+    requires empty { L.states store ≡ [] }
+    requires width { L.width_of store ≡ T.width_of system.now }
+    ensures under_way { IfOk result (λ search. (max_states : ℕ) → 1 ≤ max_states
+        → IsUnderWay (T.means system.now) (L.class_of store) (G.estimate_of guide.now) (G.is_dead guide.now) (G.fits guide.now) L.states L.class_of L.width_of (T.width_of system.now) max_states search) }
+    ensures bases { IfOk result (λ search. (place : ℕ) → basis_at search.progress.bases place ≡ None) }
+{
     let scratch = guide.scratch(alloc)?;
     let mut buffers = Buffers::new(alloc, system.width(), scratch)?;
     let progress = Progress::start(alloc, system, guide, &mut buffers.scratch, store)?;
@@ -164,27 +235,61 @@ pub fn go_on<T: TransitionSystem, G: Guide, L: StateListing>(
     requires limit { max_states ≤ max_states_listed }
     ensures { IfOk result (IsTrueHalt (T.means system.now) (L.class_of (store_in search)) (G.estimate_of guide.now) (G.is_dead guide.now) (G.fits guide.now) L.states L.class_of L.width_of (T.width_of system.now) pause max_states) }
 {
+    let search = search.without_bases(alloc);
+    let mut values = GuideAlone(guide);
+    let problem = Problem {
+        alloc,
+        system,
+        guide,
+        max_states,
+    };
+    go_on_asking(&problem, &mut values, search, pause)
+}
+
+/// Continues the search as `go_on` does. The values of states are asked for when their turn comes.
+///
+/// # Errors
+/// Memory is refused.
+pub fn go_on_asking<T: TransitionSystem, G: Guide, V: ValuesOnDemand, L: StateListing>(
+    problem: &Problem<'_, T, G>,
+    values: &mut V,
+    search: Search<L, G::Scratch>,
+    pause: u32,
+) -> Result<Halt<L, G::Scratch>, NoMemory>
+    requires made_for { G.system_of problem.now.guide.now ≡ T.means problem.now.system.now }
+    requires values_for { V.system_of values.old ≡ T.means problem.now.system.now }
+    requires guide_width { G.width_of problem.now.guide.now ≡ T.width_of problem.now.system.now }
+    requires values_width { V.width_of values.old ≡ T.width_of problem.now.system.now }
+    requires under_way { IsUnderWayBy (T.means problem.now.system.now) (L.class_of (store_in search)) (G.estimate_of problem.now.guide.now) (G.is_dead problem.now.guide.now) (V.shows values.old) (G.fits problem.now.guide.now) L.states L.class_of L.width_of (T.width_of problem.now.system.now) problem.now.max_states search }
+    requires classes { AreClassesOf (T.means problem.now.system.now) (L.class_of (store_in search)) }
+    requires limit { problem.now.max_states ≤ max_states_listed }
+    ensures values_for { IfOk result (λ _. V.system_of values.new ≡ V.system_of values.old) }
+    ensures values_width { IfOk result (λ _. V.width_of values.new ≡ V.width_of values.old) }
+    ensures extends { IfOk result (λ _. Extends (V.shows values.old) (V.shows values.new)) }
+    ensures halt { IfOk result (IsTrueHaltBy (T.means problem.now.system.now) (L.class_of (store_in search)) (G.estimate_of problem.now.guide.now) (G.is_dead problem.now.guide.now) (V.shows values.new) (G.fits problem.now.guide.now) L.states L.class_of L.width_of (T.width_of problem.now.system.now) pause problem.now.max_states) }
+{
     let Search {
         mut progress,
         mut buffers,
     } = search;
+    buffers.asks = u32::MAX;
     'turns: while progress.store.len() < pause as usize {
         let Some(turn) = progress.next_waiting() else {
-            let states = progress.into_states(alloc)?;
+            let states = progress.into_states(problem.alloc)?;
             return Ok(Halt::Ended(Outcome::Exhausted { states }));
         };
         progress.store.get(turn.id.0, &mut buffers.state);
-        if system.meets_goal(&buffers.state) {
+        if problem.system.meets_goal(&buffers.state) {
             let cost = progress.nodes[turn.id.0 as usize].cost;
-            let (steps, states) = progress.into_plan(alloc, turn)?;
+            let (steps, states) = progress.into_plan(problem.alloc, turn)?;
             return Ok(Halt::Ended(Outcome::Found {
                 steps,
                 cost,
                 states,
             }));
         }
-        if !progress.expand(system, guide, &mut buffers, turn, max_states)? {
-            let (bound, states) = progress.into_bound(alloc, turn)?;
+        if !progress.take_turn(problem, values, &mut buffers, turn)? {
+            let (bound, states) = progress.into_bound(problem.alloc, turn)?;
             return Ok(Halt::Ended(Outcome::States { bound, states }));
         }
     }
@@ -222,14 +327,35 @@ pub fn finish<T: TransitionSystem, G: Guide, L: StateListing>(
 /// Memory is refused.
 pub fn stop_at_pause<G: Guide, L: StateListing>(
     alloc: Global,
-    _guide: &G,
+    guide: &G,
     search: Search<L, G::Scratch>,
 ) -> Result<Stop<L>, NoMemory>
-    requires search { IsSearch (G.system_of _guide.now) (L.class_of (store_in search)) (G.estimate_of _guide.now) (G.is_dead _guide.now) L.states search.progress }
+    requires search { IsSearch (G.system_of guide.now) (L.class_of (store_in search)) (G.estimate_of guide.now) (G.is_dead guide.now) L.states search.progress }
+    requires successors { AreClosed (G.system_of guide.now) (L.class_of (store_in search)) (nodes_in L.states search.progress) }
+    requires classes { AreClassesOf (G.system_of guide.now) (L.class_of (store_in search)) }
+    ensures { IfOk result (λ stop. (max_states : ℕ) → length (L.states (store_in search)) ≤ max_states
+        → IsTrueStop (G.system_of guide.now) (L.class_of (store_in search)) (G.estimate_of guide.now) (G.is_dead guide.now) L.states max_states stop) }
+{
+    let search = search.without_bases(alloc);
+    stop_asking(alloc, guide, &GuideAlone(guide), search)
+}
+
+/// Stops a search as `stop_at_pause` does, whose values were asked for. Nothing is asked.
+///
+/// # Errors
+/// Memory is refused.
+pub fn stop_asking<G: Guide, V: ValuesOnDemand, L: StateListing>(
+    alloc: Global,
+    _guide: &G,
+    _values: &V,
+    search: Search<L, G::Scratch>,
+) -> Result<Stop<L>, NoMemory>
+    requires search { HoldsIn (G.system_of _guide.now) (G.estimate_of _guide.now) (G.is_dead _guide.now) (V.shows _values.now) L.states search.progress
+        (λ value is_dead. IsSearch (G.system_of _guide.now) (L.class_of (store_in search)) value is_dead L.states search.progress) }
     requires successors { AreClosed (G.system_of _guide.now) (L.class_of (store_in search)) (nodes_in L.states search.progress) }
     requires classes { AreClassesOf (G.system_of _guide.now) (L.class_of (store_in search)) }
     ensures { IfOk result (λ stop. (max_states : ℕ) → length (L.states (store_in search)) ≤ max_states
-        → IsTrueStop (G.system_of _guide.now) (L.class_of (store_in search)) (G.estimate_of _guide.now) (G.is_dead _guide.now) L.states max_states stop) }
+        → IsTrueStopBy (G.system_of _guide.now) (L.class_of (store_in search)) (G.estimate_of _guide.now) (G.is_dead _guide.now) (V.shows _values.now) L.states max_states stop) }
 {
     let Search {
         mut progress,

@@ -83,7 +83,7 @@ fn are_listed(alloc: Global, states: &FoundStates<Twins>, row: &Row) -> Result<b
 }
 
 /// Whether the search's outcome is that of the row.
-fn is_as_wanted(alloc: Global, row: &Row) -> Result<bool, NoMemory> {
+fn is_as_expected(alloc: Global, row: &Row) -> Result<bool, NoMemory> {
     let one = set_of(alloc, row.rooms.width, &[1])?;
     let other = set_of(alloc, row.rooms.width, &[2])?;
     match outcome_of(alloc, row, one, other)? {
@@ -103,7 +103,7 @@ fn a_cheaper_state_of_a_class_takes_the_place_or_is_listed_beside(
     rt: HostRuntime,
 ) -> Result<(), Fail> {
     for (number, row) in ROWS.iter().enumerate() {
-        assert!(rt; is_as_wanted(rt.alloc(), row)?, "row {number}");
+        assert!(rt; is_as_expected(rt.alloc(), row)?, "row {number}");
     }
     Ok(())
 }

@@ -1,6 +1,6 @@
 //! The search with dear doors: plans, and the order of finding, where costs exceed 20 bits, or 32.
 use crate::rooms::Rooms;
-use crate::searches::{Row, are_as_wanted};
+use crate::searches::{Row, are_as_expected};
 use std::test::Fail;
 
 /// From each room a first door leads to the next room, and a second one to the room after that.
@@ -44,7 +44,7 @@ static ROWS: [Row; 4] = [
 #[test]
 fn finds_dear_plans_in_their_order(rt: HostRuntime) -> Result<(), Fail> {
     for (number, row) in ROWS.iter().enumerate() {
-        let are_found = are_as_wanted(rt.alloc(), row)?;
+        let are_found = are_as_expected(rt.alloc(), row)?;
         assert_eq!(rt; are_found, [true, true], "row {number}");
     }
     Ok(())

@@ -2,6 +2,8 @@
 #![tactic(auto)]
 
 #[cfg(test)]
+mod asked_signs;
+#[cfg(test)]
 mod blind_rooms;
 #[cfg(test)]
 mod classes;

@@ -69,7 +69,7 @@ impl Sample {
 
 /// A set to compare with.
 #[derive(Clone, Copy)]
-enum Wanted {
+enum Expected {
     /// The set of this rule.
     Just(Sample),
     /// The first without the second, with the third.
@@ -78,22 +78,22 @@ enum Wanted {
     Widened(Sample, u32),
 }
 
-impl Wanted {
+impl Expected {
     fn has(self, width: u32, number: u32) -> bool {
         match self {
-            Wanted::Just(sample) => sample.has(width, number),
-            Wanted::Changed(set, deletes, adds) => {
+            Expected::Just(sample) => sample.has(width, number),
+            Expected::Changed(set, deletes, adds) => {
                 set.has(width, number) && !deletes.has(width, number) || adds.has(width, number)
             }
-            Wanted::Widened(sample, before) => number < before && sample.has(before, number),
+            Expected::Widened(sample, before) => number < before && sample.has(before, number),
         }
     }
 }
 
 /// Whether the set has this width and exactly these numbers.
-fn is_just(set: &Packed, width: u32, wanted: Wanted) -> bool {
+fn is_just(set: &Packed, width: u32, required: Expected) -> bool {
     for number in 0..set.width() {
-        if set.has(number) != wanted.has(width, number) {
+        if set.has(number) != required.has(width, number) {
             return false;
         }
     }
@@ -164,20 +164,20 @@ fn copied(alloc: Global, width: u32, [set, other]: [Sample; 2]) -> Result<Packed
 
 /// Whether the set's numbers are listed in rising order, also in place of a vector's elements.
 fn is_listed(alloc: Global, width: u32, set: Sample) -> Result<bool, NoMemory> {
-    let wanted = set.numbers(alloc, width)?;
+    let required = set.numbers(alloc, width)?;
     let set = set.packed(alloc, width)?;
     let mut lent = vec![in alloc; width, width]?;
     set.list_numbers(&mut lent)?;
-    Ok(lent == wanted && set.numbers(alloc)? == wanted)
+    Ok(lent == required && set.numbers(alloc)? == required)
 }
 
 /// Whether the first set without the second, and the second copied over the first, have the right numbers.
 fn is_pair_changed(alloc: Global, width: u32, pair: [Sample; 2]) -> Result<bool, NoMemory> {
     let [set, other] = pair;
-    let less = Wanted::Changed(set, other, Sample::Empty);
+    let less = Expected::Changed(set, other, Sample::Empty);
     let is_removed = is_just(&removed(alloc, width, pair)?, width, less);
     let copy = copied(alloc, width, pair)?;
-    Ok(is_removed && is_just(&copy, width, Wanted::Just(other)))
+    Ok(is_removed && is_just(&copy, width, Expected::Just(other)))
 }
 
 /// Whether the first set without the second, with any other, has the right numbers.
@@ -185,7 +185,7 @@ fn is_pair_joined(alloc: Global, width: u32, [set, other]: [Sample; 2]) -> Resul
     let mut are_right = true;
     for &adds in &SAMPLES {
         let after = changed(alloc, width, [set, other, adds])?;
-        are_right &= is_just(&after, width, Wanted::Changed(set, other, adds));
+        are_right &= is_just(&after, width, Expected::Changed(set, other, adds));
     }
     Ok(are_right)
 }
@@ -199,8 +199,8 @@ fn is_pair(alloc: Global, width: u32, [set, other]: [Sample; 2]) -> Result<bool,
 
 /// Whether the set, made from a list and number by number, has its numbers and lists them.
 fn is_sample(alloc: Global, width: u32, set: Sample) -> Result<bool, NoMemory> {
-    let is_packed = is_just(&set.packed(alloc, width)?, width, Wanted::Just(set));
-    let is_inserted = is_just(&inserted(alloc, width, set)?, width, Wanted::Just(set));
+    let is_packed = is_just(&set.packed(alloc, width)?, width, Expected::Just(set));
+    let is_inserted = is_just(&inserted(alloc, width, set)?, width, Expected::Just(set));
     Ok(is_packed && is_inserted && is_listed(alloc, width, set)?)
 }
 
@@ -230,7 +230,7 @@ fn is_widened(alloc: Global, [narrow, wide]: [u32; 2], sample: Sample) -> Result
         return Ok(false);
     }
     let grown = set.with_width(alloc, wide)?;
-    Ok(differ && is_just(&grown, wide, Wanted::Widened(sample, narrow)))
+    Ok(differ && is_just(&grown, wide, Expected::Widened(sample, narrow)))
 }
 
 #[test]

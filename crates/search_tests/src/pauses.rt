@@ -60,12 +60,13 @@ fn states_in_store<S>(states: FoundStates<OwnClasses<S>>) -> FoundStates<S> {
     FoundStates {
         store: states.store.0,
         nodes: states.nodes,
+        bases: states.bases,
         estimates: states.estimates,
     }
 }
 
 /// The outcome, with the store in place of its listing.
-fn in_store<S>(outcome: Outcome<OwnClasses<S>>) -> Outcome<S> {
+pub(crate) fn in_store<S>(outcome: Outcome<OwnClasses<S>>) -> Outcome<S> {
     match outcome {
         Outcome::Found {
             steps,
@@ -104,8 +105,8 @@ fn climbs(alloc: Global, row: &Row) -> Result<Option<(Seen, Seen, bool)>, NoMemo
 }
 
 #[test]
-fn goes_on_where_it_paused(rt: HostRuntime) -> Result<(), Fail> {
-    let wanted = ((3, 3, Some(1)), (4, 4, Some(2)), true);
-    assert_eq!(rt; climbs(rt.alloc(), &CLIMB)?, Some(wanted));
+fn continues_where_it_paused(rt: HostRuntime) -> Result<(), Fail> {
+    let required = ((3, 3, Some(1)), (4, 4, Some(2)), true);
+    assert_eq!(rt; climbs(rt.alloc(), &CLIMB)?, Some(required));
     Ok(())
 }

@@ -43,7 +43,7 @@ static ROWS: [Row; 4] = [
 ];
 
 /// Whether the search by the row's signs, looked at two doors ahead, has the row's outcome.
-fn is_as_wanted<S: StateStore>(alloc: Global, row: &Row, store: S) -> Result<bool, NoMemory>
+fn is_as_expected<S: StateStore>(alloc: Global, row: &Row, store: S) -> Result<bool, NoMemory>
     requires empty { S.states store ≡ [] }
     requires width { S.width_of store ≡ row.now.rooms.width }
 {
@@ -57,17 +57,17 @@ fn is_as_wanted<S: StateStore>(alloc: Global, row: &Row, store: S) -> Result<boo
 }
 
 /// The same in the plain store and in the pooled one.
-fn are_as_wanted(alloc: Global, row: &Row) -> Result<[bool; 2], NoMemory> {
+fn are_as_expected(alloc: Global, row: &Row) -> Result<[bool; 2], NoMemory> {
     let width = row.rooms.width;
-    let plain = is_as_wanted(alloc, row, PlainStore::new(alloc, width)?)?;
-    let pooled = is_as_wanted(alloc, row, PooledStore::new(alloc, width)?)?;
+    let plain = is_as_expected(alloc, row, PlainStore::new(alloc, width)?)?;
+    let pooled = is_as_expected(alloc, row, PooledStore::new(alloc, width)?)?;
     Ok([plain, pooled])
 }
 
 #[test]
 fn expands_again_what_is_reached_at_a_lower_cost(rt: HostRuntime) -> Result<(), Fail> {
     for (number, row) in ROWS.iter().enumerate() {
-        let are_found = are_as_wanted(rt.alloc(), row)?;
+        let are_found = are_as_expected(rt.alloc(), row)?;
         assert_eq!(rt; are_found, [true, true], "row {number}");
     }
     Ok(())

@@ -179,7 +179,7 @@ pub(crate) fn is_reported<S: StateStore>(
 }
 
 /// Whether the search by the row's signs has the row's outcome.
-fn is_as_wanted<S: StateStore>(alloc: Global, row: &Row, store: S) -> Result<bool, NoMemory>
+fn is_as_expected<S: StateStore>(alloc: Global, row: &Row, store: S) -> Result<bool, NoMemory>
     requires empty { S.states store ≡ [] }
     requires width { S.width_of store ≡ row.now.rooms.width }
 {
@@ -195,10 +195,10 @@ fn is_as_wanted<S: StateStore>(alloc: Global, row: &Row, store: S) -> Result<boo
 }
 
 /// The same in the plain store and in the pooled one.
-pub(crate) fn are_as_wanted(alloc: Global, row: &Row) -> Result<[bool; 2], NoMemory> {
+pub(crate) fn are_as_expected(alloc: Global, row: &Row) -> Result<[bool; 2], NoMemory> {
     let width = row.rooms.width;
-    let plain = is_as_wanted(alloc, row, PlainStore::new(alloc, width)?)?;
-    let pooled = is_as_wanted(alloc, row, PooledStore::new(alloc, width)?)?;
+    let plain = is_as_expected(alloc, row, PlainStore::new(alloc, width)?)?;
+    let pooled = is_as_expected(alloc, row, PooledStore::new(alloc, width)?)?;
     Ok([plain, pooled])
 }
 
@@ -238,7 +238,7 @@ fn costs_with_no_estimate(alloc: Global, row: &Row) -> Result<[Option<u64>; 2], 
 #[test]
 fn finds_cheapest_plans_in_their_order(rt: HostRuntime) -> Result<(), Fail> {
     for (number, row) in ROWS.iter().enumerate() {
-        let are_found = are_as_wanted(rt.alloc(), row)?;
+        let are_found = are_as_expected(rt.alloc(), row)?;
         assert_eq!(rt; are_found, [true, true], "row {number}");
     }
     Ok(())
@@ -248,8 +248,8 @@ fn finds_cheapest_plans_in_their_order(rt: HostRuntime) -> Result<(), Fail> {
 fn finds_the_same_costs_with_no_estimate(rt: HostRuntime) -> Result<(), Fail> {
     for (number, row) in ROWS.iter().enumerate() {
         let costs = costs_with_no_estimate(rt.alloc(), row)?;
-        let wanted = row.plan.map(|(_, cost)| cost);
-        assert_eq!(rt; costs, [wanted, wanted], "row {number}");
+        let required = row.plan.map(|(_, cost)| cost);
+        assert_eq!(rt; costs, [required, required], "row {number}");
     }
     Ok(())
 }

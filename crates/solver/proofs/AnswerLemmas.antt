@@ -26,7 +26,7 @@ use Rattle.solver.specs.Guidance.{Guidance, estimate_by, reports_dead, CanBeWrit
 use Rattle.solver.specs.Guided.{found_in, AreMarksOf, CanBeMarked, IsSearched}
 use Rattle.solver.specs.declared.limits.Limits.{Limits}
 use Rattle.solver.proofs.GuidanceLemmas.{most_value, estimate-most}
-use Rattle.search.proofs.Closed.{cut_told, lines_are_true}
+use Rattle.search.proofs.Closed.{cut_reported, lines_are_true}
 use Rattle.solver.proofs.FoundLines.{found_line, node_at}
 use Rattle.solver.proofs.ByCost.{more_by_cost}
 use Rattle.solver.proofs.LimitLemmas.{limit_claim}
@@ -63,9 +63,9 @@ most_of_limit limit within = leb-true limit 16777216 (and_parts (nat_le 1 limit)
 pub found_of : (t : System (List Bool) ℕ) (class_of : List Bool → List Bool) (estimate : List Bool → ℕ) (is_dead : List Bool → Bool) (max_states : ℕ) (outcome : Outcome GroundListing)
     → IsTrueOutcome t class_of estimate is_dead listed_states max_states outcome
     → (claim : Claim) × AreFound t class_of estimate is_dead claim max_states (listed_states (found_in outcome).store) (found_in outcome).nodes.items
-found_of t class_of estimate is_dead max_states (Found steps cost found) told = (bound cost, told.2)
-found_of t class_of estimate is_dead max_states (Exhausted found) told = (none, told.1)
-found_of t class_of estimate is_dead max_states (States least found) told = (bound least, told.1.found)
+found_of t class_of estimate is_dead max_states (Found steps cost found) stated = (bound cost, stated.2)
+found_of t class_of estimate is_dead max_states (Exhausted found) stated = (none, stated.1)
+found_of t class_of estimate is_dead max_states (States least found) stated = (bound least, stated.1.found)
 
 -- they are as wide as the atoms are many
 pub found_width : (task : Task) (atoms : List Atom) (numbered : atoms ≡ numbered_atoms task []) {class_of : List Bool → List Bool} {estimate : List Bool → ℕ} {is_dead : List Bool → Bool} {claim : Claim} {most : ℕ} (states : List (List Bool)) (nodes : List Node)
@@ -78,9 +78,9 @@ found_width task atoms numbered states nodes found k bits at =
 -- the estimates of those that wait are told
 estimates_of : (estimate : List Bool → ℕ) (is_dead : List Bool → Bool) (outcome : Outcome GroundListing) → HasEstimates estimate is_dead listed_states outcome
     → AreEstimates estimate is_dead (listed_states (found_in outcome).store) (found_in outcome).nodes.items (found_in outcome).estimates.items
-estimates_of estimate is_dead (Found steps cost found) told = told
-estimates_of estimate is_dead (Exhausted found) told = told
-estimates_of estimate is_dead (States least found) told = told
+estimates_of estimate is_dead (Found steps cost found) stated = stated
+estimates_of estimate is_dead (Exhausted found) stated = stated
+estimates_of estimate is_dead (States least found) stated = stated
 
 -- so each has its mark
 module _ (space : SearchSpace) (estimate : List Bool → ℕ) (is_dead : List Bool → Bool) (limits : Limits) (outcome : Outcome GroundListing)
@@ -145,8 +145,8 @@ module _ {S A : Type 0} (t : System S A) (class_of : S → S) (value : S → ℕ
     expanded_goals_allowed = λ line at is_open goal.
         never cost (most + most_value) line.cost more (found.closed.expanded_goals_allowed line at is_open goal) (omega (arith, (within line at).0));
     cuts_allowed = λ line rest at cut.
-        let told = cut_told value is_dead states nodes line rest at cut in
-        never cost (most + most_value) (line.cost + rest) more (found.closed.cuts_allowed line rest at cut) (omega (arith, told, (within line at).0, (within line at).1));
+        let stated = cut_reported value is_dead states nodes line rest at cut in
+        never cost (most + most_value) (line.cost + rest) more (found.closed.cuts_allowed line rest at cut) (omega (arith, stated, (within line at).0, (within line at).1));
   }
 
   bound_within : AreClassesOf t class_of → IsAdmissible t value → ReportsDeadEnds t is_dead → (plan : List A) → Solves t plan → cost ≤ most + most_value

@@ -13,7 +13,7 @@ use Rattle.packed_state.specs.Sets.{has}
 use Rattle.packed_state.specs.Store.{AreDistinct}
 use Rattle.search.specs.declared.nodes.Node.{Node}
 use Rattle.search.specs.Outcome as search
-use Rattle.search.proofs.Closed.{cut_told, dead_told}
+use Rattle.search.proofs.Closed.{cut_reported, dead_reported}
 use Rattle.search.specs.Outcome.{AreFound, AreExpandedWithin, AreOfOneClass, IsReachableAt}
 use Rattle.lower_bounds.specs.Settled.{initial_value}
 use Rattle.solver.specs.Improved.{AreSettledOrHigh, AreDeadSettledOrHigh, HasSettledOrHigh}
@@ -228,8 +228,8 @@ module _ (task : Task) (claim : Claim) (most : ℕ) (exchanges : List Exchange) 
         subst (λ (s : State). IsSupported task made s (by_all line.mark)) (sym same) (
         elim line.mark as (λ m. line.mark ≡ m → IsSupported task made (state_of_bits task atoms line.state) (by_all m)) [
           | expanded ↦ λ is_open. tt
-          | cut rest ↦ λ is_cut. omega (arith, cut_told (estimate_by guidance) (reports_dead guidance) states nodes line rest among is_cut, same_value k line.state at)
-          | dead ↦ λ is_dead. same_dead k line.state at ∙ dead_told (estimate_by guidance) (reports_dead guidance) states nodes line among is_dead
+          | cut rest ↦ λ is_cut. omega (arith, cut_reported (estimate_by guidance) (reports_dead guidance) states nodes line rest among is_cut, same_value k line.state at)
+          | dead ↦ λ is_dead. same_dead k line.state at ∙ dead_reported (estimate_by guidance) (reports_dead guidance) states nodes line among is_dead
         ] refl
         )
 

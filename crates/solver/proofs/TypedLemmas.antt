@@ -84,8 +84,8 @@ above_above task type above higher whole is_above is_higher =
 below_wider : (task : Task) (narrow wide : Union) (type : ℕ) → chains task ≡ true → list_all (is_below task wide) narrow ≡ true → is_below task narrow type ≡ true → is_below task wide type ≡ true
 below_wider task narrow wide type whole wider below =
     let (above, is_above, named) = number_of (λ n. list_any (nat_eq n) narrow) (supertypes_of task type) below in
-    let (higher, is_higher, wanted) = number_of (λ n. list_any (nat_eq n) wide) (supertypes_of task above) (number_passes (is_below task wide) narrow above named wider) in
-    one_passes (λ n. list_any (nat_eq n) wide) (supertypes_of task type) higher (above_above task type above higher whole is_above is_higher) wanted
+    let (higher, is_higher, required) = number_of (λ n. list_any (nat_eq n) wide) (supertypes_of task above) (number_passes (is_below task wide) narrow above named wider) in
+    one_passes (λ n. list_any (nat_eq n) wide) (supertypes_of task type) higher (above_above task type above higher whole is_above is_higher) required
 
 of_wider : (task : Task) (narrow wide : Union) (o : ℕ) → chains task ≡ true → list_all (is_below task wide) narrow ≡ true → is_of task narrow o ≡ true → is_of task wide o ≡ true
 of_wider task narrow wide o whole wider of =

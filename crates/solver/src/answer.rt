@@ -9,7 +9,7 @@ ghost use Rattle.solver.specs.Guided.{IsEnding, IsGuidanceFor, IsHalted, IsSearc
 ghost use Rattle.ground_listings.specs.Exchanges.{AreExchangesFor};
 ghost use Rattle.symmetries.specs.Exchange.{exchange_of};
 ghost use Rattle.solver.specs.Improved.{AreSettledOrHigh, AreDeadSettledOrHigh};
-ghost use Rattle.devices.specs.Progress.{GoesOn};
+ghost use Rattle.devices.specs.Progress.{MayContinue};
 ghost use Rattle.solver.specs.Said.{HasEnded, IsLineWithin, IsTrueLine, IsTrueReport, is_marked_expanded, report_of};
 ghost use Rattle.model.specs.NumberedAtoms.{numbered_atoms};
 ghost use Rattle.ground_listings.specs.SearchSpace.{ground_in, IsSearchSpace};
@@ -151,7 +151,7 @@ pub fn solve_and_say<E: Sink + Clock>(
 ) -> Result<Answer, NoMemory>
     ensures answer { IfOk result (IsTrueAnswer (task_of task.now) limits.seconds limits.states limits.instances) }
     ensures version { IfOk result (HasVersionUpTo (number_of limits.version)) }
-    ensures said { GoesOn (IsTrueLine (task_of task.now) limits.seconds limits.states limits.instances) E.may_lack_memory (E.failures err.old) (E.taken err.old) (E.failures err.new) (E.taken err.new) }
+    ensures said { MayContinue (IsTrueLine (task_of task.now) limits.seconds limits.states limits.instances) E.may_lack_memory (E.failures err.old) (E.taken err.old) (E.failures err.new) (E.taken err.new) }
     ensures ended { IfOk result (HasEnded E.may_lack_memory (E.failures err.new) (E.taken err.new)) }
 {
     match Ground::new(alloc, task, &[], limits.instances()) {
@@ -167,7 +167,7 @@ pub fn solve_and_say<E: Sink + Clock>(
 
 /// Reports the end: the option that raises the exceeded limit, and the size of the answer's certificate, if there are such.
 fn say_end<E: Sink>(alloc: Global, answer: &Answer, err: &mut E) -> Result<(), NoMemory>
-    ensures said { (task : model.Task) (seconds : Option ℕ) (states instances : ℕ) → IsTrueAnswer task seconds states instances answer.now → GoesOn (IsTrueLine task seconds states instances) E.may_lack_memory (E.failures err.old) (E.taken err.old) (E.failures err.new) (E.taken err.new) }
+    ensures said { (task : model.Task) (seconds : Option ℕ) (states instances : ℕ) → IsTrueAnswer task seconds states instances answer.now → MayContinue (IsTrueLine task seconds states instances) E.may_lack_memory (E.failures err.old) (E.taken err.old) (E.failures err.new) (E.taken err.new) }
     ensures ended { OnOk result (HasEnded E.may_lack_memory (E.failures err.new) (E.taken err.new) answer.now) }
 {
     match answer {
@@ -179,7 +179,7 @@ fn say_end<E: Sink>(alloc: Global, answer: &Answer, err: &mut E) -> Result<(), N
 
 /// Reports the end where a limit is exceeded.
 fn say_limit<E: Sink>(alloc: Global, limit: &Exceeded, err: &mut E) -> Result<(), NoMemory>
-    ensures said { (task : model.Task) (seconds : Option ℕ) (states instances : ℕ) → IsTrueAnswer task seconds states instances (Unknown limit.now) → GoesOn (IsTrueLine task seconds states instances) E.may_lack_memory (E.failures err.old) (E.taken err.old) (E.failures err.new) (E.taken err.new) }
+    ensures said { (task : model.Task) (seconds : Option ℕ) (states instances : ℕ) → IsTrueAnswer task seconds states instances (Unknown limit.now) → MayContinue (IsTrueLine task seconds states instances) E.may_lack_memory (E.failures err.old) (E.taken err.old) (E.failures err.new) (E.taken err.new) }
     ensures ended { OnOk result (HasEnded E.may_lack_memory (E.failures err.new) (E.taken err.new) (Unknown limit.now)) }
 {
     match limit {
@@ -230,7 +230,7 @@ fn solve_ground<E: Sink + Clock>(
     requires ground { IsGroundOf (task_in ground.now) [] limits.instances ground.now }
     ensures answer { IfOk result (IsTrueAnswer (task_in ground.now) limits.seconds limits.states limits.instances) }
     ensures version { IfOk result (HasVersionUpTo (number_of limits.version)) }
-    ensures said { GoesOn (IsLineWithin (task_in ground.now) limits) E.may_lack_memory (E.failures err.old) (E.taken err.old) (E.failures err.new) (E.taken err.new) }
+    ensures said { MayContinue (IsLineWithin (task_in ground.now) limits) E.may_lack_memory (E.failures err.old) (E.taken err.old) (E.failures err.new) (E.taken err.new) }
     ensures ended { IfOk result (HasEnded E.may_lack_memory (E.failures err.new) (E.taken err.new)) }
 {
     say(alloc, ground_report(ground), err)?;
@@ -260,7 +260,7 @@ fn solve_in_version<E: Sink + Clock>(
     requires typed { IsTrue (is_task (task_in ground.now)) }
     requires ground { IsGroundOf (task_in ground.now) [] limits.instances ground.now }
     ensures answer { IfOk result (IsAnswerWithin (task_in ground.now) limits) }
-    ensures said { GoesOn (IsLineWithin (task_in ground.now) limits) E.may_lack_memory (E.failures err.old) (E.taken err.old) (E.failures err.new) (E.taken err.new) }
+    ensures said { MayContinue (IsLineWithin (task_in ground.now) limits) E.may_lack_memory (E.failures err.old) (E.taken err.old) (E.failures err.new) (E.taken err.new) }
 {
     if !limits.allow_version_three() {
         return solve_listed(alloc, SearchSpace::Alone(ground), limits, err);
@@ -282,7 +282,7 @@ fn solve_by_exchanges<E: Sink + Clock>(
     requires ground { IsGroundOf (task_in ground.now) [] limits.instances ground.now }
     requires exchanges { AreExchangesFor ground.now (map exchange_of exchanges.now) }
     ensures answer { IfOk result (IsAnswerWithin (task_in ground.now) limits) }
-    ensures said { GoesOn (IsLineWithin (task_in ground.now) limits) E.may_lack_memory (E.failures err.old) (E.taken err.old) (E.failures err.new) (E.taken err.new) }
+    ensures said { MayContinue (IsLineWithin (task_in ground.now) limits) E.may_lack_memory (E.failures err.old) (E.taken err.old) (E.failures err.new) (E.taken err.new) }
 {
     if exchanges.is_empty() {
         return solve_listed(alloc, SearchSpace::Alone(ground), limits, err);
@@ -306,7 +306,7 @@ fn solve_listed<E: Sink + Clock>(
     requires space { IsSearchSpace space }
     requires ground { IsGroundOf (task_in (ground_in space)) [] limits.instances (ground_in space) }
     ensures answer { IfOk result (IsAnswerWithin (task_in (ground_in space.entry)) limits) }
-    ensures said { GoesOn (IsLineWithin (task_in (ground_in space.entry)) limits) E.may_lack_memory (E.failures err.old) (E.taken err.old) (E.failures err.new) (E.taken err.new) }
+    ensures said { MayContinue (IsLineWithin (task_in (ground_in space.entry)) limits) E.may_lack_memory (E.failures err.old) (E.taken err.old) (E.failures err.new) (E.taken err.new) }
 {
     let ground = space.ground();
     let groundwork = Groundwork::new(alloc, ground)?;
@@ -336,7 +336,7 @@ fn solve_by_potentials<E: Sink + Clock>(
     requires dead_ends { fair.ground_in dead_ends.now ≡ ground_in setting.space }
     requires dead_ends_improved { AreDeadSettledOrHigh (task_in (ground_in setting.space)) (atoms_in (ground_in setting.space)) (potentials_in dead_ends.now) }
     ensures answer { IfOk result (IsAnswerWithin (task_in (ground_in setting.entry.space)) setting.entry.limits) }
-    ensures said { GoesOn (IsLineWithin (task_in (ground_in setting.entry.space)) setting.entry.limits) E.may_lack_memory (E.failures err.old) (E.taken err.old) (E.failures err.new) (E.taken err.new) }
+    ensures said { MayContinue (IsLineWithin (task_in (ground_in setting.entry.space)) setting.entry.limits) E.may_lack_memory (E.failures err.old) (E.taken err.old) (E.failures err.new) (E.taken err.new) }
 {
     let guide = EstimateWithDeadEnds::new(estimate, dead_ends);
     let given = Given {

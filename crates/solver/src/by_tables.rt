@@ -18,7 +18,7 @@ ghost use Rattle.solver.specs.Guided.{IsEnding};
 ghost use Rattle.solver.specs.Improved.{AreSettledOrHigh, AreDeadSettledOrHigh};
 ghost use Rattle.ground_listings.specs.SearchSpace.{ground_in, IsSearchSpace};
 ghost use Rattle.solver.specs.SeveralOver.{several_over};
-ghost use Rattle.devices.specs.Progress.{GoesOn};
+ghost use Rattle.devices.specs.Progress.{MayContinue};
 ghost use Rattle.solver.specs.Said.{IsLineWithin};
 ghost use Rattle.solver.specs.Solver.{IsAnswerWithin};
 ghost use Rattle.solver.specs.Versions.{number_of};
@@ -36,7 +36,7 @@ use crate::searched::{Ending, search_by};
 use crate::setting::Setting;
 use crate::stopped::Stopped;
 use certificate::{Evidence, Landmarks, Version, WrittenPotentials};
-use cost_partitioning::{DraftedTables, Wanted, drafted_tables};
+use cost_partitioning::{DraftInput, DraftedTables, drafted_tables};
 use devices::Sink;
 use devices_clock::Clock;
 use faults::NoMemory;
@@ -79,7 +79,7 @@ pub(crate) fn solve_by_tables<E: Sink + Clock>(
     requires improved { AreSettledOrHigh (task_in (ground_in setting.space)) (atoms_in (ground_in setting.space)) (potentials_of stopped.now.potentials.now) }
     requires dead_ends_improved { AreDeadSettledOrHigh (task_in (ground_in setting.space)) (atoms_in (ground_in setting.space)) (potentials_of stopped.now.dead_ends.now) }
     ensures answer { IfOk result (IfDone (IsAnswerWithin (task_in (ground_in setting.entry.space)) setting.entry.limits)) }
-    ensures said { GoesOn (IsLineWithin (task_in (ground_in setting.entry.space)) setting.entry.limits) E.may_lack_memory (E.failures err.old) (E.taken err.old) (E.failures err.new) (E.taken err.new) }
+    ensures said { MayContinue (IsLineWithin (task_in (ground_in setting.entry.space)) setting.entry.limits) E.may_lack_memory (E.failures err.old) (E.taken err.old) (E.failures err.new) (E.taken err.new) }
 {
     let Setting { alloc, space, .. } = setting;
     if setting.limits.are_over(err) {
@@ -122,14 +122,14 @@ fn drafted(
 {
     let states = stopped.samples(alloc)?;
     let starts = space.other_starts(alloc, &states)?;
-    let wanted = Wanted {
+    let required = DraftInput {
         potentials: stopped.potentials,
         dead_ends: stopped.dead_ends,
         states: &states,
         starts: &starts,
         effort: stopped.effort,
     };
-    let draft = drafted_tables(alloc, space.ground(), &wanted)?;
+    let draft = drafted_tables(alloc, space.ground(), &required)?;
     Ok(draft)
 }
 
@@ -164,7 +164,7 @@ fn answer_by_tables<E: Sink + Clock>(
     requires improved { AreSettledOrHigh (task_in (ground_in setting.space)) (atoms_in (ground_in setting.space)) (potentials_of stopped.now.potentials.now) }
     requires dead_ends_improved { AreDeadSettledOrHigh (task_in (ground_in setting.space)) (atoms_in (ground_in setting.space)) (evidence_of draft.evidence).dead_ends }
     ensures answer { IfOk result (IfDone (IsAnswerWithin (task_in (ground_in setting.entry.space)) setting.entry.limits)) }
-    ensures said { GoesOn (IsLineWithin (task_in (ground_in setting.entry.space)) setting.entry.limits) E.may_lack_memory (E.failures err.old) (E.taken err.old) (E.failures err.new) (E.taken err.new) }
+    ensures said { MayContinue (IsLineWithin (task_in (ground_in setting.entry.space)) setting.entry.limits) E.may_lack_memory (E.failures err.old) (E.taken err.old) (E.failures err.new) (E.taken err.new) }
 {
     let Draft {
         evidence,
@@ -206,7 +206,7 @@ fn search_by_tables<'l, 't, E: Sink + Clock>(
     ensures fair { IfOk result (IfDone (λ _. AreFair (task_in (ground_in setting.entry.space)) (atoms_in (ground_in setting.entry.space)) (evidence_of over.entry.evidence.now))) }
     ensures no_lower { IfOk result (IfDone (λ _. initial_value (task_in (ground_in setting.entry.space)) (atoms_in (ground_in setting.entry.space)) (potentials_of stopped.now.potentials.now) ≤ estimate_by (by_tables (evidence_of over.entry.evidence.now)) (ground_system (task_in (ground_in setting.entry.space)) (atoms_in (ground_in setting.entry.space))).initial)) }
     ensures ending { IfOk result (IfDone (IsEnding setting.entry.space (estimate_by (by_tables (evidence_of over.entry.evidence.now))) (reports_dead (by_tables (evidence_of over.entry.evidence.now))) setting.entry.limits)) }
-    ensures said { GoesOn (IsLineWithin (task_in (ground_in setting.entry.space)) setting.entry.limits) E.may_lack_memory (E.failures err.old) (E.taken err.old) (E.failures err.new) (E.taken err.new) }
+    ensures said { MayContinue (IsLineWithin (task_in (ground_in setting.entry.space)) setting.entry.limits) E.may_lack_memory (E.failures err.old) (E.taken err.old) (E.failures err.new) (E.taken err.new) }
 {
     let alloc = setting.alloc;
     let ground = setting.space.ground();
@@ -261,7 +261,7 @@ fn search_if_fair<'l, 't, E: Sink + Clock>(
     requires width { width_of functions ≡ length (atoms_in (ground_in setting.space)) }
     ensures fair { IfOk result (IfDone (λ _. AreFair (task_in (ground_in setting.entry.space)) (atoms_in (ground_in setting.entry.space)) (several_of functions.entry))) }
     ensures ending { IfOk result (IfDone (IsEnding setting.entry.space (estimate_by (by_tables (several_of functions.entry))) (reports_dead (by_tables (several_of functions.entry))) setting.entry.limits)) }
-    ensures said { GoesOn (IsLineWithin (task_in (ground_in setting.entry.space)) setting.entry.limits) E.may_lack_memory (E.failures err.old) (E.taken err.old) (E.failures err.new) (E.taken err.new) }
+    ensures said { MayContinue (IsLineWithin (task_in (ground_in setting.entry.space)) setting.entry.limits) E.may_lack_memory (E.failures err.old) (E.taken err.old) (E.failures err.new) (E.taken err.new) }
 {
     if setting.limits.are_over(err) {
         return Ok(Attempt::InVain);

@@ -7,7 +7,7 @@ ghost use Rattle.search.specs.UnderWay.{store_in, nodes_of};
 ghost use Rattle.solver.specs.Attempts.{IfDone};
 ghost use Rattle.solver.specs.Improved.{AreSettledOrHigh, AreDeadSettledOrHigh};
 ghost use Rattle.ground_listings.specs.SearchSpace.{ground_in, system_of, IsSearchSpace};
-ghost use Rattle.devices.specs.Progress.{GoesOn};
+ghost use Rattle.devices.specs.Progress.{MayContinue};
 ghost use Rattle.solver.specs.Said.{IsLineWithin};
 ghost use Rattle.solver.specs.Solver.{IsAnswerWithin};
 ghost use Rattle.solver.specs.Versions.{number_of};
@@ -24,7 +24,7 @@ use cost_partitioning::Effort;
 use devices::Sink;
 use devices_clock::Clock;
 use faults::NoMemory;
-use ground_listings::GroundListing;
+use ground_listings::{GroundListing, SearchSpace};
 use potentials::Potentials;
 use search::{Guide, Search};
 
@@ -42,6 +42,15 @@ const QUICK: Pause = Pause {
     states: 100_000,
     effort: Effort::Quick,
 };
+
+/// The first pause where states take long.
+const QUICK_IF_DEAR: Pause = Pause {
+    states: 50_000,
+    effort: Effort::Quick,
+};
+
+/// With this many exchanges of objects or more, states take long: each has to be made its representative.
+const MANY_EXCHANGES: usize = 3;
 
 /// The second pause, if a quick draft is promising.
 const THOROUGH: Pause = Pause {
@@ -99,10 +108,10 @@ pub(crate) fn search_in_parts<'l, 't, G: Guide, E: Sink + Clock>(
     requires improved { AreSettledOrHigh (task_in (ground_in session.now.setting.space)) (atoms_in (ground_in session.now.setting.space)) (potentials_of given.potentials.now) }
     requires dead_ends_improved { AreDeadSettledOrHigh (task_in (ground_in session.now.setting.space)) (atoms_in (ground_in session.now.setting.space)) (potentials_of given.dead_ends.now) }
     ensures end { IfOk result (IsTrueEnd session.now.setting.space (G.estimate_of session.now.guide.now) (G.is_dead session.now.guide.now) session.now.setting.limits) }
-    ensures said { GoesOn (IsLineWithin (task_in (ground_in session.now.setting.space)) session.now.setting.limits) E.may_lack_memory (E.failures err.old) (E.taken err.old) (E.failures err.new) (E.taken err.new) }
+    ensures said { MayContinue (IsLineWithin (task_in (ground_in session.now.setting.space)) session.now.setting.limits) E.may_lack_memory (E.failures err.old) (E.taken err.old) (E.failures err.new) (E.taken err.new) }
 {
     let drafting = Drafting {
-        pause: QUICK,
+        pause: first_pause(session.setting.space),
         given,
     };
     let search = begin_by(session)?;
@@ -113,6 +122,20 @@ pub(crate) fn search_in_parts<'l, 't, G: Guide, E: Sink + Clock>(
         Part::Ended(parts) => Ok(parts),
         Part::Promising(search) => search_on(session, search, given, err),
         Part::InVain(search) => search_to_end(session, search, err),
+    }
+}
+
+/// The first pause of a search of this space.
+fn first_pause(space: SearchSpace<'_, '_>) -> Pause {
+    match space {
+        SearchSpace::Alone(_) => QUICK,
+        SearchSpace::Orbits(representatives) => {
+            if representatives.exchanges().len() < MANY_EXCHANGES {
+                QUICK
+            } else {
+                QUICK_IF_DEAR
+            }
+        }
     }
 }
 
@@ -133,7 +156,7 @@ fn search_on<'l, 't, G: Guide, E: Sink + Clock>(
     requires improved { AreSettledOrHigh (task_in (ground_in session.now.setting.space)) (atoms_in (ground_in session.now.setting.space)) (potentials_of given.potentials.now) }
     requires dead_ends_improved { AreDeadSettledOrHigh (task_in (ground_in session.now.setting.space)) (atoms_in (ground_in session.now.setting.space)) (potentials_of given.dead_ends.now) }
     ensures end { IfOk result (IsTrueEnd session.now.setting.space (G.estimate_of session.now.guide.now) (G.is_dead session.now.guide.now) session.now.setting.limits) }
-    ensures said { GoesOn (IsLineWithin (task_in (ground_in session.now.setting.space)) session.now.setting.limits) E.may_lack_memory (E.failures err.old) (E.taken err.old) (E.failures err.new) (E.taken err.new) }
+    ensures said { MayContinue (IsLineWithin (task_in (ground_in session.now.setting.space)) session.now.setting.limits) E.may_lack_memory (E.failures err.old) (E.taken err.old) (E.failures err.new) (E.taken err.new) }
 {
     let drafting = Drafting {
         pause: THOROUGH,
@@ -157,7 +180,7 @@ fn search_to_end<'l, 't, G: Guide, E: Sink + Clock>(
     requires guide_width { G.width_of session.now.guide.now ≡ length (atoms_in (ground_in session.now.setting.space)) }
     requires under_way { IsUnderWay session.now.setting.space (G.estimate_of session.now.guide.now) (G.is_dead session.now.guide.now) (G.fits session.now.guide.now) session.now.setting.limits.states search }
     ensures end { IfOk result (IsTrueEnd session.now.setting.space (G.estimate_of session.now.guide.now) (G.is_dead session.now.guide.now) session.now.setting.limits) }
-    ensures said { GoesOn (IsLineWithin (task_in (ground_in session.now.setting.space)) session.now.setting.limits) E.may_lack_memory (E.failures err.old) (E.taken err.old) (E.failures err.new) (E.taken err.new) }
+    ensures said { MayContinue (IsLineWithin (task_in (ground_in session.now.setting.space)) session.now.setting.limits) E.may_lack_memory (E.failures err.old) (E.taken err.old) (E.failures err.new) (E.taken err.new) }
 {
     let ending = finish_by(session, search, err)?;
     Ok(Parts::ByGuide(ending))
@@ -180,7 +203,7 @@ fn search_to_pause<'l, 't, G: Guide, E: Sink + Clock>(
     requires improved { AreSettledOrHigh (task_in (ground_in session.now.setting.space)) (atoms_in (ground_in session.now.setting.space)) (potentials_of drafting.given.potentials.now) }
     requires dead_ends_improved { AreDeadSettledOrHigh (task_in (ground_in session.now.setting.space)) (atoms_in (ground_in session.now.setting.space)) (potentials_of drafting.given.dead_ends.now) }
     ensures part { IfOk result (IsTruePart session.now.setting.space (G.estimate_of session.now.guide.now) (G.is_dead session.now.guide.now) (G.fits session.now.guide.now) session.now.setting.limits) }
-    ensures said { GoesOn (IsLineWithin (task_in (ground_in session.now.setting.space)) session.now.setting.limits) E.may_lack_memory (E.failures err.old) (E.taken err.old) (E.failures err.new) (E.taken err.new) }
+    ensures said { MayContinue (IsLineWithin (task_in (ground_in session.now.setting.space)) session.now.setting.limits) E.may_lack_memory (E.failures err.old) (E.taken err.old) (E.failures err.new) (E.taken err.new) }
 {
     let pause = drafting.pause.states;
     if pause >= session.setting.limits.states() {
@@ -229,7 +252,7 @@ fn solve_at_pause<R, E: Sink + Clock>(
     requires improved { AreSettledOrHigh (task_in (ground_in setting.space)) (atoms_in (ground_in setting.space)) (potentials_of drafting.given.potentials.now) }
     requires dead_ends_improved { AreDeadSettledOrHigh (task_in (ground_in setting.space)) (atoms_in (ground_in setting.space)) (potentials_of drafting.given.dead_ends.now) }
     ensures answer { IfOk result (IfDone (IsAnswerWithin (task_in (ground_in setting.entry.space)) setting.entry.limits)) }
-    ensures said { GoesOn (IsLineWithin (task_in (ground_in setting.entry.space)) setting.entry.limits) E.may_lack_memory (E.failures err.old) (E.taken err.old) (E.failures err.new) (E.taken err.new) }
+    ensures said { MayContinue (IsLineWithin (task_in (ground_in setting.entry.space)) setting.entry.limits) E.may_lack_memory (E.failures err.old) (E.taken err.old) (E.failures err.new) (E.taken err.new) }
 {
     let Some(bound) = search.bound() else {
         return Ok(Attempt::InVain);

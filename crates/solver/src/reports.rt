@@ -2,7 +2,7 @@
 ghost use Rattle.std.specs.Prelude.{◌≡◌, ℕ, IfOk, OnOk, Option};
 ghost use Rattle.std.specs.String.{string_bytes};
 ghost use Rattle.devices.specs.Devices.{IsWritten};
-ghost use Rattle.devices.specs.Progress.{GoesOn};
+ghost use Rattle.devices.specs.Progress.{MayContinue};
 ghost use Rattle.solver.specs.Said.{IsTrueLine, IsTrueReport, line_of};
 ghost use Rattle.model.specs.Task.{Task};
 
@@ -90,7 +90,7 @@ impl Report {
 /// # Errors
 /// Memory for the line is refused. Nothing is written.
 pub(crate) fn say<E: Sink>(alloc: Global, report: Report, err: &mut E) -> Result<(), NoMemory>
-    ensures said { (task : Task) (seconds : Option ℕ) (states instances : ℕ) → IsTrueReport task seconds states instances report → GoesOn (IsTrueLine task seconds states instances) E.may_lack_memory (E.failures err.old) (E.taken err.old) (E.failures err.new) (E.taken err.new) }
+    ensures said { (task : Task) (seconds : Option ℕ) (states instances : ℕ) → IsTrueReport task seconds states instances report → MayContinue (IsTrueLine task seconds states instances) E.may_lack_memory (E.failures err.old) (E.taken err.old) (E.failures err.new) (E.taken err.new) }
     ensures written { OnOk result (IsWritten E.may_lack_memory (E.failures err.old) (E.failures err.new) (E.taken err.old) (E.taken err.new) (line_of report)) }
 {
     match report.line(alloc) {

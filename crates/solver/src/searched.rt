@@ -8,7 +8,7 @@ ghost use Rattle.search.specs.Outcome.{is_expanded};
 ghost use Rattle.solver.specs.Guided as guided;
 ghost use Rattle.solver.specs.Guided.{AreMarksOf, CanBeMarked, IsEnding, IsMarkOf};
 ghost use Rattle.ground_listings.specs.SearchSpace.{ground_in, system_of, IsSearchSpace};
-ghost use Rattle.devices.specs.Progress.{GoesOn};
+ghost use Rattle.devices.specs.Progress.{MayContinue};
 ghost use Rattle.solver.specs.Said.{IsLineWithin};
 ghost use Rattle.solver.specs.Stretches.{IsBetweenTurns, IsStretch, IsUnderWay};
 
@@ -143,7 +143,7 @@ pub(crate) fn go_on_by<'l, 't, G: Guide, E: Sink + Clock>(
     requires width { G.width_of session.now.guide.now ≡ length (atoms_in (ground_in session.now.setting.space)) }
     requires under_way { IsUnderWay session.now.setting.space (G.estimate_of session.now.guide.now) (G.is_dead session.now.guide.now) (G.fits session.now.guide.now) session.now.setting.limits.states search }
     ensures stretch { IfOk result (IsStretch session.now.setting.space (G.estimate_of session.now.guide.now) (G.is_dead session.now.guide.now) (G.fits session.now.guide.now) pause session.now.setting.limits) }
-    ensures said { GoesOn (IsLineWithin (task_in (ground_in session.now.setting.space)) session.now.setting.limits) E.may_lack_memory (E.failures err.old) (E.taken err.old) (E.failures err.new) (E.taken err.new) }
+    ensures said { MayContinue (IsLineWithin (task_in (ground_in session.now.setting.space)) session.now.setting.limits) E.may_lack_memory (E.failures err.old) (E.taken err.old) (E.failures err.new) (E.taken err.new) }
 {
     let mut search = search;
     let mut said = None;
@@ -171,7 +171,7 @@ fn say_news<G: Guide, E: Sink>(
     requires space { IsSearchSpace session.now.setting.space }
     requires system { G.system_of session.now.guide.now ≡ system_of session.now.setting.space }
     requires successors { IsBetweenTurns session.now.setting.space (G.estimate_of session.now.guide.now) (G.is_dead session.now.guide.now) search.now }
-    ensures { GoesOn (IsLineWithin (task_in (ground_in session.now.setting.space)) session.now.setting.limits) E.may_lack_memory (E.failures err.old) (E.taken err.old) (E.failures err.new) (E.taken err.new) }
+    ensures { MayContinue (IsLineWithin (task_in (ground_in session.now.setting.space)) session.now.setting.limits) E.may_lack_memory (E.failures err.old) (E.taken err.old) (E.failures err.new) (E.taken err.new) }
 {
     let now = Milestone::of(search);
     if !is_news(last, now) {
@@ -190,7 +190,7 @@ fn say_progress<G: Guide, E: Sink>(
     requires space { IsSearchSpace session.now.setting.space }
     requires system { G.system_of session.now.guide.now ≡ system_of session.now.setting.space }
     requires successors { IsBetweenTurns session.now.setting.space (G.estimate_of session.now.guide.now) (G.is_dead session.now.guide.now) search.now }
-    ensures { GoesOn (IsLineWithin (task_in (ground_in session.now.setting.space)) session.now.setting.limits) E.may_lack_memory (E.failures err.old) (E.taken err.old) (E.failures err.new) (E.taken err.new) }
+    ensures { MayContinue (IsLineWithin (task_in (ground_in session.now.setting.space)) session.now.setting.limits) E.may_lack_memory (E.failures err.old) (E.taken err.old) (E.failures err.new) (E.taken err.new) }
 {
     let Some(bound) = search.bound() else {
         return Ok(());
@@ -229,7 +229,7 @@ pub(crate) fn finish_by<'l, 't, G: Guide, E: Sink + Clock>(
     requires width { G.width_of session.now.guide.now ≡ length (atoms_in (ground_in session.now.setting.space)) }
     requires under_way { IsUnderWay session.now.setting.space (G.estimate_of session.now.guide.now) (G.is_dead session.now.guide.now) (G.fits session.now.guide.now) session.now.setting.limits.states search }
     ensures ending { IfOk result (IsEnding session.now.setting.space (G.estimate_of session.now.guide.now) (G.is_dead session.now.guide.now) session.now.setting.limits) }
-    ensures said { GoesOn (IsLineWithin (task_in (ground_in session.now.setting.space)) session.now.setting.limits) E.may_lack_memory (E.failures err.old) (E.taken err.old) (E.failures err.new) (E.taken err.new) }
+    ensures said { MayContinue (IsLineWithin (task_in (ground_in session.now.setting.space)) session.now.setting.limits) E.may_lack_memory (E.failures err.old) (E.taken err.old) (E.failures err.new) (E.taken err.new) }
 {
     match go_on_by(session, search, u32::MAX, err)? {
         Stretch::Ended(ending) => Ok(ending),
@@ -247,7 +247,7 @@ pub(crate) fn search_by<'l, 't, G: Guide, E: Sink + Clock>(
     requires system { G.system_of guide.now ≡ system_of setting.space }
     requires width { G.width_of guide.now ≡ length (atoms_in (ground_in setting.space)) }
     ensures ending { IfOk result (IsEnding setting.entry.space (G.estimate_of guide.now) (G.is_dead guide.now) setting.entry.limits) }
-    ensures said { GoesOn (IsLineWithin (task_in (ground_in setting.entry.space)) setting.entry.limits) E.may_lack_memory (E.failures err.old) (E.taken err.old) (E.failures err.new) (E.taken err.new) }
+    ensures said { MayContinue (IsLineWithin (task_in (ground_in setting.entry.space)) setting.entry.limits) E.may_lack_memory (E.failures err.old) (E.taken err.old) (E.failures err.new) (E.taken err.new) }
 {
     let session = Session { setting, guide };
     let search = begin_by(&session)?;

@@ -164,14 +164,14 @@ stays_wide r bits new number is = ap length (is ∙ swapped_pairs (swaps_of r) b
 -- Where an image by the first exchange has been taken whose image comes before: of those whose images come before the new one the first
 -- is looked for among these neighbours.
 module _ (r : Representatives) (bits : List Bool) (number : ℕ) (finds : FindsFrom (swaps_of r) bits 0 (Some number)) (lowest : Lowest) (at : lowest ≡ get_or r.neighbours.items number lowest) where
-  are_told : AreNeighbours (swaps_of r) number lowest
-  are_told = r.apart number lowest (slice_get-get_or r.neighbours.items number lowest (neighbours_inside r bits number finds.0) ∙ ap Some (sym at))
+  are_reported : AreNeighbours (swaps_of r) number lowest
+  are_reported = r.apart number lowest (slice_get-get_or r.neighbours.items number lowest (neighbours_inside r bits number finds.0) ∙ ap Some (sym at))
 
   -- one at a place is there
   pub neighbour_inside : (place : ℕ) → slice_index lowest.numbers.items place < length (swaps_of r)
   neighbour_inside place =
       let inside = number_inside r bits number finds.0 in
-      let low = (are_told.0 place).0 in
+      let low = (are_reported.0 place).0 in
       omega (arith, inside, low)
 
   module _ (new : List Bool) (is : new ≡ swapped_at (swaps_of r) bits number) where
@@ -192,7 +192,7 @@ module _ (r : Representatives) (bits : List Bool) (number : ℕ) (finds : FindsF
         → is_earlier_at (swaps_of r) new found ≡ true → FindsFrom (swaps_of r) new 0 (Some found)
     neighbour_first place found same none passes = (
       passes,
-      λ n from below. none_below (take place lowest.numbers.items) (slice_index lowest.numbers.items place) (are_told.0 place) none n (omega (arith, below, same)),
+      λ n from below. none_below (take place lowest.numbers.items) (slice_index lowest.numbers.items place) (are_reported.0 place) none n (omega (arith, below, same)),
     )
 
     -- and if none of them is, it is found further on
@@ -201,12 +201,12 @@ module _ (r : Representatives) (bits : List Bool) (number : ℕ) (finds : FindsF
     first_beyond none None further = λ n from. by_place n (cases_lt n lowest.from)
       where
         by_place : (n : ℕ) → (n < lowest.from) ⊎ (lowest.from ≤ n) → is_earlier_at (swaps_of r) new n ≡ false
-        by_place n (inl below) = none_below lowest.numbers.items lowest.from are_told.1 none n below
+        by_place n (inl below) = none_below lowest.numbers.items lowest.from are_reported.1 none n below
         by_place n (inr past) = further n past
     first_beyond none (Some found) further = (further.0, λ n from less. by_place n less (cases_lt n lowest.from))
       where
         by_place : (n : ℕ) → n < found → (n < lowest.from) ⊎ (lowest.from ≤ n) → is_earlier_at (swaps_of r) new n ≡ false
-        by_place n less (inl below) = none_below lowest.numbers.items lowest.from are_told.1 none n below
+        by_place n less (inl below) = none_below lowest.numbers.items lowest.from are_reported.1 none n below
         by_place n less (inr past) = further.1 n past less
 
 -- ---- how many images are left

@@ -5,7 +5,7 @@ use Rattle.std.proofs.lemmas.Bool.{cases_eq, cases_lt, or_right, eq-eqb, true≢
 use Rattle.std.proofs.Math.Seq.{take-append_seam}
 use Rattle.symmetries.specs.declared.lowest.Lowest.{Lowest}
 use Rattle.symmetries.specs.Apart.{is_in, is_among, pairs_at, AreAllBelow}
-use Rattle.symmetries.specs.Lowest.{tells_at, AreNoted, AreListed, AreLowest, AreNeighbours, AreAllNeighbours}
+use Rattle.symmetries.specs.Lowest.{may_move_at, AreNoted, AreListed, AreLowest, AreNeighbours, AreAllNeighbours}
 
 -- what a slice of a vector became is the vector
 pub written_back : (width : ℕ) (old new : List Lowest) → length new ≡ width → take width (new ++ drop (length new) old) ≡ new
@@ -45,15 +45,15 @@ pushed bound (x ∷ xs) (suc place) = further (pushed bound xs place)
 
 module _ (noted : List Lowest) (pairs : List (ℕ × ℕ)) (listed : List ℕ) (bound : ℕ) (all : AreListed noted pairs listed bound) where
   -- the bound is listed, and none is left out up to the next one
-  listed_more : (next : ℕ) → ((atom n : ℕ) → is_in pairs atom ≡ true → tells_at noted atom n ≡ true → bound + 1 ≤ n → next ≤ n) → AreListed noted pairs (listed ++ bound ∷ []) next
-  listed_more next least atom n at told below = by_place (cases_lt n bound)
+  listed_more : (next : ℕ) → ((atom n : ℕ) → is_in pairs atom ≡ true → may_move_at noted atom n ≡ true → bound + 1 ≤ n → next ≤ n) → AreListed noted pairs (listed ++ bound ∷ []) next
+  listed_more next least atom n at reported below = by_place (cases_lt n bound)
     where
       by_bound : (n ≡ bound) ⊎ (n ≡ bound → ⊥) → bound ≤ n → is_among (listed ++ bound ∷ []) n ≡ true
       by_bound (inl is) past = ap (is_among (listed ++ bound ∷ [])) is ∙ among_last listed bound
-      by_bound (inr other) past = let beyond = least atom n at told (omega (arith, past, other)) in absurd (omega (arith, beyond, below))
+      by_bound (inr other) past = let beyond = least atom n at reported (omega (arith, past, other)) in absurd (omega (arith, beyond, below))
 
       by_place : (n < bound) ⊎ (bound ≤ n) → is_among (listed ++ bound ∷ []) n ≡ true
-      by_place (inl less) = among_left listed (bound ∷ []) n (all atom n at told less)
+      by_place (inl less) = among_left listed (bound ∷ []) n (all atom n at reported less)
       by_place (inr past) = by_bound (cases_eq n bound) past
 
   -- and before each that is listed stand all below it
@@ -66,7 +66,7 @@ module _ (noted : List Lowest) (pairs : List (ℕ × ℕ)) (listed : List ℕ) (
           subst (λ n. AreListed noted pairs (take place (listed ++ bound ∷ [])) n) (sym here) (subst (λ l. AreListed noted pairs l (slice_index listed place)) (sym first) (rising place))
       by_place (last first here) =
           subst (λ n. AreListed noted pairs (take place (listed ++ bound ∷ [])) n) (sym here) (subst (λ l. AreListed noted pairs l bound) (sym first) all)
-      by_place (beyond none) = λ atom n at told below. absurd (omega (arith, none, below))
+      by_place (beyond none) = λ atom n at reported below. absurd (omega (arith, none, below))
 
 low_more : (listed : List ℕ) (bound number : ℕ) → ((place : ℕ) → slice_index listed place ≤ number) → bound ≤ number → (place : ℕ) → slice_index (listed ++ bound ∷ []) place ≤ number
 low_more listed bound number low most place = by_place (pushed bound listed place)
@@ -80,17 +80,17 @@ low_more listed bound number low most place = by_place (pushed bound listed plac
 
 module _ (noted : List Lowest) (pairs : List (ℕ × ℕ)) (number : ℕ) where
   pub lowest_none : (listed : List ℕ) (next : ℕ) → listed ≡ [] → next ≤ number
-      → ((atom n : ℕ) → is_in pairs atom ≡ true → tells_at noted atom n ≡ true → 0 ≤ n → next ≤ n) → AreLowest noted pairs number listed next
+      → ((atom n : ℕ) → is_in pairs atom ≡ true → may_move_at noted atom n ≡ true → 0 ≤ n → next ≤ n) → AreLowest noted pairs number listed next
   lowest_none listed next is most least =
       subst (λ l. AreLowest noted pairs number l next) (sym is) (record {
         low = λ place. omega arith;
-        rising = λ place atom n at told below. absurd (omega (arith, below));
+        rising = λ place atom n at reported below. absurd (omega (arith, below));
         most = most;
-        all = λ atom n at told below. let beyond = least atom n at told (omega arith) in absurd (omega (arith, beyond, below));
+        all = λ atom n at reported below. let beyond = least atom n at reported (omega arith) in absurd (omega (arith, beyond, below));
       })
 
   pub lowest_more : (listed new : List ℕ) (bound next : ℕ) → AreLowest noted pairs number listed bound → new ≡ listed ++ bound ∷ [] → next ≤ number
-      → ((atom n : ℕ) → is_in pairs atom ≡ true → tells_at noted atom n ≡ true → bound + 1 ≤ n → next ≤ n) → AreLowest noted pairs number new next
+      → ((atom n : ℕ) → is_in pairs atom ≡ true → may_move_at noted atom n ≡ true → bound + 1 ≤ n → next ≤ n) → AreLowest noted pairs number new next
   lowest_more listed new bound next are is most least =
       subst (λ l. AreLowest noted pairs number l next) (sym is) (record {
         low = low_more listed bound number are.low are.most;
@@ -104,14 +104,14 @@ module _ (noted : List Lowest) (pairs : List (ℕ × ℕ)) (number : ℕ) where
 -- what is noted at an exchange's atoms
 all_below : (swaps : List (List (ℕ × ℕ))) (noted : List Lowest) (number : ℕ) (listed : List ℕ) (bound : ℕ) → AreNoted swaps number noted → bound ≤ number
     → AreListed noted (pairs_at swaps number) listed bound → AreAllBelow swaps number listed bound
-all_below swaps noted number listed bound are low told =
+all_below swaps noted number listed bound are low reported =
     (low, λ other below out atom at. by_test other below out atom at (is_in (pairs_at swaps other) atom) refl)
   where
     by_test : (other : ℕ) → other < bound → is_among listed other ≡ false → (atom : ℕ) → is_in (pairs_at swaps number) atom ≡ true
         → (b : Bool) → is_in (pairs_at swaps other) atom ≡ b → is_in (pairs_at swaps other) atom ≡ false
     by_test other below out atom at false gone = gone
     by_test other below out atom at true here =
-        absurd (true≢false (sym (told atom other at (are other atom (omega (arith, below, low)) here) below) ∙ out))
+        absurd (true≢false (sym (reported atom other at (are other atom (omega (arith, below, low)) here) below) ∙ out))
 
 pub are_neighbours : (swaps : List (List (ℕ × ℕ))) (noted : List Lowest) (number : ℕ) (lowest : Lowest) → AreNoted swaps number noted
     → AreLowest noted (pairs_at swaps number) number lowest.numbers.items lowest.from → AreNeighbours swaps number lowest
@@ -141,10 +141,10 @@ neighbours_more swaps all number lowest long are here one x got = by_place (at_p
 
 -- what is noted of one more
 pub noted_more : (swaps : List (List (ℕ × ℕ))) (old new : List Lowest) (number : ℕ) → AreNoted swaps number old
-    → ((atom n : ℕ) → tells_at old atom n ≡ true → tells_at new atom n ≡ true)
-    → ((atom : ℕ) → is_in (pairs_at swaps number) atom ≡ true → tells_at new atom number ≡ true) → AreNoted swaps (number + 1) new
+    → ((atom n : ℕ) → may_move_at old atom n ≡ true → may_move_at new atom n ≡ true)
+    → ((atom : ℕ) → is_in (pairs_at swaps number) atom ≡ true → may_move_at new atom number ≡ true) → AreNoted swaps (number + 1) new
 noted_more swaps old new number are kept noted swap atom less at = by_number (cases_eq swap number)
   where
-    by_number : (swap ≡ number) ⊎ (swap ≡ number → ⊥) → tells_at new atom swap ≡ true
-    by_number (inl is) = ap (tells_at new atom) is ∙ noted atom (ap (λ k. is_in (pairs_at swaps k) atom) (sym is) ∙ at)
+    by_number : (swap ≡ number) ⊎ (swap ≡ number → ⊥) → may_move_at new atom swap ≡ true
+    by_number (inl is) = ap (may_move_at new atom) is ∙ noted atom (ap (λ k. is_in (pairs_at swaps k) atom) (sym is) ∙ at)
     by_number (inr other) = kept atom swap (are swap atom (omega (arith, less, other)) at)

@@ -1,6 +1,6 @@
 //! The lowest numbers of a growing set.
 ghost use Rattle.std.specs.Prelude.{◌≡◌, ◌≤◌, ℕ, true};
-ghost use Rattle.symmetries.specs.Lowest.{tells};
+ghost use Rattle.symmetries.specs.Lowest.{may_move};
 
 use arrayvec::ArrayVec;
 
@@ -27,8 +27,8 @@ impl Lowest {
 
     /// Adds a number, which is above all others.
     pub(crate) fn note(&mut self, number: usize)
-        ensures kept { (n : ℕ) → tells self.old n ≡ true → tells self.new n ≡ true }
-        ensures noted { tells self.new number ≡ true }
+        ensures kept { (n : ℕ) → may_move self.old n ≡ true → may_move self.new n ≡ true }
+        ensures noted { may_move self.new number ≡ true }
     {
         if self.numbers.is_full() {
             self.from = self.from.min(number);
@@ -39,7 +39,7 @@ impl Lowest {
 
     /// A lower bound of the members that are at least `start`; the least of them if it is kept.
     pub(crate) fn first_from(&self, start: usize) -> usize
-        ensures { (n : ℕ) → tells self.now n ≡ true → start ≤ n → result ≤ n }
+        ensures { (n : ℕ) → may_move self.now n ≡ true → start ≤ n → result ≤ n }
     {
         let mut first = self.from.max(start);
         for &number in self.numbers.as_slice() {

@@ -3,7 +3,7 @@
 ghost use Rattle.std.specs.Prelude.{◌≡◌, ◌<◌, ◌≤◌, ℕ, true, length, map, IfOk};
 ghost use Rattle.symmetries.specs.NumberPairs.{pair_of, swaps_in, AreBelow};
 ghost use Rattle.symmetries.specs.Apart.{is_in, AreAllWithin};
-ghost use Rattle.symmetries.specs.Lowest.{tells_at, AreLowest, AreAllNeighbours};
+ghost use Rattle.symmetries.specs.Lowest.{may_move_at, AreLowest, AreAllNeighbours};
 
 use crate::lowest::{Lowest, MOST};
 use crate::pairs::Pair;
@@ -64,7 +64,7 @@ fn neighbours_of(noted: &[Lowest], pairs: &[Pair], number: usize) -> Lowest
 fn least_from(noted: &[Lowest], pairs: &[Pair], start: usize, number: usize) -> usize
     requires { AreBelow (length noted.now) pairs.now }
     ensures most { result ≤ number }
-    ensures least { (atom n : ℕ) → is_in (map pair_of pairs.now) atom ≡ true → tells_at noted.now atom n ≡ true → start ≤ n → result ≤ n }
+    ensures least { (atom n : ℕ) → is_in (map pair_of pairs.now) atom ≡ true → may_move_at noted.now atom n ≡ true → start ≤ n → result ≤ n }
 {
     let mut least = number;
     for &pair in pairs {
@@ -78,7 +78,7 @@ fn least_from(noted: &[Lowest], pairs: &[Pair], start: usize, number: usize) -> 
 /// A lower bound of what is noted at this place, from `start` on.
 fn first_at(noted: &[Lowest], place: usize, start: usize) -> usize
     requires { place < length noted.now }
-    ensures { (n : ℕ) → tells_at noted.now place n ≡ true → start ≤ n → result ≤ n }
+    ensures { (n : ℕ) → may_move_at noted.now place n ≡ true → start ≤ n → result ≤ n }
 {
     noted[place].first_from(start)
 }
@@ -87,8 +87,8 @@ fn first_at(noted: &[Lowest], place: usize, start: usize) -> usize
 fn note(noted: &mut [Lowest], pairs: &[Pair], number: usize)
     requires { AreBelow (length noted.old) pairs.now }
     ensures wide { length noted.new ≡ length noted.old }
-    ensures kept { (atom n : ℕ) → tells_at noted.old atom n ≡ true → tells_at noted.new atom n ≡ true }
-    ensures noted { (atom : ℕ) → is_in (map pair_of pairs.now) atom ≡ true → tells_at noted.new atom number ≡ true }
+    ensures kept { (atom n : ℕ) → may_move_at noted.old atom n ≡ true → may_move_at noted.new atom n ≡ true }
+    ensures noted { (atom : ℕ) → is_in (map pair_of pairs.now) atom ≡ true → may_move_at noted.new atom number ≡ true }
 {
     for &pair in pairs {
         note_at(noted, pair.lower as usize, number);
@@ -100,8 +100,8 @@ fn note(noted: &mut [Lowest], pairs: &[Pair], number: usize)
 fn note_at(noted: &mut [Lowest], place: usize, number: usize)
     requires { place < length noted.old }
     ensures wide { length noted.new ≡ length noted.old }
-    ensures kept { (atom n : ℕ) → tells_at noted.old atom n ≡ true → tells_at noted.new atom n ≡ true }
-    ensures noted { tells_at noted.new place number ≡ true }
+    ensures kept { (atom n : ℕ) → may_move_at noted.old atom n ≡ true → may_move_at noted.new atom n ≡ true }
+    ensures noted { may_move_at noted.new place number ≡ true }
 {
     noted[place].note(number);
 }

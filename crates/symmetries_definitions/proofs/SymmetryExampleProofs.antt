@@ -47,7 +47,7 @@ actions_are_judged = record {
 }
 
 pub goals_are_judged : AreGoalsJudged
-goals_are_judged = record { goal_typed = refl; nested = refl; one_wanted = refl; one_more = refl; under_or = refl; or_each = refl; by_forall = refl; under_forall = refl; forall_each = refl }
+goals_are_judged = record { goal_typed = refl; nested = refl; one_required = refl; one_more = refl; under_or = refl; or_each = refl; by_forall = refl; under_forall = refl; forall_each = refl }
 
 -- ---- representatives
 

@@ -239,7 +239,7 @@ pub record AreActionsJudged : Type 0 where
 pub record AreGoalsJudged : Type 0 where
   pub goal_typed : is_task (with_goal (or (formulas (atom (parcel_at p b) ∷ atom (parcel_at q b) ∷ [])))) ≡ true
   pub nested : are_alike (with_goal (and (formulas (atom (parcel_at p b) ∷ and (formulas (atom (parcel_at q b) ∷ [])) ∷ [])))) ≡ true
-  pub one_wanted : are_alike (with_goal (atom (parcel_at p b))) ≡ false
+  pub one_required : are_alike (with_goal (atom (parcel_at p b))) ≡ false
   pub one_more : are_alike (with_goal (and (formulas (atom (parcel_at p b) ∷ atom (parcel_at q b) ∷ not (atom (parcel_at p a)) ∷ [])))) ≡ false
   pub under_or : are_alike (with_goal (or (formulas (atom (parcel_at p b) ∷ atom (parcel_at q b) ∷ [])))) ≡ false
   pub or_each : are_alike (with_goal (and (formulas (or (formulas (atom (parcel_at p a) ∷ atom (parcel_at p b) ∷ [])) ∷ or (formulas (atom (parcel_at q a) ∷ atom (parcel_at q b) ∷ [])) ∷ [])))) ≡ true

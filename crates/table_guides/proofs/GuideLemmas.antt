@@ -41,10 +41,10 @@ are_over_width f count is = record {
 }
 
 -- what one look-up answers
-pub told : {S : Type 0} (value : S → ℕ) (is_dead : S → Bool) (s : S) (answer : Option ℕ) → MatchOption answer (IsTrue (is_dead s)) (λ n. (is_dead s ≡ false) × (n ≡ value s) × (n < 2 ^ 63))
+pub reported : {S : Type 0} (value : S → ℕ) (is_dead : S → Bool) (s : S) (answer : Option ℕ) → MatchOption answer (IsTrue (is_dead s)) (λ n. (is_dead s ≡ false) × (n ≡ value s) × (n < 2 ^ 63))
     → IsValueUnlessDead value is_dead s answer
-told value is_dead s None is = is
-told value is_dead s (Some n) is = is
+reported value is_dead s None is = is
+reported value is_dead s (Some n) is = is
 
 -- a ground task numbers all that has to be
 pub all_numbered : (g : Ground) (more : List Atom) → atoms_in g ≡ numbered_atoms (task_in g) more → AreAllNumbered (task_in g) (atoms_in g)

@@ -53,8 +53,8 @@ module _ (task : Task) (atoms : List Atom) (h : TableFunction) where
           λ fair. test.1 (subst (λ z. z ≤ℤ pos allowed) (sym lost) (subst (λ c. all_lose (length atoms) h (literals_of_instance task atoms i) (conditional_of_instance task atoms i) ≤ℤ pos c) (sym same) fair.within)),
         )
 
-  pub wants-named : (n : ℕ) (i : Instance) → slice_get (kept_instances task) n ≡ Some i → number_requires_unnumbered task atoms n ≡ instance_requires_unnumbered task atoms i
-  wants-named n i named = ap (λ o. option_map_or (instance_requires_unnumbered task atoms) o false) named
+  pub needs-named : (n : ℕ) (i : Instance) → slice_get (kept_instances task) n ≡ Some i → number_requires_unnumbered task atoms n ≡ instance_requires_unnumbered task atoms i
+  needs-named n i named = ap (λ o. option_map_or (instance_requires_unnumbered task atoms) o false) named
 
   -- ---- goals
 

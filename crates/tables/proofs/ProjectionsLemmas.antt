@@ -286,16 +286,16 @@ same-set bits (n ∷ scope) (b ∷ set) long each =
 pub found-row : (tables : List Table) (p : Projections) (k : ℕ) (t : Table) (set : List Bool) → AreProjections tables p → slice_get tables k ≡ Some t → set ≡ set_at p k → (o : Option ℕ) → IfSome o (λ place. place < length t.rows)
     → MatchOption o (row_of t (atoms_at t.scope set) ≡ None) (λ place. slice_get t.rows place ≡ row_of t (atoms_at t.scope set)) → IsPlaceOfRow t (bits_of p.state) o
 found-row tables p k t set are at is o within found =
-    told o within found
+    stated o within found
   where
     row : row_of t (atoms_at t.scope set) ≡ row_in (bits_of p.state) t
     row =
         let same = same-set (bits_of p.state) t.scope (set_at p k) (are.wide k t at) (λ place n there. are.each k place n t at there) in
         ap (row_of t) (ap (atoms_at t.scope) (is ∙ same) ∙ projected (bits_of p.state) t.scope)
 
-    told : (o : Option ℕ) → IfSome o (λ place. place < length t.rows) → MatchOption o (row_of t (atoms_at t.scope set) ≡ None) (λ place. slice_get t.rows place ≡ row_of t (atoms_at t.scope set)) → IsPlaceOfRow t (bits_of p.state) o
-    told None within found = sym row ∙ found
-    told (Some place) within found = (within, found ∙ row)
+    stated : (o : Option ℕ) → IfSome o (λ place. place < length t.rows) → MatchOption o (row_of t (atoms_at t.scope set) ≡ None) (λ place. slice_get t.rows place ≡ row_of t (atoms_at t.scope set)) → IsPlaceOfRow t (bits_of p.state) o
+    stated None within found = sym row ∙ found
+    stated (Some place) within found = (within, found ∙ row)
 
 -- ---- what is read
 

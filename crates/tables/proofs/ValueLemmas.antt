@@ -44,8 +44,8 @@ greatest-more functions k h bits old new this at before here is =
 -- the value of a state that has all its rows
 pub value-is : (h : TableFunction) (bits : List Bool) (result : ℕ) (sum by_atoms by_tables : ℤ) → result ≡ or_zero sum → has_rows h.tables bits ≡ true → by_atoms ≡ score h.potentials bits
     → by_tables ≡ sum_over h.tables (λ t. given_by h.place (row_in bits t)) → sum ≡ (by_atoms +ℤ by_tables) → result ≡ value h bits
-value-is h bits result sum by_atoms by_tables told rows atoms tables is =
-    told ∙ ap or_zero (is ∙ (λ i. atoms i +ℤ tables i)) ∙ sym (ap (λ b. or_zero (if b then total h bits else pos 0)) rows)
+value-is h bits result sum by_atoms by_tables stated rows atoms tables is =
+    stated ∙ ap or_zero (is ∙ (λ i. atoms i +ℤ tables i)) ∙ sym (ap (λ b. or_zero (if b then total h bits else pos 0)) rows)
 
 -- a score is small
 pub score-small : (p : Potentials) (bits : List Bool) → length bits < 2 ^ 24 → (neg_ℤ (pos 36028797018963968) ≤ℤ score (potentials_of p) bits) × (score (potentials_of p) bits ≤ℤ pos 36028797018963968)

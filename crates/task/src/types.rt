@@ -19,19 +19,25 @@ pub fn supertypes(types: &IndexMap<Vec<u8>, Vec<TypeId>>, id: TypeId) -> &[TypeI
 }
 
 /// Whether the type is one of these or a subtype of one of them.
-pub fn is_below(types: &IndexMap<Vec<u8>, Vec<TypeId>>, wanted: &TypeUnion, id: TypeId) -> bool
-    ensures { result ≡ is_below_in (map type_entry_of types.now.entries) (union_of wanted.now) id.0 }
+pub fn is_below(
+    types: &IndexMap<Vec<u8>, Vec<TypeId>>,
+    required_types: &TypeUnion,
+    id: TypeId,
+) -> bool
+    ensures { result ≡ is_below_in (map type_entry_of types.now.entries) (union_of required_types.now) id.0 }
 {
-    supertypes(types, id).iter().any(|above| wanted.has(*above))
+    supertypes(types, id)
+        .iter()
+        .any(|above| required_types.has(*above))
 }
 
 /// Whether each of some types is one of these or a subtype of one of them.
 pub fn all_below(
     types: &IndexMap<Vec<u8>, Vec<TypeId>>,
-    wanted: &TypeUnion,
+    required_types: &TypeUnion,
     some: &[TypeId],
 ) -> bool
-    ensures { result ≡ list_all (is_below_in (map type_entry_of types.now.entries) (union_of wanted.now)) (map type_of some.now) }
+    ensures { result ≡ list_all (is_below_in (map type_entry_of types.now.entries) (union_of required_types.now)) (map type_of some.now) }
 {
-    some.iter().all(|id| is_below(types, wanted, *id))
+    some.iter().all(|id| is_below(types, required_types, *id))
 }

@@ -60,35 +60,35 @@ pub record Fits (t : task.Task) (scope : List task.Union) (known : Known) : Type
   pub objects : (n : ℕ) (o : task.Object) → slice_get known.objects n ≡ Some o → slice_get t.objects n ≡ Some o
 
 module _ (t : task.Task) (scope : List task.Union) (file : TaskFile) (known : Known) (fits : Fits t scope known) where
-  term_fits : (wanted : task.Union) (x : tree.Term) → term_faults file known x ≡ [] → misfit_faults file known (Some wanted) x ≡ [] → is_term t scope wanted (term_in known x) ≡ true
-  term_fits wanted (tree.variable name) e m =
+  term_fits : (required_types : task.Union) (x : tree.Term) → term_faults file known x ≡ [] → misfit_faults file known (Some required_types) x ≡ [] → is_term t scope required_types (term_in known x) ≡ true
+  term_fits required_types (tree.variable name) e m =
       let n = number_in (names_of_variables known.variables) name in
       let low = known_number file 17 (names_of_variables known.variables) name e in
       let v = got_below known.variables n (omega (arith, low, length-map known.variables (λ (x : Variable). x.name))) in
       let at : slice_get scope n ≡ Some v.0.types =
       ap (λ us. slice_get us n) (sym fits.variables) ∙ slice_get-map (λ (x : Variable). x.types) known.variables n ∙ ap (option_map (λ (x : Variable). x.types)) v.1 in
-      let test = right_word file name (fits_in known wanted (task.variable n)) m in
-      ap (λ o. option_map_or (list_all (is_below_in t.types wanted)) o false) at
-      ∙ ap (λ ts. list_all (is_below_in ts wanted) v.0.types) (sym fits.types)
-      ∙ sym (ap (λ o. option_map_or (λ (x : Variable). list_all (is_below_in known.types wanted) x.types) o true) v.1) ∙ test
-  term_fits wanted (tree.object name) e m =
+      let test = right_word file name (fits_in known required_types (task.variable n)) m in
+      ap (λ o. option_map_or (list_all (is_below_in t.types required_types)) o false) at
+      ∙ ap (λ ts. list_all (is_below_in ts required_types) v.0.types) (sym fits.types)
+      ∙ sym (ap (λ o. option_map_or (λ (x : Variable). list_all (is_below_in known.types required_types) x.types) o true) v.1) ∙ test
+  term_fits required_types (tree.object name) e m =
       let n = number_in (names_of_objects known.objects) name in
       let low = known_number file 17 (names_of_objects known.objects) name e in
       let o = got_below known.objects n (omega (arith, low, length-map known.objects (λ (x : task.Object). x.name))) in
-      let test = right_word file name (fits_in known wanted (task.object n)) m in
-      ap (λ q. option_map_or (λ (x : task.Object). is_below_in t.types wanted x.type) q false) (fits.objects n o.0 o.1)
-      ∙ ap (λ ts. is_below_in ts wanted o.0.type) (sym fits.types)
-      ∙ sym (ap (λ q. option_map_or (λ (x : task.Object). is_below_in known.types wanted x.type) q true) o.1) ∙ test
+      let test = right_word file name (fits_in known required_types (task.object n)) m in
+      ap (λ q. option_map_or (λ (x : task.Object). is_below_in t.types required_types x.type) q false) (fits.objects n o.0 o.1)
+      ∙ ap (λ ts. is_below_in ts required_types o.0.type) (sym fits.types)
+      ∙ sym (ap (λ q. option_map_or (λ (x : task.Object). is_below_in known.types required_types x.type) q true) o.1) ∙ test
 
   terms_fit : (arguments : List task.Union) (xs : List tree.Term) → length xs ≡ length arguments → terms_faults file known arguments xs ≡ []
       → pointwise (is_term t scope) arguments (map (term_in known) xs) ≡ true
   terms_fit [] [] same e = refl
   terms_fit [] (x ∷ xs) same e = absurd (omega (arith, same))
-  terms_fit (wanted ∷ arguments) [] same e = absurd (omega (arith, same))
-  terms_fit (wanted ∷ arguments) (x ∷ xs) same e =
-      let own = term_faults file known x in let misfit = misfit_faults file known (Some wanted) x in
+  terms_fit (required_types ∷ arguments) [] same e = absurd (omega (arith, same))
+  terms_fit (required_types ∷ arguments) (x ∷ xs) same e =
+      let own = term_faults file known x in let misfit = misfit_faults file known (Some required_types) x in
       let rest = terms_faults file known arguments xs in
-      and_true _ _ (term_fits wanted x (nil_left own misfit (nil_left (own ++ misfit) rest e)) (nil_right own misfit (nil_left (own ++ misfit) rest e)))
+      and_true _ _ (term_fits required_types x (nil_left own misfit (nil_left (own ++ misfit) rest e)) (nil_right own misfit (nil_left (own ++ misfit) rest e)))
       (terms_fit arguments xs (omega (arith, same)) (nil_right (own ++ misfit) rest e))
 
   -- the objects of a ground atom, as terms
@@ -96,11 +96,11 @@ module _ (t : task.Task) (scope : List task.Union) (file : TaskFile) (known : Kn
       → pointwise (is_of t) arguments (map (number_in (names_of_objects known.objects)) names) ≡ true
   objects_fit [] [] same e = refl
   objects_fit [] (x ∷ xs) same e = absurd (omega (arith, same))
-  objects_fit (wanted ∷ arguments) [] same e = absurd (omega (arith, same))
-  objects_fit (wanted ∷ arguments) (x ∷ xs) same e =
-      let own = term_faults file known (tree.object x) in let misfit = misfit_faults file known (Some wanted) (tree.object x) in
+  objects_fit (required_types ∷ arguments) [] same e = absurd (omega (arith, same))
+  objects_fit (required_types ∷ arguments) (x ∷ xs) same e =
+      let own = term_faults file known (tree.object x) in let misfit = misfit_faults file known (Some required_types) (tree.object x) in
       let rest = terms_faults file known arguments (map (λ (n : tree.Name). tree.object n) xs) in
-      and_true _ _ (term_fits wanted (tree.object x) (nil_left own misfit (nil_left (own ++ misfit) rest e)) (nil_right own misfit (nil_left (own ++ misfit) rest e)))
+      and_true _ _ (term_fits required_types (tree.object x) (nil_left own misfit (nil_left (own ++ misfit) rest e)) (nil_right own misfit (nil_left (own ++ misfit) rest e)))
       (objects_fit arguments xs (omega (arith, same)) (nil_right (own ++ misfit) rest e))
 
   -- terms that fit the arguments of a known predicate are valid with it

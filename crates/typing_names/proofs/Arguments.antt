@@ -30,10 +30,10 @@ rest_left (x ∷ xs) (suc i) =
 
 -- one more term
 pub argument_step : {X : Type 0} (file : TaskFile) (known : Known) (arguments : List task.Union) (seen : X → tree.Term) (xs : List X) (i : ℕ) (d : X) → i < length xs
-    → (wanted : Option task.Union) → wanted ≡ slice_get arguments i → (least new whole : Findings) → new ≡ found least (argument_faults file known wanted (seen (get_or xs i d)))
+    → (required_types : Option task.Union) → required_types ≡ slice_get arguments i → (least new whole : Findings) → new ≡ found least (argument_faults file known required_types (seen (get_or xs i d)))
     → found least (terms_faults file known (drop i arguments) (map seen (drop i xs))) ≡ whole
     → found new (terms_faults file known (drop (i + 1) arguments) (map seen (drop (i + 1) xs))) ≡ whole
-argument_step file known arguments seen xs i d l wanted is least new whole finds h =
+argument_step file known arguments seen xs i d l required_types is least new whole finds h =
     let x = seen (get_or xs i d) in
     let rest = terms_faults file known (drop (i + 1) arguments) (map seen (drop (i + 1) xs)) in
     let own = term_faults file known x in let misfit = misfit_faults file known (slice_get arguments i) x in

@@ -48,7 +48,7 @@ arguments_at known number = option_map_or (λ (p : task.Predicate). p.arguments)
 
 -- the faults of a term where this is required
 abbrev pub argument_faults : TaskFile → Known → Option task.Union → tree.Term → List TypingFault
-argument_faults file known wanted term = term_faults file known term ++ misfit_faults file known wanted term
+argument_faults file known required_types term = term_faults file known term ++ misfit_faults file known required_types term
 
 -- an atom with at most as many of its objects as a predicate may have
 abbrev pub narrow_atom_in : Known → tree.GroundAtom → task.Atom

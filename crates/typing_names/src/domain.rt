@@ -23,11 +23,11 @@ use task::TypeId;
 const MAX_TYPES: usize = 4095;
 
 /// Refuses a problem whose `:domain` is not the name of this domain.
-fn compare(walk: &mut Walk, domain: &Name<'_>, wanted: &Name<'_>)
-    ensures { Finds walk.old walk.new (if typing.is_same (typing.folded (read.name_of wanted.now)) (typing.folded (read.name_of domain.now)) then [] else typing.refused_word problem_file 21 (read.name_of wanted.now)) }
+fn compare(walk: &mut Walk, domain: &Name<'_>, required: &Name<'_>)
+    ensures { Finds walk.old walk.new (if typing.is_same (typing.folded (read.name_of required.now)) (typing.folded (read.name_of domain.now)) then [] else typing.refused_word problem_file 21 (read.name_of required.now)) }
 {
-    if !wanted.text.eq_ignore_ascii_case(domain.text) {
-        walk.refuse(TaskFile::Problem, Code::DomainMismatch, wanted);
+    if !required.text.eq_ignore_ascii_case(domain.text) {
+        walk.refuse(TaskFile::Problem, Code::DomainMismatch, required);
     }
 }
 

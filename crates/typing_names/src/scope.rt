@@ -170,37 +170,37 @@ impl Scope<'_> {
     }
 
     /// Whether every type of a variable fits an argument. An unknown variable fits.
-    fn variable_fits(&self, wanted: &TypeUnion, id: VariableId) -> bool
-        ensures { result ≡ fits_in (known_of self.now) (parts.union_of wanted.now) (variable id.0) }
+    fn variable_fits(&self, required_types: &TypeUnion, id: VariableId) -> bool
+        ensures { result ≡ fits_in (known_of self.now) (parts.union_of required_types.now) (variable id.0) }
     {
         match self.variables.get_index(id.0) {
-            Some((_, types)) => all_below(&self.globals.types.by_name, wanted, &types.0),
+            Some((_, types)) => all_below(&self.globals.types.by_name, required_types, &types.0),
             None => true,
         }
     }
 
     /// Whether the type of an object fits an argument. An unknown object fits.
-    fn object_fits(&self, wanted: &TypeUnion, id: ObjectId) -> bool
-        ensures { result ≡ fits_in (known_of self.now) (parts.union_of wanted.now) (object id.0) }
+    fn object_fits(&self, required_types: &TypeUnion, id: ObjectId) -> bool
+        ensures { result ≡ fits_in (known_of self.now) (parts.union_of required_types.now) (object id.0) }
     {
         match self.globals.objects.get_index(id.0 as usize) {
-            Some((_, of_type)) => is_below(&self.globals.types.by_name, wanted, *of_type),
+            Some((_, of_type)) => is_below(&self.globals.types.by_name, required_types, *of_type),
             None => true,
         }
     }
 
     /// Whether a term fits an argument.
-    fn fits(&self, wanted: &TypeUnion, term: Term) -> bool
-        ensures { result ≡ fits_in (known_of self.now) (parts.union_of wanted.now) (parts.term_of term) }
+    fn fits(&self, required_types: &TypeUnion, term: Term) -> bool
+        ensures { result ≡ fits_in (known_of self.now) (parts.union_of required_types.now) (parts.term_of term) }
     {
         match term {
-            Term::Variable(id) => self.variable_fits(wanted, id),
-            Term::Object(id) => self.object_fits(wanted, id),
+            Term::Variable(id) => self.variable_fits(required_types, id),
+            Term::Object(id) => self.object_fits(required_types, id),
         }
     }
 
     /// The types that an argument of a predicate must have; `None` if there is no such argument.
-    fn wanted(&self, predicate: PredicateId, index: usize) -> Option<&TypeUnion>
+    fn required_types(&self, predicate: PredicateId, index: usize) -> Option<&TypeUnion>
         ensures { option_map (λ u. parts.union_of u.now) result ≡ slice_get (arguments_at (known_of self.now) predicate.0) index }
     {
         let (_, predicate) = self.symbols.get_index(predicate.0)?;
@@ -208,11 +208,11 @@ impl Scope<'_> {
     }
 
     /// Whether a term fits an argument; true if there is no such argument.
-    fn fits_argument(&self, wanted: Option<&TypeUnion>, term: Term) -> bool
-        ensures { result ≡ fits_required (known_of self.now) (option_map (λ u. parts.union_of u.now) wanted.entry) (parts.term_of term) }
+    fn fits_argument(&self, required_types: Option<&TypeUnion>, term: Term) -> bool
+        ensures { result ≡ fits_required (known_of self.now) (option_map (λ u. parts.union_of u.now) required_types.entry) (parts.term_of term) }
     {
-        match wanted {
-            Some(wanted) => self.fits(wanted, term),
+        match required_types {
+            Some(required_types) => self.fits(required_types, term),
             None => true,
         }
     }
@@ -221,14 +221,14 @@ impl Scope<'_> {
     fn argument(
         &self,
         walk: &mut Walk,
-        wanted: Option<&TypeUnion>,
+        required_types: Option<&TypeUnion>,
         term: &tree::Term<'_>,
     ) -> Result<Term, NoMemory>
         ensures value { IfOk result (λ t. parts.term_of t ≡ term_in (known_of self.now) (read.term_of term.now)) }
-        ensures finds { OnOk result (Finds walk.old walk.new (argument_faults (file_of self.now.globals.now.file) (known_of self.now) (option_map (λ u. parts.union_of u.now) wanted.entry) (read.term_of term.now))) }
+        ensures finds { OnOk result (Finds walk.old walk.new (argument_faults (file_of self.now.globals.now.file) (known_of self.now) (option_map (λ u. parts.union_of u.now) required_types.entry) (read.term_of term.now))) }
     {
         let resolved = self.term(walk, term)?;
-        if !self.fits_argument(wanted, resolved) {
+        if !self.fits_argument(required_types, resolved) {
             walk.refuse(self.globals.file, Code::WrongType, word(term));
         }
         Ok(resolved)
@@ -246,8 +246,8 @@ impl Scope<'_> {
     {
         let mut terms = Vec::with_capacity(walk.alloc, given.len())?;
         for index in 0..given.len() {
-            let wanted = self.wanted(predicate, index);
-            terms.push(self.argument(walk, wanted, &given[index])?)?;
+            let required_types = self.required_types(predicate, index);
+            terms.push(self.argument(walk, required_types, &given[index])?)?;
         }
         Ok(terms)
     }
@@ -271,14 +271,14 @@ impl Scope<'_> {
     fn ground_argument(
         &self,
         walk: &mut Walk,
-        wanted: Option<&TypeUnion>,
+        required_types: Option<&TypeUnion>,
         name: &Name<'_>,
     ) -> Result<ObjectId, NoMemory>
         ensures value { IfOk result (λ o. o.0 ≡ number_in (names_of_objects (known_of self.now).objects) (read.name_of name.now)) }
-        ensures finds { OnOk result (Finds walk.old walk.new (argument_faults (file_of self.now.globals.now.file) (known_of self.now) (option_map (λ u. parts.union_of u.now) wanted.entry) (tree.object (read.name_of name.now)))) }
+        ensures finds { OnOk result (Finds walk.old walk.new (argument_faults (file_of self.now.globals.now.file) (known_of self.now) (option_map (λ u. parts.union_of u.now) required_types.entry) (tree.object (read.name_of name.now)))) }
     {
         let object = self.object(walk, name)?;
-        if !self.fits_argument(wanted, Term::Object(object)) {
+        if !self.fits_argument(required_types, Term::Object(object)) {
             walk.refuse(self.globals.file, Code::WrongType, name);
         }
         Ok(object)
@@ -296,8 +296,8 @@ impl Scope<'_> {
     {
         let mut objects = ArrayVec::new();
         for index in 0..given.len() {
-            let wanted = self.wanted(predicate, index);
-            let object = self.ground_argument(walk, wanted, &given[index])?;
+            let required_types = self.required_types(predicate, index);
+            let object = self.ground_argument(walk, required_types, &given[index])?;
             if objects.len() < MAX_ARGUMENTS {
                 objects.push(object);
             }

@@ -11,7 +11,7 @@ _optplan() {
         solve) options='--plan --cert --states --instances --seconds --cert-version --json --progress --help' ;;
         validate) options='--json --help' ;;
         check) options='--plan --instances --json --progress --help' ;;
-        explain) options='--trace --instances --json --help' ;;
+        explain) options='--trace --cert --plan --instances --json --help' ;;
         help) COMPREPLY=($(compgen -W 'solve validate check explain' -- "$current")); return ;;
         *) return ;;
     esac

@@ -5,7 +5,7 @@ ghost use Rattle.task.specs.Task.{task_of};
 ghost use Rattle.explain_tasks.specs.Summary.{summary_text};
 ghost use Rattle.file_answers.specs.ExplanationLines.{grounded_line, on_lines};
 ghost use Rattle.file_answers.specs.Explanations.{IsGrounded, IsTaskExplained};
-ghost use Rattle.file_answers.specs.Notes.{AreGroundTold, AreTold, AreReportedOfGround};
+ghost use Rattle.file_answers.specs.Notes.{AreGroundReported, AreSuggested, AreReportedOfGround};
 ghost use Rattle.explain_goals.specs.Notes.{AreGoalNotesOf};
 ghost use Rattle.grounding_instances.specs.Numbering.{task_in};
 ghost use Rattle.model.specs.Grounding.{exceeded_limit};
@@ -51,7 +51,7 @@ pub(super) fn explain_task(
 
 /// The notes, followed by those that the files themselves lead to.
 fn with_task_notes(alloc: Global, task: &Task, notes: Vec<String>) -> Result<Vec<String>, NoMemory>
-    ensures { IfOk result (λ lines. (others : List (List ℕ)) × AreTold (task_of task.now) others × (map string_bytes lines.items ≡ map string_bytes notes.items ++ others)) }
+    ensures { IfOk result (λ lines. (others : List (List ℕ)) × AreSuggested (task_of task.now) others × (map string_bytes lines.items ≡ map string_bytes notes.items ++ others)) }
 {
     let mut lines = notes;
     TaskNotes::of(alloc, task)?.add_lines(alloc, task, &mut lines)?;
@@ -109,7 +109,7 @@ fn ground(alloc: Global, task: &Task, max_instances: u32) -> Result<Grounding, N
 /// The notes that the instances lead to; actions with more than `most` instances are not checked for missing values.
 fn notes_of(alloc: Global, numbering: &Numbering<'_>, most: u32) -> Result<Vec<String>, NoMemory>
     requires { exceeded_limit most max_numbered_atoms (task_in numbering.now) [] ≡ None }
-    ensures { IfOk result (λ lines. AreGroundTold (task_in numbering.now) most (map string_bytes lines.items)) }
+    ensures { IfOk result (λ lines. AreGroundReported (task_in numbering.now) most (map string_bytes lines.items)) }
 {
     let task = numbering.task();
     let notes = GroundNotes::of(alloc, numbering, most)?;

@@ -1,6 +1,6 @@
 //! Where a result is printed and written.
 ghost use Rattle.std.specs.Prelude.{◌≡◌, None, false};
-ghost use Rattle.command_line.specs.View.{wanted_of};
+ghost use Rattle.command_line.specs.View.{request_of};
 ghost use Rattle.planner_main.specs.Asked.{outputs_in, outputs_of};
 ghost use Rattle.printed_answers.specs.Reported.{is_json};
 
@@ -22,7 +22,7 @@ pub(super) struct Outputs<'a> {
 
 /// Output options of the command.
 pub(super) fn outputs_of(order: Order<'_>) -> Outputs<'_>
-    ensures { outputs_in result ≡ outputs_of (wanted_of order.entry) }
+    ensures { outputs_in result ≡ outputs_of (request_of order.entry) }
 {
     match order {
         Order::Solve {
@@ -37,8 +37,10 @@ pub(super) fn outputs_of(order: Order<'_>) -> Outputs<'_>
             plan,
             progress,
         },
-        Order::Validate { json, .. } | Order::Check { json, .. } | Order::Explain { json, .. } =>
-            only_reported(format_of(json)),
+        Order::Validate { json, .. }
+        | Order::Check { json, .. }
+        | Order::Explain { json, .. }
+        | Order::ExplainCert { json, .. } => only_reported(format_of(json)),
     }
 }
 

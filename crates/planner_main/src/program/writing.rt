@@ -26,11 +26,37 @@ use solver::{Answer, Exceeded};
 use std::alloc::{AllocError, Global};
 use task::Task;
 
-/// Writes the files asked for, the certificate first, and then the result to standard output. Returns the exit status. The
-/// printed text is computed before any file is written.
+/// Writes the files asked for, the certificate first, and then the result to standard output, and frees the result. Returns the
+/// exit status. The printed text is computed before any file is written.
 ///
 /// If progress is asked for, the size of the written certificate is reported, and the name of a file that fails.
-pub(super) fn write_report<F: Files, O: Sink, E: Sink>(
+pub(super) fn write_result<F: Files, O: Sink, E: Sink>(
+    alloc: Global,
+    report: Report,
+    outputs: Outputs<'_>,
+    files: &mut F,
+    out: &mut O,
+    err: &mut E,
+) -> Result<u8, Failure>
+    requires { reported.IsReported report }
+    ensures said { IfOk result (IsReported (WritesReport report (outputs_in outputs.entry))
+        F.is_known (F.contents files.old) (F.contents files.new) (O.taken out.old) (O.taken out.new)) }
+    ensures partly { IfErr result (λ _. IsReportedPartly (WritesReport report (outputs_in outputs.entry))
+        F.is_known (F.contents files.old) (F.contents files.new) (O.taken out.old) (O.taken out.new)) }
+    ensures unfailed { IfOk result (λ _. HasNotFailed (F.failures files.old) (F.failures files.new) (O.failures out.old) (O.failures out.new)) }
+    ensures failures { IfErr result (CountsEither (F.failures files.old) (F.failures files.new) (O.failures out.old) (O.failures out.new)) }
+    ensures no_text { IfErr result (λ failure. fault_in failure ≡ None) }
+    ensures progress { AreSaid (IsWritingLine report (outputs_in outputs.entry)) E.may_lack_memory (stream (E.failures err.old) (E.taken err.old)) (stream (E.failures err.new) (E.taken err.new)) }
+    ensures sized { IfOk result (λ _. SaysIf (size_line_for (text_in outputs.entry.cert) (cert_text report) outputs.entry.progress)
+        E.may_lack_memory (stream (E.failures err.old) (E.taken err.old)) (stream (E.failures err.new) (E.taken err.new))) }
+{
+    let status = write_report(alloc, &report, outputs, files, out, err);
+    drop(report);
+    status
+}
+
+/// The same, without freeing the result.
+fn write_report<F: Files, O: Sink, E: Sink>(
     alloc: Global,
     report: &Report,
     outputs: Outputs<'_>,
@@ -207,7 +233,8 @@ fn cert_text(alloc: Global, report: &Report) -> Option<CertText<'_>>
             }
             None => None,
         },
-        Report::Validate(_) | Report::Check(_) | Report::Explain(_) => None,
+        Report::Validate(_) | Report::Check(_) => None,
+        Report::Explain(_) | Report::ExplainCheck(_) => None,
     }
 }
 
@@ -234,7 +261,8 @@ fn plan_text<'a>(report: &Report, text: &'a [u8]) -> Option<Bytes<'a>>
             Answer::Plan { .. } => Some(Bytes(text)),
             Answer::Unsolvable { .. } | Answer::Unknown(_) => None,
         },
-        Report::Validate(_) | Report::Check(_) | Report::Explain(_) => None,
+        Report::Validate(_) | Report::Check(_) => None,
+        Report::Explain(_) | Report::ExplainCheck(_) => None,
     }
 }
 

@@ -1,7 +1,7 @@
 use Rattle.std.proofs.Common.{ap, sym, ◌∙◌}
 use Rattle.std.specs.Prelude.{option_map}
 use Rattle.std.proofs.lemmas.Result.{err_from_is_err_and}
-use Rattle.command_line.specs.View.{texts, wanted_of}
+use Rattle.command_line.specs.View.{texts, request_of}
 use Rattle.command_line.proofs.OrderLemmas.{asked, not_asked, refused}
 use Rattle.command_line.proofs.reading.read_words.Goals as goal
 
@@ -12,10 +12,10 @@ returns-in_err-matches-clause-refused c =
 
 pub returns-in-Some-clause-asks : goal.returns-in-Some-clause-asks
 returns-in-Some-clause-asks c =
-    asked _ c.in_ok-program.ensures (texts c.args.words.now) c.in_ok-matches.matches (wanted_of c.in-Some.order)
-    (λ simple. (c.in_ok-matches.ensures.matches simple).1) c.in_ok-matches.ensures.kinds (sym (ap (option_map wanted_of) c.in-Some.is) ∙ c.order_in.ensures)
+    asked _ c.in_ok-program.ensures (texts c.args.words.now) c.in_ok-matches.matches (request_of c.in-Some.order)
+    (λ simple. (c.in_ok-matches.ensures.matches simple).1) c.in_ok-matches.ensures.kinds (sym (ap (option_map request_of) c.in-Some.is) ∙ c.order_in.ensures)
 
 pub returns-clause-refused : goal.returns-clause-refused
 returns-clause-refused c = λ of_words.
     not_asked _ c.in_ok-program.ensures (texts c.args.words.now) c.in_ok-matches.matches
-    (λ simple. (c.in_ok-matches.ensures.matches simple).1) (sym (ap (option_map wanted_of) c.in-None.is) ∙ c.order_in.ensures)
+    (λ simple. (c.in_ok-matches.ensures.matches simple).1) (sym (ap (option_map request_of) c.in-None.is) ∙ c.order_in.ensures)

@@ -7,8 +7,8 @@ use Rattle.explain_tasks.specs.NoteLines.{lacking_line}
 use Rattle.explain_tasks.proofs.NoteLemmas.{with_more}
 use Rattle.explain_tasks.proofs.printing.add_lacking.Goals as goal
 
-pub returns-then-lacking-gt-MOST_TOLD : goal.returns-then-lacking-gt-MOST_TOLD
-returns-then-lacking-gt-MOST_TOLD c =
-    with_more c.add_text.result instance_of (lacking_line (task_of c.args.task.now)) (codes "More values that actions increase the total cost by are missing.") c.args.lacking.now c.told.result.now
+pub returns-then-lacking-gt-MOST_NOTES : goal.returns-then-lacking-gt-MOST_NOTES
+returns-then-lacking-gt-MOST_NOTES c =
+    with_more c.add_text.result instance_of (lacking_line (task_of c.args.task.now)) (codes "More values that actions increase the total cost by are missing.") c.args.lacking.now c.reported.result.now
     (map string_bytes c.args.lines.now.items) (map string_bytes c.add_lacking_lines.new.lines.items) (map string_bytes c.add_text.new.lines.items)
-    c.told.ensures c.if-lacking-gt-MOST_TOLD.true c.in_ok-add_lacking_lines.ensures c.add_text.ensures
+    c.reported.ensures c.if-lacking-gt-MOST_NOTES.true c.in_ok-add_lacking_lines.ensures c.add_text.ensures

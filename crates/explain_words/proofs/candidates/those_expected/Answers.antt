@@ -4,7 +4,7 @@ use Rattle.tokens.specs.declared.word.Word.{Word}
 use Rattle.explain_words.specs.Expected.{AreThose, MayFollow, none}
 use Rattle.explain_words.specs.States.{state_of}
 use Rattle.explain_words.proofs.Automaton.{may_follow, may_not_follow}
-use Rattle.explain_words.proofs.Told.{left_out_so_far, told_so_far}
+use Rattle.explain_words.proofs.Reported.{left_out_so_far, reported_so_far}
 use Rattle.explain_words.proofs.candidates.those_expected.Goals as goal
 use Rattle.explain_words.proofs.candidates.those_expected.Goals.{then-follows+in_ok-push, else-follows}
 
@@ -26,7 +26,7 @@ loop-index-preserved c = λ file before has.
       | then-follows+in_ok-push w ↦
           let items : new ≡ found ++ word ∷ [] = search rules in
           subst (AreThose (MayFollow file before) (take (index + 1) words)) (sym items)
-          (told_so_far (MayFollow file before) words found index word below there so_far
+          (reported_so_far (MayFollow file before) words found index word below there so_far
           (may_follow file before words index word below there state c.token_at.result c.token_at.ensures.first has c.next.result c.next.ensures
           (sym c.is_some-follows.ensures ∙ w.if-follows.true)))
       | else-follows w ↦

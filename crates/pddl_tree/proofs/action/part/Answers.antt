@@ -1,4 +1,4 @@
-use Rattle.pddl_tree_parts.proofs.Names.{◌∙◌, ◌≡◌, ◌+◌, ◌++◌, ◌∷◌, [], map, sym, ap, subst, false, has_part, part_view, action_of, phrase, ReadsInto, GoesOn}
+use Rattle.pddl_tree_parts.proofs.Names.{◌∙◌, ◌≡◌, ◌+◌, ◌++◌, ◌∷◌, [], map, sym, ap, subst, false, has_part, part_view, action_of, phrase, ReadsInto, MayContinue}
 use Rattle.std.proofs.lemmas.List.{map-append}
 use Rattle.pddl_tree.specs.Sections.{parts_on, part_into}
 use Rattle.pddl_tree.proofs.Parts.{part_answers}
@@ -11,5 +11,5 @@ returns c =
     let new : has_part seen p ≡ false = ap (λ l. has_part (map part_view l) p) (sym c.deref.ensures.value) ∙ c.in_ok-keyword.ensures.new in
     let same : map part_view c.push.new.self.items ≡ seen ++ p ∷ [] = ap (map part_view) c.in_ok-push.ensures.items ∙ map-append part_view c.args.seen.now.items (c.in_ok-keyword.keyword ∷ []) in
     let more : map part_view c.deref-2.result.now ≡ seen ++ p ∷ [] = ap (map part_view) c.deref-2.ensures.value ∙ same in
-    subst (λ l. GoesOn (phrase (parts_on seen a)) (phrase (parts_on l b)) words c.args.at c.value.result) (sym same)
+    subst (λ l. MayContinue (phrase (parts_on seen a)) (phrase (parts_on l b)) words c.args.at c.value.result) (sym same)
     (part_answers seen p a b words c.args.at c.value.result c.in_ok-keyword.ensures.word new (subst (λ l. ReadsInto (phrase (part_into l p a)) words (c.args.at + 1) b c.value.result) more c.value.ensures))

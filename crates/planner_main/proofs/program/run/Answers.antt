@@ -1,6 +1,6 @@
 use Rattle.std.proofs.Common.{inl, inr, refl, arith}
 use Rattle.devices.specs.Devices.{IsWritten}
-use Rattle.command_line.specs.View.{texts, wanted_of}
+use Rattle.command_line.specs.View.{texts, request_of}
 use Rattle.devices.specs.Progress.{nothing as none_yet, stream}
 use Rattle.planner_main.specs.Progress.{IsProgress, SaysAfter}
 use Rattle.planner_main.specs.Program.{inputs_of, nothing, texts_of}
@@ -48,40 +48,40 @@ returns-in-Err-clause-unread g c =
 
 pub returns-in-Ok-carry_out-clause-status : goal.returns-in-Ok-carry_out-clause-status
 returns-in-Ok-carry_out-clause-status g c =
-    inr (reported_of_words (texts c.args.words.now) (wanted_of c.in-Ok.order) c.in-Ok.ensures.asks g.F.Files.is_known (g.F.Files.contents c.args.files.now) (g.F.Files.contents c.carry_out.new.files) (g.O.Sink.taken c.args.out.now) (g.O.Sink.taken c.carry_out.new.out) _ c.in-Ok-carry_out.ensures.said)
+    inr (reported_of_words (texts c.args.words.now) (request_of c.in-Ok.order) c.in-Ok.ensures.asks g.F.Files.is_known (g.F.Files.contents c.args.files.now) (g.F.Files.contents c.carry_out.new.files) (g.O.Sink.taken c.args.out.now) (g.O.Sink.taken c.carry_out.new.out) _ c.in-Ok-carry_out.ensures.said)
 
 pub returns-in-Ok-carry_out-clause-words : goal.returns-in-Ok-carry_out-clause-words
 returns-in-Ok-carry_out-clause-words g c =
-    λ same. absurd (no_failure 2 _ (reported_status (texts c.args.words.now) (wanted_of c.in-Ok.order) c.in-Ok.ensures.asks g.F.Files.is_known (g.F.Files.contents c.args.files.now) (g.F.Files.contents c.carry_out.new.files) (g.O.Sink.taken c.args.out.now) (g.O.Sink.taken c.carry_out.new.out) _ c.in-Ok-carry_out.ensures.said) refl (λ is. absurd (omega arith)) same)
+    λ same. absurd (no_failure 2 _ (reported_status (texts c.args.words.now) (request_of c.in-Ok.order) c.in-Ok.ensures.asks g.F.Files.is_known (g.F.Files.contents c.args.files.now) (g.F.Files.contents c.carry_out.new.files) (g.O.Sink.taken c.args.out.now) (g.O.Sink.taken c.carry_out.new.out) _ c.in-Ok-carry_out.ensures.said) refl (λ is. absurd (omega arith)) same)
 
 pub returns-in-Ok-carry_out-clause-usage : goal.returns-in-Ok-carry_out-clause-usage
 returns-in-Ok-carry_out-clause-usage g c =
-    λ same. absurd (no_failure 2 _ (reported_status (texts c.args.words.now) (wanted_of c.in-Ok.order) c.in-Ok.ensures.asks g.F.Files.is_known (g.F.Files.contents c.args.files.now) (g.F.Files.contents c.carry_out.new.files) (g.O.Sink.taken c.args.out.now) (g.O.Sink.taken c.carry_out.new.out) _ c.in-Ok-carry_out.ensures.said) refl (λ is. absurd (omega arith)) same)
+    λ same. absurd (no_failure 2 _ (reported_status (texts c.args.words.now) (request_of c.in-Ok.order) c.in-Ok.ensures.asks g.F.Files.is_known (g.F.Files.contents c.args.files.now) (g.F.Files.contents c.carry_out.new.files) (g.O.Sink.taken c.args.out.now) (g.O.Sink.taken c.carry_out.new.out) _ c.in-Ok-carry_out.ensures.said) refl (λ is. absurd (omega arith)) same)
 
 pub returns-in-Ok-carry_out-clause-refused : goal.returns-in-Ok-carry_out-clause-refused
 returns-in-Ok-carry_out-clause-refused g c =
     λ same. inr (
-      reported_of_words (texts c.args.words.now) (wanted_of c.in-Ok.order) c.in-Ok.ensures.asks g.F.Files.is_known (g.F.Files.contents c.args.files.now) (g.F.Files.contents c.carry_out.new.files) (g.O.Sink.taken c.args.out.now) (g.O.Sink.taken c.carry_out.new.out) _ c.in-Ok-carry_out.ensures.said,
-      said_of_words (g.F.Files.contents c.args.files.now) (texts c.args.words.now) (wanted_of c.in-Ok.order) c.in-Ok.ensures.asks g.E.Sink.may_lack_memory
+      reported_of_words (texts c.args.words.now) (request_of c.in-Ok.order) c.in-Ok.ensures.asks g.F.Files.is_known (g.F.Files.contents c.args.files.now) (g.F.Files.contents c.carry_out.new.files) (g.O.Sink.taken c.args.out.now) (g.O.Sink.taken c.carry_out.new.out) _ c.in-Ok-carry_out.ensures.said,
+      said_of_words (g.F.Files.contents c.args.files.now) (texts c.args.words.now) (request_of c.in-Ok.order) c.in-Ok.ensures.asks g.E.Sink.may_lack_memory
           (stream (g.E.Sink.failures c.args.err.now) (g.E.Sink.taken c.args.err.now)) (stream (g.E.Sink.failures c.carry_out.new.err) (g.E.Sink.taken c.carry_out.new.err)) c.in-Ok-carry_out.ensures.progress,
     )
 
 pub returns-in-Ok-carry_out-clause-device : goal.returns-in-Ok-carry_out-clause-device
 returns-in-Ok-carry_out-clause-device g c =
-    λ same. absurd (no_failure 21 _ (reported_status (texts c.args.words.now) (wanted_of c.in-Ok.order) c.in-Ok.ensures.asks g.F.Files.is_known (g.F.Files.contents c.args.files.now) (g.F.Files.contents c.carry_out.new.files) (g.O.Sink.taken c.args.out.now) (g.O.Sink.taken c.carry_out.new.out) _ c.in-Ok-carry_out.ensures.said) refl (λ is. absurd (omega arith)) same)
+    λ same. absurd (no_failure 21 _ (reported_status (texts c.args.words.now) (request_of c.in-Ok.order) c.in-Ok.ensures.asks g.F.Files.is_known (g.F.Files.contents c.args.files.now) (g.F.Files.contents c.carry_out.new.files) (g.O.Sink.taken c.args.out.now) (g.O.Sink.taken c.carry_out.new.out) _ c.in-Ok-carry_out.ensures.said) refl (λ is. absurd (omega arith)) same)
 
 pub returns-in-Ok-carry_out-clause-memory : goal.returns-in-Ok-carry_out-clause-memory
 returns-in-Ok-carry_out-clause-memory g c =
-    λ same. absurd (no_failure 22 _ (reported_status (texts c.args.words.now) (wanted_of c.in-Ok.order) c.in-Ok.ensures.asks g.F.Files.is_known (g.F.Files.contents c.args.files.now) (g.F.Files.contents c.carry_out.new.files) (g.O.Sink.taken c.args.out.now) (g.O.Sink.taken c.carry_out.new.out) _ c.in-Ok-carry_out.ensures.said) refl (λ is. absurd (omega arith)) same)
+    λ same. absurd (no_failure 22 _ (reported_status (texts c.args.words.now) (request_of c.in-Ok.order) c.in-Ok.ensures.asks g.F.Files.is_known (g.F.Files.contents c.args.files.now) (g.F.Files.contents c.carry_out.new.files) (g.O.Sink.taken c.args.out.now) (g.O.Sink.taken c.carry_out.new.out) _ c.in-Ok-carry_out.ensures.said) refl (λ is. absurd (omega arith)) same)
 
 pub returns-in-Ok-carry_out-clause-no_command : goal.returns-in-Ok-carry_out-clause-no_command
 returns-in-Ok-carry_out-clause-no_command g c =
-    λ none. absurd (none (wanted_of c.in-Ok.order, c.in-Ok.ensures.asks))
+    λ none. absurd (none (request_of c.in-Ok.order, c.in-Ok.ensures.asks))
 
 pub returns-in-Ok-carry_out-clause-unread : goal.returns-in-Ok-carry_out-clause-unread
 returns-in-Ok-carry_out-clause-unread g c =
     λ name named missing.
-    absurd (c.in-Ok-carry_out.ensures.unread name (files_named inputs_of (texts c.args.words.now) (wanted_of c.in-Ok.order) name c.in-Ok.ensures.asks named) missing)
+    absurd (c.in-Ok-carry_out.ensures.unread name (files_named inputs_of (texts c.args.words.now) (request_of c.in-Ok.order) name c.in-Ok.ensures.asks named) missing)
 
 pub returns-in-Err-carry_out-clause-words : goal.returns-in-Err-carry_out-clause-words
 returns-in-Err-carry_out-clause-words g c =
@@ -89,7 +89,7 @@ returns-in-Err-carry_out-clause-words g c =
 
 pub returns-in-Err-carry_out-clause-no_command : goal.returns-in-Err-carry_out-clause-no_command
 returns-in-Err-carry_out-clause-no_command g c =
-    λ none. absurd (none (wanted_of c.in-Ok.order, c.in-Ok.ensures.asks))
+    λ none. absurd (none (request_of c.in-Ok.order, c.in-Ok.ensures.asks))
 
 pub returns-in-Err-carry_out-clause-usage : goal.returns-in-Err-carry_out-clause-usage
 returns-in-Err-carry_out-clause-usage g c =
@@ -100,31 +100,31 @@ returns-in-Err-carry_out-clause-refused g c =
     λ same.
     let reported = after_progress (IsProgress (g.F.Files.contents c.args.files.now) (texts c.args.words.now)) g.E.Sink.may_lack_memory
     (g.E.Sink.failures c.args.err.now) (g.E.Sink.failures c.carry_out.new.err) (g.E.Sink.failures c.report_failure.new.err) (g.E.Sink.taken c.args.err.now) (g.E.Sink.taken c.carry_out.new.err) (g.E.Sink.taken c.report_failure.new.err)
-    (said_of_words (g.F.Files.contents c.args.files.now) (texts c.args.words.now) (wanted_of c.in-Ok.order) c.in-Ok.ensures.asks g.E.Sink.may_lack_memory
+    (said_of_words (g.F.Files.contents c.args.files.now) (texts c.args.words.now) (request_of c.in-Ok.order) c.in-Ok.ensures.asks g.E.Sink.may_lack_memory
     (stream (g.E.Sink.failures c.args.err.now) (g.E.Sink.taken c.args.err.now)) (stream (g.E.Sink.failures c.carry_out.new.err) (g.E.Sink.taken c.carry_out.new.err)) c.in-Err-carry_out.ensures.progress)
     c.in-Err-carry_out.failure _ c.report_failure.ensures.said in
-    inl (refuses_of_words (g.F.Files.contents c.args.files.now) (texts c.args.words.now) (wanted_of c.in-Ok.order) c.in-Ok.ensures.asks (g.F.Files.contents c.carry_out.new.files) (g.O.Sink.taken c.args.out.now) (g.O.Sink.taken c.carry_out.new.out) (SaysAfter (IsProgress (g.F.Files.contents c.args.files.now) (texts c.args.words.now)) g.E.Sink.may_lack_memory (g.E.Sink.failures c.args.err.now) (g.E.Sink.failures c.report_failure.new.err) (g.E.Sink.taken c.args.err.now) (g.E.Sink.taken c.report_failure.new.err)) c.in-Err-carry_out.failure _ reported same c.in-Err-carry_out.ensures.refused)
+    inl (refuses_of_words (g.F.Files.contents c.args.files.now) (texts c.args.words.now) (request_of c.in-Ok.order) c.in-Ok.ensures.asks (g.F.Files.contents c.carry_out.new.files) (g.O.Sink.taken c.args.out.now) (g.O.Sink.taken c.carry_out.new.out) (SaysAfter (IsProgress (g.F.Files.contents c.args.files.now) (texts c.args.words.now)) g.E.Sink.may_lack_memory (g.E.Sink.failures c.args.err.now) (g.E.Sink.failures c.report_failure.new.err) (g.E.Sink.taken c.args.err.now) (g.E.Sink.taken c.report_failure.new.err)) c.in-Err-carry_out.failure _ reported same c.in-Err-carry_out.ensures.refused)
 
 pub returns-in-Err-carry_out-clause-device : goal.returns-in-Err-carry_out-clause-device
 returns-in-Err-carry_out-clause-device g c =
     λ same.
     let reported = after_progress (IsProgress (g.F.Files.contents c.args.files.now) (texts c.args.words.now)) g.E.Sink.may_lack_memory
     (g.E.Sink.failures c.args.err.now) (g.E.Sink.failures c.carry_out.new.err) (g.E.Sink.failures c.report_failure.new.err) (g.E.Sink.taken c.args.err.now) (g.E.Sink.taken c.carry_out.new.err) (g.E.Sink.taken c.report_failure.new.err)
-    (said_of_words (g.F.Files.contents c.args.files.now) (texts c.args.words.now) (wanted_of c.in-Ok.order) c.in-Ok.ensures.asks g.E.Sink.may_lack_memory
+    (said_of_words (g.F.Files.contents c.args.files.now) (texts c.args.words.now) (request_of c.in-Ok.order) c.in-Ok.ensures.asks g.E.Sink.may_lack_memory
     (stream (g.E.Sink.failures c.args.err.now) (g.E.Sink.taken c.args.err.now)) (stream (g.E.Sink.failures c.carry_out.new.err) (g.E.Sink.taken c.carry_out.new.err)) c.in-Err-carry_out.ensures.progress)
     c.in-Err-carry_out.failure _ c.report_failure.ensures.said in
     let (is, line) = device_reported _ _ c.in-Err-carry_out.failure reported same in
-    (device_has_failed _ _ _ _ c.in-Err-carry_out.failure is c.in-Err-carry_out.ensures.failures, partly_of_words (texts c.args.words.now) (wanted_of c.in-Ok.order) c.in-Ok.ensures.asks g.F.Files.is_known (g.F.Files.contents c.args.files.now) (g.F.Files.contents c.carry_out.new.files) (g.O.Sink.taken c.args.out.now) (g.O.Sink.taken c.carry_out.new.out) c.in-Err-carry_out.ensures.partly, line)
+    (device_has_failed _ _ _ _ c.in-Err-carry_out.failure is c.in-Err-carry_out.ensures.failures, partly_of_words (texts c.args.words.now) (request_of c.in-Ok.order) c.in-Ok.ensures.asks g.F.Files.is_known (g.F.Files.contents c.args.files.now) (g.F.Files.contents c.carry_out.new.files) (g.O.Sink.taken c.args.out.now) (g.O.Sink.taken c.carry_out.new.out) c.in-Err-carry_out.ensures.partly, line)
 
 pub returns-in-Err-carry_out-clause-memory : goal.returns-in-Err-carry_out-clause-memory
 returns-in-Err-carry_out-clause-memory g c =
     λ same.
     let reported = after_progress (IsProgress (g.F.Files.contents c.args.files.now) (texts c.args.words.now)) g.E.Sink.may_lack_memory
     (g.E.Sink.failures c.args.err.now) (g.E.Sink.failures c.carry_out.new.err) (g.E.Sink.failures c.report_failure.new.err) (g.E.Sink.taken c.args.err.now) (g.E.Sink.taken c.carry_out.new.err) (g.E.Sink.taken c.report_failure.new.err)
-    (said_of_words (g.F.Files.contents c.args.files.now) (texts c.args.words.now) (wanted_of c.in-Ok.order) c.in-Ok.ensures.asks g.E.Sink.may_lack_memory
+    (said_of_words (g.F.Files.contents c.args.files.now) (texts c.args.words.now) (request_of c.in-Ok.order) c.in-Ok.ensures.asks g.E.Sink.may_lack_memory
     (stream (g.E.Sink.failures c.args.err.now) (g.E.Sink.taken c.args.err.now)) (stream (g.E.Sink.failures c.carry_out.new.err) (g.E.Sink.taken c.carry_out.new.err)) c.in-Err-carry_out.ensures.progress)
     c.in-Err-carry_out.failure _ c.report_failure.ensures.said in
-    (partly_of_words (texts c.args.words.now) (wanted_of c.in-Ok.order) c.in-Ok.ensures.asks g.F.Files.is_known (g.F.Files.contents c.args.files.now) (g.F.Files.contents c.carry_out.new.files) (g.O.Sink.taken c.args.out.now) (g.O.Sink.taken c.carry_out.new.out) c.in-Err-carry_out.ensures.partly, memory_reported _ _ c.in-Err-carry_out.failure reported same)
+    (partly_of_words (texts c.args.words.now) (request_of c.in-Ok.order) c.in-Ok.ensures.asks g.F.Files.is_known (g.F.Files.contents c.args.files.now) (g.F.Files.contents c.carry_out.new.files) (g.O.Sink.taken c.args.out.now) (g.O.Sink.taken c.carry_out.new.out) c.in-Err-carry_out.ensures.partly, memory_reported _ _ c.in-Err-carry_out.failure reported same)
 
 pub returns-in-Err-carry_out-clause-unfailed : goal.returns-in-Err-carry_out-clause-unfailed
 returns-in-Err-carry_out-clause-unfailed g c =
@@ -133,7 +133,7 @@ returns-in-Err-carry_out-clause-unfailed g c =
 pub returns-in-Err-carry_out-clause-unread : goal.returns-in-Err-carry_out-clause-unread
 returns-in-Err-carry_out-clause-unread g c =
     λ name named missing.
-    unread_status _ _ c.in-Err-carry_out.failure (c.in-Err-carry_out.ensures.unread name (files_named inputs_of (texts c.args.words.now) (wanted_of c.in-Ok.order) name c.in-Ok.ensures.asks named) missing) c.report_failure.ensures.said
+    unread_status _ _ c.in-Err-carry_out.failure (c.in-Err-carry_out.ensures.unread name (files_named inputs_of (texts c.args.words.now) (request_of c.in-Ok.order) name c.in-Ok.ensures.asks named) missing) c.report_failure.ensures.said
 
 pub returns-in-Err-clause-unreadable : goal.returns-in-Err-clause-unreadable
 returns-in-Err-clause-unreadable g c =
@@ -142,27 +142,27 @@ returns-in-Err-clause-unreadable g c =
 pub returns-in-Ok-carry_out-clause-unreadable : goal.returns-in-Ok-carry_out-clause-unreadable
 returns-in-Ok-carry_out-clause-unreadable g c =
     λ name named missing.
-    absurd (c.in-Ok-carry_out.ensures.unreadable name (files_named texts_of (texts c.args.words.now) (wanted_of c.in-Ok.order) name c.in-Ok.ensures.asks named) missing)
+    absurd (c.in-Ok-carry_out.ensures.unreadable name (files_named texts_of (texts c.args.words.now) (request_of c.in-Ok.order) name c.in-Ok.ensures.asks named) missing)
 
 pub returns-in-Err-carry_out-clause-unreadable : goal.returns-in-Err-carry_out-clause-unreadable
 returns-in-Err-carry_out-clause-unreadable g c =
     λ name named missing.
-    unread_status _ _ c.in-Err-carry_out.failure (c.in-Err-carry_out.ensures.unreadable name (files_named texts_of (texts c.args.words.now) (wanted_of c.in-Ok.order) name c.in-Ok.ensures.asks named) missing) c.report_failure.ensures.said
+    unread_status _ _ c.in-Err-carry_out.failure (c.in-Err-carry_out.ensures.unreadable name (files_named texts_of (texts c.args.words.now) (request_of c.in-Ok.order) name c.in-Ok.ensures.asks named) missing) c.report_failure.ensures.said
 
 pub returns-in-Ok-carry_out-clause-quiet : goal.returns-in-Ok-carry_out-clause-quiet
 returns-in-Ok-carry_out-clause-quiet g c = λ unasked answers.
-    quiet_unasked (g.F.Files.contents c.args.files.now) (texts c.args.words.now) (wanted_of c.in-Ok.order) c.in-Ok.ensures.asks g.E.Sink.may_lack_memory
+    quiet_unasked (g.F.Files.contents c.args.files.now) (texts c.args.words.now) (request_of c.in-Ok.order) c.in-Ok.ensures.asks g.E.Sink.may_lack_memory
     (stream (g.E.Sink.failures c.args.err.now) (g.E.Sink.taken c.args.err.now)) (stream (g.E.Sink.failures c.carry_out.new.err) (g.E.Sink.taken c.carry_out.new.err)) c.in-Ok-carry_out.ensures.progress unasked
 
 pub returns-in-Ok-carry_out-clause-progress : goal.returns-in-Ok-carry_out-clause-progress
 returns-in-Ok-carry_out-clause-progress g c = λ answers.
-    said_of_words (g.F.Files.contents c.args.files.now) (texts c.args.words.now) (wanted_of c.in-Ok.order) c.in-Ok.ensures.asks g.E.Sink.may_lack_memory
+    said_of_words (g.F.Files.contents c.args.files.now) (texts c.args.words.now) (request_of c.in-Ok.order) c.in-Ok.ensures.asks g.E.Sink.may_lack_memory
     (stream (g.E.Sink.failures c.args.err.now) (g.E.Sink.taken c.args.err.now)) (stream (g.E.Sink.failures c.carry_out.new.err) (g.E.Sink.taken c.carry_out.new.err)) c.in-Ok-carry_out.ensures.progress
 
 pub returns-in-Ok-carry_out-clause-ended : goal.returns-in-Ok-carry_out-clause-ended
 returns-in-Ok-carry_out-clause-ended g c =
     end_of_words (g.F.Files.contents c.args.files.now) (g.F.Files.contents c.carry_out.new.files) g.F.Files.is_known g.E.Sink.may_lack_memory
-    (stream (g.E.Sink.failures c.carry_out.new.err) (g.E.Sink.taken c.carry_out.new.err)) (texts c.args.words.now) (wanted_of c.in-Ok.order) c.in-Ok.ensures.asks _
+    (stream (g.E.Sink.failures c.carry_out.new.err) (g.E.Sink.taken c.carry_out.new.err)) (texts c.args.words.now) (request_of c.in-Ok.order) c.in-Ok.ensures.asks _
     c.in-Ok-carry_out.ensures.ended
 
 pub returns-in-Err-carry_out-clause-ended : goal.returns-in-Err-carry_out-clause-ended

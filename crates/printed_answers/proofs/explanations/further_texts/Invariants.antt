@@ -5,5 +5,5 @@ use Rattle.printed_answers.proofs.explanations.further_texts.Given as goal
 
 abbrev pub invariant-faults : goal.invariant-faults
 invariant-faults l = record {
-  told : map string_bytes l.texts.items ≡ map lines_of (take l.fault-index l.further);
+  made : map string_bytes l.texts.items ≡ map lines_of (take l.fault-index l.further);
 }

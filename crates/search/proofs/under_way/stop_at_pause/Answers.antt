@@ -1,46 +1,38 @@
-use Rattle.std.proofs.Common.{length, ap, arith}
-use Rattle.search.proofs.Closed.{unsolvable}
-use Rattle.search.proofs.Noted.{none_estimated}
-use Rattle.search.proofs.Paused.{turn_there, entries_left, estimates_noted, at_pause}
-use Rattle.search.proofs.Steps.{entries_of, none_waits}
+use Rattle.std.proofs.Common.{refl}
+use Rattle.faults.proofs.Results.{if_ok}
+use Rattle.search.specs.OnDemand.{nothing_shown}
+use Rattle.search.proofs.Halts.{stops_by_guide}
+use Rattle.search.proofs.Valued.{valued_alone}
 use Rattle.search.proofs.under_way.stop_at_pause.Goals as goal
 
-pub next_waiting-requires-clause-entries : goal.next_waiting-requires-clause-entries
-next_waiting-requires-clause-entries g c = entries_of _ _ _ _ _ _ _ c.requires.search.one_each c.requires.search.nodes
+pub stop_asking-requires-clause-search : goal.stop_asking-requires-clause-search
+stop_asking-requires-clause-search g c =
+    let was = c.requires.search in
+    let is = c.without_bases-search.ensures in
+    let guide = c.args.guide.now in
+    record {
+      value = g.G.Guide.estimate_of guide;
+      is_dead = g.G.Guide.is_dead guide;
+      valued = valued_alone _ _ _ _ _ _ is.bases (g.met.G.Guide.is_admissible guide) (g.met.G.Guide.reports_dead_ends guide);
+      holds = record {
+        one_each = rw (is.store, is.nodes) was.one_each;
+        nodes = rw (is.store, is.nodes, is.open_list) was.nodes;
+        heap = rw is.open_list was.heap;
+        single = rw is.open_list was.single;
+      };
+    }
 
-pub returns-in_default : goal.returns-in_default
-returns-in_default g c = λ max_states within.
-    let search = c.requires.search in
-    let guide = c.args._guide.now in
-    let states = g.L.StateListing.states c.args.search.progress.store in
-    let all = c.args.search.progress.nodes.items in
-    let none = none_waits _ _ _ _ _ _ _ search.one_each search.nodes c.in_default.ensures.none in
-    let result = unsolvable _ _ _ _ _ _ search.one_each _ search.nodes c.requires.classes (g.met.G.Guide.is_admissible guide) (g.met.G.Guide.reports_dead_ends guide) max_states c.requires.successors none within in
-    let long = rw c.in_default.ensures.nodes at c.in_ok-states.ensures.estimates in (
-      (result.0, rw (c.in_ok-states.ensures.store, c.in_default.ensures.store, c.in_ok-states.ensures.nodes, c.in_default.ensures.nodes) result.1),
-      rw (c.in_ok-states.ensures.store, c.in_default.ensures.store, c.in_ok-states.ensures.nodes, c.in_default.ensures.nodes)
-          (none_estimated (g.G.Guide.estimate_of guide) (g.G.Guide.is_dead guide) states all none c.in_ok-states.states.estimates.items long),
-    )
+pub stop_asking-requires-clause-successors : goal.stop_asking-requires-clause-successors
+stop_asking-requires-clause-successors g c = rw (c.without_bases-search.ensures.store, c.without_bases-search.ensures.nodes) c.requires.successors
 
-pub into_bound-requires-clause-turn : goal.into_bound-requires-clause-turn
-into_bound-requires-clause-turn g c =
-    rw c.in-Some.ensures.nodes (turn_there _ _ _ _ g.L.StateListing.states c.args.search.progress c.requires.search c.in-Some.turn _ c.in-Some.ensures.some c.in-Some.ensures.kept)
-
-pub into_bound-requires-clause-entries : goal.into_bound-requires-clause-entries
-into_bound-requires-clause-entries g c =
-    rw c.in-Some.ensures.nodes (entries_left _ _ _ _ g.L.StateListing.states c.args.search.progress c.requires.search c.in-Some.turn _ c.in-Some.ensures.some c.in-Some.ensures.kept)
+pub stop_asking-requires-clause-classes : goal.stop_asking-requires-clause-classes
+stop_asking-requires-clause-classes g c = rw c.without_bases-search.ensures.store c.requires.classes
 
 pub returns : goal.returns
-returns g c = λ max_states within.
-    let search = c.requires.search in
-    let guide = c.args._guide.now in
-    let p = c.args.search.progress in
-    let states_of = g.L.StateListing.states in
-    let least = rw c.in-Some.ensures.nodes at c.in_ok-bound.ensures.least in
-    let noted = rw c.in-Some.ensures.nodes at c.in_ok-bound.ensures.estimates in
-    rw (c.in_ok-bound.ensures.store, c.in-Some.ensures.store, c.in_ok-bound.ensures.nodes, c.in-Some.ensures.nodes) (
-      within,
-      at_pause _ _ _ _ states_of p search c.in-Some.turn _ c.in-Some.ensures.some c.in-Some.ensures.kept c.requires.successors c.requires.classes
-          (g.met.G.Guide.is_admissible guide) (g.met.G.Guide.reports_dead_ends guide) c.in_ok-bound.bound least,
-      estimates_noted _ _ _ _ states_of p search c.in-Some.turn _ c.in-Some.ensures.some c.in-Some.ensures.kept c.in_ok-bound.states.estimates.items noted,
-    )
+returns g c =
+    let t = g.G.Guide.system_of c.args.guide.now in
+    let class_of = g.L.StateListing.class_of c.args.search.progress.store in
+    let value = g.G.Guide.estimate_of c.args.guide.now in
+    let is_dead = g.G.Guide.is_dead c.args.guide.now in
+    if_ok c.stop_asking.result (λ stop by max_states within. stops_by_guide t class_of value is_dead nothing_shown refl g.L.StateListing.states max_states stop (by max_states within))
+    (rw c.without_bases-search.ensures.store at c.stop_asking.ensures)

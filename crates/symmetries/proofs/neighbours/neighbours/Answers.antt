@@ -2,7 +2,7 @@ use Rattle.std.proofs.Common.{◌≡◌, ◌∙◌, ◌+◌, [], ◌∷◌, ◌+
 use Rattle.std.proofs.lemmas.List.{length_push}
 use Rattle.symmetries.specs.NumberPairs.{swaps_in, AreBelow}
 use Rattle.symmetries.specs.Apart.{is_in, pairs_at}
-use Rattle.symmetries.specs.Lowest.{tells_at, AreNoted, AreLowest, AreAllNeighbours}
+use Rattle.symmetries.specs.Lowest.{may_move_at, AreNoted, AreLowest, AreAllNeighbours}
 use Rattle.symmetries.proofs.ApartLemmas.{these_pairs, these_below}
 use Rattle.symmetries.proofs.NeighbourLemmas.{written_back, are_neighbours, neighbours_more, noted_more}
 use Rattle.symmetries.proofs.neighbours.neighbours.Goals as goal
@@ -41,7 +41,7 @@ loop-number-preserved c =
       wide = ap length kept ∙ long ∙ c.loop-number.invariant.wide;
       noted =
           subst (AreNoted swaps (number + 1)) (sym kept)
-          (noted_more swaps old new number c.loop-number.invariant.noted (λ atom n. subst (λ l. tells_at l atom n ≡ true → tells_at new atom n ≡ true) started (c.note.ensures.kept atom n))
+          (noted_more swaps old new number c.loop-number.invariant.noted (λ atom n. subst (λ l. may_move_at l atom n ≡ true → may_move_at new atom n ≡ true) started (c.note.ensures.kept atom n))
           (λ atom at. c.note.ensures.noted atom (ap (λ l. is_in l atom) (sym there) ∙ at)));
       all =
           subst (AreAllNeighbours swaps) (sym pushed)

@@ -9,6 +9,6 @@ use Rattle.task.proofs.types.all_below.Goals as goal
 
 pub returns : goal.returns
 returns c =
-    let below : ℕ → Bool = is_below_in (map type_entry_of c.args.types.now.entries) (union_of c.args.wanted.now) in
+    let below : ℕ → Bool = is_below_in (map type_entry_of c.args.types.now.entries) (union_of c.args.required_types.now) in
     all_from_yields_List (λ (t : TypeId). below t.0) _ _ _ c.all.ensures.ran (YieldsList-from_slice c.args.some.now c.iter.ensures.rest) (λ x b q k. search (rules, tests))
     ∙ sym (list_all-map below type_of c.args.some.now)

@@ -9,6 +9,6 @@ use Rattle.task.proofs.types.is_below.Goals as goal
 
 pub returns : goal.returns
 returns c =
-    let has : ℕ → Bool = λ above. list_any (nat_eq above) (union_of c.args.wanted.now) in
+    let has : ℕ → Bool = λ above. list_any (nat_eq above) (union_of c.args.required_types.now) in
     any_from_yields_List (λ (t : TypeId). has t.0) _ _ _ c.any.ensures.ran (YieldsList-from_slice c.supertypes.result.now c.iter.ensures.rest) (λ x b q k. search (rules, tests))
     ∙ sym (list_any-map has type_of c.supertypes.result.now) ∙ ap (list_any has) c.supertypes.ensures

@@ -5,7 +5,7 @@ use Rattle.certificate_reader.specs.Stages.{place_of}
 use Rattle.certificate_reader.specs.Reader.{waits_in}
 use Rattle.certificate_reader.specs.Ready.{IsPrompt, come_at}
 use Rattle.std.proofs.lemmas.Result.{err_from_is_err_and}
-use Rattle.certificate_reader.proofs.AdvanceLemmas.{fault_told}
+use Rattle.certificate_reader.proofs.AdvanceLemmas.{fault_stated}
 use Rattle.certificate_reader.proofs.FaultsRead.{one_line_after}
 use Rattle.certificate_reader.proofs.ReaderLemmas.{come_unless_ended, few_lines, leads_within, prompt_unless_ended, trailing_reported}
 use Rattle.certificate_reader.proofs.reader.CertReader.advance.Goals as goal
@@ -64,7 +64,7 @@ pub returns-in_err-line : goal.returns-in_err-line
 returns-in_err-line g c =
     let p = err_from_is_err_and c.from_residual-in_err-line.result c.from_residual-in_err-line.ensures.1 in
     rw (p.1, p.2) (record {
-      reported = λ before read. fault_told g.R.Source.remaining c.args.self.now
+      reported = λ before read. fault_stated g.R.Source.remaining c.args.self.now
           (record { alloc = c.args.self.now.alloc; source = c.next_line.new.source; waiting = c.next_line.new.waiting; position = c.args.self.now.position; failed = c.args.self.now.failed })
           refl c.in_default.not-Ended before read c.in_err-line.field-0.0 c.in_err-line.ensures.next;
       failed = refl;

@@ -80,7 +80,7 @@ find_in_each-loop-part-preserved t c =
     let state = state_of c.args.self.state.now in
     λ last later. c.loop-part.invariant last
     (finds_next_part task state (map object_of c.args.self.objects.now.items) (names_in c.loop-part.names.now) c.args.parts.now c.loop-part.part-index c.part-item.result
-    c.loop-part-test.true c.part-item.is (names_in c.names_behind-names.result.now) c.names_behind-names.ensures c.loop-part.found c.find.new.found last c.in_ok-find.ensures later)
+    c.loop-part-test.true c.part-item.is (names_in c.names_after-names.result.now) c.names_after-names.ensures c.loop-part.found c.find.new.found last c.in_ok-find.ensures later)
 
 pub find_in_each-returns : goal.find_in_each-returns
 find_in_each-returns t c =

@@ -21,4 +21,4 @@ pub add_parts-loop-part-preserved : goal.add_parts-loop-part-preserved
 add_parts-loop-part-preserved t c =
     part_added (task_of c.args.self.task.now) (scope_of c.loop-part.scope) c.args.parts.now c.loop-part.part-index c.loop-part.text.items _ c.loop-part.invariant
     c.part-item.result c.loop-part-test.true c.part-item.is c.extend_from_slice-in-loop-part.new.self.items c.add_formula.new.text.items
-    c.in_ok-extend_from_slice-2.ensures.items c.in_ok-add_formula.ensures (scope_of c.behind-scope.result) c.behind-scope.ensures
+    c.in_ok-extend_from_slice-2.ensures.items c.in_ok-add_formula.ensures (scope_of c.after-scope.result) c.after-scope.ensures

@@ -6,5 +6,5 @@ use Rattle.file_answers.proofs.explaining.further.further_text.Given as goal
 
 abbrev pub invariant-faults : goal.invariant-faults
 invariant-faults l = record {
-  told : string_bytes l.text ≡ flat_map (λ (f : FurtherFault). codes "\n" ++ string_bytes f.text) (take l.fault-index l.further);
+  stated : string_bytes l.text ≡ flat_map (λ (f : FurtherFault). codes "\n" ++ string_bytes f.text) (take l.fault-index l.further);
 }

@@ -4,7 +4,7 @@ use Rattle.formulas.specs.State.{plan_of}
 use Rattle.explain_plans.specs.Explanations as plans
 use Rattle.file_answers.specs.ExplanationLines.{named_of}
 use Rattle.file_answers.specs.StepLines.{is_traced}
-use Rattle.file_answers.proofs.ExplanationLemmas.{explained_told, step_of_text}
+use Rattle.file_answers.proofs.ExplanationLemmas.{explained_reported, step_of_text}
 use Rattle.file_answers.proofs.explaining.of_plan.explain_steps.Goals as goal
 
 pub explain_verdict-requires-clause-step : goal.explain_verdict-requires-clause-step
@@ -14,5 +14,5 @@ explain_verdict-requires-clause-step c =
 
 pub returns : goal.returns
 returns c =
-    explained_told (task_of c.args.named.now.task) (names_of c.args.named.now.names) (plan_of c.args.plan.now) (is_traced c.args.file.lines) (named_of c.args.file.file) c.in_ok-explained.explained
+    explained_reported (task_of c.args.named.now.task) (names_of c.args.named.now.names) (plan_of c.args.plan.now) (is_traced c.args.file.lines) (named_of c.args.file.file) c.in_ok-explained.explained
     c.in_ok-explained.ensures.verdict c.in_ok-explained.ensures.explained c.explain_verdict.result c.explain_verdict.ensures

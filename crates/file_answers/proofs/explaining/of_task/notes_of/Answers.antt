@@ -9,6 +9,6 @@ returns c = record {
   ground = c.in_ok-notes.notes;
   are_ground = c.in_ok-notes.ensures;
   of_goal = c.in_ok-add_lines-2.ensures.0;
-  told = c.in_ok-add_lines-2.ensures.1
+  stated = c.in_ok-add_lines-2.ensures.1
       ∙ ap (λ l. l ++ c.in_ok-add_lines-2.ensures.0) (c.in_ok-add_lines.ensures ∙ ap (λ l. map string_bytes l ++ ground_lines (task_of c.task-task.result.now) c.in_ok-notes.notes) c.new-lines.ensures.items ∙ ap (λ t. ground_lines t c.in_ok-notes.notes) c.task-task.ensures);
 }

@@ -4,7 +4,7 @@ use Rattle.std.proofs.lemmas.List.{get_or_read}
 use Rattle.packed_state.specs.Pool.{key_of, row_at}
 use Rattle.packed_state.specs.Table.{slot_at, tag_of, number_of}
 use Rattle.packed_state.proofs.TableLemmas.{entry_within}
-use Rattle.packed_state.proofs.PoolSearch.{search_begins, search_goes_on, search_ends, search_finds}
+use Rattle.packed_state.proofs.PoolSearch.{search_begins, search_continues, search_ends, search_finds}
 use Rattle.packed_state.proofs.pool.Pool.look_up.Goals as goal
 
 pub slots-init : goal.slots-init
@@ -46,7 +46,7 @@ slots-preserved c =
     get_or_read entries c.slot-slot.result c.index-entry.result.now c.slot-slot.ensures.within c.index-entry.ensures 0 in
     let at : c.slot-slot.result ≡ slot_at (length entries) (key_of words) c.slots.step =
     c.slot-slot.ensures.slot ∙ ap (λ key. slot_at (length entries) key c.slots.step) c.key-key.ensures in
-    search_goes_on p.stride p.words.items p.table.count entries p.keys.items words (key_of words) c.slots.step c.slot-slot.result c.index-entry.result.now c.requires c.slots.invariant at read
+    search_continues p.stride p.words.items p.table.count entries p.keys.items words (key_of words) c.slots.step c.slot-slot.result c.index-entry.result.now c.requires c.slots.invariant at read
     (λ free. absurd (c.if-entry-eq-FREE.false free))
     (λ both.
     both_ways _ c.if-is_entry_of.false

@@ -1,44 +1,11 @@
-use Rattle.std.proofs.Common.{ℕ, refl, ◌∙◌}
-use Rattle.std.specs.Global.{Vec}
-use Rattle.std.proofs.lemmas.Result.{err_from_is_err_and}
-use Rattle.planner_main.specs.declared.program.inputs.TaskTexts.{TaskTexts}
-use Rattle.planner_main.proofs.ProgramWords.{text_kept, refused_on_three, device_counted}
+use Rattle.std.proofs.Common.{refl}
 use Rattle.planner_main.proofs.program.validation.report_of_validate.Goals as goal
 
-pub returns-in_err-task-clause-refused : goal.returns-in_err-task-clause-refused
-returns-in_err-task-clause-refused g c =
-    let p = err_from_is_err_and c.from_residual.result c.from_residual.ensures.1 in
-    rw (p.1, p.2) tt
+pub returns-in-Ok-clause-report : goal.returns-in-Ok-clause-report
+returns-in-Ok-clause-report g c = (c.in-Ok.verdict, refl, c.in-Ok.ensures.verdict)
 
-pub returns-in_err-plan-clause-refused : goal.returns-in_err-plan-clause-refused
-returns-in_err-plan-clause-refused g c =
-    let p = err_from_is_err_and c.from_residual-in_err-plan.result c.from_residual-in_err-plan.ensures.1 in
-    rw (p.1, p.2) tt
+pub returns-in-Ok-clause-unread : goal.returns-in-Ok-clause-unread
+returns-in-Ok-clause-unread g c = λ name named missing. absurd (c.in-Ok.ensures.unread name named missing)
 
-pub returns-in_err-verdict-clause-refused : goal.returns-in_err-verdict-clause-refused
-returns-in_err-verdict-clause-refused g c =
-    let p = err_from_is_err_and c.from_residual-in_err-verdict.result c.from_residual-in_err-verdict.ensures.1 in
-    let refused = rw (c.deref.ensures.value, c.deref-2.ensures.value, c.deref-3.ensures.value) at c.in_err-verdict.ensures.refused in
-    rw (p.1, p.2)
-    (refused_on_three (g.F.Files.contents c.args.files.now) c.args.names.domain.now c.args.names.problem.now c.args.plan.now _ _ _ c.in_ok-task.ensures.domain c.in_ok-task.ensures.problem
-    (text_kept _ _ c.in_ok-task.ensures.kept _ _ c.in_ok-plan.ensures.bytes) _ refused)
-
-pub returns-clause-report : goal.returns-clause-report
-returns-clause-report g c =
-    let verdict = rw (c.deref.ensures.value, c.deref-2.ensures.value, c.deref-3.ensures.value) at c.in_ok-verdict.ensures.verdict in
-    (c.in_ok-verdict.verdict, refl, (_, _, _, c.in_ok-task.ensures.domain, c.in_ok-task.ensures.problem, text_kept _ _ c.in_ok-task.ensures.kept _ _ c.in_ok-plan.ensures.bytes, verdict))
-
-pub returns-in_err-task-clause-failures : goal.returns-in_err-task-clause-failures
-returns-in_err-task-clause-failures g c =
-    let p = err_from_is_err_and c.from_residual.result c.from_residual.ensures.1 in
-    rw (p.1, p.2) (device_counted TaskTexts _ _ _ _ refl c.in_err-task.ensures.failures)
-
-pub returns-in_err-plan-clause-failures : goal.returns-in_err-plan-clause-failures
-returns-in_err-plan-clause-failures g c =
-    let p = err_from_is_err_and c.from_residual-in_err-plan.result c.from_residual-in_err-plan.ensures.1 in
-    rw (p.1, p.2) (device_counted (Vec ℕ) _ _ _ _ c.in_ok-task.ensures.failures c.in_err-plan.ensures.failures)
-
-pub returns-in_err-verdict-clause-failures : goal.returns-in_err-verdict-clause-failures
-returns-in_err-verdict-clause-failures g c =
-    let p = err_from_is_err_and c.from_residual-in_err-verdict.result c.from_residual-in_err-verdict.ensures.1 in
-    rw (p.1, p.2) (c.in_ok-plan.ensures.failures ∙ c.in_ok-task.ensures.failures)
+pub returns-in-Ok-clause-unreadable : goal.returns-in-Ok-clause-unreadable
+returns-in-Ok-clause-unreadable g c = λ name named failing. absurd (c.in-Ok.ensures.unreadable name named failing)

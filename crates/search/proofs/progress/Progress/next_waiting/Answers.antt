@@ -36,6 +36,7 @@ loop-sum-preserved g c =
     record {
       store = c.loop-sum.invariant.store;
       nodes = c.loop-sum.invariant.nodes;
+      bases = c.loop-sum.invariant.bases;
       heap = (c.in-Some.ensures.order c.loop-sum.invariant.heap).0;
       open_list = keeps-popped (waiting_in c.args.self.now.open_list) (waiting_in c.loop-sum.self.open_list) (waiting_in c.pop.new.self) all x keeps c.in-Some.ensures.permutation
           (stale-read all x r of.0 read

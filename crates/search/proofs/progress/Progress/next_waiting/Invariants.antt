@@ -8,6 +8,7 @@ invariant-loop-sum g l =
     record {
       store : l.self.store ≡ l.initial.self.store;
       nodes : l.self.nodes.items ≡ l.initial.self.nodes.items;
+      bases : l.self.bases ≡ l.initial.self.bases;
       heap : IsOpenList l.self.open_list;
       open_list : KeepsCurrent (waiting_in l.initial.self.open_list) (waiting_in l.self.open_list) l.initial.self.nodes.items;
     }

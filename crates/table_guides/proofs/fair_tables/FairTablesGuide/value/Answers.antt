@@ -2,7 +2,7 @@ use Rattle.std.proofs.Common.{◌∙◌, sym}
 use Rattle.packed_state.specs.Packed.{bits_of}
 use Rattle.lower_bounds.specs.TableFunctions.{functions_of, dead_ends_of, greatest_value, is_dead_by}
 use Rattle.table_guides.specs.FairTables.{functions_in}
-use Rattle.table_guides.proofs.GuideLemmas.{told}
+use Rattle.table_guides.proofs.GuideLemmas.{reported}
 use Rattle.table_guides.proofs.fair_tables.FairTablesGuide.value.Goals as goal
 
 pub value_unless_dead-requires-clause-width : goal.value_unless_dead-requires-clause-width
@@ -10,4 +10,4 @@ value_unless_dead-requires-clause-width c = c.requires.width ∙ sym c.args.self
 
 pub returns-clause-value : goal.returns-clause-value
 returns-clause-value c =
-    told (greatest_value (functions_of (functions_in c.args.self.now))) (is_dead_by (dead_ends_of (functions_in c.args.self.now))) (bits_of c.args.state.now) c.value_unless_dead.result c.value_unless_dead.ensures.value
+    reported (greatest_value (functions_of (functions_in c.args.self.now))) (is_dead_by (dead_ends_of (functions_in c.args.self.now))) (bits_of c.args.state.now) c.value_unless_dead.result c.value_unless_dead.ensures.value

@@ -25,7 +25,7 @@ loop-index-preserved c =
             ∙ lists.kept_full number parts.object_of 8 xs i c.loop-index-test.true c.loop-index.objects.items c.loop-index.invariant.objects (omega (arith, w.if-len-lt-MAX_ARGUMENTS.false, c.len.ensures.value))
       ];
       finds = argument_step (file_of c.args.self.now.globals.now.file) known (arguments_at known c.args.predicate.0) (λ (n : Name). tree.object (read.name_of n)) xs i _ c.loop-index-test.true
-          _ c.wanted-wanted.ensures (found_by c.loop-index.walk) _ _ c.in_ok-object.ensures.finds c.loop-index.invariant.finds;
+          _ c.required_types-required_types.ensures (found_by c.loop-index.walk) _ _ c.in_ok-object.ensures.finds c.loop-index.invariant.finds;
     }
 
 pub returns-clause-value : goal.returns-clause-value

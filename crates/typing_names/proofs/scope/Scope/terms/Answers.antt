@@ -17,7 +17,7 @@ loop-index-preserved c =
       terms = ap (map parts.term_of) c.in_ok-push.ensures.items ∙ map_push parts.term_of c.loop-index.terms.items _
           ∙ (λ j. c.loop-index.invariant.terms j ++ c.in_ok-argument.ensures.value j ∷ []) ∙ sym (map_more (λ (t : Term). typing.term_in known (read.term_of t)) xs i _ c.loop-index-test.true);
       finds = argument_step (file_of c.args.self.now.globals.now.file) known (arguments_at known c.args.predicate.0) read.term_of xs i _ c.loop-index-test.true
-          _ c.wanted-wanted.ensures (found_by c.loop-index.walk) _ _ c.in_ok-argument.ensures.finds c.loop-index.invariant.finds;
+          _ c.required_types-required_types.ensures (found_by c.loop-index.walk) _ _ c.in_ok-argument.ensures.finds c.loop-index.invariant.finds;
     }
 
 pub returns-clause-finds : goal.returns-clause-finds

@@ -10,13 +10,13 @@ use Rattle.typing_names.proofs.scope.Scope.variable_fits.Goals as goal
 
 pub returns-in-Some : goal.returns-in-Some
 returns-in-Some c =
-    let below = is_below_in (known_of c.args.self.now).types (parts.union_of c.args.wanted.now) in
+    let below = is_below_in (known_of c.args.self.now).types (parts.union_of c.args.required_types.now) in
     let entries = c.args.self.now.variables.now.entries in
     c.all_below.ensures ∙ ap (λ ts. list_all below (map parts.type_of ts)) c.deref.ensures.value
     ∙ ap (λ o. option_map_or (λ (v : Variable). list_all below v.types) o true) (ap (option_map variable_entry_of) c.in-Some.ensures.entry ∙ sym (slice_get-map variable_entry_of entries c.args.id.0))
 
 pub returns-in-None : goal.returns-in-None
 returns-in-None c =
-    let below = is_below_in (known_of c.args.self.now).types (parts.union_of c.args.wanted.now) in
+    let below = is_below_in (known_of c.args.self.now).types (parts.union_of c.args.required_types.now) in
     let entries = c.args.self.now.variables.now.entries in
     ap (λ o. option_map_or (λ (v : Variable). list_all below v.types) o true) (ap (option_map variable_entry_of) c.in-None.ensures.entry ∙ sym (slice_get-map variable_entry_of entries c.args.id.0))

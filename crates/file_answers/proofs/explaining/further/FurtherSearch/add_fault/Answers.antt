@@ -6,7 +6,7 @@ use Rattle.file_answers.specs.Complete.{IsAccounted, IsReportedAmong, fault_in, 
 use Rattle.file_answers.specs.FurtherFaults.{AreFurther}
 use Rattle.file_answers.specs.declared.explanation.FurtherFault.{FurtherFault}
 use Rattle.file_answers.proofs.CompleteLemmas.{one_more_accounted, still_accounted}
-use Rattle.file_answers.proofs.FurtherLemmas.{one_more_told}
+use Rattle.file_answers.proofs.FurtherLemmas.{one_more_reported}
 use Rattle.file_answers.proofs.explaining.further.FurtherSearch.add_fault.Goals as goal
 
 pub returns-then-len-ge-MOST-clause-added : goal.returns-then-len-ge-MOST-clause-added
@@ -21,7 +21,7 @@ pub returns-clause-further : goal.returns-clause-further
 returns-clause-further c = λ are.
     let f : FurtherFault = record { fault = c.in_file-fault.result; text = c.in_ok-text.text } in
     subst (AreFurther c.args.self.texts.now) (sym c.in_ok-push.ensures.items)
-    (one_more_told c.args.self.texts.now c.args.further.now.items f
+    (one_more_reported c.args.self.texts.now c.args.further.now.items f
     (record { typed = refusal_of c.args.refusal; is_fault = c.requires; is_reported = c.in_file-fault.ensures.reported; says = c.in_ok-text.ensures }) are)
 
 pub returns-clause-kept : goal.returns-clause-kept
