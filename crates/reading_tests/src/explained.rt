@@ -1,5 +1,5 @@
-//! Tests of explanations of a plan whose task's quantified variables have no names.
-use explain_plans::{VariableNames, explain_plan, report_details};
+//! Tests of explanations of a plan.
+use explain_plans::{explain_plan, report_details};
 use plan_file::read_plan;
 use std::alloc::Global;
 use std::process::Abort;
@@ -14,27 +14,18 @@ const UNSEEN: Texts = [
     "(define (problem r) (:domain road) (:objects a) (:init) (:goal (closed a)))",
 ];
 
-/// The reasons why the step is not applicable, with these names of variables.
-fn details(alloc: Global, task: &Task, names: &VariableNames<'_>) -> Result<String, Fail> {
+fn has_its_name(rt: &impl Abort, alloc: Global, task: &Task) -> Result<(), Fail> {
     let plan = read_plan(alloc, task, b"(close a)")?;
-    let explanation = explain_plan(alloc, task, names, &plan)?;
-    Ok(report_details(alloc, task, &plan, &explanation)?)
-}
-
-fn has_a_number(rt: &impl Abort, alloc: Global, task: &Task) -> Result<(), Fail> {
-    let names = VariableNames {
-        actions: Vec::new(alloc),
-        goal: Vec::new(alloc),
-    };
-    let text = details(alloc, task, &names)?;
+    let explanation = explain_plan(alloc, task, &plan)?;
+    let text = report_details(alloc, task, &plan, &explanation)?;
     assert_eq!(rt;
         text.as_str(),
-        "(exists (?1 - object) (seen ?1)) is false.\n"
+        "(exists (?y - object) (seen ?y)) is false.\n"
     );
     Ok(())
 }
 
 #[test]
-fn a_variable_without_a_name_has_a_number(rt: HostRuntime) -> Result<(), Fail> {
-    on_task(&rt, rt.alloc(), &UNSEEN, has_a_number)
+fn a_quantified_variable_has_its_name(rt: HostRuntime) -> Result<(), Fail> {
+    on_task(&rt, rt.alloc(), &UNSEEN, has_its_name)
 }

@@ -9,20 +9,20 @@ use Rattle.validator.proofs.VerdictRuns.{occurs}
 use Rattle.explain_plans.specs.PlanLines.{cost_line}
 use Rattle.explain_plans.specs.Traces.{change_lines, trace_lines}
 use Rattle.explain_plans.proofs.TraceLemmas.{trace_end, trace_more, trace_stops}
-use Rattle.explain_plans.proofs.trace.Tracer.add_steps.Goals as goal
+use Rattle.explain_plans.proofs.printing.PlanPrinter.add_trace.Goals as goal
 
 pub loop-index-init : goal.loop-index-init
 loop-index-init c =
     let task = task_of c.args.self.now.task.now in
     record {
       few = omega arith;
-      same = ap (λ s. c.args.text.now.items ++ trace_lines task 0 0 s (plan_of c.args.plan.now)) c.in_ok-state.ensures;
+      same = ap (λ s. c.args.text.now.items ++ trace_lines task 0 0 s (plan_of c.args.self.now.plan.now)) c.in_ok-state.ensures;
     }
 
 pub apply-requires : goal.apply-requires
 apply-requires c =
-    passes_got (is_instance (task_of c.args.self.now.task.now)) (plan_of c.args.plan.now) c.loop-index.index (instance_of c.step-item.result)
-    (occurs c.steps-step-items.result.now (plan_of c.args.plan.now) c.loop-index.index c.step-item.result c.steps-step-items.ensures.steps c.loop-index-test.true c.step-item.is)
+    passes_got (is_instance (task_of c.args.self.now.task.now)) (plan_of c.args.self.now.plan.now) c.loop-index.index (instance_of c.step-item.result)
+    (occurs c.steps-step-items.result.now (plan_of c.args.self.now.plan.now) c.loop-index.index c.step-item.result c.steps-step-items.ensures.steps c.loop-index-test.true c.step-item.is)
     c.requires
 
 pub overflow_add-total : goal.overflow_add-total
@@ -31,7 +31,7 @@ overflow_add-total c = omega (arith, c.loop-index.invariant.few, c.loop-index-te
 pub loop-index-preserved : goal.loop-index-preserved
 loop-index-preserved c =
     let task = task_of c.args.self.now.task.now in
-    let plan = plan_of c.args.plan.now in
+    let plan = plan_of c.args.self.now.plan.now in
     let index = c.loop-index.index in
     let total = c.loop-index.total in
     let before = state_of c.loop-index.state in
@@ -60,7 +60,7 @@ loop-index-preserved c =
 pub returns-in_default : goal.returns-in_default
 returns-in_default c =
     let task = task_of c.args.self.now.task.now in
-    let plan = plan_of c.args.plan.now in
+    let plan = plan_of c.args.self.now.plan.now in
     let here = occurs c.steps-step-items.result.now plan c.loop-index.index c.step-item.result c.steps-step-items.ensures.steps c.loop-index-test.true c.step-item.is in
     let blocked : step task (state_of c.loop-index.state) (instance_of c.step-item.result) ≡ None = sym c.in_ok-next.ensures ∙ ap (option_map state_of) c.in_default.is in
     sym (append-nil c.loop-index.text.items)
@@ -70,7 +70,7 @@ returns-in_default c =
 
 pub returns : goal.returns
 returns c =
-    let plan = plan_of c.args.plan.now in
+    let plan = plan_of c.args.self.now.plan.now in
     let past : length plan ≤ c.loop-index.index =
     subst (λ n. n ≤ c.loop-index.index) (sym (length-map c.steps-step-items.result.now instance_of) ∙ ap length c.steps-step-items.ensures.steps) c.loop-index-test.false in
     sym (append-nil c.loop-index.text.items)

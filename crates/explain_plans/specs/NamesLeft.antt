@@ -1,16 +1,6 @@
--- The names of quantified variables, in textual order: the task itself has only numbers for variables.
-use Rattle.std.specs.Prelude.{ℕ, List, [], ◌∷◌, drop, slice_get}
-use Rattle.std.specs.Option.{option_map_or}
+-- The names of quantified variables that are left over after those of a formula.
+use Rattle.std.specs.Prelude.{List, [], ◌∷◌, drop}
 use Rattle.model.specs.Task.{Name, Formula, Formulas, atom, equal, and, or, not, imply, exists, forall, no_formula, more_formulas}
-
--- the names in the precondition of each action, in the order of the actions, and those in the goal; a name begins with `?`
-pub record VariableNames : Type 0 where
-  pub actions : List (List Name)
-  pub goal : List Name
-
--- the names of the action with this number
-abbrev pub names_of_action : VariableNames → ℕ → List Name
-names_of_action names number = option_map_or (λ (those : List Name). those) (slice_get names.actions number) []
 
 -- The names left over after those of a formula's variables, which come first.
 abbrev mutual
