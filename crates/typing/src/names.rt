@@ -6,7 +6,7 @@ use indexmap::IndexMap;
 use pddl_tree_parts::{Domain, Problem};
 use std::alloc::Global;
 use task::{Atom, Predicate, TypeId};
-use typing_names::formulas::Condition;
+use typing_names::formulas::FormulaWithNames;
 use typing_names::{Globals, TypeTable};
 
 /// The constants, and all objects with the constants first.
@@ -91,7 +91,7 @@ impl Names {
 pub(crate) struct Start {
     pub(crate) init: Vec<Atom>,
     pub(crate) values: IndexMap<Atom, u32>,
-    pub(crate) goal: Condition,
+    pub(crate) goal: FormulaWithNames,
 }
 
 impl Start {

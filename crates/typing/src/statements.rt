@@ -16,7 +16,7 @@ use indexmap::IndexMap;
 use pddl_tree_parts::{Fact, InitialCost, InitialValue, Name, Problem};
 use std::alloc::Global;
 use task::{Atom, TypeUnion};
-use typing_names::formulas::{Condition, condition};
+use typing_names::formulas::{FormulaWithNames, condition};
 use typing_names::{Globals, Resolver, Scope, Walk};
 
 /// The statements of `:init`: the atoms that are true, and the values of functions.
@@ -204,7 +204,7 @@ pub(crate) fn goal(
     alloc: Global,
     globals: &Globals<'_>,
     problem: &Problem<'_>,
-) -> Result<Condition, PairFault>
+) -> Result<FormulaWithNames, PairFault>
     ensures ok { IfOk result
         (λ c. (typing.formula_faults (file_of globals.now.file) (known_outside globals.now) (read.problem_of problem.now).goal ≡ [])
         × (parts.formula_of c.formula ≡ typing.formula_in (file_of globals.now.file) (known_outside globals.now) (read.problem_of problem.now).goal)) }

@@ -213,7 +213,7 @@ fn several(
 
 /// A precondition or a goal, with the names of its quantified variables.
 #[derive(Drop)]
-pub struct Condition {
+pub struct FormulaWithNames {
     /// The formula.
     pub formula: Formula,
     /// The names of its quantified variables, as in the file, in textual order.
@@ -224,7 +224,7 @@ pub struct Condition {
 pub fn condition(
     resolver: &mut Resolver<'_>,
     given: &tree::Formula<'_>,
-) -> Result<Condition, NoMemory>
+) -> Result<FormulaWithNames, NoMemory>
     ensures value { IfOk result (λ c. parts.formula_of c.formula
         ≡ typing.formula_in (file_in resolver.old) (known_to resolver.old) (read.formula_of given.now)) }
     ensures names { IfOk result (λ c. names_in c.names.items ≡ quantified_names (read.formula_of given.now)) }
@@ -236,7 +236,7 @@ pub fn condition(
     resolver.names.clear();
     let formula = formula(resolver, given)?;
     let names = replace(&mut resolver.names, Vec::new(resolver.walk.alloc));
-    Ok(Condition { formula, names })
+    Ok(FormulaWithNames { formula, names })
 }
 
 /// A formula. Afterwards exactly the same variables are in scope again.
