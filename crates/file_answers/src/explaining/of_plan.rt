@@ -60,11 +60,11 @@ struct PlanFile<'a> {
 }
 
 /// Explains the steps of this file.
-fn explain_steps(
+fn explain_steps<'a>(
     alloc: Global,
-    task: &Task,
+    task: &'a Task,
     file: PlanFile<'_>,
-    plan: &Plan,
+    plan: &'a Plan,
 ) -> Result<Explanation, NoMemory>
     requires instances { IsTrue (list_all (is_instance (task_of task.now)) (plan_of plan.now)) }
     requires text { IsPlanText (task_of task.now) file.file.text.now (plan_of plan.now) }
