@@ -60,11 +60,11 @@ struct PlanFile<'a> {
 }
 
 /// Explains the steps of this file.
-fn explain_steps<'a>(
+fn explain_steps(
     alloc: Global,
-    task: &'a Task,
+    task: &Task,
     file: PlanFile<'_>,
-    plan: &'a Plan,
+    plan: &Plan,
 ) -> Result<Explanation, NoMemory>
     requires instances { IsTrue (list_all (is_instance (task_of task.now)) (plan_of plan.now)) }
     requires text { IsPlanText (task_of task.now) file.file.text.now (plan_of plan.now) }
@@ -82,15 +82,15 @@ fn explain_steps<'a>(
 
 /// A plan for a task, with its explanation.
 #[derive(Clone, Copy)]
-struct ExplainedPlan<'a> {
-    task: &'a Task,
-    plan: &'a Plan,
-    explained: &'a PlanExplanation<'a>,
+struct ExplainedPlan<'t, 'p, 'e> {
+    task: &'t Task,
+    plan: &'p Plan,
+    explained: &'e PlanExplanation<'t>,
     /// What is said of its steps.
     lines: StepLines,
 }
 
-impl ExplainedPlan<'_> {
+impl ExplainedPlan<'_, '_, '_> {
     /// Explains the verdict on the plan in this file.
     fn explain_verdict(self, alloc: Global, file: NamedText<'_>) -> Result<Explanation, NoMemory>
         requires instances { IsTrue (list_all (is_instance (task_of self.task.now)) (plan_of self.plan.now)) }
