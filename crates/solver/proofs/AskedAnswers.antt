@@ -19,7 +19,9 @@ use Rattle.landmark_functions.specs.LandmarkLines.{NumberedLandmarks}
 use Rattle.landmark_zones.specs.Landmarks.{landmarks_of}
 use Rattle.symmetries_definitions.specs.Exchanges.{Exchange}
 use Rattle.certificate_definitions.specs.Certificates.{Certificate, four, keeps_limits}
+use Rattle.certificate.specs.Certificate.{certificate_of}
 use Rattle.certificate.specs.CertificateParts.{listed_of}
+use Rattle.certificate.specs.declared.cert.Cert.{Cert}
 use Rattle.certificate.specs.Evidence.{is_evidence}
 use Rattle.certificate.specs.ListedSets.{Marked}
 use Rattle.certificate.specs.declared.states.Listed.{Listed}
@@ -29,6 +31,7 @@ use Rattle.ground_listings.specs.declared.search_space.SearchSpace.{SearchSpace}
 use Rattle.search.specs.Estimates.{IsConsistent}
 use Rattle.search.specs.Outcome as search
 use Rattle.search.specs.Outcome.{AreFound, AreExpandedWithin}
+use Rattle.search.specs.declared.nodes.FoundStates.{FoundStates}
 use Rattle.search.specs.declared.nodes.Node.{Node}
 use Rattle.search.specs.declared.under_way.Stop.{Stop}
 use Rattle.ground_listings.specs.declared.ground_listing.GroundListing.{GroundListing}
@@ -59,6 +62,12 @@ line_at value is_dead (y ∷ states) (m ∷ nodes) zero x n at_x at_n =
     let same_node : m ≡ n = cc in
     λ i. Some (search.line_of value is_dead (same_state i) (same_node i))
 line_at value is_dead (y ∷ states) (m ∷ nodes) (suc k) x n at_x at_n = line_at value is_dead states nodes k x n at_x at_n
+
+-- the certificate is that of these states with these marks, and of what they rest on
+abbrev pub IsMade : SearchSpace → SeveralValues → Claim → in_memory.Marked → FoundStates GroundListing → Cert → Type 0
+IsMade space s claim marked found cert =
+    certificate_of cert
+    ≡ asked_certificate claim (exchanges_in space) (atoms_in (ground_in space)) s (landmarks_of marked.landmarks) (map listed_of marked.marks.items) (listed_states found.store)
 
 module _ (space : SearchSpace) (is : IsSearchSpace space) (limits : Limits) (s : SeveralValues) (where_to : Stop GroundListing) (marked : in_memory.Marked) (asked : IsAsked space s limits (record { stop = where_to; marked = marked })) where
   abbrev states : List (List Bool)
@@ -93,7 +102,7 @@ module _ (space : SearchSpace) (is : IsSearchSpace space) (limits : Limits) (s :
   are_states : AreStates limits.states asked.value asked.is_dead states nodes (found_at where_to).estimates.items
   are_states = stopped_states (system_of space) (class_in space) asked.value asked.is_dead limits.states where_to asked.stop
 
-  few_atoms : length known ≤ 1048576
+  pub few_atoms : length known ≤ 1048576
   few_atoms = omega (arith, (ground_in space).numbering.few_atoms, length-map (ground_in space).numbering.atoms.keys atom_of)
 
   -- ---- the lines

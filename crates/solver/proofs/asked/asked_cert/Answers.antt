@@ -1,13 +1,12 @@
-use Rattle.std.proofs.Common.{◌≡◌, ◌∙◌, ap, map, length, sym, true, arith}
-use Rattle.std.proofs.lemmas.List.{length-map}
+use Rattle.std.proofs.Common.{◌≡◌, ◌∙◌, ap, map, length, sym, subst}
 use Rattle.task.specs.TaskParts.{atom_of}
 use Rattle.certificate_reader.specs.Lines.{claim_of}
-use Rattle.certificate_definitions.specs.Certificates.{four, keeps_limits}
-use Rattle.certificate.specs.Certificate.{certificate_of}
-use Rattle.certificate.specs.CertificateParts.{listed_of}
+use Rattle.certificate_definitions.specs.Certificates.{Certificate, four, keeps_limits}
+use Rattle.certificate.specs.CertificateParts.{certificate_with, listed_of}
 use Rattle.certificate.specs.Evidence.{evidence_of, is_evidence}
 use Rattle.certificate.specs.ListedSets.{lines_with}
 use Rattle.packed_state.specs.PooledView.{pooled_states}
+use Rattle.grounding.specs.declared.ground.Ground.{Ground}
 use Rattle.grounding.specs.Ground.{task_in, atoms_in}
 use Rattle.model.specs.NumberedAtoms.{are_distinct}
 use Rattle.model.proofs.GroundTaskLemmas.{numbered-distinct}

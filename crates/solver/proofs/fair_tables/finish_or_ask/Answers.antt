@@ -8,8 +8,8 @@ use Rattle.solver.proofs.fair_tables.finish_or_ask.Goals as goal
 abbrev means : Ground → System (List Bool) ℕ
 means k = ground_system (task_in k) (atoms_in k)
 
-pub finish_by-ending-requires-clause-system : goal.finish_by-ending-requires-clause-system
-finish_by-ending-requires-clause-system g c = ap means c.requires.ground
+pub finish_with_tables-requires-clause-system : goal.finish_with_tables-requires-clause-system
+finish_with_tables-requires-clause-system g c = ap means c.requires.ground
 
-pub finish_by-ending-requires-clause-width : goal.finish_by-ending-requires-clause-width
-finish_by-ending-requires-clause-width g c = ap (λ (k : Ground). length (atoms_in k)) c.requires.ground
+pub finish_with_tables-requires-clause-guide_width : goal.finish_with_tables-requires-clause-guide_width
+finish_with_tables-requires-clause-guide_width g c = ap (λ (k : Ground). length (atoms_in k)) c.requires.ground
