@@ -1,5 +1,5 @@
 -- What the answer of a search that asked for landmark values says of the task.
-use Rattle.std.proofs.Common.{◌≡◌, ◌∙◌, ℕ, zero, suc, ◌≤◌, Bool, true, List, [], ◌∷◌, length, map, get_or, Some, sym, ap, subst, arith}
+use Rattle.std.proofs.Common.{◌≡◌, ◌∙◌, ℕ, ◌≤◌, Bool, true, List, [], length, map, get_or, Some, sym, ap, subst, arith}
 use Rattle.std.specs.Prelude.{IsTrue, slice_get}
 use Rattle.std.specs.List.{list_all}
 use Rattle.std.specs.Option.{option_map}
@@ -50,18 +50,7 @@ use Rattle.solver.proofs.AskedEnd.{AreStates, stopped_states}
 use Rattle.solver.proofs.AskedShown as numbered_ones
 use Rattle.solver.proofs.ClassLemmas.{classes_by}
 use Rattle.solver.proofs.ConsistentLemmas.{consistent_by}
-use Rattle.solver.proofs.FoundLines.{length-lines, node_at}
-
--- the line of a found state is among those of a search, at its place
-line_at : (value : List Bool → ℕ) (is_dead : List Bool → Bool) (states : List (List Bool)) (nodes : List Node) (k : ℕ) (x : List Bool) (n : Node) → slice_get states k ≡ Some x → slice_get nodes k ≡ Some n
-    → slice_get (search.lines_of value is_dead states nodes) k ≡ Some (search.line_of value is_dead x n)
-line_at value is_dead [] nodes k x n at_x at_n = absurd (cc)
-line_at value is_dead (y ∷ states) [] k x n at_x at_n = absurd (cc)
-line_at value is_dead (y ∷ states) (m ∷ nodes) zero x n at_x at_n =
-    let same_state : y ≡ x = cc in
-    let same_node : m ≡ n = cc in
-    λ i. Some (search.line_of value is_dead (same_state i) (same_node i))
-line_at value is_dead (y ∷ states) (m ∷ nodes) (suc k) x n at_x at_n = line_at value is_dead states nodes k x n at_x at_n
+use Rattle.solver.proofs.FoundLines.{length-lines, line_at, node_at}
 
 -- the certificate is that of these states with these marks, and of what they rest on
 abbrev pub IsMade : SearchSpace → SeveralValues → Claim → in_memory.Marked → FoundStates GroundListing → Cert → Type 0

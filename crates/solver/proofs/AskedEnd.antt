@@ -1,18 +1,26 @@
 -- What is known of a search that asked for values, where it stopped.
-use Rattle.std.proofs.Common.{◌≡◌, ◌∙◌, ℕ, ◌≤◌, Bool, false, List, length, None, Some, sym, ap, arith}
+use Rattle.std.proofs.Common.{◌≡◌, ◌∙◌, ℕ, zero, suc, ◌≤◌, Bool, false, List, [], ◌∷◌, length, None, Some, sym, ap, arith}
 use Rattle.std.specs.Prelude.{Option, max, slice_get}
-use Rattle.std.proofs.lemmas.Option.{slice_get_within}
+use Rattle.std.proofs.lemmas.Option.{same_Some, slice_get_within}
+use Rattle.model.specs.Claims.{Claim, bound}
+use Rattle.model.specs.NumberedAtoms.{numbered_atoms}
 use Rattle.model.specs.Runs.{System}
+use Rattle.packed_state.specs.Pool.{rows_in}
+use Rattle.packed_state.specs.PooledStore.{rows_of}
+use Rattle.packed_state.specs.Store.{sets_in}
+use Rattle.packed_state.specs.Words.{bits_in}
+use Rattle.packed_state.proofs.PackedLemmas.{length-bits}
 use Rattle.grounding.specs.Ground.{task_in, atoms_in}
 use Rattle.lower_bounds.specs.TableFunctions.{SeveralValues, dead_ends_of, functions_of, greatest_value, is_dead_by}
 use Rattle.landmark_zones.specs.Landmarks.{landmarks_of}
-use Rattle.ground_listings.specs.GroundListing.{listed_states}
-use Rattle.ground_listings.specs.SearchSpace.{class_in, ground_in, system_of}
+use Rattle.ground_listings.specs.GroundListing.{listed_states, listed_width}
+use Rattle.ground_listings.specs.SearchSpace.{class_in, ground_in, system_of, IsSearchSpace}
 use Rattle.ground_listings.specs.declared.ground_listing.GroundListing.{GroundListing}
+use Rattle.ground_listings.specs.declared.ground_listing.GroundListing.TheVariants as listing
 use Rattle.ground_listings.specs.declared.search_space.SearchSpace.{SearchSpace}
 use Rattle.search.specs.Nodes.{Found, found_of as found_nodes}
 use Rattle.search.specs.OnDemand.{AreValued, OnDemand, value_on}
-use Rattle.search.specs.Outcome.{HasEstimates, IsTrueOutcome}
+use Rattle.search.specs.Outcome.{AreFound}
 use Rattle.search.specs.UnderWay.{IsTrueStop, IsTrueStopBy}
 use Rattle.search.specs.declared.bases.Bases.{Bases}
 use Rattle.search.specs.declared.best.Outcome.TheVariants.{Found as PlanFound, Exhausted, States}
@@ -27,8 +35,8 @@ use Rattle.line_evidence.specs.declared.marked.Marked.{Marked}
 use Rattle.solver.specs.Asked.{IsAsked, IsStoppedWithin, found_at}
 use Rattle.solver.specs.Guided.{found_in}
 use Rattle.solver.specs.declared.limits.Limits.{Limits}
-use Rattle.solver.proofs.AnswerLemmas.{estimates_of, found_of}
-use Rattle.solver.proofs.FoundLines.{node_at}
+use Rattle.solver.proofs.AnswerLemmas.{estimates_of, found_of, found_width}
+use Rattle.solver.proofs.FoundLines.{found_line, node_at}
 
 -- ---- the values by which it stands
 
@@ -63,7 +71,41 @@ stopped_states t class_of value is_dead max_states (stop.Ended outcome) (is, est
 stopped_states t class_of value is_dead max_states (stop.Waiting least found) (within, limit, estimates) =
     record { one_each = limit.found.one_for_each; few = within; can_be_marked = record { marked = limit.found.marked; estimated = estimates } }
 
--- what it comes to, with marks that say what it stands by, and that were tested
+-- ---- the width of its listing
+
+-- each set that rows hold has as many bits as the rows are wide
+wide_sets : (width : ℕ) (rows : List (List ℕ)) (k : ℕ) (bits : List Bool) → slice_get (sets_in width rows) k ≡ Some bits → length bits ≡ width
+unfolding sets_in
+wide_sets width [] k bits at = absurd (cc)
+wide_sets width (words ∷ rows) zero bits at = ap length (sym (same_Some (bits_in width words) bits at)) ∙ length-bits width words
+wide_sets width (words ∷ rows) (suc k) bits at = wide_sets width rows k bits at
+
+-- so each listed state is as wide as its listing
+listed_wide : (store : GroundListing) (k : ℕ) (bits : List Bool) → slice_get (listed_states store) k ≡ Some bits → length bits ≡ listed_width store
+listed_wide (listing.Alone own) k bits at = wide_sets own.0.width (rows_of own.0.pool) k bits at
+listed_wide (listing.Orbits store) k bits at =
+    let states = store.orbits.states in
+    wide_sets states.width (rows_in states.stride states.words.items states.count) k bits at ∙ store.linked.rows_width
+
+-- and that is as wide as the atoms are many: the initial state's class is listed
+wide_found : (space : SearchSpace) (numbered : atoms_in (ground_in space) ≡ numbered_atoms (task_in (ground_in space)) []) (class_of : List Bool → List Bool) (value : List Bool → ℕ) (is_dead : List Bool → Bool)
+    (claim : Claim) (most : ℕ) (store : GroundListing) (nodes : List Node) → AreFound (system_of space) class_of value is_dead claim most (listed_states store) nodes
+    → listed_width store ≡ length (atoms_in (ground_in space))
+wide_found space numbered class_of value is_dead claim most store nodes found =
+    let (line, among, rest) = found.closed.initial_listed in
+    let (k, bits, n, at_s, at_n, is) = found_line value is_dead (listed_states store) nodes line among in
+    sym (listed_wide store k bits at_s) ∙ found_width (task_in (ground_in space)) (atoms_in (ground_in space)) numbered (listed_states store) nodes found k bits at_s
+
+pub wide_by : (space : SearchSpace) → IsSearchSpace space → (estimate : List Bool → ℕ) (reported : List Bool → Bool) (shown : OnDemand (List Bool)) (limits : Limits) (where_to : Stop GroundListing)
+    → IsTrueStopBy (system_of space) (class_in space) estimate reported shown listed_states limits.states where_to → listed_width (found_at where_to).store ≡ length (atoms_in (ground_in space))
+wide_by space is estimate reported shown limits (stop.Ended outcome) by =
+    let (claim, found) = found_of (system_of space) (class_in space) by.value by.is_dead limits.states outcome by.holds.0 in
+    wide_found space is.atoms (class_in space) by.value by.is_dead claim limits.states (found_in outcome).store (found_in outcome).nodes.items found
+wide_by space is estimate reported shown limits (stop.Waiting least found) by =
+    wide_found space is.atoms (class_in space) by.value by.is_dead (bound least) (length (listed_states found.store)) found.store found.nodes.items by.holds.1.found
+
+-- ---- what it comes to, with marks that say what it stands by, and that were tested
+
 module _ (space : SearchSpace) (s : SeveralValues) (limits : Limits) (shown : OnDemand (List Bool)) (marked : Marked) where
   abbrev estimate : List Bool → ℕ
   estimate = greatest_value (functions_of s)
