@@ -1,7 +1,6 @@
 -- What the answer of a search that asked for landmark values says of the task.
 use Rattle.std.proofs.Common.{◌≡◌, ◌∙◌, ℕ, ◌≤◌, Bool, true, List, [], length, map, get_or, Some, sym, ap, subst, arith}
-use Rattle.std.specs.Prelude.{IsTrue, slice_get}
-use Rattle.std.specs.List.{list_all}
+use Rattle.std.specs.Prelude.{slice_get}
 use Rattle.std.specs.Option.{option_map}
 use Rattle.std.proofs.lemmas.List.{length-map}
 use Rattle.std.proofs.lemmas.Option.{same_Some, slice_get-get_or, slice_get-map, slice_get_within}
@@ -9,7 +8,7 @@ use Rattle.task.specs.TaskParts.{atom_of}
 use Rattle.std.proofs.lemmas.Simd.{map-map}
 use Rattle.grounding.specs.Ground.{task_in, atoms_in}
 use Rattle.model.specs.Task.{Task, Atom}
-use Rattle.model.specs.Claims.{Claim, bound, Line}
+use Rattle.model.specs.Claims.{Claim, bound}
 use Rattle.model.specs.Grounding.{ground_system}
 use Rattle.model.specs.NumberedAtoms.{numbered_atoms}
 use Rattle.lower_bounds.specs.FairTables as fair_tables
@@ -17,14 +16,13 @@ use Rattle.lower_bounds.specs.Settled.{initial_value}
 use Rattle.lower_bounds.specs.TableFunctions.{SeveralValues, functions_of, greatest_value}
 use Rattle.landmark_functions.specs.LandmarkLines.{NumberedLandmarks}
 use Rattle.landmark_zones.specs.Landmarks.{landmarks_of}
-use Rattle.symmetries_definitions.specs.Exchanges.{Exchange}
 use Rattle.certificate_definitions.specs.Certificates.{Certificate, four, keeps_limits}
+use Rattle.certificate_definitions.specs.Evidence.{LineMark}
 use Rattle.certificate.specs.Certificate.{certificate_of}
 use Rattle.certificate.specs.CertificateParts.{listed_of}
 use Rattle.certificate.specs.declared.cert.Cert.{Cert}
 use Rattle.certificate.specs.Evidence.{is_evidence}
 use Rattle.certificate.specs.ListedSets.{Marked}
-use Rattle.certificate.specs.declared.states.Listed.{Listed}
 use Rattle.ground_listings.specs.GroundListing.{listed_states}
 use Rattle.ground_listings.specs.SearchSpace.{class_in, exchanges_in, ground_in, system_of, IsSearchSpace}
 use Rattle.ground_listings.specs.declared.search_space.SearchSpace.{SearchSpace}
@@ -35,7 +33,7 @@ use Rattle.search.specs.declared.nodes.FoundStates.{FoundStates}
 use Rattle.search.specs.declared.nodes.Node.{Node}
 use Rattle.search.specs.declared.under_way.Stop.{Stop}
 use Rattle.ground_listings.specs.declared.ground_listing.GroundListing.{GroundListing}
-use Rattle.line_evidence.specs.Roles.{role_in, role_of, role_of_line, Role}
+use Rattle.line_evidence.specs.Roles.{role_in, role_of_line, Role}
 use Rattle.line_evidence.specs.Shown.{AreSupported, IsShown}
 use Rattle.line_evidence.specs.declared.marked.Marked as in_memory
 use Rattle.solver.specs.Asked.{AreLines, IsAsked, asked_certificate, found_at}
@@ -83,10 +81,10 @@ module _ (space : SearchSpace) (is : IsSearchSpace space) (limits : Limits) (s :
   shown : (k : ℕ) (bits : List Bool) (m : Marked) → slice_get states k ≡ Some bits → slice_get marks k ≡ Some m → IsShown s l bits m.mark
   shown k bits m at_s at_m =
       asked.supported.shown k bits m.mark at_s
-      (ap (λ (xs : List _). slice_get xs k) (sym (map-map (λ (x : Marked). x.mark) listed_of marked.marks.items)) ∙ slice_get-map (λ (x : Marked). x.mark) marks k ∙ ap (option_map (λ (x : Marked). x.mark)) at_m)
+      (ap (λ (xs : List LineMark). slice_get xs k) (sym (map-map (λ (x : Marked). x.mark) listed_of marked.marks.items)) ∙ slice_get-map (λ (x : Marked). x.mark) marks k ∙ ap (option_map (λ (x : Marked). x.mark)) at_m)
 
   supports : AreSupported task known s l states (map (λ (x : Marked). x.mark) marks)
-  supports = subst (λ (xs : List _). AreSupported task known s l states xs) (sym (map-map (λ (x : Marked). x.mark) listed_of marked.marks.items)) asked.supported
+  supports = subst (λ (xs : List LineMark). AreSupported task known s l states xs) (sym (map-map (λ (x : Marked). x.mark) listed_of marked.marks.items)) asked.supported
 
   are_states : AreStates limits.states asked.value asked.is_dead states nodes (found_at where_to).estimates.items
   are_states = stopped_states (system_of space) (class_in space) asked.value asked.is_dead limits.states where_to asked.stop

@@ -1,6 +1,6 @@
 -- What is known of a search that asked for values, where it stopped.
-use Rattle.std.proofs.Common.{◌≡◌, ◌∙◌, ℕ, zero, suc, ◌≤◌, Bool, false, List, [], ◌∷◌, length, None, Some, sym, ap, arith}
-use Rattle.std.specs.Prelude.{Option, max, slice_get}
+use Rattle.std.proofs.Common.{◌≡◌, ◌∙◌, ℕ, zero, suc, ◌≤◌, Bool, false, List, [], ◌∷◌, length, Some, sym, ap, arith}
+use Rattle.std.specs.Prelude.{slice_get}
 use Rattle.std.proofs.lemmas.Option.{same_Some, slice_get_within}
 use Rattle.model.specs.Claims.{Claim, bound}
 use Rattle.model.specs.NumberedAtoms.{numbered_atoms}
@@ -19,16 +19,16 @@ use Rattle.ground_listings.specs.declared.ground_listing.GroundListing.{GroundLi
 use Rattle.ground_listings.specs.declared.ground_listing.GroundListing.TheVariants as listing
 use Rattle.ground_listings.specs.declared.search_space.SearchSpace.{SearchSpace}
 use Rattle.search.specs.Nodes.{Found, found_of as found_nodes}
-use Rattle.search.specs.OnDemand.{AreValued, OnDemand, value_on}
+use Rattle.search.specs.OnDemand.{AreValued, OnDemand, basis_at}
 use Rattle.search.specs.Outcome.{AreFound}
 use Rattle.search.specs.UnderWay.{IsTrueStop, IsTrueStopBy}
 use Rattle.search.specs.declared.bases.Bases.{Bases}
 use Rattle.search.specs.declared.best.Outcome.TheVariants.{Found as PlanFound, Exhausted, States}
 use Rattle.search.specs.declared.nodes.Node.{Node}
-use Rattle.search.specs.declared.on_demand.Basis.{Basis}
 use Rattle.search.specs.declared.under_way.Stop.{Stop}
 use Rattle.search.specs.declared.under_way.Stop.TheVariants as stop
 use Rattle.search.proofs.Linked.{get-found_of}
+use Rattle.search.proofs.Valued.{value_on-least}
 use Rattle.line_evidence.specs.Roles.{CanBeMarked, HaveRolesOf, marks_in}
 use Rattle.line_evidence.specs.Shown.{AreSupported}
 use Rattle.line_evidence.specs.declared.marked.Marked.{Marked}
@@ -40,16 +40,12 @@ use Rattle.solver.proofs.FoundLines.{found_line, node_at}
 
 -- ---- the values by which it stands
 
-no_lower_on : (estimate : List Bool → ℕ) (shown : OnDemand (List Bool)) (basis : Option Basis) (x : List Bool) → estimate x ≤ value_on estimate shown basis x
-no_lower_on estimate shown None x = omega arith
-no_lower_on estimate shown (Some basis) x = omega arith
-
 module _ (t : System (List Bool) ℕ) (estimate : List Bool → ℕ) (reported : List Bool → Bool) (shown : OnDemand (List Bool)) (states : List (List Bool)) (nodes : List Node) (bases : Bases) (value : List Bool → ℕ) (is_dead : List Bool → Bool)
     (valued : AreValued t estimate reported shown (found_nodes states nodes) bases value is_dead) (one_each : length nodes ≡ length states) where
   pub valued_no_lower : (k : ℕ) (bits : List Bool) → slice_get states k ≡ Some bits → is_dead bits ≡ false → estimate bits ≤ value bits
   valued_no_lower k bits at lives =
       let (node, there) = node_at nodes k (omega (arith, slice_get_within states k bits at, one_each)) in
-      omega (arith, no_lower_on estimate shown _ bits, valued.value_is k (record { state = bits; node = node }) (get-found_of states nodes k bits node at there) lives)
+      omega (arith, value_on-least t estimate reported shown (basis_at bases k) bits, valued.value_is k (record { state = bits; node = node }) (get-found_of states nodes k bits node at there) lives)
 
   pub valued_alive : (k : ℕ) (bits : List Bool) → slice_get states k ≡ Some bits → is_dead bits ≡ false → reported bits ≡ false
   valued_alive k bits at lives =
@@ -92,7 +88,7 @@ wide_found : (space : SearchSpace) (numbered : atoms_in (ground_in space) ≡ nu
     (claim : Claim) (most : ℕ) (store : GroundListing) (nodes : List Node) → AreFound (system_of space) class_of value is_dead claim most (listed_states store) nodes
     → listed_width store ≡ length (atoms_in (ground_in space))
 wide_found space numbered class_of value is_dead claim most store nodes found =
-    let (line, among, rest) = found.closed.initial_listed in
+    let (line, among, alike, cheap) = found.closed.initial_listed in
     let (k, bits, n, at_s, at_n, is) = found_line value is_dead (listed_states store) nodes line among in
     sym (listed_wide store k bits at_s) ∙ found_width (task_in (ground_in space)) (atoms_in (ground_in space)) numbered (listed_states store) nodes found k bits at_s
 

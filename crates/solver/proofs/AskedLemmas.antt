@@ -65,7 +65,7 @@ line_parts (m ∷ marks) [] place d within = absurd (omega (arith, within))
 line_parts (m ∷ marks) (bits ∷ states) zero d within = (m, bits, refl, refl, refl)
 line_parts (m ∷ marks) (bits ∷ states) (suc place) d within = line_parts marks states place d (omega (arith, within))
 
-length-lines_with : (marks : List Marked) (states : List (List Bool)) → length marks ≡ length states → length (lines_with marks states) ≡ length states
+pub length-lines_with : (marks : List Marked) (states : List (List Bool)) → length marks ≡ length states → length (lines_with marks states) ≡ length states
 length-lines_with [] [] one = refl
 length-lines_with [] (s ∷ states) one = absurd (omega (arith, one))
 length-lines_with (m ∷ marks) [] one = absurd (omega (arith, one))
@@ -105,9 +105,12 @@ module _ (task : Task) (claim : Claim) (exchanges : List Exchange) (s : SeveralV
 
   -- ---- what its lines rest on
 
+  abbrev function_of : List Share → LandmarkFunction
+  function_of shares = record { landmarks = filter_map (landmark_of l.zones) shares; tables = s.tables }
+
   -- a landmark value of the certificate is that beside its tables
   same_function : (number : ℕ) → landmark_function made number ≡ function_at s.tables l number
-  same_function number = got_mapped (λ (shares : List Share). record { landmarks = filter_map (landmark_of l.zones) shares; tables = s.tables }) l.values number []
+  same_function number = got_mapped function_of l.values number []
 
   pub value_found : (bits : List Bool) → length bits ≡ length atoms → value_of task made (state_of_bits task atoms bits) ≡ greatest_value (functions_of s) bits
   value_found bits long = packed task (greatest_value (functions_of s)) bits long
@@ -146,7 +149,7 @@ module _ (task : Task) (claim : Claim) (exchanges : List Exchange) (s : SeveralV
     pub cuts_by_basis : (c : StateLine) (basis : Basis) (rest : ℕ) → Contains made.lines c → c.mark ≡ evidence.cut basis rest → rest ≡ certificates.value_by task made basis (state_of_line task made c)
     cuts_by_basis c basis rest (place, within, here) marked =
         let (m, bits, at_m, at_s, is) = line_parts marks states place c within in
-        let same : c ≡ line_with m bits = here ∙ is in
+        let same : c ≡ line_with m bits = sym here ∙ is in
         let mark_is : m.mark ≡ evidence.cut basis rest = sym (ap (λ (x : StateLine). x.mark) same) ∙ marked in
         let at : IsShown s l bits (evidence.cut basis rest) = subst (IsShown s l bits) mark_is (shown place bits m at_s at_m) in
         at.1 ∙ sym (value_by_found basis bits (wide place bits at_s)) ∙ sym (ap (certificates.value_by task made basis) (ap (state_of_line task made) same ∙ same_state m bits))
@@ -158,27 +161,24 @@ module _ (task : Task) (claim : Claim) (exchanges : List Exchange) (s : SeveralV
     dead_fair_one : (number : ℕ) → IsDeadFair task atoms (function_at s.tables l number) → IsDeadFairOne number
     dead_fair_one number is = subst (IsDeadFair task (numbered_atoms task atoms)) (sym (same_function number)) (subst (λ (those : List Atom). IsDeadFair task those (function_at s.tables l number)) (sym (numbered_again task)) is)
 
+    one_more : (mark : LineMark) (rest : List ℕ) → IsFairMark task atoms s.tables l mark → All IsDeadFairOne rest → All IsDeadFairOne (cons_option (is_dead_by_landmark mark) rest)
+    one_more evidence.expanded rest is all = all
+    one_more (evidence.cut basis least) rest is all = all
+    one_more (evidence.dead of_all) rest is all = all
+    one_more (evidence.dead (landmark number)) rest is all = All-cons IsDeadFairOne number rest (dead_fair_one number is) all
+
     all_dead_fair : (ms : List Marked) (ss : List (List Bool)) → ((k : ℕ) (m : Marked) → slice_get ms k ≡ Some m → IsFairMark task atoms s.tables l m.mark)
         → All IsDeadFairOne (filter_map (λ (c : StateLine). is_dead_by_landmark c.mark) (lines_with ms ss))
     all_dead_fair [] ss each = All-nil IsDeadFairOne
     all_dead_fair (m ∷ ms) [] each = All-nil IsDeadFairOne
-    all_dead_fair (m ∷ ms) (x ∷ ss) each = more m.mark (each 0 m refl)
-      where
-        later : All IsDeadFairOne (filter_map (λ (c : StateLine). is_dead_by_landmark c.mark) (lines_with ms ss))
-        later = all_dead_fair ms ss (λ k. each (suc k))
-
-        more : (mark : LineMark) → IsFairMark task atoms s.tables l mark → All IsDeadFairOne (cons_option (is_dead_by_landmark mark) (filter_map (λ (c : StateLine). is_dead_by_landmark c.mark) (lines_with ms ss)))
-        more evidence.expanded is = later
-        more (evidence.cut basis rest) is = later
-        more (evidence.dead of_all) is = later
-        more (evidence.dead (landmark number)) is = All-cons IsDeadFairOne number (filter_map (λ (c : StateLine). is_dead_by_landmark c.mark) (lines_with ms ss)) (dead_fair_one number is) later
+    all_dead_fair (m ∷ ms) (x ∷ ss) each =
+        one_more m.mark (filter_map (λ (c : StateLine). is_dead_by_landmark c.mark) (lines_with ms ss)) (each 0 m refl) (all_dead_fair ms ss (λ k. each (suc k)))
 
     pub landmarks_fair : AreLandmarksFair task made
     landmarks_fair = record {
       values = λ k d below.
-          let within : k < length l.values = omega (arith, below, length-map l.values (λ (shares : List Share). record { landmarks = filter_map (landmark_of l.zones) shares; tables = s.tables })) in
-          let at = slice_get-map (λ (shares : List Share). record { landmarks = filter_map (landmark_of l.zones) shares; tables = s.tables }) l.values k
-          ∙ ap (option_map (λ (shares : List Share). record { landmarks = filter_map (landmark_of l.zones) shares; tables = s.tables })) (slice_get-get_or l.values k [] within) in
+          let within : k < length l.values = omega (arith, below, length-map l.values function_of) in
+          let at = slice_get-map function_of l.values k ∙ ap (option_map function_of) (slice_get-get_or l.values k [] within) in
           let is : get_or (landmark_functions s.tables l) k d ≡ function_at s.tables l k = get_or_from_slice_get (landmark_functions s.tables l) k (function_at s.tables l k) d at in
           subst (IsFair task (numbered_atoms task atoms)) (sym is) (subst (λ (those : List Atom). IsFair task those (function_at s.tables l k)) (sym (numbered_again task)) (fair k within));
       dead_ends = all_dead_fair marks states dead_fair;

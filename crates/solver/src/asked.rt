@@ -122,22 +122,26 @@ fn asked_cert(
         (map listed_of lines.entry.marked.marks.items) (listed_states lines.entry.states.store))) }
 {
     let Setting { alloc, space, .. } = setting;
+    let ground = space.ground();
     let Lines { marked, states } = lines;
     let Marked { marks, landmarks } = marked;
     let evidence = Evidence {
         landmarks,
         ..evidence
     };
-    if !is_claim(claim) || !evidence.keep_limits(Version::Four, space.ground().width() as usize) {
+    if !is_claim(claim) {
+        return Ok(None);
+    }
+    if !evidence.keep_limits(Version::Four, ground.width() as usize) {
         return Ok(None);
     }
     let sets = sets_of(alloc, states.store)?;
-    let atoms = copied(alloc, space.ground().atoms().as_slice())?;
+    let names = copied(alloc, ground.atoms().as_slice())?;
     let header = Header {
         version: Version::Four,
         claim,
         exchanges: space.written_exchanges(alloc)?,
-        atoms,
+        atoms: names,
         evidence,
     };
     Ok(Some(Cert::from_parts(header, States { marks, sets })))
