@@ -42,9 +42,9 @@ asked_cert-requires-clause-lines c =
     asked.lines c.args.setting.space c.requires.space c.args.setting.limits (evidence_of c.args.evidence) (Waiting c.in-Waiting.bound c.in-Waiting.states) c.args.asked.marked is
     (bound c.in-Waiting.bound) (found_among_more is.stop.1.found is.stop.0)
 
-pub returns-in_ok-asked_cert-in-Waiting-in-Some : goal.returns-in_ok-asked_cert-in-Waiting-in-Some
-returns-in_ok-asked_cert-in-Waiting-in-Some c =
-    let at = goal.at.returns-in_ok-asked_cert-in-Waiting-in-Some c in
+pub returns-in-Some-in-Waiting : goal.returns-in-Some-in-Waiting
+returns-in-Some-in-Waiting c =
+    let at = goal.at.returns-in-Some-in-Waiting c in
     let space = c.args.setting.space in
     let known = ground_in space in
     let task = task_in known in
@@ -59,8 +59,8 @@ returns-in_ok-asked_cert-in-Waiting-in-Some c =
     let found = found_among_more limit.found is.stop.0 in
     let cert = c.in-Some.cert in
     let certificate = certificate_of cert in
-    let made = subst (λ (o : Option Cert). IfSome o (IsMade space s (bound least) marked c.in-Waiting.states)) c.in-Some.is c.in_ok-asked_cert-in-Waiting.ensures.certificate in
-    let evidence = subst (λ (o : Option Cert). IfSome o (λ (_ : Cert). IsTrue (is_evidence four (length atoms) s (landmarks_of marked.landmarks)))) c.in-Some.is c.in_ok-asked_cert-in-Waiting.ensures.evidence in
+    let made = subst (λ (o : Option Cert). IfSome o (IsMade space s (bound least) marked c.in-Waiting.states)) c.in-Some.is c.in_ok-cert-in-Waiting.ensures.certificate in
+    let evidence = subst (λ (o : Option Cert). IfSome o (λ (_ : Cert). IsTrue (is_evidence four (length atoms) s (landmarks_of marked.landmarks)))) c.in-Some.is c.in_ok-cert-in-Waiting.ensures.evidence in
     let at_limit : IsAtLimit task least (length (listed_states c.in-Waiting.states.store)) certificate =
     asked.at_limit space c.requires.space limits s where_to marked is least (length (listed_states c.in-Waiting.states.store)) limit c.requires.guidance certificate made in
     let version : IsUpTo (number_of limits.version) certificate = subst (IsUpTo (number_of limits.version)) (sym made) c.requires.version in (

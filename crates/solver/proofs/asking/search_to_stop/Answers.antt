@@ -12,10 +12,10 @@ stretches-preserved g c =
     let guide = c.args.session.now.guide.now in
     let setting = c.args.session.now.setting in
     let halt = subst (IsHaltBy setting.space (g.G.Guide.estimate_of guide) (g.G.Guide.is_dead guide) (g.V.ValuesOnDemand.shows c.stretch_asking.new.values) (g.G.Guide.fits guide) c.next_pause-next.result setting.limits.states)
-    c.in-Paused.is c.in_ok-stretch_asking.ensures.halt in
+    c.in-Paused.is c.in_ok-outcome.ensures.halt in
     record {
       under_way = halt.0;
-      values_system = c.in_ok-stretch_asking.ensures.values_system;
-      values_width = c.in_ok-stretch_asking.ensures.values_width;
+      values_system = c.in_ok-outcome.ensures.values_system;
+      values_width = c.in_ok-outcome.ensures.values_width;
       said = λ origin said. c.say_news.ensures origin (c.stretches.invariant.said origin said);
     }

@@ -36,11 +36,11 @@ guide_if_fair-requires-clause-width g c =
 -- the guide is over these values, and for this ground task
 same_functions : (g : Over) (c : In-Done g) → functions_in c.in-Done.guide ≡ evidence_of c.args.over.evidence.now
 same_functions g c =
-    subst (IfDone (λ (guide : FairTables). functions_in guide ≡ several_of c.in-Some.functions)) c.in-Done.is c.in_ok-guide_if_fair.ensures.functions
+    subst (IfDone (λ (guide : FairTables). functions_in guide ≡ several_of c.in-Some.functions)) c.in-Done.is c.in_ok-guide.ensures.functions
     ∙ subst (λ (o : Option TableFunctions). IfSome o (λ (f : TableFunctions). several_of f ≡ evidence_of c.args.over.evidence.now)) c.in-Some.is c.in_ok-functions.ensures.functions
 
 same_ground : (g : Over) (c : In-Done g) → guides.ground_in c.in-Done.guide ≡ ground_in c.args.setting.space
-same_ground g c = subst (IfDone (λ (guide : FairTables). guides.ground_in guide ≡ ground_in c.args.setting.space)) c.in-Done.is c.in_ok-guide_if_fair.ensures.ground
+same_ground g c = subst (IfDone (λ (guide : FairTables). guides.ground_in guide ≡ ground_in c.args.setting.space)) c.in-Done.is c.in_ok-guide.ensures.ground
 
 pub search_asking-requires-clause-ground : goal.search_asking-requires-clause-ground
 search_asking-requires-clause-ground g c = same_ground g (goal.at.search_asking-requires-clause-ground g c).In-Done
