@@ -18,7 +18,7 @@ use Rattle.ground_listings.specs.SearchSpace.{class_in, ground_in, system_of, Is
 use Rattle.ground_listings.specs.declared.ground_listing.GroundListing.{GroundListing}
 use Rattle.ground_listings.specs.declared.ground_listing.GroundListing.TheVariants as listing
 use Rattle.ground_listings.specs.declared.search_space.SearchSpace.{SearchSpace}
-use Rattle.search.specs.Nodes.{Found, found_of as found_nodes}
+use Rattle.search.specs.Nodes.{found_of as found_nodes}
 use Rattle.search.specs.OnDemand.{AreValued, OnDemand, basis_at}
 use Rattle.search.specs.Outcome.{AreFound}
 use Rattle.search.specs.UnderWay.{IsTrueStop, IsTrueStopBy}

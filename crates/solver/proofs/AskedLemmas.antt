@@ -1,10 +1,10 @@
 -- The lines of the states that a search found by values on demand make a closed certificate.
-use Rattle.std.proofs.Common.{◌≡◌, ◌∙◌, ◌≢◌, ℕ, zero, suc, ◌+◌, ◌<◌, ◌≤◌, Bool, true, false, ◌&&◌, List, [], ◌∷◌, ◌++◌, length, map, get_or, None, Some, inl, inr, refl, sym, ap, subst, arith}
-use Rattle.std.specs.Prelude.{nat_le, nat_lt, slice_get, Contains, All, AllPairs, ◌⊎◌, IsTrue}
-use Rattle.std.specs.List.{list_all, filter_map, cons_option}
+use Rattle.std.proofs.Common.{◌≡◌, ◌∙◌, ◌≢◌, ℕ, zero, suc, ◌+◌, ◌<◌, ◌≤◌, Bool, true, false, List, [], ◌∷◌, ◌++◌, length, map, get_or, Some, refl, sym, ap, subst, arith}
+use Rattle.std.specs.Prelude.{nat_le, slice_get, Contains, All, AllPairs}
+use Rattle.std.specs.List.{filter_map, cons_option}
 use Rattle.std.specs.Option.{option_map}
 use Rattle.std.specs.FinSet.{from_list}
-use Rattle.std.proofs.lemmas.Bool.{and_parts, and_from, lt-ltb, le-leb, true≢false}
+use Rattle.std.proofs.lemmas.Bool.{le-leb, true≢false}
 use Rattle.std.proofs.lemmas.List.{length-map}
 use Rattle.std.proofs.lemmas.List.Elements.{All-cons, All-nil}
 use Rattle.std.proofs.lemmas.Option.{slice_get-get_or, slice_get_within, slice_get-map, get_or_from_slice_get}
@@ -12,26 +12,23 @@ use Rattle.packed_state.specs.Store.{AreDistinct}
 use Rattle.search.specs.declared.nodes.Node.{Node}
 use Rattle.search.specs.Outcome as search
 use Rattle.search.specs.Outcome.{AreFound, AreExpandedWithin, AreOfOneClass, IsReachableAt}
-use Rattle.search.specs.Estimates.{IsConsistent}
 use Rattle.lower_bounds.specs.TableFunctions as tables
-use Rattle.lower_bounds.specs.TableFunctions.{Row, SeveralValues, Table, dead_ends_of, functions_of, greatest_value}
-use Rattle.lower_bounds.specs.FairTables as fair_tables
+use Rattle.lower_bounds.specs.TableFunctions.{SeveralValues, dead_ends_of, functions_of, greatest_value}
 use Rattle.landmark_functions.specs.LandmarkFunctions as landmarks
 use Rattle.landmark_functions.specs.LandmarkFunctions.{LandmarkFunction}
 use Rattle.landmark_functions.specs.LandmarkLines.{NumberedLandmarks, Share, functions_of as landmark_functions, landmark_of}
 use Rattle.landmark_functions.specs.FairLandmarks.{IsFair, IsDeadFair}
 use Rattle.line_evidence.specs.Roles.{role_in, role_of_line}
-use Rattle.line_evidence.specs.Shown.{AreSupported, IsFairMark, IsShown, IsThere, function_at, value_by}
+use Rattle.line_evidence.specs.Shown.{IsFairMark, IsShown, function_at, value_by}
 use Rattle.model.specs.Task.{Task, Atom}
-use Rattle.model.specs.WellTyped.{is_task, is_atom}
-use Rattle.model.specs.Runs.{System, CostsAtLeast}
-use Rattle.model.specs.Claims.{Claim, bound, expanded, dead, Line, IsClosed}
+use Rattle.model.specs.Runs.{System}
+use Rattle.model.specs.Claims.{Claim, expanded, dead, Line, IsClosed}
 use Rattle.model.specs.Meaning.{State, initial_state, system_of}
-use Rattle.model.specs.Fluents.{is_fluent, static_atoms}
-use Rattle.model.specs.NumberedAtoms.{are_distinct, numbered_atoms}
+use Rattle.model.specs.Fluents.{static_atoms}
+use Rattle.model.specs.NumberedAtoms.{numbered_atoms}
 use Rattle.model.specs.Grounding.{state_of_bits, ground_system, NamesKept}
 use Rattle.certificate_definitions.specs.Certificates as certificates
-use Rattle.certificate_definitions.specs.Certificates.{four, Certificate, StateLine, AreAlikeFor, AreLandmarksFair, is_dead_by_landmark, is_dead_end_of, state_of_line, lines_of, value_of, IsSupported, landmark_function}
+use Rattle.certificate_definitions.specs.Certificates.{Certificate, StateLine, AreAlikeFor, AreLandmarksFair, is_dead_by_landmark, is_dead_end_of, state_of_line, lines_of, value_of, IsSupported, landmark_function}
 use Rattle.certificate_definitions.specs.Evidence as evidence
 use Rattle.certificate_definitions.specs.Evidence.{Basis, LineMark, bare, of_all, landmark}
 use Rattle.certificate.specs.ListedSets.{Marked, line_with, lines_with}

@@ -1,6 +1,6 @@
 -- What the certificate of a search that asked for landmark values shows.
-use Rattle.std.proofs.Common.{◌≡◌, ◌∙◌, ℕ, zero, suc, ◌+◌, ◌<◌, ◌≤◌, Bool, true, false, ◌&&◌, List, [], ◌∷◌, length, map, get_or, Some, inl, inr, refl, sym, ap, subst, arith}
-use Rattle.std.specs.Prelude.{nat_le, nat_lt, slice_get, Contains, All, AllPairs, ◌≢◌, ◌⊎◌, IsTrue}
+use Rattle.std.proofs.Common.{◌≡◌, ◌∙◌, ℕ, suc, ◌+◌, ◌<◌, ◌≤◌, Bool, true, false, ◌&&◌, List, [], ◌∷◌, length, map, get_or, Some, inr, refl, sym, ap, subst, arith}
+use Rattle.std.specs.Prelude.{nat_le, nat_lt, slice_get, Contains, All, IsTrue}
 use Rattle.std.specs.List.{list_all}
 use Rattle.std.specs.Option.{option_map}
 use Rattle.std.proofs.lemmas.Bool.{and_parts, and_from, lt-ltb, le-leb, leb-true, true≢false}
@@ -12,16 +12,16 @@ use Rattle.search.specs.Outcome.{AreFound}
 use Rattle.search.specs.Estimates.{IsConsistent}
 use Rattle.search.proofs.Consistent.{falls_along}
 use Rattle.lower_bounds.specs.Settled.{initial_value}
-use Rattle.lower_bounds.specs.TableFunctions.{Row, SeveralValues, Table, dead_ends_of, functions_of, greatest_value, is_dead_by}
+use Rattle.lower_bounds.specs.TableFunctions.{SeveralValues, dead_ends_of, functions_of, greatest_value, is_dead_by}
 use Rattle.lower_bounds.specs.FairTables as fair_tables
 use Rattle.landmark_functions.specs.LandmarkLines.{NumberedLandmarks, is_value, is_zone, keep_limits, literal_count, share_count}
 use Rattle.line_evidence.specs.Roles.{role_in, role_of_line}
 use Rattle.line_evidence.specs.Shown.{AreSupported, IsFairMark, IsShown}
 use Rattle.model.specs.Task.{Task, Atom}
 use Rattle.model.specs.WellTyped.{is_task, is_atom}
-use Rattle.model.specs.Runs.{System, run, cost_of_all, CostsAtLeast}
+use Rattle.model.specs.Runs.{System}
 use Rattle.model.specs.Claims.{Claim, bound, cut, expanded, Line}
-use Rattle.model.specs.Meaning.{State, initial_state, system_of}
+use Rattle.model.specs.Meaning.{State}
 use Rattle.model.specs.Fluents.{is_fluent}
 use Rattle.model.specs.NumberedAtoms.{numbered_atoms}
 use Rattle.model.specs.Grounding.{ground_system, state_of_bits}
@@ -31,7 +31,7 @@ use Rattle.model.proofs.GroundTaskLemmas.{numbered-distinct, numbered-fluent}
 use Rattle.model.proofs.ListLemmas.{Contains-map}
 use Rattle.certificate_definitions.specs.Certificates.{four, Certificate, StateLine, are_exchanges, are_landmarks, are_potentials, are_tables, has_basis, is_claim, is_dead_end_weight, is_mark, is_number, is_state_line, is_value_count, is_weight, keeps_limits, lines_of, rise, rows_of, value_of}
 use Rattle.certificate_definitions.specs.Evidence as evidence
-use Rattle.certificate_definitions.specs.Evidence.{Basis, LineMark, of_all, landmark}
+use Rattle.certificate_definitions.specs.Evidence.{LineMark, of_all, landmark}
 use Rattle.certificate.specs.Evidence.{is_evidence}
 use Rattle.certificate.specs.ListedSets.{Marked, line_with, lines_with}
 use Rattle.certificate.proofs.WithinLimits.{one_weight_each, weights_of_each}
