@@ -63,8 +63,7 @@ pub(crate) fn search_or_ask<'l, 't, E: Sink + Clock>(
     let session = Session { setting, guide };
     let search = begin_by(&session)?;
     if !setting.limits.allow_version_four() || ASKING_PAUSE >= setting.limits.states() {
-        let parts = finish_with_tables(&session, search, drafting, err)?;
-        return Ok(TablesEnding::InParts(parts));
+        return finish_in_parts(&session, search, drafting, err);
     }
     match go_on_by(&session, search, ASKING_PAUSE, err)? {
         Stretch::Ended(ending) => Ok(TablesEnding::InParts(Parts::ByGuide(ending))),
@@ -90,11 +89,33 @@ fn finish_or_ask<'l, 't, E: Sink + Clock>(
     ensures ending { IfOk result (IsTablesEnding session.now.setting.space (functions_in session.now.guide.now) session.now.setting.limits) }
     ensures said { MayContinue (IsLineWithin (task_in (ground_in session.now.setting.space)) session.now.setting.limits) E.may_lack_memory (E.failures err.old) (E.taken err.old) (E.failures err.new) (E.taken err.new) }
 {
-    if pays_after(session.setting, &search)? {
-        if let Some(asked) = search_asking(session.setting, session.guide, err)? {
-            return Ok(TablesEnding::Asked(asked));
-        }
+    if !pays_after(session.setting, &search)? {
+        return finish_in_parts(session, search, drafting, err);
     }
+    match search_asking(session.setting, session.guide, err)? {
+        Some(asked) => Ok(TablesEnding::Asked(asked)),
+        None => finish_in_parts(session, search, drafting, err),
+    }
+}
+
+/// Continues the search without landmark values.
+fn finish_in_parts<'l, 't, E: Sink + Clock>(
+    session: &Session<'_, 'l, 't, FairTables<'_, '_, '_>>,
+    search: Search<GroundListing<'l, 't>, KnownState>,
+    drafting: Drafting<'_>,
+    err: &mut E,
+) -> Result<TablesEnding<'l, 't>, NoMemory>
+    requires version { 3 ≤ number_of session.now.setting.limits.version }
+    requires space { IsSearchSpace session.now.setting.space }
+    requires task { IsGroundOf (task_in (ground_in session.now.setting.space)) [] session.now.setting.limits.instances (ground_in session.now.setting.space) }
+    requires ground { guides.ground_in session.now.guide.now ≡ ground_in session.now.setting.space }
+    requires under_way { IsUnderWay session.now.setting.space (greatest_value (functions_of (functions_in session.now.guide.now))) (is_dead_by (dead_ends_of (functions_in session.now.guide.now))) (Knows session.now.guide.now.functions) session.now.setting.limits.states search }
+    requires width { length (potentials_of drafting.given.potentials.now).weights ≡ length (atoms_in (ground_in session.now.setting.space)) }
+    requires improved { AreSettledOrHigh (task_in (ground_in session.now.setting.space)) (atoms_in (ground_in session.now.setting.space)) (potentials_of drafting.given.potentials.now) }
+    requires dead_ends_improved { AreDeadSettledOrHigh (task_in (ground_in session.now.setting.space)) (atoms_in (ground_in session.now.setting.space)) (potentials_of drafting.given.dead_ends.now) }
+    ensures ending { IfOk result (IsTablesEnding session.now.setting.space (functions_in session.now.guide.now) session.now.setting.limits) }
+    ensures said { MayContinue (IsLineWithin (task_in (ground_in session.now.setting.space)) session.now.setting.limits) E.may_lack_memory (E.failures err.old) (E.taken err.old) (E.failures err.new) (E.taken err.new) }
+{
     let parts = finish_with_tables(session, search, drafting, err)?;
     Ok(TablesEnding::InParts(parts))
 }

@@ -11,12 +11,6 @@ means k = ground_system (task_in k) (atoms_in k)
 pub begin_by-requires : goal.begin_by-requires
 begin_by-requires g c = ap (λ (k : Ground). length (atoms_in k)) c.requires.ground
 
-pub finish_with_tables-requires-clause-system : goal.finish_with_tables-requires-clause-system
-finish_with_tables-requires-clause-system g c = ap means c.requires.ground
-
-pub finish_with_tables-requires-clause-guide_width : goal.finish_with_tables-requires-clause-guide_width
-finish_with_tables-requires-clause-guide_width g c = ap (λ (k : Ground). length (atoms_in k)) c.requires.ground
-
 pub go_on_by-requires-clause-system : goal.go_on_by-requires-clause-system
 go_on_by-requires-clause-system g c = ap means c.requires.ground
 

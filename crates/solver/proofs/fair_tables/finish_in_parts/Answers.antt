@@ -3,7 +3,7 @@ use Rattle.grounding.specs.declared.ground.Ground.{Ground}
 use Rattle.grounding.specs.Ground.{task_in, atoms_in}
 use Rattle.model.specs.Grounding.{ground_system}
 use Rattle.model.specs.Runs.{System}
-use Rattle.solver.proofs.fair_tables.finish_or_ask.Goals as goal
+use Rattle.solver.proofs.fair_tables.finish_in_parts.Goals as goal
 
 abbrev means : Ground → System (List Bool) ℕ
 means k = ground_system (task_in k) (atoms_in k)
