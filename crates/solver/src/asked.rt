@@ -116,9 +116,9 @@ fn asked_cert(
     requires space { IsSearchSpace setting.space }
     requires few { length (atoms_in (ground_in setting.space)) ≤ MAX_ATOMS }
     requires lines { AreLines (length (atoms_in (ground_in setting.space))) (evidence_of evidence) (landmarks_of lines.marked.landmarks) (map listed_of lines.marked.marks.items) (listed_states lines.states.store) }
-    ensures evidence { IfOk result (λ o. IfSome o (λ _. IsTrue (is_evidence four (length (atoms_in (ground_in setting.entry.space))) (evidence_of evidence.entry) (landmarks_of lines.entry.marked.landmarks)))) }
+    ensures evidence { IfOk result (λ o. IfSome o (λ _. IsTrue (is_evidence four (length (atoms_in (ground_in setting.entry.space))) (evidence_of evidence) (landmarks_of lines.entry.marked.landmarks)))) }
     ensures certificate { IfOk result (λ o. IfSome o (λ cert. certificate_of cert
-        ≡ asked_certificate (claim_of claim) (exchanges_in setting.entry.space) (atoms_in (ground_in setting.entry.space)) (evidence_of evidence.entry) (landmarks_of lines.entry.marked.landmarks)
+        ≡ asked_certificate (claim_of claim) (exchanges_in setting.entry.space) (atoms_in (ground_in setting.entry.space)) (evidence_of evidence) (landmarks_of lines.entry.marked.landmarks)
         (map listed_of lines.entry.marked.marks.items) (listed_states lines.entry.states.store))) }
 {
     let Setting { alloc, space, .. } = setting;
