@@ -1,9 +1,12 @@
-//! Families of atoms: all atoms of a predicate, or those with a given object at a given position.
+//! Families of atoms: all atoms of a predicate, or those with given objects at one or two given positions.
 use crate::numbers::number_of;
 use faults::NoMemory;
 use grounding::Ground;
 use std::alloc::Global;
 use task::{ObjectId, PredicateId};
+
+/// The minimum number of arguments of atoms of which two are shared. With two arguments such a family would have one atom.
+const LEAST_WITH_PAIRS: usize = 3;
 
 /// An object at a position, counted from 0, of an atom's arguments.
 #[derive(Clone, Copy, Debug, PartialEq, Eq, PartialOrd, Ord)]
@@ -12,11 +15,22 @@ pub(crate) struct Argument {
     object: ObjectId,
 }
 
-/// The atoms of the predicate with this argument, or all its atoms.
+/// The arguments that all atoms of a family have.
+#[derive(Clone, Copy, Debug, PartialEq, Eq, PartialOrd, Ord)]
+pub(crate) enum Shared {
+    /// None, so the family has all atoms of its predicate.
+    Nothing,
+    /// One argument.
+    One(Argument),
+    /// Two arguments, in the order of their positions.
+    Two(Argument, Argument),
+}
+
+/// The atoms of a predicate with these arguments. Families that share fewer arguments come first in the order.
 #[derive(Clone, Copy, Debug, PartialEq, Eq, PartialOrd, Ord)]
 pub(crate) struct Family {
+    pub(crate) shared: Shared,
     pub(crate) predicate: PredicateId,
-    pub(crate) argument: Option<Argument>,
 }
 
 /// All families of a ground task's atoms.
@@ -96,14 +110,16 @@ impl Families {
 }
 
 impl Family {
-    /// Whether the family, of a predicate with this many arguments, may join a group that begins with `first`: both have the same
-    /// object, or both have all atoms of a predicate, or there are no arguments.
-    pub(crate) fn goes_with(&self, first: &Family, argument_count: usize) -> bool {
-        match (self.argument, first.argument) {
-            (Some(own), Some(other)) => own.object == other.object,
-            (None, None) => true,
-            (None, Some(_)) => argument_count == 0,
-            (Some(_), None) => false,
+    /// Whether the atoms of both families share the same objects, at any positions.
+    pub(crate) fn shares_objects_with(&self, other: &Family) -> bool {
+        match (self.shared, other.shared) {
+            (Shared::Nothing, Shared::Nothing) => true,
+            (Shared::One(own), Shared::One(its)) => own.object == its.object,
+            (Shared::Two(first, second), Shared::Two(left, right)) => {
+                let (own, its) = ((first.object, second.object), (left.object, right.object));
+                own == its || own == (its.1, its.0)
+            }
+            _ => false,
         }
     }
 }
@@ -117,25 +133,55 @@ fn families_of_atoms(alloc: Global, ground: &Ground<'_>) -> Result<Vec<Vec<Famil
     Ok(of_atom)
 }
 
-/// The families of an atom with this predicate and these objects.
+/// The families of an atom with this predicate and these objects, beginning with that of all the predicate's atoms.
 fn families_of(
     alloc: Global,
     predicate: PredicateId,
     objects: &[ObjectId],
 ) -> Result<Vec<Family>, NoMemory> {
+    let arguments = arguments_of(alloc, objects)?;
     let mut families = Vec::new(alloc);
     families.push(Family {
+        shared: Shared::Nothing,
         predicate,
-        argument: None,
     })?;
-    for (place, object) in objects.iter().enumerate() {
+    for argument in &arguments {
         families.push(Family {
+            shared: Shared::One(*argument),
             predicate,
-            argument: Some(Argument {
-                place: number_of(place),
-                object: *object,
-            }),
         })?;
     }
+    if arguments.len() >= LEAST_WITH_PAIRS {
+        add_pairs(&mut families, predicate, &arguments)?;
+    }
     Ok(families)
+}
+
+/// The arguments of an atom with these objects, in the order of their positions.
+fn arguments_of(alloc: Global, objects: &[ObjectId]) -> Result<Vec<Argument>, NoMemory> {
+    let mut arguments = Vec::new(alloc);
+    for (place, object) in objects.iter().enumerate() {
+        arguments.push(Argument {
+            place: number_of(place),
+            object: *object,
+        })?;
+    }
+    Ok(arguments)
+}
+
+/// Adds the predicate's families that share two of the arguments.
+fn add_pairs(
+    families: &mut Vec<Family>,
+    predicate: PredicateId,
+    arguments: &[Argument],
+) -> Result<(), NoMemory> {
+    for first in arguments {
+        for second in arguments {
+            if first.place < second.place {
+                let shared = Shared::Two(*first, *second);
+                families.push(Family { shared, predicate })?;
+            }
+        }
+    }
+    Ok(())
 }

@@ -1,5 +1,5 @@
-//! Groups of atoms that seem to be mutually exclusive: the atoms of some predicates that share an object, each predicate at a
-//! fixed position.
+//! Groups of atoms that seem to be mutually exclusive: the atoms of some predicates that share an object or two, each predicate
+//! at fixed positions.
 //!
 //! A candidate begins with one family. If an instance adds one of its atoms and deletes none, it grows by a family of an atom
 //! that the instance deletes (Edelkamp & Helmert 1999, "Exhibiting Knowledge in Planning Problems to Minimize State Encoding
@@ -77,7 +77,7 @@ pub fn found_groups(
 }
 
 impl Finder<'_, '_> {
-    /// Starts from each family.
+    /// Starts from each family. Those that share two objects come last, so they take no look from others.
     fn find_all(&mut self, initial: &Packed) -> Result<(), NoMemory> {
         for place in 0..self.families.all().len() {
             let Some(first) = self.families.all().get(place) else {
@@ -203,12 +203,13 @@ impl Finder<'_, '_> {
             return Ok(());
         };
         let of_atom = self.families.of_atom(atom);
-        let argument_count = of_atom.len().saturating_sub(1);
+        // An atom without arguments has one family, which may join any other.
+        let has_no_arguments = of_atom.len() == 1;
         for more in of_atom {
             let is_new = families
                 .iter()
                 .all(|family| family.predicate != more.predicate);
-            if is_new && more.goes_with(first, argument_count) {
+            if is_new && (has_no_arguments || more.shares_objects_with(first)) {
                 let mut grown = Vec::from_slice(self.alloc, families)?;
                 grown.push(*more)?;
                 waiting.push(grown)?;

@@ -7,7 +7,7 @@ use Rattle.std.proofs.lemmas.List.Elements.{All-nil, All-cons, All-append, All-g
 use Rattle.std.proofs.lemmas.Option.{slice_get_within, get_or_from_slice_get}
 use Rattle.task.proofs.Lists.{nil_left, nil_right}
 use Rattle.explain_plans.specs.FalseParts.{Part, part_holds, false_parts, false_parts_of_all, itself_if_false, FalsePartsReport}
-use Rattle.explain_plans.specs.VariableNames.{names_left}
+use Rattle.explain_plans.specs.NamesLeft.{names_left}
 use Rattle.model.specs.Task.{Task, Name, Formula, Formulas, atom, equal, and, or, imply, exists, forall, no_formula, more_formulas}
 use Rattle.model.specs.Task as task
 use Rattle.model.specs.Meaning.{State, holds, all_hold, objects_of}

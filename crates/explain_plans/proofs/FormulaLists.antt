@@ -7,7 +7,7 @@ use Rattle.task.specs.declared.schemas.Formula.{Formula}
 use Rattle.task.specs.declared.schemas.Formula as formula
 use Rattle.task.specs.TaskParts.{formula_of}
 use Rattle.formulas.proofs.Trees.{formulas_in, formula_of-And, formula_of-Or}
-use Rattle.explain_plans.specs.VariableNames.{formulas}
+use Rattle.explain_plans.specs.NamesLeft.{formulas}
 use Rattle.model.specs.Task as task
 
 in_a_list : (parts : List Formula) → formulas_in parts ≡ formulas (map formula_of parts)

@@ -12,7 +12,7 @@ use Rattle.task.specs.declared.schemas.Formula as formula
 use Rattle.explain_plans.specs.declared.false_parts.Part as part
 use Rattle.explain_plans.specs.declared.false_parts.Found.{Found}
 use Rattle.explain_plans.specs.FalseParts.{Part, false_parts, false_parts_of_all, itself_if_false}
-use Rattle.explain_plans.specs.VariableNames.{names_left, formulas}
+use Rattle.explain_plans.specs.NamesLeft.{names_left, formulas}
 use Rattle.explain_plans.specs.Parts.{AreFirst, AreFound, Finds, FitsPart, IsFalseIn, most_reported, part_of}
 use Rattle.task.specs.TaskParts.{formula_of}
 use Rattle.explain_plans.proofs.FormulaLists.{conjunction, next_left}

@@ -9,7 +9,7 @@ use Rattle.task.specs.TaskParts.{formula_of}
 use Rattle.explain_plans.specs.FalseParts.{Part}
 use Rattle.explain_plans.specs.FormulaText.{Scope, formula_text, parts_text, scope_after}
 use Rattle.explain_plans.specs.Histories.{History}
-use Rattle.explain_plans.specs.VariableNames.{formulas}
+use Rattle.explain_plans.specs.NamesLeft.{formulas}
 use Rattle.explain_plans.proofs.FormulaLists.{conjunction, disjunction, next_left}
 use Rattle.model.proofs.ListLemmas.{drop-here}
 use Rattle.explain_plans.specs.PlanLines.{cost_line, cost_lines, reason_line, reason_lines}

@@ -12,7 +12,7 @@ use Rattle.task.specs.TaskParts.{shape_of_schema}
 use Rattle.task.proofs.Shapes.{Shape, found}
 use Rattle.explain_plans.specs.declared.explanations.Reasons.{Reasons}
 use Rattle.explain_plans.specs.Explanations.{AreReasons, IsWhyNotApplicable}
-use Rattle.explain_plans.specs.VariableNames.{VariableNames, names_of_action}
+use Rattle.task.specs.VariableNames.{VariableNames, names_of_action}
 use Rattle.model.specs.Task as task
 use Rattle.model.specs.Meaning.{State, amount_of, fits, initial_state, is_instance, system_of}
 use Rattle.model.specs.Runs.{StopsAt, run}

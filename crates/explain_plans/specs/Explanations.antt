@@ -5,7 +5,7 @@ use Rattle.explain_plans.specs.declared.explanations.PlanExplanation.{PlanExplan
 use Rattle.explain_plans.specs.declared.explanations.PlanExplanation.TheVariants.{Solves, NotApplicable, GoalMissed}
 use Rattle.explain_plans.specs.FalseParts.{false_parts}
 use Rattle.explain_plans.specs.Parts.{AreFirst, AreHistories}
-use Rattle.explain_plans.specs.VariableNames.{VariableNames, names_of_action}
+use Rattle.task.specs.VariableNames.{VariableNames, names_of_action}
 use Rattle.model.specs.Task.{Task, Name, Instance, Schema, Formula}
 use Rattle.model.specs.Meaning.{State, initial_state, system_of, cost_of, has_amount}
 use Rattle.model.specs.Runs.{run}

@@ -1,7 +1,7 @@
 -- Why a formula does not hold: its minimal false parts, which make it false.
 use Rattle.std.specs.Prelude.{◌≡◌, ℕ, Bool, false, IsTrue, List, [], ◌∷◌, ◌++◌, drop, slice_get, Some, ◌↔◌, if◌then◌else◌}
 use Rattle.std.specs.List.{flat_map}
-use Rattle.explain_plans.specs.VariableNames.{names_left}
+use Rattle.explain_plans.specs.NamesLeft.{names_left}
 use Rattle.model.specs.Task.{Task, Name, Formula, Formulas, and, imply, forall, no_formula, more_formulas}
 use Rattle.model.specs.Meaning.{State, holds, objects_of}
 

@@ -5,7 +5,7 @@ use Rattle.std.specs.Fmt.{decimal}
 use Rattle.std.specs.List.{flat_map}
 use Rattle.std.specs.Option.{option_map_or}
 use Rattle.model.specs.Task.{Task, Name, Union, Term, Formula, Formulas, variable, object, atom, equal, and, or, not, imply, exists, forall, no_formula, more_formulas}
-use Rattle.explain_plans.specs.VariableNames.{names_left}
+use Rattle.explain_plans.specs.NamesLeft.{names_left}
 use Rattle.task.specs.NumberedNames.{predicate_name, type_name}
 use Rattle.model.specs.PlanWriting.{object_text}
 

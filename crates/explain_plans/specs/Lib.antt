@@ -1,5 +1,4 @@
-pub mod VariableNames
-pub mod NamesView
+pub mod NamesLeft
 pub mod FalseParts
 pub mod Histories
 pub mod Parts

@@ -7,7 +7,7 @@ use Rattle.explain_plans.specs.declared.histories.History as history
 use Rattle.explain_plans.specs.declared.histories.History.TheVariants.{Always, ByStep}
 use Rattle.explain_plans.specs.FalseParts.{Part, false_parts, part_holds}
 use Rattle.explain_plans.specs.Histories.{History, always, by_step, IsHistory}
-use Rattle.explain_plans.specs.NamesView.{names_in}
+use Rattle.task.specs.Names.{names_in}
 use Rattle.task.specs.Task.{task_of}
 use Rattle.task.specs.TaskParts.{object_of, formula_of}
 use Rattle.formulas.specs.State.{FitsFormula, state_of}

@@ -5,10 +5,9 @@ use Rattle.std.specs.FinSet.{difference, items}
 use Rattle.std.specs.List.{flat_map}
 use Rattle.std.specs.Option.{option_map_or}
 use Rattle.explain_plans.specs.PlanLines.{cost_line}
-use Rattle.task.specs.NumberedNames.{predicate_name}
+use Rattle.task.specs.NumberedNames.{ground_text}
 use Rattle.model.specs.Task.{Task, Atom, Instance}
 use Rattle.model.specs.Meaning.{State, atom_cmp, initial_state, cost_of, step}
-use Rattle.model.specs.PlanWriting.{object_text}
 
 -- an atom as an entry of a map
 abbrev pub as_entry : Atom → Atom × Unit {0}
@@ -26,10 +25,6 @@ added before after = in_order (difference after before)
 -- the atoms that it deletes: true before it and false after it
 abbrev pub deleted : (before after : State) → List Atom
 deleted before after = in_order (difference before after)
-
--- an atom: its predicate and its objects, in parentheses
-abbrev pub ground_text : Task → Atom → List ℕ
-ground_text task a = codes "(" ++ (predicate_name task a.predicate ++ (flat_map (object_text task) a.objects ++ codes ")"))
 
 -- a blank and an atom
 abbrev pub spaced_text : Task → Atom → List ℕ

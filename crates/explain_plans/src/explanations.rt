@@ -1,18 +1,17 @@
 //! Explanations of a plan for people.
 ghost use Rattle.std.specs.Prelude.{◌≡◌, ◌-◌, IsTrue, IfOk, Some, map, take};
 ghost use Rattle.std.specs.List.{list_all};
-ghost use Rattle.task.specs.Task.{task_of};
+ghost use Rattle.task.specs.Names.{names_in};
+ghost use Rattle.task.specs.Task.{task_of, variable_names_of};
 ghost use Rattle.task.specs.TaskParts.{object_of, formula_of};
 ghost use Rattle.formulas.specs.State.{instance_of, plan_of, state_of};
 ghost use Rattle.explain_plans.specs.Explanations.{verdict_of, AreReasons, IsExplained};
-ghost use Rattle.explain_plans.specs.NamesView.{names_in, names_of};
 ghost use Rattle.explain_plans.specs.Parts.{FitsIn};
 ghost use Rattle.model.specs.Runs.{IsVerdict, StopsAt, run, valid, goal_missed};
 ghost use Rattle.model.specs.Meaning.{is_instance, initial_state, system_of, cost_of};
 
 use crate::false_parts::{Context, Found, Part};
 use crate::histories::{History, histories};
-use crate::variable_names::VariableNames;
 use faults::NoMemory;
 use formulas::{Binding, Instance, Plan, State, amount, cost};
 use std::alloc::Global;
@@ -56,27 +55,21 @@ pub enum PlanExplanation<'t> {
     },
 }
 
-/// The verdict on a plan, whose instances belong to the task, with its reasons. The variables of quantifiers have these names.
+/// The verdict on a plan, whose instances belong to the task, with its reasons.
 ///
 /// # Errors
 /// An allocation failed, which says nothing about the plan.
 pub fn explain_plan<'t>(
     alloc: Global,
     task: &'t Task,
-    names: &'t VariableNames<'t>,
     plan: &Plan,
 ) -> Result<PlanExplanation<'t>, NoMemory>
     requires { IsTrue (list_all (is_instance (task_of task.now)) (plan_of plan.now)) }
     ensures verdict { IfOk result (λ e. IsVerdict (system_of (task_of task.now)) (plan_of plan.now) (verdict_of e)) }
-    ensures explained { IfOk result (IsExplained (task_of task.now) (names_of names.now) (plan_of plan.now)) }
+    ensures explained { IfOk result (IsExplained (task_of task.now) (variable_names_of task.now) (plan_of plan.now)) }
 {
     let Run { verdict, state } = run_plan(alloc, task, plan)?;
-    let explainer = Explainer {
-        alloc,
-        task,
-        names,
-        plan,
-    };
+    let explainer = Explainer { alloc, task, plan };
     match verdict {
         Verdict::Valid { cost } => explainer.why_valid(cost),
         Verdict::NotApplicable { step } => explainer.why_not_applicable(step, &state),
@@ -89,7 +82,6 @@ pub fn explain_plan<'t>(
 struct Explainer<'t, 'p> {
     alloc: Global,
     task: &'t Task,
-    names: &'t VariableNames<'t>,
     plan: &'p Plan,
 }
 
@@ -98,7 +90,7 @@ impl<'t> Explainer<'t, '_> {
     fn why_valid(self, total: u64) -> Result<PlanExplanation<'t>, NoMemory>
         requires { IsVerdict (system_of (task_of self.task.now)) (plan_of self.plan.now) (valid total) }
         ensures verdict { IfOk result (λ e. IsVerdict (system_of (task_of self.entry.task.now)) (plan_of self.entry.plan.now) (verdict_of e)) }
-        ensures explained { IfOk result (IsExplained (task_of self.entry.task.now) (names_of self.entry.names.now) (plan_of self.entry.plan.now)) }
+        ensures explained { IfOk result (IsExplained (task_of self.entry.task.now) (variable_names_of self.entry.task.now) (plan_of self.entry.plan.now)) }
     {
         let steps = self.plan.steps();
         let costs = costs_of(self.alloc, self.task, steps)?;
@@ -111,7 +103,7 @@ impl<'t> Explainer<'t, '_> {
         requires stops { StopsAt (system_of (task_of self.task.now)) (plan_of self.plan.now) step }
         requires state { run (system_of (task_of self.task.now)) (initial_state (task_of self.task.now)) (take (step - 1) (plan_of self.plan.now)) ≡ Some (state_of state.now) }
         ensures verdict { IfOk result (λ e. IsVerdict (system_of (task_of self.entry.task.now)) (plan_of self.entry.plan.now) (verdict_of e)) }
-        ensures explained { IfOk result (IsExplained (task_of self.entry.task.now) (names_of self.entry.names.now) (plan_of self.entry.plan.now)) }
+        ensures explained { IfOk result (IsExplained (task_of self.entry.task.now) (variable_names_of self.entry.task.now) (plan_of self.entry.plan.now)) }
     {
         let steps = self.plan.steps();
         let before = &steps[..step - 1];
@@ -122,7 +114,7 @@ impl<'t> Explainer<'t, '_> {
             task: self.task,
             state,
             objects: &instance.objects,
-            names: self.names.of_action(instance.schema),
+            names: self.task.precondition_names(instance.schema),
         };
         let reasons = why_false(self.alloc, before, &schema.precondition, context)?;
         Ok(PlanExplanation::NotApplicable {
@@ -138,7 +130,7 @@ impl<'t> Explainer<'t, '_> {
         requires missed { IsVerdict (system_of (task_of self.task.now)) (plan_of self.plan.now) goal_missed }
         requires state { run (system_of (task_of self.task.now)) (initial_state (task_of self.task.now)) (plan_of self.plan.now) ≡ Some (state_of state.now) }
         ensures verdict { IfOk result (λ e. IsVerdict (system_of (task_of self.entry.task.now)) (plan_of self.entry.plan.now) (verdict_of e)) }
-        ensures explained { IfOk result (IsExplained (task_of self.entry.task.now) (names_of self.entry.names.now) (plan_of self.entry.plan.now)) }
+        ensures explained { IfOk result (IsExplained (task_of self.entry.task.now) (variable_names_of self.entry.task.now) (plan_of self.entry.plan.now)) }
     {
         let steps = self.plan.steps();
         let goal = self.task.goal();
@@ -147,7 +139,7 @@ impl<'t> Explainer<'t, '_> {
             task: self.task,
             state,
             objects: &nothing,
-            names: &self.names.goal,
+            names: self.task.goal_names(),
         };
         let reasons = why_false(self.alloc, steps, goal, context)?;
         Ok(PlanExplanation::GoalMissed { reasons })

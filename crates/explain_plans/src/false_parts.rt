@@ -4,9 +4,9 @@ ghost use Rattle.task.specs.Task.{task_of};
 ghost use Rattle.task.specs.TaskParts.{object_of, formula_of, union_of};
 ghost use Rattle.formulas.specs.State.{state_of, FitsFormulas};
 ghost use Rattle.explain_plans.specs.FalseParts.{FalsePartsReport, false_parts_of_all, itself_if_false};
-ghost use Rattle.explain_plans.specs.NamesView.{names_in};
+ghost use Rattle.task.specs.Names.{names_in};
 ghost use Rattle.explain_plans.specs.Parts.{AreFound, FindsIn, FitsIn, false_parts_in};
-ghost use Rattle.explain_plans.specs.VariableNames.{formulas};
+ghost use Rattle.explain_plans.specs.NamesLeft.{formulas};
 ghost use Rattle.model.specs.Task.{forall};
 
 use crate::variable_names::{names_after, without_first};
@@ -26,7 +26,7 @@ pub struct Part<'t> {
     /// The objects of the variables in its scope, in order.
     pub objects: Binding,
     /// The names of the variables of quantifiers, in the order of the text, those in the part first.
-    pub names: &'t [&'t [u8]],
+    pub names: &'t [Vec<u8>],
 }
 
 /// The first few of a list of false parts.
@@ -48,7 +48,7 @@ pub(crate) struct Context<'c, 't> {
     /// The objects of the variables in the formula's scope, in order.
     pub objects: &'c Binding,
     /// The names of the variables of quantifiers, in the order of the text, those in the formula first.
-    pub names: &'t [&'t [u8]],
+    pub names: &'t [Vec<u8>],
 }
 
 impl<'t> Context<'_, 't> {

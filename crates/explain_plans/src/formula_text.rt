@@ -9,9 +9,9 @@ ghost use Rattle.task.specs.Task.{task_of};
 ghost use Rattle.task.specs.TaskParts.{formula_of, lifted_atom_of, object_of, term_of, type_of, union_of};
 ghost use Rattle.task.specs.NumberedNames.{type_name};
 ghost use Rattle.explain_plans.specs.FormulaText.{atom_text, formula_text, next_name, parts_text, scope_at, scope_after, term_text, union_text, variable_declared, variable_text, with_next};
-ghost use Rattle.explain_plans.specs.NamesView.{names_in};
+ghost use Rattle.task.specs.Names.{names_in};
 ghost use Rattle.explain_plans.specs.ScopeView.{scope_of};
-ghost use Rattle.explain_plans.specs.VariableNames.{formulas};
+ghost use Rattle.explain_plans.specs.NamesLeft.{formulas};
 
 use crate::variable_names::{names_after, without_first};
 use std::alloc::{AllocError, Global};
@@ -26,12 +26,12 @@ pub(crate) struct Scope<'a> {
     /// The names of the variables without an object, the outermost quantifier's first.
     pub names: &'a [&'a [u8]],
     /// The names of variables that are not in scope yet, in textual order.
-    pub coming: &'a [&'a [u8]],
+    pub coming: &'a [Vec<u8>],
 }
 
 impl<'a> Scope<'a> {
     /// A scope in which all variables have objects. Quantified variables get these names.
-    pub(crate) fn of(objects: &'a [ObjectId], coming: &'a [&'a [u8]]) -> Scope<'a>
+    pub(crate) fn of(objects: &'a [ObjectId], coming: &'a [Vec<u8>]) -> Scope<'a>
         ensures { scope_of result ≡ scope_at (map object_of objects.now) (names_in coming.now) }
     {
         Scope {

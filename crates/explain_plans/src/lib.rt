@@ -16,4 +16,3 @@ pub use histories::History;
 pub use printing::{report_details, report_verdict};
 pub use step_places::step_place;
 pub use trace::report_trace;
-pub use variable_names::VariableNames;

@@ -10,9 +10,9 @@ ghost use Rattle.formulas.specs.State.{instance_of, plan_of};
 ghost use Rattle.formulas.specs.declared.instance.Instance.{Instance};
 ghost use Rattle.explain_plans.specs.Explanations.{verdict_of};
 ghost use Rattle.explain_plans.specs.FormulaText.{formula_text, scope_at};
-ghost use Rattle.explain_plans.specs.NamesView.{names_in};
+ghost use Rattle.task.specs.Names.{names_in};
 ghost use Rattle.explain_plans.specs.Parts.{history_of, part_of};
-ghost use Rattle.explain_plans.specs.PlanLines.{added_text, cause_text, cost_lines, deleted_text, increase_text, instance_increase_text, lacking_text, made_text, negation_text, reason_line, reason_lines, reasons_text, step_name, verdict_line, why_text};
+ghost use Rattle.explain_plans.specs.PlanLines.{added_text, cause_text, cost_line, cost_lines, deleted_text, increase_text, instance_increase_text, lacking_text, made_text, negation_text, reason_line, reason_lines, reasons_text, step_name, verdict_line, why_text};
 ghost use Rattle.explain_plans.specs.Said.{AddsDetails, HasDetails};
 ghost use Rattle.explain_plans.specs.ScopeView.{scope_of};
 ghost use Rattle.model.specs.Runs.{not_applicable};
@@ -48,14 +48,14 @@ pub fn report_verdict(
 {
     let printer = PlanPrinter { alloc, task, plan };
     match explanation {
-        PlanExplanation::Solves { total, .. } => cost_line(alloc, *total),
+        PlanExplanation::Solves { total, .. } => valid_line(alloc, *total),
         PlanExplanation::NotApplicable { step, .. } => printer.step_line(*step),
         PlanExplanation::GoalMissed { .. } => missed_line(alloc),
     }
 }
 
 /// The line for a plan that solves the task at this cost.
-fn cost_line(alloc: Global, total: u64) -> Result<String, NoMemory>
+fn valid_line(alloc: Global, total: u64) -> Result<String, NoMemory>
     ensures { IfOk result (λ line. string_bytes line ≡ codes "valid, cost " ++ (decimal total ++ codes "\n")) }
 {
     Ok(format!(in alloc; "valid, cost {total}\n")?)
@@ -107,10 +107,13 @@ pub fn report_details(
 
 /// Prints what is said of a plan for a task.
 #[derive(Clone, Copy)]
-struct PlanPrinter<'p> {
-    alloc: Global,
-    task: &'p Task,
-    plan: &'p Plan,
+pub(crate) struct PlanPrinter<'p> {
+    /// Supplies memory.
+    pub alloc: Global,
+    /// The task.
+    pub task: &'p Task,
+    /// The plan.
+    pub plan: &'p Plan,
 }
 
 /// What a step costs, and what the steps up to it cost together.
@@ -173,11 +176,24 @@ impl PlanPrinter<'_> {
                 return Ok(());
             };
             total += u64::from(*cost);
-            let words = step_text(self.alloc, self.task, step)?;
-            let paid = Paid { cost: *cost, total };
-            let line = cost_line_of(self.alloc, index + 1, words.as_str(), paid)?;
-            text.extend_from_slice(line.as_bytes())?;
+            self.add_step(index + 1, step, Paid { cost: *cost, total }, text)?;
         }
+        Ok(())
+    }
+
+    /// Adds the line of the step with this number.
+    pub(crate) fn add_step(
+        &self,
+        number: usize,
+        step: &Instance,
+        paid: Paid,
+        text: &mut Vec<u8>,
+    ) -> Result<(), NoMemory>
+        ensures { OnOk result (text.new.items ≡ text.old.items ++ cost_line (task_of self.now.task.now) number (instance_of step.now) paid.cost paid.total) }
+    {
+        let words = step_text(self.alloc, self.task, step)?;
+        let line = cost_line_of(self.alloc, number, words.as_str(), paid)?;
+        text.extend_from_slice(line.as_bytes())?;
         Ok(())
     }
 
@@ -378,7 +394,7 @@ impl PlanPrinter<'_> {
     fn formula_printer<'a>(
         &'a self,
         objects: &'a [ObjectId],
-        names: &'a [&'a [u8]],
+        names: &'a [Vec<u8>],
     ) -> FormulaPrinter<'a>
         ensures task { result.task.now ≡ self.now.task.now }
         ensures scope { scope_of result.scope ≡ scope_at (map object_of objects.now) (names_in names.now) }
@@ -402,12 +418,7 @@ fn history_at(histories: &[History], place: usize) -> Option<History>
 }
 
 /// The line of the step with this number, in these words.
-pub(crate) fn cost_line_of(
-    alloc: Global,
-    number: usize,
-    words: &str,
-    paid: Paid,
-) -> Result<String, NoMemory>
+fn cost_line_of(alloc: Global, number: usize, words: &str, paid: Paid) -> Result<String, NoMemory>
     ensures { IfOk result (λ line. string_bytes line ≡ decimal number ++ (codes "  " ++ (words.now ++ (codes "  cost " ++ (decimal paid.cost ++ (codes ", " ++ (decimal paid.total ++ codes " so far\n"))))))) }
 {
     let Paid { cost, total } = paid;

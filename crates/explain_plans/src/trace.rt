@@ -1,24 +1,21 @@
 //! The trace of a plan: what each step adds and deletes.
-ghost use Rattle.std.specs.Prelude.{◌≡◌, ◌++◌, map, IfOk, IsTrue, OnOk};
+ghost use Rattle.std.specs.Prelude.{◌≡◌, ◌++◌, IfOk, IsTrue, OnOk};
 ghost use Rattle.std.specs.FinSet.{difference};
 ghost use Rattle.std.specs.List.{flat_map, list_all};
 ghost use Rattle.std.specs.Str.Lossy.{utf8_lossy};
 ghost use Rattle.std.specs.String.{string_bytes};
 ghost use Rattle.task.specs.Task.{task_of};
-ghost use Rattle.task.specs.TaskParts.{atom_of, object_of};
-ghost use Rattle.formulas.specs.State.{instance_of, plan_of, state_of};
+ghost use Rattle.task.specs.TaskParts.{atom_of};
+ghost use Rattle.formulas.specs.State.{plan_of, state_of};
 ghost use Rattle.explain_plans.specs.LentAtoms.{lent_atoms};
-ghost use Rattle.explain_plans.specs.PlanLines.{cost_line};
 ghost use Rattle.explain_plans.specs.Traces.{atoms_line, change_lines, in_order, spaced_text, trace_text};
 ghost use Rattle.model.specs.Meaning.{is_instance};
-ghost use Rattle.model.specs.PlanWriting.{object_text};
 
-use crate::printing::{Paid, cost_line_of};
+use crate::printing::{Paid, PlanPrinter};
 use faults::NoMemory;
-use formulas::{Instance, Plan, State, apply, cost};
-use plan_file::step_text;
+use formulas::{Plan, State, apply, cost};
 use std::alloc::{AllocError, Global};
-use task::{Atom, ObjectId, Task};
+use task::{Atom, Task};
 
 /// The steps of a plan as lines, each with LF: what a step costs, and below it the atoms that it adds and those that it deletes.
 ///
@@ -41,26 +38,19 @@ pub fn report_trace(alloc: Global, task: &Task, plan: &Plan) -> Result<String, N
     ensures { IfOk result (λ text. string_bytes text ≡ utf8_lossy (trace_text (task_of task.now) (plan_of plan.now))) }
 {
     let mut text = Vec::new(alloc);
-    Tracer { alloc, task }.add_steps(plan, &mut text)?;
+    PlanPrinter { alloc, task, plan }.add_trace(&mut text)?;
     Ok(String::from_utf8_lossy(alloc, text.as_slice())?)
 }
 
-/// Prints what the steps of a plan change.
-#[derive(Clone, Copy)]
-struct Tracer<'t> {
-    alloc: Global,
-    task: &'t Task,
-}
-
-impl Tracer<'_> {
+impl PlanPrinter<'_> {
     /// Adds the lines of the plan's steps, up to the first that is not applicable.
-    fn add_steps(&self, plan: &Plan, text: &mut Vec<u8>) -> Result<(), NoMemory>
-        requires { IsTrue (list_all (is_instance (task_of self.now.task.now)) (plan_of plan.now)) }
-        ensures { OnOk result (text.new.items ≡ text.old.items ++ trace_text (task_of self.now.task.now) (plan_of plan.now)) }
+    fn add_trace(&self, text: &mut Vec<u8>) -> Result<(), NoMemory>
+        requires { IsTrue (list_all (is_instance (task_of self.now.task.now)) (plan_of self.now.plan.now)) }
+        ensures { OnOk result (text.new.items ≡ text.old.items ++ trace_text (task_of self.now.task.now) (plan_of self.now.plan.now)) }
     {
         let mut state = State::initial(self.alloc, self.task)?;
         let mut total = 0;
-        for (index, step) in plan.steps().iter().enumerate() {
+        for (index, step) in self.plan.steps().iter().enumerate() {
             let Some(next) = apply(self.alloc, self.task, step, &state)? else {
                 return Ok(());
             };
@@ -70,22 +60,6 @@ impl Tracer<'_> {
             self.add_changes(&state, &next, text)?;
             state = next;
         }
-        Ok(())
-    }
-
-    /// Adds the line of the step with this number.
-    fn add_step(
-        &self,
-        number: usize,
-        step: &Instance,
-        paid: Paid,
-        text: &mut Vec<u8>,
-    ) -> Result<(), NoMemory>
-        ensures { OnOk result (text.new.items ≡ text.old.items ++ cost_line (task_of self.now.task.now) number (instance_of step.now) paid.cost paid.total) }
-    {
-        let words = step_text(self.alloc, self.task, step)?;
-        let line = cost_line_of(self.alloc, number, words.as_str(), paid)?;
-        text.extend_from_slice(line.as_bytes())?;
         Ok(())
     }
 
@@ -128,21 +102,8 @@ impl Tracer<'_> {
     fn add_atom(&self, atom: &Atom, text: &mut Vec<u8>) -> Result<(), AllocError>
         ensures { OnOk result (text.new.items ≡ text.old.items ++ spaced_text (task_of self.now.task.now) (atom_of atom.now)) }
     {
-        text.extend_from_slice(b" (")?;
-        text.extend_from_slice(self.task.name_of_predicate(atom.predicate))?;
-        self.add_objects(atom.objects.as_slice(), text)?;
-        text.extend_from_slice(b")")
-    }
-
-    /// Adds a blank and the name of each object.
-    fn add_objects(&self, objects: &[ObjectId], text: &mut Vec<u8>) -> Result<(), AllocError>
-        ensures { OnOk result (text.new.items ≡ text.old.items ++ flat_map (object_text (task_of self.now.task.now)) (map object_of objects.now)) }
-    {
-        for object in objects {
-            text.extend_from_slice(b" ")?;
-            text.extend_from_slice(self.task.name_of_object(*object))?;
-        }
-        Ok(())
+        text.extend_from_slice(b" ")?;
+        self.task.add_atom(atom, text)
     }
 }
 

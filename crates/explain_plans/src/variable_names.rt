@@ -1,35 +1,14 @@
-//! The names of the variables of quantifiers. A task has numbers for variables, so the caller supplies the names.
+//! The names of the variables of quantifiers, in textual order.
 ghost use Rattle.std.specs.Prelude.{◌≡◌, drop, map};
+ghost use Rattle.task.specs.Names.{names_in};
 ghost use Rattle.task.specs.TaskParts.{formula_of};
-ghost use Rattle.explain_plans.specs.NamesView.{names_in, names_of};
-ghost use Rattle.explain_plans.specs.VariableNames.{names_left, after_all_lines, formulas, names_of_action};
+ghost use Rattle.explain_plans.specs.NamesLeft.{names_left, after_all_lines, formulas};
 
-use task::{Formula, SchemaId};
-
-/// The names of the quantified variables of a task, as spelled in its files, in textual order. A name begins with `?`.
-#[derive(Drop)]
-pub struct VariableNames<'a> {
-    /// The names in the precondition of each action, in the order of the actions.
-    pub actions: Vec<Vec<&'a [u8]>>,
-    /// The names in the goal.
-    pub goal: Vec<&'a [u8]>,
-}
-
-impl<'a> VariableNames<'a> {
-    /// The names in the precondition of the action with this number.
-    pub(crate) fn of_action(&'a self, schema: SchemaId) -> &'a [&'a [u8]]
-        ensures { names_in result.now ≡ names_of_action (names_of self.now) schema.0 }
-    {
-        let Some(names) = self.actions.get(schema.0) else {
-            return &[];
-        };
-        names.as_slice()
-    }
-}
+use task::Formula;
 
 /// The names left over after those of the formula's variables, which come first.
 #[cycle(names_left)]
-pub(crate) fn names_after<'n, 'a>(formula: &Formula, names: &'n [&'a [u8]]) -> &'n [&'a [u8]]
+pub(crate) fn names_after<'n>(formula: &Formula, names: &'n [Vec<u8>]) -> &'n [Vec<u8>]
     ensures { names_in result.now ≡ names_left (formula_of formula.now) (names_in names.now) }
 {
     match formula {
@@ -48,7 +27,7 @@ pub(crate) fn names_after<'n, 'a>(formula: &Formula, names: &'n [&'a [u8]]) -> &
 
 /// The same for each of the formulas.
 #[cycle(names_left)]
-fn names_after_each<'n, 'a>(parts: &[Formula], names: &'n [&'a [u8]]) -> &'n [&'a [u8]]
+fn names_after_each<'n>(parts: &[Formula], names: &'n [Vec<u8>]) -> &'n [Vec<u8>]
     ensures { names_in result.now ≡ after_all_lines (formulas (map formula_of parts.now)) (names_in names.now) }
 {
     let mut left = names;
@@ -59,7 +38,7 @@ fn names_after_each<'n, 'a>(parts: &[Formula], names: &'n [&'a [u8]]) -> &'n [&'
 }
 
 /// The names without the first.
-pub(crate) fn without_first<'n, 'a>(names: &'n [&'a [u8]]) -> &'n [&'a [u8]]
+pub(crate) fn without_first<'n>(names: &'n [Vec<u8>]) -> &'n [Vec<u8>]
     ensures { names_in result.now ≡ drop 1 (names_in names.now) }
 {
     match names {

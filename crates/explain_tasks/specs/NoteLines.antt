@@ -4,12 +4,12 @@ use Rattle.std.specs.Fmt.{decimal}
 use Rattle.std.specs.List.{flat_map}
 use Rattle.std.specs.Option.{option_map_or}
 use Rattle.std.specs.Str.Lossy.{utf8_lossy}
-use Rattle.task.specs.NumberedNames.{function_name, predicate_name}
+use Rattle.task.specs.NumberedNames.{form_text, function_name, ground_text, predicate_name}
 use Rattle.task.specs.TaskParts.{atom_of}
 use Rattle.formulas.specs.State.{instance_of}
 use Rattle.model.specs.Task.{Task, Name, Atom, LiftedAtom, Increase, by_number, by_function, Instance, Schema}
 use Rattle.model.specs.Meaning.{object_of}
-use Rattle.model.specs.PlanWriting.{object_name, object_text, schema_name}
+use Rattle.model.specs.PlanWriting.{object_name, schema_name}
 use Rattle.explain_tasks.specs.declared.ground_notes.GroundNotes.{GroundNotes}
 use Rattle.explain_tasks.specs.declared.notes.TaskNotes.{TaskNotes}
 
@@ -20,13 +20,6 @@ most_notes = 10
 -- the line, if this is so
 abbrev pub line_if : Bool → List ℕ → List (List ℕ)
 line_if is line = if is then line ∷ [] else []
-
--- a name and objects, in parentheses
-abbrev pub form_text : Task → Name → (objects : List ℕ) → List ℕ
-form_text t name objects = codes "(" ++ (name ++ (flat_map (object_text t) objects ++ codes ")"))
-
-abbrev pub atom_text : Task → Atom → List ℕ
-atom_text t a = form_text t (predicate_name t a.predicate) a.objects
 
 abbrev pub instance_text : Task → Instance → List ℕ
 instance_text t i = form_text t (schema_name t i.schema) i.objects
@@ -91,7 +84,7 @@ passed_line t most number = utf8_lossy (passed_text t most number)
 
 -- an atom that the goal requires and that is never true
 abbrev pub missing_text : Task → Atom → List ℕ
-missing_text t a = codes "The goal asks for " ++ (atom_text t a ++ codes ", which is false at the start, and which no action can make true.")
+missing_text t a = codes "The goal asks for " ++ (ground_text t a ++ codes ", which is false at the start, and which no action can make true.")
 
 abbrev pub missing_line : Task → Atom → List (List ℕ)
 missing_line t a = utf8_lossy (missing_text t a) ∷ []

@@ -5,7 +5,7 @@ ghost use Rattle.std.specs.List.{flat_map};
 ghost use Rattle.std.specs.Str.Lossy.{utf8_lossy};
 ghost use Rattle.std.specs.String.{string_bytes};
 ghost use Rattle.task.specs.Task.{task_of};
-ghost use Rattle.task.specs.TaskParts.{atom_of, increase_of, lifted_atom_of, object_of};
+ghost use Rattle.task.specs.TaskParts.{atom_of, increase_of, lifted_atom_of};
 ghost use Rattle.formulas.specs.State.{instance_of};
 ghost use Rattle.explain_tasks.specs.KindNames.{name_by};
 ghost use Rattle.explain_tasks.specs.NoteLines as note;
@@ -234,7 +234,7 @@ fn add_lacking_value(
     let name = task.name_of_schema(instance.schema);
     add_function(task, function, instance, line)?;
     line.extend_from_slice(b" has no value, so ")?;
-    add_form(task, name, instance.objects.as_slice(), line)?;
+    task.add_form(name, instance.objects.as_slice(), line)?;
     line.extend_from_slice(b" can never be applied.")?;
     Ok(())
 }
@@ -282,8 +282,7 @@ fn add_missing_line(
     ensures { OnOk result (map string_bytes lines.new.items ≡ map string_bytes lines.old.items ++ note.missing_line (task_of task.now) (atom_of atom.now)) }
 {
     let mut line = Vec::from_slice(alloc, b"The goal asks for ")?;
-    let name = task.name_of_predicate(atom.predicate);
-    add_form(task, name, atom.objects.as_slice(), &mut line)?;
+    task.add_atom(atom, &mut line)?;
     line.extend_from_slice(b", which is false at the start, and which no action can make true.")?;
     add_line(alloc, line.as_slice(), lines)
 }
@@ -388,22 +387,6 @@ fn add_function(
     for term in &function.terms {
         task.add_name(named_by(term, &instance.objects), line)?;
     }
-    line.extend_from_slice(b")")?;
-    Ok(())
-}
-
-/// Adds this name and these objects, in parentheses.
-fn add_form(
-    task: &Task,
-    name: &[u8],
-    objects: &[ObjectId],
-    line: &mut Vec<u8>,
-) -> Result<(), NoMemory>
-    ensures { OnOk result (line.new.items ≡ line.old.items ++ note.form_text (task_of task.now) name.now (map object_of objects.now)) }
-{
-    line.extend_from_slice(b"(")?;
-    line.extend_from_slice(name)?;
-    task.add_names(objects, line)?;
     line.extend_from_slice(b")")?;
     Ok(())
 }

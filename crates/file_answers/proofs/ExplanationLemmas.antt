@@ -43,7 +43,7 @@ use Rattle.explain_plans.specs.Explanations as plans
 use Rattle.explain_plans.specs.Explanations.{IsExplained}
 use Rattle.explain_plans.specs.StepPlaces.{IsStepPlace, span_of}
 use Rattle.explain_plans.specs.Traces.{trace_text}
-use Rattle.explain_plans.specs.VariableNames.{VariableNames}
+use Rattle.task.specs.VariableNames.{VariableNames}
 use Rattle.file_answers.specs.QuantifiedNames.{IsNamedTask}
 use Rattle.explain_plans.specs.declared.explanations.PlanExplanation.{PlanExplanation}
 

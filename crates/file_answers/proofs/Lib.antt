@@ -3,6 +3,5 @@ mod CompleteLemmas
 mod ExplanationLemmas
 mod FurtherLemmas
 pub mod FilesRead
-mod QuantifiedLemmas
 mod ShortLines
 pub mod NamedExchanges

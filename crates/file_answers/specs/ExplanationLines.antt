@@ -32,7 +32,7 @@ use Rattle.file_answers.specs.declared.explanation.Subject.{Subject}
 use Rattle.file_answers.specs.declared.explanation.Subject.TheVariants.{Fault, Plan, Task}
 use Rattle.file_answers.specs.declared.explanation.Grounded.{Grounded}
 use Rattle.file_answers.specs.declared.explanation.Grounded.TheVariants.{Within, Beyond}
-use Rattle.file_answers.specs.QuantifiedNames.{variable_names}
+use Rattle.typing.specs.Task.{variable_names}
 use Rattle.model.specs.Task as model
 use Rattle.model.specs.Files.{AreRead}
 use Rattle.model.specs.PlanText.{placed_from}

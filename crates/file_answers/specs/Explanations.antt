@@ -11,7 +11,7 @@ use Rattle.explain_hints.specs.declared.texts.NamedText.{NamedText}
 use Rattle.explain_hints.specs.declared.texts.NamedTexts.{NamedTexts}
 use Rattle.explain_plans.specs.Explanations as plans
 use Rattle.explain_plans.specs.Explanations.{IsExplained}
-use Rattle.explain_plans.specs.VariableNames.{VariableNames}
+use Rattle.task.specs.VariableNames.{VariableNames}
 use Rattle.explain_plans.specs.declared.explanations.PlanExplanation.{PlanExplanation}
 use Rattle.explain_tasks.specs.Summary.{IsSummaryOf, summary_text}
 use Rattle.explain_tasks.specs.declared.summary.Summary.{Summary}

@@ -14,7 +14,7 @@ mod of_task;
 mod step_lines;
 
 use crate::explanation::Explanation;
-use crate::files::named_task_of_files;
+use crate::files::task_of_files;
 use explain_hints::{NamedText, NamedTexts};
 use faults::NoMemory;
 use of_fault::explain_refused;
@@ -70,13 +70,13 @@ pub fn explain_files(
     ensures said { IfOk result (IsSaidOf (is_traced options.steps) (files_of files.entry.domain files.entry.problem files.entry.plan)) }
 {
     let texts = texts_of(files);
-    let named = match named_task_of_files(alloc, files.domain.text, files.problem.text) {
-        Ok(named) => named,
+    let task = match task_of_files(alloc, files.domain.text, files.problem.text) {
+        Ok(task) => task,
         Err(fault) => return explain_refused(alloc, &texts, fault),
     };
     match files.plan {
-        Some(_) => explain_plan_file(alloc, &named, &texts, options.steps),
-        None => explain_task(alloc, &named.task, options.max_instances),
+        Some(_) => explain_plan_file(alloc, &task, &texts, options.steps),
+        None => explain_task(alloc, &task, options.max_instances),
     }
 }
 

@@ -3,13 +3,12 @@ ghost use Rattle.std.specs.Prelude.{◌≡◌, ℕ, All, List, IfOk, IfErr, IfSo
 ghost use Rattle.std.specs.List.{list_all};
 ghost use Rattle.tokens.specs.Reported.{reported_by};
 ghost use Rattle.pddl_tree_parts.specs.Tree.{domain_of, problem_of};
-ghost use Rattle.task.specs.Task.{task_of};
+ghost use Rattle.task.specs.Task.{task_of, variable_names_of};
 ghost use Rattle.formulas.specs.State.{plan_of};
 ghost use Rattle.file_answers.specs.Files.{reported_in};
 ghost use Rattle.file_answers.specs.Complete.{AreListedOf, AreUnread};
 ghost use Rattle.file_answers.specs.FurtherFaults.{IsFaultOfTexts};
 ghost use Rattle.typing.specs.Task.{refusal_of};
-ghost use Rattle.explain_plans.specs.NamesView.{names_of};
 ghost use Rattle.file_answers.specs.QuantifiedNames.{IsNamedTask};
 ghost use Rattle.model.specs.Task as model;
 ghost use Rattle.model.specs.Files as reported;
@@ -18,9 +17,7 @@ ghost use Rattle.model.specs.Files.{IsDomainText, IsProblemText, IsTextFault, Is
 ghost use Rattle.model.specs.Meaning.{is_instance};
 ghost use Rattle.model.specs.PlanText.{IsPlanText};
 
-use crate::quantifiers::variable_names;
 use explain_hints::File;
-use explain_plans::VariableNames;
 use faults::{Code, Fault, NoMemory, RefusalIn, Refused, Span, TextRefusal};
 use formulas::Plan;
 use plan_file::read_plan;
@@ -112,34 +109,11 @@ pub struct TaskFiles<'a> {
 /// The first fault of the two texts, or an allocation failed.
 pub fn task_of_files(alloc: Global, domain: &[u8], problem: &[u8]) -> Result<Task, FileFault>
     ensures task { IfOk result (λ task. IsTaskOf domain.now problem.now (task_of task)) }
+    ensures names { IfOk result (λ task. IsNamedTask domain.now problem.now (task_of task) (variable_names_of task)) }
     ensures refused { IfErr result (λ fault. IfSome (reported_in fault) (IsTaskFault domain.now problem.now)) }
 {
     let Trees { domain, problem } = trees_of_files(alloc, domain, problem)?;
     Ok(Task::new(alloc, domain, problem)?)
-}
-
-/// A task with the names of its quantified variables, which the task itself does not have.
-#[derive(Drop)]
-pub(crate) struct NamedTask<'a> {
-    /// The task.
-    pub task: Task,
-    /// The names.
-    pub names: VariableNames<'a>,
-}
-
-/// The task of two files as above, with the names of its quantified variables.
-pub(crate) fn named_task_of_files<'a>(
-    alloc: Global,
-    domain: &'a [u8],
-    problem: &'a [u8],
-) -> Result<NamedTask<'a>, FileFault>
-    ensures task { IfOk result (λ named. IsNamedTask domain.now problem.now (task_of named.task) (names_of named.names)) }
-    ensures refused { IfErr result (λ fault. IfSome (reported_in fault) (IsTaskFault domain.now problem.now)) }
-{
-    let Trees { domain, problem } = trees_of_files(alloc, domain, problem)?;
-    let names = variable_names(alloc, &domain, &problem)?;
-    let task = Task::new(alloc, domain, problem)?;
-    Ok(NamedTask { task, names })
 }
 
 /// The faults of two files that do not hide each other, if the first one is a typing fault; otherwise none.

@@ -6,7 +6,6 @@ mod explaining;
 mod explanation;
 mod files;
 mod laws;
-mod quantifiers;
 mod solving;
 mod validating;
 

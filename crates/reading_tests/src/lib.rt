@@ -6,8 +6,6 @@ mod certificates;
 #[cfg(test)]
 mod checked_streams;
 #[cfg(test)]
-mod explained;
-#[cfg(test)]
 mod landmark_certificates;
 #[cfg(test)]
 mod landmark_lines;

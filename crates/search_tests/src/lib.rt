@@ -26,8 +26,6 @@ mod rooms;
 #[cfg(test)]
 mod searches;
 #[cfg(test)]
-mod sets;
-#[cfg(test)]
 mod signs;
 #[cfg(test)]
 mod twins;

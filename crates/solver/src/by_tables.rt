@@ -2,7 +2,7 @@
 //!
 //! Nothing is known of drafted tables. They are used if a certificate can have them, if they would have saved the paused search by
 //! potentials enough of its expansions, and if they pass the test of fairness. The potentials of the first value are those of that
-//! search.
+//! search. The search by tables pauses once too, and others are drafted from what it found.
 ghost use Rattle.std.specs.Prelude.{◌≡◌, ◌==◌, ◌≤◌, [], IfOk, IfSome, IsTrue, Some, length, map, slice_get};
 ghost use Rattle.std.specs.List.{list_all};
 ghost use Rattle.certificate.specs.Evidence.{is_evidence, evidence_of, potential_of};
@@ -14,7 +14,7 @@ ghost use Rattle.lower_bounds.specs.Settled.{initial_value};
 ghost use Rattle.potentials.specs.Potentials.{potentials_of};
 ghost use Rattle.solver.specs.Attempts.{IfDone};
 ghost use Rattle.solver.specs.Guidance.{by_tables, estimate_by, first_value, reports_dead};
-ghost use Rattle.solver.specs.Guided.{IsEnding};
+ghost use Rattle.solver.specs.Guided.{IsEnding, IsGuidanceFor};
 ghost use Rattle.solver.specs.Improved.{AreSettledOrHigh, AreDeadSettledOrHigh};
 ghost use Rattle.ground_listings.specs.SearchSpace.{ground_in, IsSearchSpace};
 ghost use Rattle.solver.specs.SeveralOver.{several_over};
@@ -23,6 +23,9 @@ ghost use Rattle.solver.specs.Said.{IsLineWithin};
 ghost use Rattle.solver.specs.Solver.{IsAnswerWithin};
 ghost use Rattle.solver.specs.Versions.{number_of};
 ghost use Rattle.solver.specs.Stopped.{IsStopped};
+ghost use Rattle.solver.specs.Stretches.{IsTrueEnd};
+ghost use Rattle.table_guides.specs.FairTables as guides;
+ghost use Rattle.table_guides.specs.FairTables.{functions_in};
 ghost use Rattle.lower_bounds.specs.FairTables.{AreFair};
 ghost use Rattle.lower_bounds.specs.TableFunctions.{functions_of, greatest_value};
 ghost use Rattle.table_rows.specs.Tables.{weight_count_of};
@@ -32,6 +35,7 @@ ghost use Rattle.tables.specs.Several.{several_of, width_of};
 use crate::answer::{Answer, answer_of};
 use crate::attempt::Attempt;
 use crate::guidance::{Guidance, potential_of};
+use crate::parts::{Drafting, Given, LATER, Parts, search_with_tables};
 use crate::searched::{Ending, search_by};
 use crate::setting::Setting;
 use crate::stopped::Stopped;
@@ -81,12 +85,54 @@ pub(crate) fn solve_by_tables<E: Sink + Clock>(
     ensures answer { IfOk result (IfDone (IsAnswerWithin (task_in (ground_in setting.entry.space)) setting.entry.limits)) }
     ensures said { MayContinue (IsLineWithin (task_in (ground_in setting.entry.space)) setting.entry.limits) E.may_lack_memory (E.failures err.old) (E.taken err.old) (E.failures err.new) (E.taken err.new) }
 {
+    match draft_for(setting, stopped, err)? {
+        Some(draft) => answer_by_tables(setting, draft, stopped, err),
+        None => Ok(Attempt::InVain),
+    }
+}
+
+/// The answer by other tables, if better ones than those of the paused search, which goes by tables, are found.
+pub(crate) fn solve_by_later_tables<E: Sink + Clock>(
+    setting: Setting<'_, '_>,
+    stopped: &Stopped<'_, '_, '_>,
+    err: &mut E,
+) -> Result<Attempt<Answer>, NoMemory>
+    requires version { 3 ≤ number_of setting.limits.version }
+    requires space { IsSearchSpace setting.space }
+    requires ground { IsGroundOf (task_in (ground_in setting.space)) [] setting.limits.instances (ground_in setting.space) }
+    requires stopped { IsStopped stopped.now.listing.now stopped.now.nodes.now }
+    requires store_width { listed_width stopped.now.listing.now ≡ length (atoms_in (ground_in setting.space)) }
+    requires width { length (potentials_of stopped.now.potentials.now).weights ≡ length (atoms_in (ground_in setting.space)) }
+    requires improved { AreSettledOrHigh (task_in (ground_in setting.space)) (atoms_in (ground_in setting.space)) (potentials_of stopped.now.potentials.now) }
+    requires dead_ends_improved { AreDeadSettledOrHigh (task_in (ground_in setting.space)) (atoms_in (ground_in setting.space)) (potentials_of stopped.now.dead_ends.now) }
+    ensures answer { IfOk result (IfDone (IsAnswerWithin (task_in (ground_in setting.entry.space)) setting.entry.limits)) }
+    ensures said { MayContinue (IsLineWithin (task_in (ground_in setting.entry.space)) setting.entry.limits) E.may_lack_memory (E.failures err.old) (E.taken err.old) (E.failures err.new) (E.taken err.new) }
+{
+    match draft_for(setting, stopped, err)? {
+        Some(draft) => answer_by_later_tables(setting, draft, stopped, err),
+        None => Ok(Attempt::InVain),
+    }
+}
+
+/// A draft of tables that a certificate can have, which may be better than the values of the paused search. None if the time is over.
+fn draft_for<C: Clock>(
+    setting: Setting<'_, '_>,
+    stopped: &Stopped<'_, '_, '_>,
+    clock: &C,
+) -> Result<Option<Draft>, NoMemory>
+    requires stopped { IsStopped stopped.now.listing.now stopped.now.nodes.now }
+    ensures within_limits { IfOk result (λ o. IfSome o (λ draft. IsTrue (is_evidence three (length (atoms_in (ground_in setting.entry.space))) (evidence_of draft.evidence) no_landmarks))) }
+    ensures values { IfOk result (λ o. IfSome o (λ draft. map potentials_of draft.values.items ≡ (evidence_of draft.evidence).values)) }
+    ensures dead_ends { IfOk result (λ o. IfSome o (λ draft. potentials_of draft.dead_ends ≡ (evidence_of draft.evidence).dead_ends)) }
+    ensures first { IfOk result (λ o. IfSome o (λ draft. first_value (by_tables (evidence_of draft.evidence)) ≡ potentials_of stopped.now.potentials.now)) }
+    ensures given_dead_ends { IfOk result (λ o. IfSome o (λ draft. potentials_of draft.dead_ends ≡ potentials_of stopped.now.dead_ends.now)) }
+{
     let Setting { alloc, space, .. } = setting;
-    if setting.limits.are_over(err) {
-        return Ok(Attempt::InVain);
+    if setting.limits.are_over(clock) {
+        return Ok(None);
     }
     let Some(draft) = drafted(alloc, space, stopped)? else {
-        return Ok(Attempt::InVain);
+        return Ok(None);
     };
     let DraftedTables {
         tables,
@@ -100,14 +146,13 @@ pub(crate) fn solve_by_tables<E: Sink + Clock>(
         landmarks: Landmarks::none(alloc),
     };
     if !evidence.keep_limits(Version::Three, space.ground().width() as usize) {
-        return Ok(Attempt::InVain);
+        return Ok(None);
     }
-    let draft = Draft {
+    Ok(Some(Draft {
         evidence,
         values,
         dead_ends,
-    };
-    answer_by_tables(setting, draft, stopped, err)
+    }))
 }
 
 /// A draft of tables that may be better than the potentials of the paused search.
@@ -158,11 +203,12 @@ fn answer_by_tables<E: Sink + Clock>(
     requires values { map potentials_of draft.values.items ≡ (evidence_of draft.evidence).values }
     requires dead_ends { potentials_of draft.dead_ends ≡ (evidence_of draft.evidence).dead_ends }
     requires first { first_value (by_tables (evidence_of draft.evidence)) ≡ potentials_of stopped.now.potentials.now }
+    requires given_dead_ends { potentials_of draft.dead_ends ≡ potentials_of stopped.now.dead_ends.now }
     requires stopped { IsStopped stopped.now.listing.now stopped.now.nodes.now }
     requires store_width { listed_width stopped.now.listing.now ≡ length (atoms_in (ground_in setting.space)) }
     requires width { length (potentials_of stopped.now.potentials.now).weights ≡ length (atoms_in (ground_in setting.space)) }
     requires improved { AreSettledOrHigh (task_in (ground_in setting.space)) (atoms_in (ground_in setting.space)) (potentials_of stopped.now.potentials.now) }
-    requires dead_ends_improved { AreDeadSettledOrHigh (task_in (ground_in setting.space)) (atoms_in (ground_in setting.space)) (evidence_of draft.evidence).dead_ends }
+    requires dead_ends_improved { AreDeadSettledOrHigh (task_in (ground_in setting.space)) (atoms_in (ground_in setting.space)) (potentials_of stopped.now.dead_ends.now) }
     ensures answer { IfOk result (IfDone (IsAnswerWithin (task_in (ground_in setting.entry.space)) setting.entry.limits)) }
     ensures said { MayContinue (IsLineWithin (task_in (ground_in setting.entry.space)) setting.entry.limits) E.may_lack_memory (E.failures err.old) (E.taken err.old) (E.failures err.new) (E.taken err.new) }
 {
@@ -178,6 +224,69 @@ fn answer_by_tables<E: Sink + Clock>(
     };
     let attempt = search_by_tables(setting, over, stopped, err)?;
     match attempt {
+        Attempt::Done(parts) => {
+            let answer = answer_of_parts(setting, evidence, parts)?;
+            Ok(Attempt::Done(answer))
+        }
+        Attempt::Promising => Ok(Attempt::Promising),
+        Attempt::InVain => Ok(Attempt::InVain),
+    }
+}
+
+/// The answer of a search by these values, or by those that were drafted on the way.
+fn answer_of_parts(
+    setting: Setting<'_, '_>,
+    evidence: Evidence,
+    parts: Parts<'_, '_>,
+) -> Result<Answer, NoMemory>
+    requires version { 3 ≤ number_of setting.limits.version }
+    requires space { IsSearchSpace setting.space }
+    requires ground { IsGroundOf (task_in (ground_in setting.space)) [] setting.limits.instances (ground_in setting.space) }
+    requires guidance { IsGuidanceFor setting.space (by_tables (evidence_of evidence)) }
+    requires end { IsTrueEnd setting.space (estimate_by (by_tables (evidence_of evidence))) (reports_dead (by_tables (evidence_of evidence))) setting.limits parts }
+    ensures { IfOk result (IsAnswerWithin (task_in (ground_in setting.entry.space)) setting.entry.limits) }
+{
+    match parts {
+        Parts::ByTables(answer) => Ok(answer),
+        Parts::ByGuide(ending) => answer_of(setting, Guidance::Tables(evidence), ending),
+    }
+}
+
+/// The answer by this draft, if its values are fair and better than those of the paused search, which goes by tables.
+fn answer_by_later_tables<E: Sink + Clock>(
+    setting: Setting<'_, '_>,
+    draft: Draft,
+    stopped: &Stopped<'_, '_, '_>,
+    err: &mut E,
+) -> Result<Attempt<Answer>, NoMemory>
+    requires version { 3 ≤ number_of setting.limits.version }
+    requires space { IsSearchSpace setting.space }
+    requires ground { IsGroundOf (task_in (ground_in setting.space)) [] setting.limits.instances (ground_in setting.space) }
+    requires within_limits { IsTrue (is_evidence three (length (atoms_in (ground_in setting.space))) (evidence_of draft.evidence) no_landmarks) }
+    requires values { map potentials_of draft.values.items ≡ (evidence_of draft.evidence).values }
+    requires dead_ends { potentials_of draft.dead_ends ≡ (evidence_of draft.evidence).dead_ends }
+    requires first { first_value (by_tables (evidence_of draft.evidence)) ≡ potentials_of stopped.now.potentials.now }
+    requires given_dead_ends { potentials_of draft.dead_ends ≡ potentials_of stopped.now.dead_ends.now }
+    requires stopped { IsStopped stopped.now.listing.now stopped.now.nodes.now }
+    requires store_width { listed_width stopped.now.listing.now ≡ length (atoms_in (ground_in setting.space)) }
+    requires width { length (potentials_of stopped.now.potentials.now).weights ≡ length (atoms_in (ground_in setting.space)) }
+    requires improved { AreSettledOrHigh (task_in (ground_in setting.space)) (atoms_in (ground_in setting.space)) (potentials_of stopped.now.potentials.now) }
+    requires dead_ends_improved { AreDeadSettledOrHigh (task_in (ground_in setting.space)) (atoms_in (ground_in setting.space)) (potentials_of stopped.now.dead_ends.now) }
+    ensures answer { IfOk result (IfDone (IsAnswerWithin (task_in (ground_in setting.entry.space)) setting.entry.limits)) }
+    ensures said { MayContinue (IsLineWithin (task_in (ground_in setting.entry.space)) setting.entry.limits) E.may_lack_memory (E.failures err.old) (E.taken err.old) (E.failures err.new) (E.taken err.new) }
+{
+    let Draft {
+        evidence,
+        values,
+        dead_ends,
+    } = draft;
+    let over = ValuesOver {
+        evidence: &evidence,
+        values,
+        dead_ends,
+    };
+    let attempt = search_by_later_tables(setting, over, stopped, err)?;
+    match attempt {
         Attempt::Done(ending) => {
             let guidance = Guidance::Tables(evidence);
             let answer = answer_of(setting, guidance, ending)?;
@@ -188,9 +297,51 @@ fn answer_by_tables<E: Sink + Clock>(
     }
 }
 
-/// Searches by these values, if they are fair and better. Whether they are better is tested first, which takes less time than the test
-/// of fairness.
+/// Searches by these values, if they are fair and better, and drafts others on the way.
 fn search_by_tables<'l, 't, E: Sink + Clock>(
+    setting: Setting<'l, 't>,
+    over: ValuesOver<'_>,
+    stopped: &Stopped<'_, '_, '_>,
+    err: &mut E,
+) -> Result<Attempt<Parts<'l, 't>>, NoMemory>
+    requires version { 3 ≤ number_of setting.limits.version }
+    requires space { IsSearchSpace setting.space }
+    requires within_limits { IsTrue (is_evidence three (length (atoms_in (ground_in setting.space))) (evidence_of over.evidence.now) no_landmarks) }
+    requires values { map potentials_of over.values.items ≡ (evidence_of over.evidence.now).values }
+    requires dead_ends { potentials_of over.dead_ends ≡ (evidence_of over.evidence.now).dead_ends }
+    requires stopped { IsStopped stopped.now.listing.now stopped.now.nodes.now }
+    requires store_width { listed_width stopped.now.listing.now ≡ length (atoms_in (ground_in setting.space)) }
+    requires width { length (potentials_of stopped.now.potentials.now).weights ≡ length (atoms_in (ground_in setting.space)) }
+    requires ground { IsGroundOf (task_in (ground_in setting.space)) [] setting.limits.instances (ground_in setting.space) }
+    requires improved { AreSettledOrHigh (task_in (ground_in setting.space)) (atoms_in (ground_in setting.space)) (potentials_of stopped.now.potentials.now) }
+    requires dead_ends_improved { AreDeadSettledOrHigh (task_in (ground_in setting.space)) (atoms_in (ground_in setting.space)) (potentials_of stopped.now.dead_ends.now) }
+    ensures fair { IfOk result (IfDone (λ _. AreFair (task_in (ground_in setting.entry.space)) (atoms_in (ground_in setting.entry.space)) (evidence_of over.entry.evidence.now))) }
+    ensures no_lower { IfOk result (IfDone (λ _. initial_value (task_in (ground_in setting.entry.space)) (atoms_in (ground_in setting.entry.space)) (potentials_of stopped.now.potentials.now) ≤ estimate_by (by_tables (evidence_of over.entry.evidence.now)) (ground_system (task_in (ground_in setting.entry.space)) (atoms_in (ground_in setting.entry.space))).initial)) }
+    ensures end { IfOk result (IfDone (IsTrueEnd setting.entry.space (estimate_by (by_tables (evidence_of over.entry.evidence.now))) (reports_dead (by_tables (evidence_of over.entry.evidence.now))) setting.entry.limits)) }
+    ensures said { MayContinue (IsLineWithin (task_in (ground_in setting.entry.space)) setting.entry.limits) E.may_lack_memory (E.failures err.old) (E.taken err.old) (E.failures err.new) (E.taken err.new) }
+{
+    let given = Given {
+        potentials: stopped.potentials,
+        dead_ends: stopped.dead_ends,
+    };
+    let drafting = Drafting {
+        pause: LATER,
+        given,
+        table_count: over.evidence.tables.len(),
+    };
+    let attempt = better_guide(setting, over, stopped, err)?;
+    match attempt {
+        Attempt::Done(guide) => {
+            let parts = search_with_tables(setting, &guide, drafting, err)?;
+            Ok(Attempt::Done(parts))
+        }
+        Attempt::Promising => Ok(Attempt::Promising),
+        Attempt::InVain => Ok(Attempt::InVain),
+    }
+}
+
+/// Searches by these values to the end, if they are fair and better.
+fn search_by_later_tables<'l, 't, E: Sink + Clock>(
     setting: Setting<'l, 't>,
     over: ValuesOver<'_>,
     stopped: &Stopped<'_, '_, '_>,
@@ -208,6 +359,36 @@ fn search_by_tables<'l, 't, E: Sink + Clock>(
     ensures ending { IfOk result (IfDone (IsEnding setting.entry.space (estimate_by (by_tables (evidence_of over.entry.evidence.now))) (reports_dead (by_tables (evidence_of over.entry.evidence.now))) setting.entry.limits)) }
     ensures said { MayContinue (IsLineWithin (task_in (ground_in setting.entry.space)) setting.entry.limits) E.may_lack_memory (E.failures err.old) (E.taken err.old) (E.failures err.new) (E.taken err.new) }
 {
+    let attempt = better_guide(setting, over, stopped, err)?;
+    match attempt {
+        Attempt::Done(guide) => {
+            let ending = search_by(setting, &guide, err)?;
+            Ok(Attempt::Done(ending))
+        }
+        Attempt::Promising => Ok(Attempt::Promising),
+        Attempt::InVain => Ok(Attempt::InVain),
+    }
+}
+
+/// The guide by these values, if they are fair and better than those of the paused search. Whether they are better is tested first,
+/// which takes less time than the test of fairness.
+fn better_guide<'l, 't, 'a, C: Clock>(
+    setting: Setting<'l, 't>,
+    over: ValuesOver<'a>,
+    stopped: &Stopped<'_, '_, '_>,
+    clock: &C,
+) -> Result<Attempt<FairTables<'l, 't, 'a>>, NoMemory>
+    requires space { IsSearchSpace setting.space }
+    requires within_limits { IsTrue (is_evidence three (length (atoms_in (ground_in setting.space))) (evidence_of over.evidence.now) no_landmarks) }
+    requires values { map potentials_of over.values.items ≡ (evidence_of over.evidence.now).values }
+    requires dead_ends { potentials_of over.dead_ends ≡ (evidence_of over.evidence.now).dead_ends }
+    requires stopped { IsStopped stopped.now.listing.now stopped.now.nodes.now }
+    requires store_width { listed_width stopped.now.listing.now ≡ length (atoms_in (ground_in setting.space)) }
+    requires width { length (potentials_of stopped.now.potentials.now).weights ≡ length (atoms_in (ground_in setting.space)) }
+    ensures functions { IfOk result (IfDone (λ guide. functions_in guide ≡ evidence_of over.entry.evidence.now)) }
+    ensures ground { IfOk result (IfDone (λ guide. guides.ground_in guide ≡ ground_in setting.entry.space)) }
+    ensures no_lower { IfOk result (IfDone (λ _. initial_value (task_in (ground_in setting.entry.space)) (atoms_in (ground_in setting.entry.space)) (potentials_of stopped.now.potentials.now) ≤ estimate_by (by_tables (evidence_of over.entry.evidence.now)) (ground_system (task_in (ground_in setting.entry.space)) (atoms_in (ground_in setting.entry.space))).initial)) }
+{
     let alloc = setting.alloc;
     let ground = setting.space.ground();
     let ValuesOver {
@@ -221,12 +402,12 @@ fn search_by_tables<'l, 't, E: Sink + Clock>(
     if !starts_no_lower(alloc, ground, &functions, stopped.potentials)? {
         return Ok(Attempt::InVain);
     }
-    if setting.limits.are_over(err) {
+    if setting.limits.are_over(clock) {
         return Ok(Attempt::InVain);
     }
     let saving = stopped.saving_by(alloc, &functions)?;
-    if saving.is_worth(evidence.tables.len()) {
-        return search_if_fair(setting, functions, err);
+    if saving.is_worth(stopped.table_count, evidence.tables.len()) {
+        return guide_if_fair(setting, functions, clock);
     }
     if saving.is_promising() {
         return Ok(Attempt::Promising);
@@ -251,27 +432,25 @@ fn starts_no_lower(
     Ok(potentials.value(&initial) <= value)
 }
 
-/// Searches by these values, if they are fair.
-fn search_if_fair<'l, 't, E: Sink + Clock>(
+/// The guide by these values, if they are fair.
+fn guide_if_fair<'l, 't, 'a, C: Clock>(
     setting: Setting<'l, 't>,
-    functions: TableFunctions<'_>,
-    err: &mut E,
-) -> Result<Attempt<Ending<'l, 't>>, NoMemory>
+    functions: TableFunctions<'a>,
+    clock: &C,
+) -> Result<Attempt<FairTables<'l, 't, 'a>>, NoMemory>
     requires space { IsSearchSpace setting.space }
     requires width { width_of functions ≡ length (atoms_in (ground_in setting.space)) }
-    ensures fair { IfOk result (IfDone (λ _. AreFair (task_in (ground_in setting.entry.space)) (atoms_in (ground_in setting.entry.space)) (several_of functions.entry))) }
-    ensures ending { IfOk result (IfDone (IsEnding setting.entry.space (estimate_by (by_tables (several_of functions.entry))) (reports_dead (by_tables (several_of functions.entry))) setting.entry.limits)) }
-    ensures said { MayContinue (IsLineWithin (task_in (ground_in setting.entry.space)) setting.entry.limits) E.may_lack_memory (E.failures err.old) (E.taken err.old) (E.failures err.new) (E.taken err.new) }
+    ensures functions { IfOk result (IfDone (λ guide. functions_in guide ≡ several_of functions.entry)) }
+    ensures ground { IfOk result (IfDone (λ guide. guides.ground_in guide ≡ ground_in setting.entry.space)) }
 {
-    if setting.limits.are_over(err) {
+    if setting.limits.are_over(clock) {
         return Ok(Attempt::InVain);
     }
     let ground = setting.space.ground();
     match functions.fairness(setting.alloc, ground)? {
         ValuesFairness::Fair => {
             let guide = FairTables::new(functions, ground);
-            let ending = search_by(setting, &guide, err)?;
-            Ok(Attempt::Done(ending))
+            Ok(Attempt::Done(guide))
         }
         _ => Ok(Attempt::InVain),
     }

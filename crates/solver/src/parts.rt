@@ -1,4 +1,4 @@
-//! A search by potentials that pauses to look for tables.
+//! A search that pauses to look for tables: one by potentials, or by tables that were found before.
 ghost use Rattle.std.specs.Prelude.{◌≡◌, ◌≤◌, [], IfOk, length};
 ghost use Rattle.grounding.specs.Ground.{task_in, atoms_in, IsGroundOf};
 ghost use Rattle.ground_listings.specs.GroundListing.{listed_width};
@@ -16,7 +16,7 @@ ghost use Rattle.solver.specs.Stretches.{IsTrueEnd, IsTruePart, IsUnderWay};
 
 use crate::answer::{Answer, Exceeded};
 use crate::attempt::Attempt;
-use crate::by_tables::solve_by_tables;
+use crate::by_tables::{solve_by_later_tables, solve_by_tables};
 use crate::searched::{Ending, Stretch, begin_by, finish_by, go_on_by, stop_by};
 use crate::setting::{Session, Setting};
 use crate::stopped::Stopped;
@@ -28,9 +28,9 @@ use ground_listings::{GroundListing, SearchSpace};
 use potentials::Potentials;
 use search::{Guide, Search};
 
-/// A pause of a search by potentials, at which tables are drafted.
+/// A pause of a search, at which tables are drafted.
 #[derive(Clone, Copy)]
-struct Pause {
+pub(crate) struct Pause {
     /// The number of listed states, at least.
     states: u32,
     /// The effort of the draft.
@@ -58,7 +58,13 @@ const THOROUGH: Pause = Pause {
     effort: Effort::Thorough,
 };
 
-/// The potentials that guide a search.
+/// The pause of a search by tables.
+pub(crate) const LATER: Pause = Pause {
+    states: 300_000,
+    effort: Effort::Thorough,
+};
+
+/// The potentials that guide a search, or the first value of the tables that do.
 #[derive(Clone, Copy)]
 pub(crate) struct Given<'a> {
     pub(crate) potentials: &'a Potentials,
@@ -68,9 +74,11 @@ pub(crate) struct Given<'a> {
 
 /// A draft of tables at a pause, which are to exceed these potentials.
 #[derive(Clone, Copy)]
-struct Drafting<'a> {
-    pause: Pause,
-    given: Given<'a>,
+pub(crate) struct Drafting<'a> {
+    pub(crate) pause: Pause,
+    pub(crate) given: Given<'a>,
+    /// The number of tables that guide the search.
+    pub(crate) table_count: usize,
 }
 
 /// The end of a search in parts.
@@ -113,6 +121,7 @@ pub(crate) fn search_in_parts<'l, 't, G: Guide, E: Sink + Clock>(
     let drafting = Drafting {
         pause: first_pause(session.setting.space),
         given,
+        table_count: 0,
     };
     let search = begin_by(session)?;
     if !session.setting.limits.allow_version_three() {
@@ -161,11 +170,40 @@ fn search_on<'l, 't, G: Guide, E: Sink + Clock>(
     let drafting = Drafting {
         pause: THOROUGH,
         given,
+        table_count: 0,
     };
     match search_to_pause(session, search, drafting, err)? {
         Part::Ended(parts) => Ok(parts),
         Part::Promising(search) => search_to_end(session, search, err),
         Part::InVain(search) => search_to_end(session, search, err),
+    }
+}
+
+/// Searches the ground task by the guide, which is over tables of which the first value is these potentials. At a pause it tries to
+/// switch to other tables, drafted from the states that it has found.
+pub(crate) fn search_with_tables<'l, 't, G: Guide, E: Sink + Clock>(
+    setting: Setting<'l, 't>,
+    guide: &G,
+    drafting: Drafting<'_>,
+    err: &mut E,
+) -> Result<Parts<'l, 't>, NoMemory>
+    requires version { 3 ≤ number_of setting.limits.version }
+    requires space { IsSearchSpace setting.space }
+    requires ground { IsGroundOf (task_in (ground_in setting.space)) [] setting.limits.instances (ground_in setting.space) }
+    requires system { G.system_of guide.now ≡ system_of setting.space }
+    requires guide_width { G.width_of guide.now ≡ length (atoms_in (ground_in setting.space)) }
+    requires width { length (potentials_of drafting.given.potentials.now).weights ≡ length (atoms_in (ground_in setting.space)) }
+    requires improved { AreSettledOrHigh (task_in (ground_in setting.space)) (atoms_in (ground_in setting.space)) (potentials_of drafting.given.potentials.now) }
+    requires dead_ends_improved { AreDeadSettledOrHigh (task_in (ground_in setting.space)) (atoms_in (ground_in setting.space)) (potentials_of drafting.given.dead_ends.now) }
+    ensures end { IfOk result (IsTrueEnd setting.entry.space (G.estimate_of guide.now) (G.is_dead guide.now) setting.entry.limits) }
+    ensures said { MayContinue (IsLineWithin (task_in (ground_in setting.entry.space)) setting.entry.limits) E.may_lack_memory (E.failures err.old) (E.taken err.old) (E.failures err.new) (E.taken err.new) }
+{
+    let session = Session { setting, guide };
+    let search = begin_by(&session)?;
+    match search_to_later_pause(&session, search, drafting, err)? {
+        Part::Ended(parts) => Ok(parts),
+        Part::Promising(search) => search_to_end(&session, search, err),
+        Part::InVain(search) => search_to_end(&session, search, err),
     }
 }
 
@@ -212,19 +250,68 @@ fn search_to_pause<'l, 't, G: Guide, E: Sink + Clock>(
     match go_on_by(session, search, pause, err)? {
         Stretch::Ended(ending) => Ok(Part::Ended(Parts::ByGuide(ending))),
         Stretch::Paused(search) => {
-            match solve_at_pause(session.setting, &search, drafting, err)? {
-                Attempt::Done(answer) => {
-                    // A search by tables that ran out of time may not have come as far as this one.
-                    if is_outdone(&answer, search.bound()) && session.setting.limits.are_over(err) {
-                        let ending = stop_by(session, search)?;
-                        return Ok(Part::Ended(Parts::ByGuide(ending)));
-                    }
-                    Ok(Part::Ended(Parts::ByTables(answer)))
-                }
-                Attempt::Promising => Ok(Part::Promising(search)),
-                Attempt::InVain => Ok(Part::InVain(search)),
-            }
+            let attempt = solve_at_pause(session.setting, &search, drafting, err)?;
+            part_after(session, search, attempt, err)
         }
+    }
+}
+
+/// The same for a search by tables, which tries to switch to other tables.
+fn search_to_later_pause<'l, 't, G: Guide, E: Sink + Clock>(
+    session: &Session<'_, 'l, 't, G>,
+    search: Search<GroundListing<'l, 't>, G::Scratch>,
+    drafting: Drafting<'_>,
+    err: &mut E,
+) -> Result<Part<'l, 't, G::Scratch>, NoMemory>
+    requires version { 3 ≤ number_of session.now.setting.limits.version }
+    requires space { IsSearchSpace session.now.setting.space }
+    requires ground { IsGroundOf (task_in (ground_in session.now.setting.space)) [] session.now.setting.limits.instances (ground_in session.now.setting.space) }
+    requires system { G.system_of session.now.guide.now ≡ system_of session.now.setting.space }
+    requires guide_width { G.width_of session.now.guide.now ≡ length (atoms_in (ground_in session.now.setting.space)) }
+    requires under_way { IsUnderWay session.now.setting.space (G.estimate_of session.now.guide.now) (G.is_dead session.now.guide.now) (G.fits session.now.guide.now) session.now.setting.limits.states search }
+    requires width { length (potentials_of drafting.given.potentials.now).weights ≡ length (atoms_in (ground_in session.now.setting.space)) }
+    requires improved { AreSettledOrHigh (task_in (ground_in session.now.setting.space)) (atoms_in (ground_in session.now.setting.space)) (potentials_of drafting.given.potentials.now) }
+    requires dead_ends_improved { AreDeadSettledOrHigh (task_in (ground_in session.now.setting.space)) (atoms_in (ground_in session.now.setting.space)) (potentials_of drafting.given.dead_ends.now) }
+    ensures part { IfOk result (IsTruePart session.now.setting.space (G.estimate_of session.now.guide.now) (G.is_dead session.now.guide.now) (G.fits session.now.guide.now) session.now.setting.limits) }
+    ensures said { MayContinue (IsLineWithin (task_in (ground_in session.now.setting.space)) session.now.setting.limits) E.may_lack_memory (E.failures err.old) (E.taken err.old) (E.failures err.new) (E.taken err.new) }
+{
+    let pause = drafting.pause.states;
+    if pause >= session.setting.limits.states() {
+        return Ok(Part::InVain(search));
+    }
+    match go_on_by(session, search, pause, err)? {
+        Stretch::Ended(ending) => Ok(Part::Ended(Parts::ByGuide(ending))),
+        Stretch::Paused(search) => {
+            let attempt = solve_at_later_pause(session.setting, &search, drafting, err)?;
+            part_after(session, search, attempt, err)
+        }
+    }
+}
+
+/// What the search comes to after this attempt at a pause.
+fn part_after<'l, 't, G: Guide, C: Clock>(
+    session: &Session<'_, 'l, 't, G>,
+    search: Search<GroundListing<'l, 't>, G::Scratch>,
+    attempt: Attempt<Answer>,
+    clock: &C,
+) -> Result<Part<'l, 't, G::Scratch>, NoMemory>
+    requires space { IsSearchSpace session.now.setting.space }
+    requires system { G.system_of session.now.guide.now ≡ system_of session.now.setting.space }
+    requires under_way { IsUnderWay session.now.setting.space (G.estimate_of session.now.guide.now) (G.is_dead session.now.guide.now) (G.fits session.now.guide.now) session.now.setting.limits.states search }
+    requires answer { IfDone (IsAnswerWithin (task_in (ground_in session.now.setting.space)) session.now.setting.limits) attempt }
+    ensures { IfOk result (IsTruePart session.now.setting.space (G.estimate_of session.now.guide.now) (G.is_dead session.now.guide.now) (G.fits session.now.guide.now) session.now.setting.limits) }
+{
+    match attempt {
+        Attempt::Done(answer) => {
+            // A search by tables that ran out of time may not have come as far as this one.
+            if is_outdone(&answer, search.bound()) && session.setting.limits.are_over(clock) {
+                let ending = stop_by(session, search)?;
+                return Ok(Part::Ended(Parts::ByGuide(ending)));
+            }
+            Ok(Part::Ended(Parts::ByTables(answer)))
+        }
+        Attempt::Promising => Ok(Part::Promising(search)),
+        Attempt::InVain => Ok(Part::InVain(search)),
     }
 }
 
@@ -264,6 +351,40 @@ fn solve_at_pause<R, E: Sink + Clock>(
         potentials: drafting.given.potentials,
         dead_ends: drafting.given.dead_ends,
         effort: drafting.pause.effort,
+        table_count: drafting.table_count,
     };
     solve_by_tables(setting, &stopped, err)
+}
+
+/// The answer by other tables, if better ones than those of this search are found.
+fn solve_at_later_pause<R, E: Sink + Clock>(
+    setting: Setting<'_, '_>,
+    search: &Search<GroundListing<'_, '_>, R>,
+    drafting: Drafting<'_>,
+    err: &mut E,
+) -> Result<Attempt<Answer>, NoMemory>
+    requires version { 3 ≤ number_of setting.limits.version }
+    requires space { IsSearchSpace setting.space }
+    requires ground { IsGroundOf (task_in (ground_in setting.space)) [] setting.limits.instances (ground_in setting.space) }
+    requires stopped { IsStopped (store_in search.now) (nodes_of search.now) }
+    requires store_width { listed_width (store_in search.now) ≡ length (atoms_in (ground_in setting.space)) }
+    requires width { length (potentials_of drafting.given.potentials.now).weights ≡ length (atoms_in (ground_in setting.space)) }
+    requires improved { AreSettledOrHigh (task_in (ground_in setting.space)) (atoms_in (ground_in setting.space)) (potentials_of drafting.given.potentials.now) }
+    requires dead_ends_improved { AreDeadSettledOrHigh (task_in (ground_in setting.space)) (atoms_in (ground_in setting.space)) (potentials_of drafting.given.dead_ends.now) }
+    ensures answer { IfOk result (IfDone (IsAnswerWithin (task_in (ground_in setting.entry.space)) setting.entry.limits)) }
+    ensures said { MayContinue (IsLineWithin (task_in (ground_in setting.entry.space)) setting.entry.limits) E.may_lack_memory (E.failures err.old) (E.taken err.old) (E.failures err.new) (E.taken err.new) }
+{
+    let Some(bound) = search.bound() else {
+        return Ok(Attempt::InVain);
+    };
+    let stopped = Stopped {
+        bound,
+        listing: search.store(),
+        nodes: search.nodes(),
+        potentials: drafting.given.potentials,
+        dead_ends: drafting.given.dead_ends,
+        effort: drafting.pause.effort,
+        table_count: drafting.table_count,
+    };
+    solve_by_later_tables(setting, &stopped, err)
 }

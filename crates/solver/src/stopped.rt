@@ -19,18 +19,20 @@ const MAX_SAMPLES: usize = 32;
 /// The number of states by which the saving is estimated, at most.
 const MAX_ASKED: usize = 1_000;
 
-/// A paused search by potentials: the found states, how they were reached, and the bound so far.
+/// A paused search: the found states, how they were reached, and the bound so far.
 #[derive(Clone, Copy)]
 pub(crate) struct Stopped<'a, 'l, 't> {
     pub(crate) bound: u64,
     pub(crate) listing: &'a GroundListing<'l, 't>,
     /// How each state was reached, in order.
     pub(crate) nodes: &'a [Node],
-    /// The potentials that guide it, and those for dead ends.
+    /// The potentials that guide it, alone or as the first value over tables, and those for dead ends.
     pub(crate) potentials: &'a Potentials,
     pub(crate) dead_ends: &'a Potentials,
     /// The effort of the next draft.
     pub(crate) effort: Effort,
+    /// The number of tables that guide it.
+    pub(crate) table_count: usize,
 }
 
 /// Counts of sampled states: those that were expanded, and those of them that other values would have saved.
@@ -106,6 +108,11 @@ impl Stopped<'_, '_, '_> {
     }
 }
 
+/// The estimated time for a state, evaluated by this many tables.
+fn time(tables: usize) -> usize {
+    tables.saturating_add(TABLES_AT_A_TIME)
+}
+
 impl Saving {
     /// Counts one more expanded state.
     fn count(&mut self, expansion: Expansion) {
@@ -116,12 +123,15 @@ impl Saving {
         }
     }
 
-    /// Whether a search by this many tables is estimated to take no more time: it expands fewer states, and each takes longer.
-    pub(crate) fn is_worth(self, tables: usize) -> bool {
+    /// Whether a search by this many tables is expected to take no more time than going on by `before` tables: it expands fewer states,
+    /// and each takes longer. A search by tables is assumed to be half done, so what is left of its states counts twice: up to here, and
+    /// from here on. A search by potentials mostly has more to do than it has done.
+    pub(crate) fn is_worth(self, before: usize, tables: usize) -> bool {
         let left = self.expanded.saturating_sub(self.saved);
-        let slower = tables.saturating_add(TABLES_AT_A_TIME);
+        let times = if before == 0 { 1usize } else { 2 };
         self.expanded > 0
-            && left.saturating_mul(slower) <= self.expanded.saturating_mul(TABLES_AT_A_TIME)
+            && left.saturating_mul(times).saturating_mul(time(tables))
+                <= self.expanded.saturating_mul(time(before))
     }
 
     /// Whether other tables may save enough: these would have saved a quarter.

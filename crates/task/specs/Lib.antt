@@ -1,4 +1,5 @@
 pub mod Names
+pub mod VariableNames
 pub mod TaskParts
 pub mod Task
 pub mod NumberedNames

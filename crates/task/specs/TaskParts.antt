@@ -22,6 +22,8 @@ use Rattle.task.specs.declared.schemas.Predicate.{Predicate}
 use Rattle.task.specs.declared.schemas.Schema.{Schema}
 use Rattle.task.specs.declared.schemas.TypeUnion.{TypeUnion}
 use Rattle.task.specs.declared.parts.TaskParts.{TaskParts}
+use Rattle.task.specs.Names.{names_in}
+use Rattle.task.specs.VariableNames.{VariableNames}
 use Rattle.model.specs.Task as task
 use Rattle.model.specs.Meaning.{atom_cmp}
 
@@ -129,3 +131,11 @@ task_of_parts p = record {
   goal = formula_of p.goal;
   has_metric = p.has_metric;
 }
+
+-- the names of the quantified variables in the precondition of a schema
+abbrev pub precondition_names_of : Vec ℕ × Schema → List task.Name
+precondition_names_of entry = names_in entry.1.precondition_names.items
+
+-- the names of the quantified variables of the task with these parts
+abbrev pub variable_names_of_parts : TaskParts → VariableNames
+variable_names_of_parts p = record { actions = map precondition_names_of p.schemas.entries; goal = names_in p.goal_names.items }

@@ -1,12 +1,12 @@
-//! Names by number, where a number without a name has the empty one, and names in a text.
+//! Names by number, where a number without a name has the empty one, and names and atoms in a text.
 ghost use Rattle.std.specs.Prelude.{◌≡◌, ◌++◌, map, OnOk};
 ghost use Rattle.std.specs.List.{flat_map};
 ghost use Rattle.task.specs.Task.{task_of};
-ghost use Rattle.task.specs.TaskParts.{object_of};
-ghost use Rattle.task.specs.NumberedNames.{function_name, predicate_name, type_name};
+ghost use Rattle.task.specs.TaskParts.{atom_of, object_of};
+ghost use Rattle.task.specs.NumberedNames.{form_text, function_name, ground_text, predicate_name, type_name};
 ghost use Rattle.model.specs.PlanWriting.{object_name, object_text, schema_name};
 
-use crate::atoms::{ObjectId, PredicateId, SchemaId, TypeId};
+use crate::atoms::{Atom, ObjectId, PredicateId, SchemaId, TypeId};
 use crate::task::Task;
 use std::alloc::AllocError;
 
@@ -44,6 +44,35 @@ impl Task {
         ensures { result.now ≡ schema_name (task_of self.now) id.0 }
     {
         self.schema_name(id).unwrap_or_default()
+    }
+
+    /// Adds the atom to the text, such as `(at truck depot)`.
+    ///
+    /// # Errors
+    /// An allocation failed.
+    pub fn add_atom(&self, atom: &Atom, text: &mut Vec<u8>) -> Result<(), AllocError>
+        ensures { OnOk result (text.new.items ≡ text.old.items ++ ground_text (task_of self.now) (atom_of atom.now)) }
+    {
+        let name = self.name_of_predicate(atom.predicate);
+        self.add_form(name, atom.objects.as_slice(), text)
+    }
+
+    /// Adds this name and the names of these objects to the text, in parentheses.
+    ///
+    /// # Errors
+    /// An allocation failed.
+    pub fn add_form(
+        &self,
+        name: &[u8],
+        objects: &[ObjectId],
+        text: &mut Vec<u8>,
+    ) -> Result<(), AllocError>
+        ensures { OnOk result (text.new.items ≡ text.old.items ++ form_text (task_of self.now) name.now (map object_of objects.now)) }
+    {
+        text.extend_from_slice(b"(")?;
+        text.extend_from_slice(name)?;
+        self.add_names(objects, text)?;
+        text.extend_from_slice(b")")
     }
 
     /// Adds the names of these objects to the text, with a blank before each.

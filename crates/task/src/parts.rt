@@ -3,7 +3,7 @@ use crate::atoms::{Atom, TypeId};
 use crate::schemas::{Formula, Predicate, Schema};
 use indexmap::IndexMap;
 
-/// The parts of a task. Each entry of a table by name is at the index of its number. Names are in lower case.
+/// The parts of a task. Each entry of a table by name is at the index of its number, and its name is in lower case.
 #[derive(Drop)]
 pub struct TaskParts {
     /// The types, `object` first, each with all its supertypes (itself included).
@@ -22,6 +22,8 @@ pub struct TaskParts {
     pub values: IndexMap<Atom, u32>,
     /// The goal.
     pub goal: Formula,
+    /// The names of the goal's quantified variables as in the problem, in textual order. They are no part of the meaning.
+    pub goal_names: Vec<Vec<u8>>,
     /// Whether the total cost is minimized; otherwise the number of steps is.
     pub has_metric: bool,
 }

@@ -84,6 +84,8 @@ pub struct Schema {
     pub parameters: Vec<TypeUnion>,
     /// The precondition.
     pub precondition: Formula,
+    /// The names of the precondition's quantified variables as in the domain, in textual order. They are no part of the meaning.
+    pub precondition_names: Vec<Vec<u8>>,
     /// The effect.
     pub effect: Effect,
     /// The increase of the total cost.

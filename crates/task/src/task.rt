@@ -23,8 +23,10 @@ pub struct Task {
 impl Task {
     ghost use Rattle.std.specs.Prelude.{◌≡◌, length, map, position, slice_get, IfOk, IfSome};
     ghost use Rattle.std.specs.Option.{option_copied, option_map};
-    ghost use Rattle.task.specs.Task.{task_of};
-    ghost use Rattle.task.specs.TaskParts.{atom_of, formula_of, object_of, predicate_id_of, schema_id_of, shape_of, shape_of_schema, type_of, union_of, value_of};
+    ghost use Rattle.task.specs.Names.{names_in};
+    ghost use Rattle.task.specs.Task.{task_of, variable_names_of};
+    ghost use Rattle.task.specs.TaskParts.{atom_of, formula_of, object_of, predicate_id_of, schema_id_of, shape_of, shape_of_schema, type_of, union_of, value_of, variable_names_of_parts};
+    ghost use Rattle.task.specs.VariableNames.{names_of_action};
     ghost use Rattle.model.specs.Meaning.{supertypes_of, is_of, is_below, objects_of, value_in};
     ghost use Rattle.model.specs.Typing.{is_same};
 
@@ -33,7 +35,8 @@ impl Task {
         requires few_types { length parts.types.entries ≤ 4096 }
         requires few_objects { length parts.objects.entries ≤ 65535 }
         requires well_typed { IsTrue (is_task (task_of_parts parts)) }
-        ensures { task_of result ≡ task_of_parts parts }
+        ensures task { task_of result ≡ task_of_parts parts }
+        ensures names { variable_names_of result ≡ variable_names_of_parts parts }
     {
         Task { parts }
     }
@@ -66,6 +69,13 @@ impl Task {
         ensures { formula_of result.now ≡ (task_of self.now).goal }
     {
         &self.parts.goal
+    }
+
+    /// The names of the goal's quantified variables as in the problem, in textual order.
+    pub fn goal_names(&self) -> &[Vec<u8>]
+        ensures { names_in result.now ≡ (variable_names_of self.now).goal }
+    {
+        self.parts.goal_names.as_slice()
     }
 
     /// Whether the total cost is minimized; otherwise the number of steps is.
@@ -179,6 +189,17 @@ impl Task {
     {
         let (_, schema) = self.parts.schemas.get_index(id.0)?;
         Some(schema)
+    }
+
+    /// The names of the quantified variables in the precondition of the schema with this number, as in the domain, in textual
+    /// order; empty if the number is out of range.
+    pub fn precondition_names(&self, id: SchemaId) -> &[Vec<u8>]
+        ensures { names_in result.now ≡ names_of_action (variable_names_of self.now) id.0 }
+    {
+        match self.parts.schemas.get_index(id.0) {
+            Some((_, schema)) => schema.precondition_names.as_slice(),
+            None => &[],
+        }
     }
 
     /// The predicate with this number; `None` if it is out of range.

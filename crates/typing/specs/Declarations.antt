@@ -8,7 +8,8 @@ use Rattle.typing.specs.declared.names.Names.{Names}
 use Rattle.typing.specs.declared.names.Start.{Start}
 use Rattle.typing_names.specs.declared.type_names.TypeTable.{TypeTable}
 use Rattle.task.specs.declared.schemas.Predicate.{Predicate}
-use Rattle.typing_names.specs.Scope.{keys_in, narrow_atoms_in}
+use Rattle.typing_names.specs.QuantifiedNames.{quantified_names}
+use Rattle.typing_names.specs.Scope.{keys_in, names_in, narrow_atoms_in}
 use Rattle.task.specs.TaskParts.{atom_of, formula_of, object_entry_of, predicate_of, type_entry_of, value_of}
 use Rattle.model.specs.Trees as tree
 use Rattle.model.specs.Trees.{TaskFile, problem_file}
@@ -59,4 +60,5 @@ pub record Starts (file : TaskFile) (known : Known) (p : tree.Problem) (s : Star
   pub right : stated_faults_in file known p ≡ []
   pub init : map atom_of s.init.items ≡ flat_map (narrow_atoms_in known) p.init
   pub values : map value_of s.values.entries ≡ values_after known [] p.init
-  pub goal : formula_of s.goal ≡ formula_in file known p.goal
+  pub goal : formula_of s.goal.formula ≡ formula_in file known p.goal
+  pub goal_names : names_in s.goal.names.items ≡ quantified_names p.goal

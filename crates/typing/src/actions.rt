@@ -3,7 +3,8 @@ ghost use Rattle.std.specs.Prelude.{◌≡◌, [], map, IfErr, IfOk, OnOk};
 ghost use Rattle.task.specs.TaskParts as parts;
 ghost use Rattle.typing.specs.Actions.{IsInDomain};
 ghost use Rattle.typing_names.specs.Resolver.{file_in, known_to};
-ghost use Rattle.typing_names.specs.Scope.{known_outside};
+ghost use Rattle.typing_names.specs.QuantifiedNames.{quantified_names};
+ghost use Rattle.typing_names.specs.Scope.{known_outside, names_in};
 ghost use Rattle.typing.specs.Task.{file_of, ReportsAll};
 ghost use Rattle.typing_names.specs.Walk.{Finds};
 ghost use Rattle.pddl_tree_parts.specs.Tree as read;
@@ -20,7 +21,7 @@ use pddl_tree_parts::{Action, Domain};
 use std::alloc::Global;
 use task::{Schema, TypeUnion};
 use typing_names::domain::{declare, put};
-use typing_names::formulas::{enter, formula};
+use typing_names::formulas::{condition, enter};
 use typing_names::typed_lists::Placed;
 use typing_names::{Globals, Resolver, Walk};
 
@@ -36,17 +37,19 @@ fn body(
       typing.effect_in (file_in resolver.old) (known_to resolver.old) (read.effect_of action.now.effect),
       typing.increase_of (known_to resolver.old) (read.action_of action.now),
     )) }
+    ensures names { IfOk result (λ s. names_in s.precondition_names.items ≡ quantified_names (read.formula_of action.now.precondition)) }
     ensures finds { OnOk result (Finds resolver.old.walk resolver.new.walk (typing.body_faults (file_in resolver.old) (known_to resolver.old) (read.action_of action.now))) }
     ensures globals { OnOk result (resolver.new.globals ≡ resolver.old.globals) }
     ensures variables { OnOk result (resolver.new.variables.entries ≡ resolver.old.variables.entries) }
 {
-    let precondition = formula(resolver, &action.precondition)?;
+    let precondition = condition(resolver, &action.precondition)?;
     let effect = effect(resolver, &action.effect)?;
     let scope = resolver.globals.with(&resolver.variables);
     let increase = increase(&mut resolver.walk, &scope, action)?;
     Ok(Schema {
         parameters,
-        precondition,
+        precondition: precondition.formula,
+        precondition_names: precondition.names,
         effect,
         increase,
     })
@@ -56,6 +59,7 @@ fn body(
 fn schema(resolver: &mut Resolver<'_>, action: &Action<'_>) -> Result<Schema, NoMemory>
     requires { IsInDomain resolver.old }
     ensures shape { IfOk result (λ s. parts.shape_of s ≡ parts.shape_of_schema (typing.schema_in (known_outside resolver.old.globals.now) (read.action_of action.now))) }
+    ensures names { IfOk result (λ s. names_in s.precondition_names.items ≡ quantified_names (read.action_of action.now).precondition) }
     ensures finds { OnOk result (Finds resolver.old.walk resolver.new.walk (typing.schema_faults (known_outside resolver.old.globals.now) (read.action_of action.now))) }
     ensures globals { OnOk result (resolver.new.globals ≡ resolver.old.globals) }
     ensures variables { OnOk result (resolver.new.variables.entries ≡ []) }
@@ -89,6 +93,8 @@ fn table(
     requires { IsInDomain resolver.old }
     ensures table { IfOk result (λ m. typing.repeated (map (λ a. typing.placed domain_file (read.name_of a.name)) actions.now) ≡ []
         → map parts.schema_of m.entries ≡ map (λ a. typing.schema_in (known_outside resolver.old.globals.now) (read.action_of a)) actions.now) }
+    ensures names { IfOk result (λ m. typing.repeated (map (λ a. typing.placed domain_file (read.name_of a.name)) actions.now) ≡ []
+        → map parts.precondition_names_of m.entries ≡ map (λ a. quantified_names (read.action_of a).precondition) actions.now) }
     ensures finds { OnOk result (Finds resolver.old.walk resolver.new.walk (flat_map (λ a. typing.schema_faults (known_outside resolver.old.globals.now) (read.action_of a)) actions.now)) }
 {
     let mut schemas = IndexMap::new(resolver.walk.alloc);
@@ -109,6 +115,7 @@ pub(crate) fn schemas(
     ensures ok { IfOk result
         (λ m. (typing.action_faults (known_outside globals.now) (read.domain_of domain.now).actions ≡ [])
         × (map parts.schema_of m.entries ≡ map (typing.schema_in (known_outside globals.now)) (read.domain_of domain.now).actions)) }
+    ensures names { IfOk result (λ m. map parts.precondition_names_of m.entries ≡ map (λ a. quantified_names a.precondition) (read.domain_of domain.now).actions) }
     ensures err { IfErr result (ReportsAll (typing.action_faults (known_outside globals.now) (read.domain_of domain.now).actions)) }
 {
     let walk = Walk::new(alloc)?;
@@ -125,6 +132,8 @@ pub(crate) fn walked_actions(
     requires { IsInDomain resolver.old }
     ensures table { IfOk result (λ m. typing.action_faults (known_outside resolver.old.globals.now) (read.domain_of domain.now).actions ≡ []
         → map parts.schema_of m.entries ≡ map (typing.schema_in (known_outside resolver.old.globals.now)) (read.domain_of domain.now).actions) }
+    ensures names { IfOk result (λ m. typing.action_faults (known_outside resolver.old.globals.now) (read.domain_of domain.now).actions ≡ []
+        → map parts.precondition_names_of m.entries ≡ map (λ a. quantified_names a.precondition) (read.domain_of domain.now).actions) }
     ensures finds { OnOk result (Finds resolver.old.walk resolver.new.walk (typing.action_faults (known_outside resolver.old.globals.now) (read.domain_of domain.now).actions)) }
 {
     let actions = domain.actions.as_slice();

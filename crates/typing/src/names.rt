@@ -5,7 +5,8 @@ use crate::{PairFault, TaskFile, chains, declarations, functions, objects, state
 use indexmap::IndexMap;
 use pddl_tree_parts::{Domain, Problem};
 use std::alloc::Global;
-use task::{Atom, Formula, Predicate, TypeId};
+use task::{Atom, Predicate, TypeId};
+use typing_names::formulas::FormulaWithNames;
 use typing_names::{Globals, TypeTable};
 
 /// The constants, and all objects with the constants first.
@@ -90,7 +91,7 @@ impl Names {
 pub(crate) struct Start {
     pub(crate) init: Vec<Atom>,
     pub(crate) values: IndexMap<Atom, u32>,
-    pub(crate) goal: Formula,
+    pub(crate) goal: FormulaWithNames,
 }
 
 impl Start {

@@ -1,7 +1,8 @@
 //! The task of a domain and a problem.
 ghost use Rattle.std.specs.Prelude.{◌≡◌, List, IfErr, IfOk, OnOk};
-ghost use Rattle.task.specs.Task.{task_of};
-ghost use Rattle.typing.specs.Task.{ReportsAll, ReportsFault, ReportsFaults, ReportsLeastFault, ReportsLeastOf};
+ghost use Rattle.task.specs.Task.{task_of, variable_names_of};
+ghost use Rattle.task.specs.VariableNames.{VariableNames};
+ghost use Rattle.typing.specs.Task.{ReportsAll, ReportsFault, ReportsFaults, ReportsLeastFault, ReportsLeastOf, variable_names};
 ghost use Rattle.model.specs.Task as task;
 ghost use Rattle.model.specs.TypingFaults as typing_faults;
 ghost use Rattle.pddl_tree_parts.specs.Tree.{domain_of, problem_of};
@@ -18,6 +19,9 @@ use task::{Task, TaskParts};
 pub trait FromTrees: Sized {
     /// The task, as the model has it.
     ghost task_in: { Self → task.Task };
+
+    /// The names of its quantified variables, as in the files.
+    ghost names_in: { Self → VariableNames };
 
     /// Builds the task of a domain and a problem, with a number for each name.
     ///
@@ -37,11 +41,14 @@ pub trait FromTrees: Sized {
     fn new(alloc: Global, domain: Domain<'_>, problem: Problem<'_>) -> Result<Self, TaskFault>
         ensures well_typed { OnOk result (typing_faults.IsWellTyped (domain_of domain.entry) (problem_of problem.entry)) }
         ensures task { IfOk result (λ t. task_in t ≡ task_of_trees (domain_of domain.entry) (problem_of problem.entry)) }
+        ensures names { IfOk result (λ t. names_in t ≡ variable_names (domain_of domain.entry) (problem_of problem.entry)) }
         ensures least { IfErr result (ReportsFault (domain_of domain.entry) (problem_of problem.entry)) };
 }
 
 impl FromTrees for Task {
     ghost task_in = { task_of };
+
+    ghost names_in = { variable_names_of };
 
     fn new(alloc: Global, domain: Domain<'_>, problem: Problem<'_>) -> Result<Task, TaskFault> {
         of_trees(alloc, &domain, &problem)
@@ -52,6 +59,7 @@ impl FromTrees for Task {
 fn of_trees(alloc: Global, domain: &Domain<'_>, problem: &Problem<'_>) -> Result<Task, TaskFault>
     ensures well_typed { OnOk result (ListsNoFault (domain_of domain.now) (problem_of problem.now)) }
     ensures task { IfOk result (λ t. task_of t ≡ task_of_trees (domain_of domain.now) (problem_of problem.now)) }
+    ensures names { IfOk result (λ t. variable_names_of t ≡ variable_names (domain_of domain.now) (problem_of problem.now)) }
     ensures least { IfErr result (ReportsLeastFault (domain_of domain.now) (problem_of problem.now)) }
 {
     match made(alloc, domain, problem) {
@@ -74,6 +82,7 @@ fn least(fault: PairFault) -> TaskFault
 fn made(alloc: Global, domain: &Domain<'_>, problem: &Problem<'_>) -> Result<Task, PairFault>
     ensures well_typed { OnOk result (ListsNoFault (domain_of domain.now) (problem_of problem.now)) }
     ensures task { IfOk result (λ t. task_of t ≡ task_of_trees (domain_of domain.now) (problem_of problem.now)) }
+    ensures names { IfOk result (λ t. variable_names_of t ≡ variable_names (domain_of domain.now) (problem_of problem.now)) }
     ensures reported { IfErr result (ReportsFaults (domain_of domain.now) (problem_of problem.now)) }
 {
     let names = Names::declared(alloc, domain, problem)?;
@@ -93,7 +102,8 @@ fn made(alloc: Global, domain: &Domain<'_>, problem: &Problem<'_>) -> Result<Tas
         schemas,
         init: start.init,
         values: start.values,
-        goal: start.goal,
+        goal: start.goal.formula,
+        goal_names: start.goal.names,
         has_metric: problem.metric.is_some(),
     }))
 }

@@ -2,7 +2,8 @@
 ghost use Rattle.std.specs.Prelude.{◌≡◌, [], ◌∷◌, ◌++◌, drop, if◌then◌else◌, map, IfErr, IfOk, OnOk};
 ghost use Rattle.task.specs.TaskParts as parts;
 ghost use Rattle.typing.specs.Task.{file_of, ReportsAll};
-ghost use Rattle.typing_names.specs.Scope.{known_of, known_outside, known_over, narrow_atoms_in};
+ghost use Rattle.typing_names.specs.QuantifiedNames.{quantified_names};
+ghost use Rattle.typing_names.specs.Scope.{known_of, known_outside, known_over, names_in, narrow_atoms_in};
 ghost use Rattle.typing_names.specs.Walk.{found, found_by, Finds};
 ghost use Rattle.pddl_tree_parts.specs.Tree as read;
 ghost use Rattle.model.specs.Trees as tree;
@@ -14,8 +15,8 @@ use faults::{Code, NoMemory};
 use indexmap::IndexMap;
 use pddl_tree_parts::{Fact, InitialCost, InitialValue, Name, Problem};
 use std::alloc::Global;
-use task::{Atom, Formula, TypeUnion};
-use typing_names::formulas::formula;
+use task::{Atom, TypeUnion};
+use typing_names::formulas::{FormulaWithNames, condition};
 use typing_names::{Globals, Resolver, Scope, Walk};
 
 /// The statements of `:init`: the atoms that are true, and the values of functions.
@@ -198,19 +199,20 @@ pub(crate) fn walked_init(
     Ok(init)
 }
 
-/// The goal.
+/// The goal, with the names of its quantified variables.
 pub(crate) fn goal(
     alloc: Global,
     globals: &Globals<'_>,
     problem: &Problem<'_>,
-) -> Result<Formula, PairFault>
+) -> Result<FormulaWithNames, PairFault>
     ensures ok { IfOk result
-        (λ f. (typing.formula_faults (file_of globals.now.file) (known_outside globals.now) (read.problem_of problem.now).goal ≡ [])
-        × (parts.formula_of f ≡ typing.formula_in (file_of globals.now.file) (known_outside globals.now) (read.problem_of problem.now).goal)) }
+        (λ c. (typing.formula_faults (file_of globals.now.file) (known_outside globals.now) (read.problem_of problem.now).goal ≡ [])
+        × (parts.formula_of c.formula ≡ typing.formula_in (file_of globals.now.file) (known_outside globals.now) (read.problem_of problem.now).goal)) }
+    ensures names { IfOk result (λ c. names_in c.names.items ≡ quantified_names (read.problem_of problem.now).goal) }
     ensures err { IfErr result (ReportsAll (typing.formula_faults (file_of globals.now.file) (known_outside globals.now) (read.problem_of problem.now).goal)) }
 {
     let walk = Walk::new(alloc)?;
     let mut resolver = Resolver::new(walk, globals);
-    let goal = formula(&mut resolver, &problem.goal)?;
+    let goal = condition(&mut resolver, &problem.goal)?;
     resolver.finish(goal)
 }

@@ -3,6 +3,7 @@ pub mod Lists
 pub mod Tables
 pub mod Found
 pub mod Trees
+pub mod Quantified
 pub mod Reports
 pub mod Empty
 pub mod Declared

@@ -3,19 +3,21 @@ ghost use Rattle.std.specs.Prelude.{◌≡◌, ◌++◌, map, IfOk, OnOk};
 ghost use Rattle.std.specs.List.{flat_map};
 ghost use Rattle.task.specs.TaskParts as parts;
 ghost use Rattle.typing_names.specs.Resolver.{file_in, known_to};
-ghost use Rattle.typing_names.specs.Scope.{BeginsWith};
+ghost use Rattle.typing_names.specs.QuantifiedNames.{declared_names, quantified_names};
+ghost use Rattle.typing_names.specs.Scope.{BeginsWith, names_in};
 ghost use Rattle.typing_names.specs.Walk.{Finds};
 ghost use Rattle.pddl_tree_parts.specs.Tree as read;
 ghost use Rattle.model.specs.Task as task;
 ghost use Rattle.model.specs.Typing as typing;
 
 use crate::resolver::Resolver;
-use crate::typed_lists::collect;
+use crate::typed_lists::{Declared, collect};
 use crate::variables::declare_variables;
 use faults::NoMemory;
 use pddl_tree_parts as tree;
 use pddl_tree_parts::Group;
 use std::alloc::Global;
+use std::mem::replace;
 use task::{Formula, TypeUnion};
 
 /// An atom as a formula.
@@ -24,6 +26,7 @@ fn atom(resolver: &mut Resolver<'_>, atom: &tree::Atom<'_>) -> Result<Formula, N
     ensures finds { OnOk result (Finds resolver.old.walk resolver.new.walk (typing.atom_faults (file_in resolver.old) (known_to resolver.old) (read.atom_of atom.now))) }
     ensures globals { OnOk result (resolver.new.globals ≡ resolver.old.globals) }
     ensures variables { OnOk result (resolver.new.variables.entries ≡ resolver.old.variables.entries) }
+    ensures names { OnOk result (resolver.new.names.items ≡ resolver.old.names.items) }
 {
     let scope = resolver.globals.with(&resolver.variables);
     Ok(Formula::Atom(scope.lifted_atom(&mut resolver.walk, atom)?))
@@ -42,6 +45,7 @@ fn equality(
         ++ typing.term_faults (file_in resolver.old) (known_to resolver.old) (read.term_of right.now))) }
     ensures globals { OnOk result (resolver.new.globals ≡ resolver.old.globals) }
     ensures variables { OnOk result (resolver.new.variables.entries ≡ resolver.old.variables.entries) }
+    ensures names { OnOk result (resolver.new.names.items ≡ resolver.old.names.items) }
 {
     let scope = resolver.globals.with(&resolver.variables);
     let left = scope.term(&mut resolver.walk, left)?;
@@ -111,6 +115,20 @@ fn forall_over(alloc: Global, unions: Vec<TypeUnion>, part: Formula) -> Result<F
     }
 }
 
+/// Adds the names of the variables, as in the file.
+fn add_names(
+    alloc: Global,
+    declared: &[Declared<'_>],
+    names: &mut Vec<Vec<u8>>,
+) -> Result<(), NoMemory>
+    ensures { OnOk result (names_in names.new.items ≡ names_in names.old.items ++ map (λ d. d.placed.name.text.now) declared.now) }
+{
+    for one in declared {
+        names.push(Vec::from_slice(alloc, one.placed.name.text)?)?;
+    }
+    Ok(())
+}
+
 /// Brings the variables of a quantifier or of an effect's `forall` into scope. Returns their types.
 pub fn enter(
     resolver: &mut Resolver<'_>,
@@ -124,6 +142,7 @@ pub fn enter(
     ensures kept { OnOk result (BeginsWith resolver.old.variables.entries resolver.new.variables.entries) }
     ensures finds { OnOk result (Finds resolver.old.walk resolver.new.walk
         (typing.variable_faults (known_to resolver.old).type_names (known_to resolver.old).variables (typing.declared (file_in resolver.old) (read.groups_of groups.now)))) }
+    ensures names { OnOk result (names_in resolver.new.names.items ≡ names_in resolver.old.names.items ++ declared_names (read.groups_of groups.now)) }
 {
     let groups = groups.as_slice();
     let alloc = resolver.walk.alloc;
@@ -132,6 +151,7 @@ pub fn enter(
     let declared = list.as_slice();
     let unions = types.unions(alloc, &mut resolver.walk.folded, declared)?;
     declare_variables(&mut resolver.walk, types, &mut resolver.variables, declared)?;
+    add_names(alloc, declared, &mut resolver.names)?;
     Ok(unions)
 }
 
@@ -159,6 +179,8 @@ fn quantifier(
         (typing.known_with (known_to resolver.old) (typing.declared (file_in resolver.old) (read.groups_of groups.now))) (read.formula_of part.now))) }
     ensures globals { OnOk result (resolver.new.globals ≡ resolver.old.globals) }
     ensures variables { OnOk result (resolver.new.variables.entries ≡ resolver.old.variables.entries) }
+    ensures names { OnOk result (names_in resolver.new.names.items
+        ≡ names_in resolver.old.names.items ++ (declared_names (read.groups_of groups.now) ++ quantified_names (read.formula_of part.now))) }
 {
     let before = resolver.variables.len();
     let unions = enter(resolver, groups)?;
@@ -179,6 +201,8 @@ fn several(
         (flat_map (λ x. typing.formula_faults (file_in resolver.old) (known_to resolver.old) (read.formula_of x)) given.now)) }
     ensures globals { OnOk result (resolver.new.globals ≡ resolver.old.globals) }
     ensures variables { OnOk result (resolver.new.variables.entries ≡ resolver.old.variables.entries) }
+    ensures names { OnOk result (names_in resolver.new.names.items
+        ≡ names_in resolver.old.names.items ++ flat_map (λ x. quantified_names (read.formula_of x)) given.now) }
 {
     let mut resolved = Vec::with_capacity(resolver.walk.alloc, given.len())?;
     for part in given {
@@ -187,7 +211,35 @@ fn several(
     Ok(resolved)
 }
 
-/// A precondition or a goal. Afterwards exactly the same variables are in scope again.
+/// A precondition or a goal, with the names of its quantified variables.
+#[derive(Drop)]
+pub struct FormulaWithNames {
+    /// The formula.
+    pub formula: Formula,
+    /// The names of its quantified variables, as in the file, in textual order.
+    pub names: Vec<Vec<u8>>,
+}
+
+/// A precondition or a goal, with the names of its quantified variables. Afterwards exactly the same variables are in scope again.
+pub fn condition(
+    resolver: &mut Resolver<'_>,
+    given: &tree::Formula<'_>,
+) -> Result<FormulaWithNames, NoMemory>
+    ensures value { IfOk result (λ c. parts.formula_of c.formula
+        ≡ typing.formula_in (file_in resolver.old) (known_to resolver.old) (read.formula_of given.now)) }
+    ensures names { IfOk result (λ c. names_in c.names.items ≡ quantified_names (read.formula_of given.now)) }
+    ensures finds { OnOk result (Finds resolver.old.walk resolver.new.walk
+        (typing.formula_faults (file_in resolver.old) (known_to resolver.old) (read.formula_of given.now))) }
+    ensures globals { OnOk result (resolver.new.globals ≡ resolver.old.globals) }
+    ensures variables { OnOk result (resolver.new.variables.entries ≡ resolver.old.variables.entries) }
+{
+    resolver.names.clear();
+    let formula = formula(resolver, given)?;
+    let names = replace(&mut resolver.names, Vec::new(resolver.walk.alloc));
+    Ok(FormulaWithNames { formula, names })
+}
+
+/// A formula. Afterwards exactly the same variables are in scope again.
 #[cycle(formulas)]
 pub fn formula(resolver: &mut Resolver<'_>, given: &tree::Formula<'_>) -> Result<Formula, NoMemory>
     ensures value { IfOk result (λ f. parts.formula_of f
@@ -196,6 +248,8 @@ pub fn formula(resolver: &mut Resolver<'_>, given: &tree::Formula<'_>) -> Result
         (typing.formula_faults (file_in resolver.old) (known_to resolver.old) (read.formula_of given.now))) }
     ensures globals { OnOk result (resolver.new.globals ≡ resolver.old.globals) }
     ensures variables { OnOk result (resolver.new.variables.entries ≡ resolver.old.variables.entries) }
+    ensures names { OnOk result (names_in resolver.new.names.items
+        ≡ names_in resolver.old.names.items ++ quantified_names (read.formula_of given.now)) }
 {
     match given {
         tree::Formula::Atom(given) => atom(resolver, given),

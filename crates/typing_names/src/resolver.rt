@@ -16,6 +16,8 @@ pub struct Resolver<'g> {
     pub globals: &'g Globals<'g>,
     /// The variables in scope, each with its types.
     pub variables: IndexMap<Vec<u8>, TypeUnion>,
+    /// The names of the variables that came into scope since the last precondition or goal began, as in the file, in textual order.
+    pub names: Vec<Vec<u8>>,
 }
 
 impl<'g> Resolver<'g> {
@@ -29,10 +31,12 @@ impl<'g> Resolver<'g> {
         ensures found { found_by result.walk ≡ found_by walk }
     {
         let variables = IndexMap::new(walk.alloc);
+        let names = Vec::new(walk.alloc);
         Resolver {
             walk,
             globals,
             variables,
+            names,
         }
     }
 

@@ -2,11 +2,10 @@
 ghost use Rattle.std.specs.Prelude.{◌≡◌, ◌++◌, ℕ, IfOk, IfSome, IsTrue, List, Some};
 ghost use Rattle.std.specs.List.{list_all};
 ghost use Rattle.std.specs.String.{string_bytes};
-ghost use Rattle.task.specs.Task.{task_of};
+ghost use Rattle.task.specs.Task.{task_of, variable_names_of};
 ghost use Rattle.formulas.specs.State.{plan_of};
 ghost use Rattle.validator.specs.Verdict.{verdict_of};
 ghost use Rattle.explain_plans.specs.Explanations as plans;
-ghost use Rattle.explain_plans.specs.NamesView.{names_of};
 ghost use Rattle.file_answers.specs.StepLines.{is_traced};
 ghost use Rattle.file_answers.specs.QuantifiedNames.{IsNamedTask};
 ghost use Rattle.file_answers.specs.ExplanationLines.{IsSaidOf, SayPlan, SayPlanAs, SayVerdict, named_of, place_text};
@@ -18,7 +17,7 @@ ghost use Rattle.model.specs.PlanText.{IsPlanText};
 use crate::explaining::of_fault::explain_refused;
 use crate::explaining::step_lines::StepLines;
 use crate::explanation::{Explanation, Location, Subject};
-use crate::files::{NamedTask, plan_of_file};
+use crate::files::plan_of_file;
 use explain_hints::{NamedText, NamedTexts, marked, place_of};
 use explain_plans::{
     PlanExplanation, explain_plan, report_details, report_trace, report_verdict, step_place,
@@ -32,22 +31,22 @@ use validator::Verdict;
 /// Explains the plan in this text for the task of the other texts.
 pub(super) fn explain_plan_file(
     alloc: Global,
-    named: &NamedTask<'_>,
+    task: &Task,
     texts: &NamedTexts<'_>,
     lines: StepLines,
 ) -> Result<Explanation, NoMemory>
-    ensures subject { (domain problem : List ℕ) (most : ℕ) → IsTaskOf domain problem (task_of named.now.task)
+    ensures subject { (domain problem : List ℕ) (most : ℕ) → IsTaskOf domain problem (task_of task.now)
         → IfOk result (λ e. IsTrueOf domain problem (Some texts.now.plan.text.now) most e.subject) }
-    ensures said { IsNamedTask texts.now.domain.text.now texts.now.problem.text.now (task_of named.now.task) (names_of named.now.names)
+    ensures said { IsNamedTask texts.now.domain.text.now texts.now.problem.text.now (task_of task.now) (variable_names_of task.now)
         → IfOk result (IsSaidOf (is_traced lines) (files_in texts.now)) }
 {
-    match plan_of_file(alloc, &named.task, texts.plan.text) {
+    match plan_of_file(alloc, task, texts.plan.text) {
         Ok(plan) => {
             let file = PlanFile {
                 file: texts.plan,
                 lines,
             };
-            explain_steps(alloc, named, file, &plan)
+            explain_steps(alloc, task, file, &plan)
         }
         Err(fault) => explain_refused(alloc, texts, fault),
     }
@@ -63,17 +62,17 @@ struct PlanFile<'a> {
 /// Explains the steps of this file.
 fn explain_steps(
     alloc: Global,
-    named: &NamedTask<'_>,
+    task: &Task,
     file: PlanFile<'_>,
     plan: &Plan,
 ) -> Result<Explanation, NoMemory>
-    requires instances { IsTrue (list_all (is_instance (task_of named.now.task)) (plan_of plan.now)) }
-    requires text { IsPlanText (task_of named.now.task) file.file.text.now (plan_of plan.now) }
-    ensures { IfOk result (IsVerdictExplained (task_of named.now.task) (names_of named.now.names) (plan_of plan.now) (is_traced file.entry.lines) (named_of file.entry.file)) }
+    requires instances { IsTrue (list_all (is_instance (task_of task.now)) (plan_of plan.now)) }
+    requires text { IsPlanText (task_of task.now) file.file.text.now (plan_of plan.now) }
+    ensures { IfOk result (IsVerdictExplained (task_of task.now) (variable_names_of task.now) (plan_of plan.now) (is_traced file.entry.lines) (named_of file.entry.file)) }
 {
-    let explained = explain_plan(alloc, &named.task, &named.names, plan)?;
+    let explained = explain_plan(alloc, task, plan)?;
     let explained_plan = ExplainedPlan {
-        task: &named.task,
+        task,
         plan,
         explained: &explained,
         lines: file.lines,
@@ -83,15 +82,15 @@ fn explain_steps(
 
 /// A plan for a task, with its explanation.
 #[derive(Clone, Copy)]
-struct ExplainedPlan<'a> {
-    task: &'a Task,
-    plan: &'a Plan,
-    explained: &'a PlanExplanation<'a>,
+struct ExplainedPlan<'t, 'p, 'e> {
+    task: &'t Task,
+    plan: &'p Plan,
+    explained: &'e PlanExplanation<'t>,
     /// What is said of its steps.
     lines: StepLines,
 }
 
-impl ExplainedPlan<'_> {
+impl ExplainedPlan<'_, '_, '_> {
     /// Explains the verdict on the plan in this file.
     fn explain_verdict(self, alloc: Global, file: NamedText<'_>) -> Result<Explanation, NoMemory>
         requires instances { IsTrue (list_all (is_instance (task_of self.task.now)) (plan_of self.plan.now)) }

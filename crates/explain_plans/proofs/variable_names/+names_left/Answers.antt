@@ -1,8 +1,8 @@
 use Rattle.std.proofs.Common.{◌∙◌, ◌+◌, ap, drop, map, sym}
 use Rattle.std.proofs.lemmas.List.{at_drop_all}
 use Rattle.task.specs.TaskParts.{formula_of}
-use Rattle.explain_plans.specs.NamesView.{names_in}
-use Rattle.explain_plans.specs.VariableNames.{names_left, after_all_lines, formulas}
+use Rattle.task.specs.Names.{names_in}
+use Rattle.explain_plans.specs.NamesLeft.{names_left, after_all_lines, formulas}
 use Rattle.explain_plans.proofs.FormulaLists.{conjunction, disjunction, next_left}
 use Rattle.explain_plans.proofs.variable_names.+names_left.Goals as goal
 

@@ -1,7 +1,7 @@
 use Rattle.std.proofs.Common.{◌≡◌, drop, map}
 use Rattle.task.specs.TaskParts.{formula_of}
-use Rattle.explain_plans.specs.NamesView.{names_in}
-use Rattle.explain_plans.specs.VariableNames.{after_all_lines, formulas}
+use Rattle.task.specs.Names.{names_in}
+use Rattle.explain_plans.specs.NamesLeft.{after_all_lines, formulas}
 use Rattle.explain_plans.proofs.variable_names.+names_left.Given as goal
 
 -- the names after the remaining formulas are those after all

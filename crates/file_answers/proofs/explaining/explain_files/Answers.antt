@@ -2,8 +2,7 @@ use Rattle.std.proofs.Common.{Option, ℕ, List, ap, map, subst}
 use Rattle.std.proofs.lemmas.Result.{IfOk-weaker}
 use Rattle.std.specs.String.{string_bytes}
 use Rattle.std.specs.Prelude.{IfOk}
-use Rattle.explain_plans.specs.NamesView.{names_of}
-use Rattle.task.specs.Task.{task_of}
+use Rattle.task.specs.Task.{task_of, variable_names_of}
 use Rattle.file_answers.specs.Files.{reported_in}
 use Rattle.file_answers.proofs.FilesRead.{task_input}
 use Rattle.file_answers.specs.ExplanationLines.{Files, IsSaidOf, files_of}
@@ -32,7 +31,7 @@ returns-in-Some-clause-subject c =
     let texts = c.texts_of-texts in
     subst (λ (plan : Option (List ℕ)). IfOk c.explain_plan_file.result (λ e. IsTrueOf c.args.files.domain.text.now c.args.files.problem.text.now plan c.args.options.max_instances e.subject))
     (plan_given texts.result c.args.files.domain c.args.files.problem texts.ensures.domain texts.ensures.problem c.args.files.plan _ c.in-Some.is texts.ensures.plan)
-    (c.explain_plan_file.ensures.subject c.args.files.domain.text.now c.args.files.problem.text.now c.args.options.max_instances c.in-Ok.ensures.task.is_task)
+    (c.explain_plan_file.ensures.subject c.args.files.domain.text.now c.args.files.problem.text.now c.args.options.max_instances c.in-Ok.ensures.task)
 
 pub returns-in-Some-clause-said : goal.returns-in-Some-clause-said
 returns-in-Some-clause-said c =
@@ -40,16 +39,16 @@ returns-in-Some-clause-said c =
     subst (λ (files : Files). IfOk c.explain_plan_file.result (IsSaidOf (is_traced c.args.options.steps) files))
     (files_given texts.result c.args.files.domain c.args.files.problem texts.ensures.domain texts.ensures.problem c.args.files.plan _ c.in-Some.is texts.ensures.plan)
     (c.explain_plan_file.ensures.said
-    (task_given texts.result c.args.files.domain c.args.files.problem texts.ensures.domain texts.ensures.problem (task_of c.in-Ok.named.task) (names_of c.in-Ok.named.names) c.in-Ok.ensures.task))
+    (task_given texts.result c.args.files.domain c.args.files.problem texts.ensures.domain texts.ensures.problem (task_of c.in-Ok.task) (variable_names_of c.in-Ok.task) c.in-Ok.ensures.names))
 
 pub returns-clause-subject : goal.returns-clause-subject
 returns-clause-subject c =
-    task_explained (task_of c.in-Ok.named.task) c.args.options.max_instances c.args.files.domain.text.now c.args.files.problem.text.now c.in-Ok.ensures.task.is_task (text_in c.args.files.plan) (ap text_in c.in-None.is)
+    task_explained (task_of c.in-Ok.task) c.args.options.max_instances c.args.files.domain.text.now c.args.files.problem.text.now c.in-Ok.ensures.task (text_in c.args.files.plan) (ap text_in c.in-None.is)
     c.explain_task.result c.explain_task.ensures
 
 pub returns-clause-said : goal.returns-clause-said
 returns-clause-said c =
-    task_said (task_of c.in-Ok.named.task) c.args.options.max_instances (is_traced c.args.options.steps) (files_of c.args.files.domain c.args.files.problem c.args.files.plan) c.explain_task.result c.explain_task.ensures
+    task_said (task_of c.in-Ok.task) c.args.options.max_instances (is_traced c.args.options.steps) (files_of c.args.files.domain c.args.files.problem c.args.files.plan) c.explain_task.result c.explain_task.ensures
 
 pub returns-in-Some-clause-noted : goal.returns-in-Some-clause-noted
 returns-in-Some-clause-noted c =
@@ -57,10 +56,10 @@ returns-in-Some-clause-noted c =
     let named = c.in-Some.field-0 in
     IfOk-weaker c.explain_plan_file.result _ _
     (λ e is. noted_with_plan c.args.files.domain.text.now c.args.files.problem.text.now _ c.args.options.max_instances e.subject is (map string_bytes e.notes.items))
-    (c.explain_plan_file.ensures.subject c.args.files.domain.text.now c.args.files.problem.text.now c.args.options.max_instances c.in-Ok.ensures.task.is_task)
+    (c.explain_plan_file.ensures.subject c.args.files.domain.text.now c.args.files.problem.text.now c.args.options.max_instances c.in-Ok.ensures.task)
 
 pub returns-clause-noted : goal.returns-clause-noted
 returns-clause-noted c =
     IfOk-weaker c.explain_task.result _ _
-    (λ e is. noted_of_task c.args.files.domain.text.now c.args.files.problem.text.now c.args.options.max_instances (task_of c.in-Ok.named.task) c.in-Ok.ensures.task.is_task e is)
+    (λ e is. noted_of_task c.args.files.domain.text.now c.args.files.problem.text.now c.args.options.max_instances (task_of c.in-Ok.task) c.in-Ok.ensures.task e is)
     c.explain_task.ensures

@@ -17,3 +17,16 @@ returns-in_err-new-clause-refused c =
     (subst (λ o. IfSome o (IsTaskFault c.args.domain.now c.args.problem.now)) (sym p.2)
     (pair_reported c.args.domain.now c.args.problem.now (domain_of c.in_ok-domain.field-0.domain) (problem_of c.in_ok-domain.field-0.problem)
     c.in_ok-domain.ensures.domain c.in_ok-domain.ensures.problem _ c.in_err-new.ensures.least))
+
+pub returns-clause-names : goal.returns-clause-names
+returns-clause-names c = record {
+  is_task = record {
+    domain_tree = domain_of c.in_ok-domain.field-0.domain;
+    problem_tree = problem_of c.in_ok-domain.field-0.problem;
+    domain_reads = c.in_ok-domain.ensures.domain;
+    problem_reads = c.in_ok-domain.ensures.problem;
+    well_typed = c.in_ok-new.ensures.well_typed;
+    resolved = c.in_ok-new.ensures.task;
+  };
+  are_names = c.in_ok-new.ensures.names;
+}

@@ -1,83 +1,55 @@
-use Rattle.std.proofs.Common.{◌≡◌, ◌∙◌, ◌≤◌, length, map, Option, Result, Ok, Err, sym, ap, subst}
-use Rattle.std.specs.Prelude.{IfOk, IfSome, IsTrue}
-use Rattle.certificate.specs.Evidence.{is_evidence, evidence_of}
-use Rattle.certificate_definitions.specs.Certificates.{no_landmarks, three}
-use Rattle.faults.specs.declared.refused.NoMemory.{NoMemory}
+use Rattle.std.proofs.Common.{◌≡◌, ◌≤◌, ℕ, Bool, List, length, ap, subst}
+use Rattle.certificate.specs.Evidence.{evidence_of}
 use Rattle.grounding.specs.declared.ground.Ground.{Ground}
 use Rattle.grounding.specs.Ground.{task_in, atoms_in}
 use Rattle.ground_listings.specs.SearchSpace.{ground_in}
-use Rattle.model.specs.Grounding.{ground_system}
-use Rattle.lower_bounds.specs.Settled.{initial_value}
-use Rattle.potentials.specs.Potentials.{potentials_of}
 use Rattle.lower_bounds.specs.FairTables.{AreFair}
-use Rattle.lower_bounds.specs.TableFunctions.{SeveralValues, functions_of, greatest_value}
-use Rattle.table_rows.specs.Tables.{table_of}
-use Rattle.tables.specs.declared.several.TableFunctions.{TableFunctions}
-use Rattle.tables.specs.Several.{several_of, width_of}
-use Rattle.solver.specs.declared.attempt.Attempt.{Attempt}
-use Rattle.solver.specs.declared.attempt.Attempt.TheVariants.{Done, Promising, InVain}
-use Rattle.solver.specs.declared.searched.Ending.{Ending}
+use Rattle.lower_bounds.specs.Settled.{initial_value}
+use Rattle.lower_bounds.specs.TableFunctions.{SeveralValues}
+use Rattle.model.specs.Grounding.{ground_system}
+use Rattle.model.specs.Runs.{System}
+use Rattle.potentials.specs.Potentials.{potentials_of}
+use Rattle.table_guides.specs.FairTables as guides
+use Rattle.table_guides.specs.FairTables.{functions_in}
+use Rattle.table_guides.specs.declared.fair_tables.FairTables.{FairTables}
 use Rattle.solver.specs.Attempts.{IfDone}
 use Rattle.solver.specs.Guidance.{by_tables, estimate_by, reports_dead}
-use Rattle.solver.specs.Guided.{IsEnding}
-use Rattle.solver.specs.SeveralOver.{several_over}
-use Rattle.solver.proofs.TablesLemmas.{dead_ends_weighed}
+use Rattle.solver.specs.Stretches.{IsTrueEnd}
 use Rattle.solver.proofs.by_tables.search_by_tables.Given.{Over}
 use Rattle.solver.proofs.by_tables.search_by_tables.Goals as goal
-use Rattle.solver.proofs.by_tables.search_by_tables.Goals.{After-deref, In-Some}
+use Rattle.solver.proofs.by_tables.search_by_tables.Goals.{In-Done}
 
--- the values are those of the evidence
-same : (g : Over) (c : After-deref g) → several_over c.args.over.values.items c.args.over.dead_ends c.deref.result.now ≡ evidence_of c.args.over.evidence.now
-same g c = λ i. record { values = c.requires.values i; dead_ends = c.requires.dead_ends i; tables = map table_of (c.deref.ensures.value i) }
+abbrev means : Ground → System (List Bool) ℕ
+means k = ground_system (task_in k) (atoms_in k)
 
-pub functions_over-requires : goal.functions_over-requires
-functions_over-requires g c = record {
-  within_limits = subst (λ (s : SeveralValues). IsTrue (is_evidence three (length (atoms_in c.ground-ground.result.now)) s no_landmarks)) (sym (same g (goal.at.functions_over-requires g c).After-deref))
-      (subst (λ (k : Ground). IsTrue (is_evidence three (length (atoms_in k)) (evidence_of c.args.over.evidence.now) no_landmarks)) (sym c.ground-ground.ensures) c.requires.within_limits);
-}
+-- the guide is over these values, and for this ground task
+same_functions : (g : Over) (c : In-Done g) → functions_in c.in-Done.guide ≡ evidence_of c.args.over.evidence.now
+same_functions g c = subst (IfDone (λ (guide : FairTables). functions_in guide ≡ evidence_of c.args.over.evidence.now)) c.in-Done.is c.in_ok-attempt.ensures.functions
 
--- and so are those in memory
-in_memory : (g : Over) (c : In-Some g) → several_of c.in-Some.functions ≡ evidence_of c.args.over.evidence.now
-in_memory g c =
-    subst (λ (o : Option TableFunctions). IfSome o (λ (f : TableFunctions). several_of f ≡ several_over c.args.over.values.items c.args.over.dead_ends c.deref.result.now)) c.in-Some.is c.in_ok-functions.ensures
-    ∙ (λ i. record { values = c.requires.values i; dead_ends = c.requires.dead_ends i; tables = map table_of (c.deref.ensures.value i) })
+same_ground : (g : Over) (c : In-Done g) → guides.ground_in c.in-Done.guide ≡ ground_in c.args.setting.space
+same_ground g c = subst (IfDone (λ (guide : FairTables). guides.ground_in guide ≡ ground_in c.args.setting.space)) c.in-Done.is c.in_ok-attempt.ensures.ground
 
-width : (g : Over) (c : In-Some g) → width_of c.in-Some.functions ≡ length (atoms_in (ground_in c.args.setting.space))
-width g c = ap (λ (s : SeveralValues). length s.dead_ends.weights) (in_memory g c) ∙ dead_ends_weighed (length (atoms_in (ground_in c.args.setting.space))) (evidence_of c.args.over.evidence.now) c.requires.within_limits
+pub returns-in_ok-parts-in-Done-clause-fair : goal.returns-in_ok-parts-in-Done-clause-fair
+returns-in_ok-parts-in-Done-clause-fair g c =
+    let at = (goal.at.returns-in_ok-parts-in-Done-clause-fair g c).In-Done in
+    let known = ground_in c.args.setting.space in
+    subst (AreFair (task_in known) (atoms_in known)) (same_functions g at)
+    (subst (λ (k : Ground). AreFair (task_in k) (atoms_in k) (functions_in c.in-Done.guide)) (same_ground g at) c.in-Done.guide.fair)
 
-pub starts_no_lower-requires-clause-functions : goal.starts_no_lower-requires-clause-functions
-starts_no_lower-requires-clause-functions g c = width g (goal.at.starts_no_lower-requires-clause-functions g c).In-Some ∙ ap (λ (k : Ground). length (atoms_in k)) (sym c.ground-ground.ensures)
-
-pub saving_by-requires-clause-width : goal.saving_by-requires-clause-width
-saving_by-requires-clause-width g c = width g (goal.at.saving_by-requires-clause-width g c).In-Some ∙ sym c.requires.store_width
-
-pub search_if_fair-requires-clause-width : goal.search_if_fair-requires-clause-width
-search_if_fair-requires-clause-width g c = width g (goal.at.search_if_fair-requires-clause-width g c).In-Some
-
--- what is so is so of whatever is done
-whatever : {P : Type 0} (result : Result (Attempt Ending) NoMemory) → P → IfOk result (IfDone (λ (s : Ending). P))
-whatever (Ok (Done s)) is = is
-whatever (Ok Promising) is = tt
-whatever (Ok InVain) is = tt
-whatever (Err e) is = tt
-
-pub returns-then-is_worth-clause-no_lower : goal.returns-then-is_worth-clause-no_lower
-returns-then-is_worth-clause-no_lower g c =
+pub returns-in_ok-parts-in-Done-clause-no_lower : goal.returns-in_ok-parts-in-Done-clause-no_lower
+returns-in_ok-parts-in-Done-clause-no_lower g c =
     let known = ground_in c.args.setting.space in
     let first = potentials_of c.args.stopped.now.potentials.now in
-    let start = (ground_system (task_in known) (atoms_in known)).initial in
-    whatever c.search_if_fair.result
-    (subst (λ (s : SeveralValues). initial_value (task_in known) (atoms_in known) first ≤ estimate_by (by_tables s) start)
-    (in_memory g (goal.at.returns-then-is_worth-clause-no_lower g c).In-Some)
-    (subst (λ (k : Ground). initial_value (task_in k) (atoms_in k) first ≤ greatest_value (functions_of (several_of c.in-Some.functions)) (ground_system (task_in k) (atoms_in k)).initial) c.ground-ground.ensures
-    (c.in_ok-starts_no_lower.ensures c.if-not-branch.false)))
+    let start = estimate_by (by_tables (evidence_of c.args.over.evidence.now)) (ground_system (task_in known) (atoms_in known)).initial in
+    subst (IfDone (λ (guide : FairTables). initial_value (task_in known) (atoms_in known) first ≤ start)) c.in-Done.is c.in_ok-attempt.ensures.no_lower
 
-pub returns-then-is_worth-clause-fair : goal.returns-then-is_worth-clause-fair
-returns-then-is_worth-clause-fair g c =
-    subst (λ (s : SeveralValues). IfOk c.search_if_fair.result (IfDone (λ (_ : Ending). AreFair (task_in (ground_in c.args.setting.space)) (atoms_in (ground_in c.args.setting.space)) s)))
-    (in_memory g (goal.at.returns-then-is_worth-clause-fair g c).In-Some) c.search_if_fair.ensures.fair
+pub search_with_tables-requires-clause-system : goal.search_with_tables-requires-clause-system
+search_with_tables-requires-clause-system g c = ap means (same_ground g (goal.at.search_with_tables-requires-clause-system g c).In-Done)
 
-pub returns-then-is_worth-clause-ending : goal.returns-then-is_worth-clause-ending
-returns-then-is_worth-clause-ending g c =
-    subst (λ (s : SeveralValues). IfOk c.search_if_fair.result (IfDone (IsEnding c.args.setting.space (estimate_by (by_tables s)) (reports_dead (by_tables s)) c.args.setting.limits)))
-    (in_memory g (goal.at.returns-then-is_worth-clause-ending g c).In-Some) c.search_if_fair.ensures.ending
+pub search_with_tables-requires-clause-guide_width : goal.search_with_tables-requires-clause-guide_width
+search_with_tables-requires-clause-guide_width g c = ap (λ (k : Ground). length (atoms_in k)) (same_ground g (goal.at.search_with_tables-requires-clause-guide_width g c).In-Done)
+
+pub returns-in_ok-parts-in-Done-clause-end : goal.returns-in_ok-parts-in-Done-clause-end
+returns-in_ok-parts-in-Done-clause-end g c =
+    subst (λ (s : SeveralValues). IsTrueEnd c.args.setting.space (estimate_by (by_tables s)) (reports_dead (by_tables s)) c.args.setting.limits c.in_ok-parts-in-Done.parts)
+    (same_functions g (goal.at.returns-in_ok-parts-in-Done-clause-end g c).In-Done) c.in_ok-parts-in-Done.ensures.end

@@ -15,10 +15,10 @@ use Rattle.typing.proofs.actions.body.Goals.{In_ok-precondition, After-with-scop
 use Rattle.typing.proofs.actions.body.Goals as goal
 
 -- the same names are visible in the effect
-same : (c : In_ok-precondition) → known_to c.formula.new.resolver ≡ known_to c.args.resolver.now
+same : (c : In_ok-precondition) → known_to c.condition.new.resolver ≡ known_to c.args.resolver.now
 same c = λ i. known_over (c.in_ok-precondition.ensures.globals i).now (c.in_ok-precondition.ensures.variables i)
 
-same_file : (c : In_ok-precondition) → file_in c.formula.new.resolver ≡ file_in c.args.resolver.now
+same_file : (c : In_ok-precondition) → file_in c.condition.new.resolver ≡ file_in c.args.resolver.now
 same_file c = λ i. file_of (c.in_ok-precondition.ensures.globals i).now.file
 
 -- and after it
@@ -44,7 +44,7 @@ returns-clause-finds c =
     let s = (goal.at.returns-clause-finds c).In_ok-precondition in let end = (goal.at.returns-clause-finds c).After-with-scope in
     let a = read.action_of c.args.action.now in
     let file = file_in c.args.resolver.now in let known = known_to c.args.resolver.now in
-    let before = found_by c.args.resolver.now.walk in let middle = found_by c.formula.new.resolver.walk in let last = found_by c.effect.new.resolver.walk in
+    let before = found_by c.args.resolver.now.walk in let middle = found_by c.condition.new.resolver.walk in let last = found_by c.effect.new.resolver.walk in
     let first = typing.formula_faults file known a.precondition in let second = typing.effect_faults file known a.effect in
     let increases = typing.increase_faults file known a in
     let amounts = λ (f : TaskFile) (k : typing.Known). flat_map (λ (i : tree.Increase). typing.amount_faults f k i.amount) a.increases in

@@ -3,6 +3,7 @@ use Rattle.typing_names.specs.Walk.{found, found_by}
 use Rattle.task.specs.TaskParts as parts
 use Rattle.pddl_tree_parts.specs.Tree.{file_of}
 use Rattle.typing_names.specs.declared.scope.Globals.{Globals}
+use Rattle.typing_names.specs.QuantifiedNames.{quantified_names}
 use Rattle.typing_names.specs.Scope.{known_outside}
 use Rattle.pddl_tree_parts.specs.Tree as read
 use Rattle.model.specs.Trees.{domain_file}
@@ -18,6 +19,7 @@ loop-action-preserved c =
     let known = known_outside c.args.resolver.now.globals.now in
     let placed_as = λ (a : Action). typing.placed domain_file (read.name_of a.name) in
     let made = λ (a : Action). typing.schema_in known (read.action_of a) in
+    let names_in = λ (a : Action). quantified_names (read.action_of a).precondition in
     let same = ap (λ (b : Bor Globals). known_outside b.now) c.loop-action.invariant.globals in
     let shape = c.in_ok-schema.ensures.shape ∙ ap (λ k. parts.shape_of_schema (typing.schema_in k (read.action_of x))) same in
     record {
@@ -29,6 +31,9 @@ loop-action-preserved c =
           c.loop-action.schemas.entries c.put.new.table.entries c.in_ok-schema.schema (map made xs)
           (λ key is j. record { name = is j; parameters = (shape j).0; precondition = (shape j).1; effect = (shape j).2; increase = (shape j).3 })
           c.in_ok-put.ensures.names c.in_ok-put.ensures.added (c.loop-action.invariant.table once);
+      names = λ once. tables.table_step placed_as names_in parts.precondition_names_of xs i x c.loop-action-test.true c.action-item.is
+          c.loop-action.schemas.entries c.put.new.table.entries c.in_ok-schema.schema (map names_in xs) (λ key is. c.in_ok-schema.ensures.names)
+          c.in_ok-put.ensures.names c.in_ok-put.ensures.added (c.loop-action.invariant.names once);
     }
 
 pub schema-requires : goal.schema-requires

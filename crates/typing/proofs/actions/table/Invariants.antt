@@ -2,6 +2,7 @@ use Rattle.std.proofs.Common.{◌≡◌, [], ◌++◌, map, drop}
 use Rattle.std.specs.List.{flat_map}
 use Rattle.typing_names.specs.Walk.{found, found_by}
 use Rattle.task.specs.TaskParts as parts
+use Rattle.typing_names.specs.QuantifiedNames.{quantified_names}
 use Rattle.typing_names.specs.Scope.{keys_in, known_outside}
 use Rattle.pddl_tree_parts.specs.Tree as read
 use Rattle.model.specs.Trees.{domain_file}
@@ -18,4 +19,8 @@ invariant-loop-action l = record {
       → (typing.repeated_after (keys_in l.schemas.entries) (map (λ a. typing.placed domain_file (read.name_of a.name)) (drop l.action-index l.actions)) ≡ [])
       × (map parts.schema_of l.schemas.entries ++ map (λ a. typing.schema_in (known_outside l.initial.resolver.globals.now) (read.action_of a)) (drop l.action-index l.actions)
       ≡ map (λ a. typing.schema_in (known_outside l.initial.resolver.globals.now) (read.action_of a)) l.actions);
+  names : typing.repeated_after [] (map (λ a. typing.placed domain_file (read.name_of a.name)) l.actions) ≡ []
+      → (typing.repeated_after (keys_in l.schemas.entries) (map (λ a. typing.placed domain_file (read.name_of a.name)) (drop l.action-index l.actions)) ≡ [])
+      × (map parts.precondition_names_of l.schemas.entries ++ map (λ a. quantified_names (read.action_of a).precondition) (drop l.action-index l.actions)
+      ≡ map (λ a. quantified_names (read.action_of a).precondition) l.actions);
 }

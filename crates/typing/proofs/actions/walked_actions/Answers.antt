@@ -1,7 +1,8 @@
-use Rattle.std.proofs.Common.{◌≡◌, ◌∙◌, List, ◌++◌, map, ap, sym}
+use Rattle.std.proofs.Common.{◌≡◌, ◌∙◌, List, [], ◌++◌, map, ap, sym}
 use Rattle.std.specs.List.{flat_map}
 use Rattle.std.proofs.lemmas.List.Folds.{flat_map-map}
 use Rattle.std.proofs.lemmas.Result.{IfOk-weaker, on_ok_weaker}
+use Rattle.typing_names.specs.QuantifiedNames.{quantified_names}
 use Rattle.typing_names.specs.Scope.{known_outside}
 use Rattle.typing_names.specs.Walk.{found, found_by}
 use Rattle.typing_names.proofs.Empty as empty
@@ -37,14 +38,28 @@ returns-clause-finds c =
     ∙ ap (found (found_by c.args.resolver.now.walk)) (same_faults known xs c.args.domain.now.actions.items c.as_slice-actions.ensures.value))
     c.table.ensures.finds
 
+-- if the actions have no fault, none is declared twice
+once : (known : typing.Known) (xs ys : List Action) → xs ≡ ys → typing.action_faults known (map read.action_of ys) ≡ [] → typing.repeated (map placed_as xs) ≡ []
+once known xs ys is none =
+    empty.not_refused 16 (typing.repeated (map placed_as xs))
+    (empty.nil_left (twice xs) (flat_map (λ (a : Action). typing.schema_faults known (read.action_of a)) xs) (same_faults known xs ys is ∙ none))
+
+-- what is made of each action
+of_each : {S : Type 0} (made : tree.Action → S) (xs ys : List Action) → xs ≡ ys → map (λ (a : Action). made (read.action_of a)) xs ≡ map made (map read.action_of ys)
+of_each made xs ys is = ap (map (λ (a : Action). made (read.action_of a))) is ∙ sym (finding.map-map made read.action_of ys)
+
 pub returns-clause-table : goal.returns-clause-table
 returns-clause-table c =
     let known = known_outside c.args.resolver.now.globals.now in
     let xs = c.as_slice-actions.result.now in
     let ys = c.args.domain.now.actions.items in
-    let inner = flat_map (λ (a : Action). typing.schema_faults known (read.action_of a)) xs in
-    IfOk-weaker c.table.result _ _
-    (λ m table none.
-    table (empty.not_refused 16 (typing.repeated (map placed_as xs)) (empty.nil_left (twice xs) inner (same_faults known xs ys c.as_slice-actions.ensures.value ∙ none)))
-    ∙ ap (map (λ (a : Action). typing.schema_in known (read.action_of a))) c.as_slice-actions.ensures.value ∙ sym (finding.map-map (typing.schema_in known) read.action_of ys))
-    c.table.ensures.table
+    let is = c.as_slice-actions.ensures.value in
+    IfOk-weaker c.table.result _ _ (λ m table none. table (once known xs ys is none) ∙ of_each (typing.schema_in known) xs ys is) c.table.ensures.table
+
+pub returns-clause-names : goal.returns-clause-names
+returns-clause-names c =
+    let known = known_outside c.args.resolver.now.globals.now in
+    let xs = c.as_slice-actions.result.now in
+    let ys = c.args.domain.now.actions.items in
+    let is = c.as_slice-actions.ensures.value in
+    IfOk-weaker c.table.result _ _ (λ m names none. names (once known xs ys is none) ∙ of_each (λ (a : tree.Action). quantified_names a.precondition) xs ys is) c.table.ensures.names

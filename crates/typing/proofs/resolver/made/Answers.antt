@@ -65,7 +65,8 @@ parts_of c = record {
   schemas = c.in_ok-schemas.schemas;
   init = c.in_ok-start.start.init;
   values = c.in_ok-start.start.values;
-  goal = c.in_ok-start.start.goal;
+  goal = c.in_ok-start.start.goal.formula;
+  goal_names = c.in_ok-start.start.goal.names;
   has_metric = c.is_some.result;
 }
 
@@ -97,4 +98,7 @@ pub returns-clause-well_typed : goal.returns-clause-well_typed
 returns-clause-well_typed c = (made (goal.at.returns-clause-well_typed c).After-is_some).well_typed
 
 pub returns-clause-task : goal.returns-clause-task
-returns-clause-task c = c.from_parts.ensures ∙ (made (goal.at.returns-clause-task c).After-is_some).same
+returns-clause-task c = c.from_parts.ensures.task ∙ (made (goal.at.returns-clause-task c).After-is_some).same
+
+pub returns-clause-names : goal.returns-clause-names
+returns-clause-names c = c.from_parts.ensures.names ∙ (λ i. record { actions = c.in_ok-schemas.ensures.names i; goal = c.in_ok-start.ensures.ok.goal_names i })

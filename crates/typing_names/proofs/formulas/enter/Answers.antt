@@ -1,4 +1,6 @@
-use Rattle.std.proofs.Common.{◌≡◌, ◌∙◌, map, ap}
+use Rattle.std.proofs.Common.{◌≡◌, ◌∙◌, ◌++◌, map, ap}
+use Rattle.task.specs.Names.{names_in}
+use Rattle.typing_names.proofs.Quantified.{names_declared}
 use Rattle.typing_names.specs.TypedLists.{declared_of}
 use Rattle.typing_names.specs.Resolver.{file_in, known_to}
 use Rattle.typing_names.specs.Walk.{found, found_by}
@@ -28,3 +30,9 @@ pub returns-clause-finds : goal.returns-clause-finds
 returns-clause-finds c =
     let known = known_to c.args.resolver.now in
     c.in_ok-declare_variables.ensures.finds ∙ ap (λ xs. found (found_by c.args.resolver.now.walk) (typing.variable_faults known.type_names known.variables xs)) (same (goal.at.returns-clause-finds c).After-as_slice-declared)
+
+pub returns-clause-names : goal.returns-clause-names
+returns-clause-names c =
+    c.in_ok-add_names.ensures
+    ∙ ap (λ l. names_in c.args.resolver.now.names.items ++ l)
+    (names_declared (file_in c.args.resolver.now) (read.groups_of c.args.groups.now) c.as_slice-declared.result.now (same (goal.at.returns-clause-names c).After-as_slice-declared))

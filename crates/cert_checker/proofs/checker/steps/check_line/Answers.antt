@@ -27,6 +27,9 @@ has_mark c =
 marked : (c : After-get) (mark : Mark) → (listed_at c).mark ≡ mark → HasCost (certificate_at c.args.listing.now) c.args.place (listed_at c).cost (mark_of mark)
 marked c mark is = subst (λ m. HasCost (certificate_at c.args.listing.now) c.args.place (listed_at c).cost (mark_of m)) is (has_mark c)
 
+pub bounds-marks-place : goal.bounds-marks-place
+bounds-marks-place c = omega (arith, c.requires.within, as_many_marks (certificate_at c.args.listing.now) c.marks.result.now c.marks.ensures.marks)
+
 -- the listing in memory is small
 pub offset_bounds-marks-place : goal.offset_bounds-marks-place
 offset_bounds-marks-place c =

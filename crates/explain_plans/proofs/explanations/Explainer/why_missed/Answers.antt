@@ -1,8 +1,7 @@
 use Rattle.std.proofs.Common.{ap, sym, subst, map, true, Some, ◌≡◌}
 use Rattle.std.specs.List.{list_all}
-use Rattle.task.specs.Task.{task_of}
+use Rattle.task.specs.Task.{task_of, variable_names_of}
 use Rattle.task.specs.TaskParts.{formula_of, object_of}
-use Rattle.explain_plans.specs.NamesView.{names_in}
 use Rattle.formulas.specs.State.{instance_of, plan_of, state_of}
 use Rattle.formulas.proofs.Instances.{goal_fits}
 use Rattle.explain_plans.specs.Explanations.{AreReasons}
@@ -26,9 +25,9 @@ pub returns-clause-explained : goal.returns-clause-explained
 returns-clause-explained c =
     let task = task_of c.args.self.task.now in
     let reasons = c.in_ok-reasons.reasons in
-    let names = names_in c.args.self.names.now.goal.items in
+    let names = (variable_names_of c.args.self.task.now).goal in
     subst (λ l. AreReasons task (plan_of c.args.self.plan.now) task.goal l names reasons) (ap (map object_of) c.new-nothing.ensures)
     (subst (λ f. AreReasons task (plan_of c.args.self.plan.now) f (map object_of c.new-nothing.result.items) names reasons) c.goal-goal.ensures
     (subst (λ l. AreReasons task l (formula_of c.goal-goal.result.now) (map object_of c.new-nothing.result.items) names reasons) c.steps-steps.ensures.steps
-    (subst (λ l. AreReasons task (map instance_of c.steps-steps.result.now) (formula_of c.goal-goal.result.now) (map object_of c.new-nothing.result.items) (names_in l) reasons)
-    c.deref.ensures.value c.in_ok-reasons.ensures)))
+    (subst (λ l. AreReasons task (map instance_of c.steps-steps.result.now) (formula_of c.goal-goal.result.now) (map object_of c.new-nothing.result.items) l reasons)
+    c.goal_names.ensures c.in_ok-reasons.ensures)))

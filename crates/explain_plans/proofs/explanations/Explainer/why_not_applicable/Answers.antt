@@ -1,8 +1,8 @@
 use Rattle.std.proofs.Common.{sym, ap, ◌∙◌, ◌-◌, map, take, refl}
 use Rattle.std.specs.Option.{option_map}
-use Rattle.task.specs.Task.{task_of}
+use Rattle.task.specs.Task.{task_of, variable_names_of}
 use Rattle.task.specs.TaskParts.{object_of, shape_of}
-use Rattle.explain_plans.specs.NamesView.{names_in, names_of}
+use Rattle.task.specs.Names.{names_in}
 use Rattle.formulas.specs.State.{plan_of, state_of}
 use Rattle.formulas.proofs.Instances.{precondition_fits}
 use Rattle.explain_plans.proofs.Stopping.{before_all, before_leads, schema_is_some, step_is_one, reported, turned}
@@ -39,4 +39,4 @@ returns-clause-explained c =
     c.index-steps-step.result c.index-steps-step.is (shape_of c.unwrap-schema.result.now)
     (ap (option_map (λ s. shape_of s.now)) (sym c.unwrap-schema.ensures) ∙ c.schema.ensures.shape)
     c.amount.result c.amount.ensures c.is_none-lacks_cost.result (turned _ _ c.is_none-lacks_cost.ensures) c.in_ok-reasons.reasons
-    (take (c.args.step - 1) c.steps-steps.result.now) refl (names_of c.args.self.names.now) (names_in c.of_action.result.now) c.of_action.ensures c.in_ok-reasons.ensures
+    (take (c.args.step - 1) c.steps-steps.result.now) refl (variable_names_of c.args.self.task.now) (names_in c.precondition_names.result.now) c.precondition_names.ensures c.in_ok-reasons.ensures

@@ -13,7 +13,7 @@ use Rattle.model.specs.Task.{forall}
 use Rattle.model.specs.WellTyped.{is_formula}
 use Rattle.model.proofs.Tests.{passes_at, passes_map}
 use Rattle.explain_plans.specs.FalseParts.{Part, false_parts}
-use Rattle.explain_plans.specs.NamesView.{names_in}
+use Rattle.task.specs.Names.{names_in}
 use Rattle.explain_plans.specs.Parts.{Finds}
 use Rattle.explain_plans.proofs.FoundLemmas.{finds_when_full, finds_next, finds_end, finds_next_part, finds_last_part, parts_by_all}
 use Rattle.explain_plans.proofs.false_parts.Context.+find.Goals as goal

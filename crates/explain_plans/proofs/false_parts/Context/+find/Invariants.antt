@@ -7,8 +7,8 @@ use Rattle.formulas.specs.Objects.{objects_left}
 use Rattle.formulas.proofs.ObjectWalk.{AreAmong}
 use Rattle.explain_plans.specs.declared.false_parts.Found.{Found}
 use Rattle.explain_plans.specs.FalseParts.{Part, false_parts, false_parts_of_all}
-use Rattle.explain_plans.specs.NamesView.{names_in}
-use Rattle.explain_plans.specs.VariableNames.{formulas}
+use Rattle.task.specs.Names.{names_in}
+use Rattle.explain_plans.specs.NamesLeft.{formulas}
 use Rattle.model.specs.Task.{Name}
 use Rattle.task.specs.declared.schemas.Formula.{Formula}
 use Rattle.explain_plans.specs.Parts.{Finds}

@@ -4,7 +4,7 @@ use Rattle.explain_plans.specs.declared.false_parts.Part as part
 use Rattle.task.specs.Task.{task_of}
 use Rattle.task.specs.TaskParts.{object_of, formula_of}
 use Rattle.formulas.specs.State.{state_of, FitsFormula}
-use Rattle.explain_plans.specs.NamesView.{names_in}
+use Rattle.task.specs.Names.{names_in}
 use Rattle.explain_plans.proofs.FoundLemmas.{as_part, finds_no_room, finds_itself}
 use Rattle.explain_plans.proofs.false_parts.Found.add_if_false.Goals as goal
 

@@ -3,7 +3,7 @@ use Rattle.task.specs.Task.{task_of}
 use Rattle.task.specs.TaskParts.{formula_of}
 use Rattle.explain_plans.specs.FormulaText.{parts_text}
 use Rattle.explain_plans.specs.ScopeView.{scope_of}
-use Rattle.explain_plans.specs.VariableNames.{formulas}
+use Rattle.explain_plans.specs.NamesLeft.{formulas}
 use Rattle.explain_plans.proofs.formula_text.FormulaPrinter.+formula.Given as goal
 
 -- together with the texts of the remaining parts, those of all are added

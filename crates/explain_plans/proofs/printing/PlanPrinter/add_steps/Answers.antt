@@ -1,11 +1,10 @@
 use Rattle.std.proofs.Common.{◌≡◌, ◌+◌, ◌≤◌, ◌*◌, ◌++◌, drop, get_or, map, Some, None, refl, ap, sym, subst, ◌∙◌, append_assoc, append-nil, arith}
-use Rattle.std.specs.Prelude.{codes, slice_get}
-use Rattle.std.specs.Fmt.{decimal}
+use Rattle.std.specs.Prelude.{slice_get}
 use Rattle.std.specs.Option.{option_map}
 use Rattle.std.proofs.lemmas.Option.{slice_get-get_or, slice_get-map}
 use Rattle.task.specs.Task.{task_of}
 use Rattle.formulas.specs.State.{instance_of, plan_of}
-use Rattle.explain_plans.specs.PlanLines.{cost_line, cost_lines, shown_step}
+use Rattle.explain_plans.specs.PlanLines.{cost_line, cost_lines}
 use Rattle.explain_plans.proofs.PlanLinesLemmas.{cost_end, cost_more}
 use Rattle.explain_plans.proofs.printing.PlanPrinter.add_steps.Goals as goal
 
@@ -25,12 +24,8 @@ loop-index-preserved c =
     subst (λ l. slice_get l index ≡ Some step) c.steps.ensures.steps (slice_get-map instance_of c.steps.result.now index ∙ ap (option_map instance_of) read) in
     let there : slice_get costs index ≡ Some cost = slice_get-get_or costs index 0 c.loop-index-test.true in
     let line = cost_line task (index + 1) step cost (total + cost) in
-    let words : c.as_str.result.now ≡ shown_step task step = c.as_str.ensures.value ∙ c.in_ok-words.ensures.text in
-    let is_line : c.as_bytes.result.now ≡ line =
-    c.as_bytes.ensures.value ∙ c.in_ok-line.ensures
-    ∙ (λ k. decimal (index + 1) ++ (codes "  " ++ (words k ++ (codes "  cost " ++ (decimal cost ++ (codes ", " ++ (decimal (total + is_cost k) ++ codes " so far\n")))))))
-    in
-    let added : c.extend_from_slice.new.self.items ≡ c.loop-index.text.items ++ line = c.in_ok-extend_from_slice.ensures.items ∙ ap (λ l. c.loop-index.text.items ++ l) is_line in
+    let added : c.add_step.new.text.items ≡ c.loop-index.text.items ++ line =
+    c.in_ok-add_step.ensures ∙ (λ k. c.loop-index.text.items ++ cost_line task (index + 1) step cost (total + is_cost k)) in
     let fits = c.type_inv.costs index in (
       omega (arith, c.loop-index.invariant.0, is_cost, fits),
       (λ k. added k ++ cost_lines task (index + 1) (total + is_cost k) (drop (index + 1) plan) (drop (index + 1) costs))

@@ -1,7 +1,6 @@
 use Rattle.std.specs.Prelude.{Some}
 use Rattle.formulas.specs.State.{plan_of}
-use Rattle.explain_plans.specs.NamesView.{names_of}
-use Rattle.task.specs.Task.{task_of}
+use Rattle.task.specs.Task.{task_of, variable_names_of}
 use Rattle.file_answers.specs.ExplanationLines.{named_of}
 use Rattle.file_answers.specs.Explanations.{files_in}
 use Rattle.file_answers.specs.StepLines.{is_traced}
@@ -18,9 +17,9 @@ returns-in-Err-clause-said c = λ is.
 
 pub returns-in-Ok-clause-subject : goal.returns-in-Ok-clause-subject
 returns-in-Ok-clause-subject c = λ domain problem most is.
-    steps_explained (task_of c.args.named.now.task) (names_of c.args.named.now.names) (plan_of c.in-Ok.plan) domain problem is most c.args.texts.now.plan.text.now c.in-Ok.ensures.plan
+    steps_explained (task_of c.args.task.now) (variable_names_of c.args.task.now) (plan_of c.in-Ok.plan) domain problem is most c.args.texts.now.plan.text.now c.in-Ok.ensures.plan
     (is_traced c.args.lines) (named_of c.args.texts.now.plan) c.explain_steps.result c.explain_steps.ensures
 
 pub returns-in-Ok-clause-said : goal.returns-in-Ok-clause-said
 returns-in-Ok-clause-said c = λ is.
-    steps_said (task_of c.args.named.now.task) (names_of c.args.named.now.names) (plan_of c.in-Ok.plan) (is_traced c.args.lines) c.args.texts.now is c.in-Ok.ensures.plan c.explain_steps.result c.explain_steps.ensures
+    steps_said (task_of c.args.task.now) (variable_names_of c.args.task.now) (plan_of c.in-Ok.plan) (is_traced c.args.lines) c.args.texts.now is c.in-Ok.ensures.plan c.explain_steps.result c.explain_steps.ensures

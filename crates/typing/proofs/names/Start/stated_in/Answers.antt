@@ -39,4 +39,5 @@ returns-clause-ok c =
       init = c.in_ok-init.ensures.ok.1.0 ∙ ap (λ k. flat_map (narrow_atoms_in k) p.init) is;
       values = c.in_ok-init.ensures.ok.1.1 ∙ ap (λ k. values_after k [] p.init) is;
       goal = c.in_ok-goal.ensures.ok.1;
+      goal_names = c.in_ok-goal.ensures.names;
     }
