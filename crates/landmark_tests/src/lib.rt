@@ -4,8 +4,4 @@
 #[cfg(test)]
 mod asked;
 #[cfg(test)]
-mod drafts;
-#[cfg(test)]
-mod judged;
-#[cfg(test)]
 mod texts;

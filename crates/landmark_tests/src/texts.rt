@@ -1,21 +1,6 @@
 //! Tasks, as texts.
 use test_support::Texts;
 
-/// Two balls are carried to the other room by two grippers: each is picked and dropped, and the robot moves once. These five steps
-/// are needed without deletes too.
-pub(crate) const GRIPPER: Texts = [
-    "(define (domain gripper) (:predicates (room ?r) (gripper ?g) (ball ?b) (at-robby ?r) (at ?b ?r) (free ?g) (carry ?b ?g))
- (:action move :parameters (?from ?to) :precondition (and (room ?from) (room ?to) (at-robby ?from))
-  :effect (and (at-robby ?to) (not (at-robby ?from))))
- (:action pick :parameters (?b ?r ?g) :precondition (and (ball ?b) (room ?r) (gripper ?g) (at ?b ?r) (at-robby ?r) (free ?g))
-  :effect (and (carry ?b ?g) (not (at ?b ?r)) (not (free ?g))))
- (:action drop :parameters (?b ?r ?g) :precondition (and (ball ?b) (room ?r) (gripper ?g) (carry ?b ?g) (at-robby ?r))
-  :effect (and (at ?b ?r) (free ?g) (not (carry ?b ?g)))))",
-    "(define (problem two) (:domain gripper) (:objects a b left right one two)
- (:init (room a) (room b) (gripper left) (gripper right) (ball one) (ball two) (at-robby a) (at one a) (at two a) (free left) (free right))
- (:goal (and (at one b) (at two b))))",
-];
-
 /// A lamp, and a way that is visible when the lamp is lit. The way is gone and the lamp lit once each. The atoms are: at the first
 /// place, the lamp is lit, at the second place, the second place was seen.
 pub(crate) const LAMP: Texts = [

@@ -1,9 +1,10 @@
 -- What is known of one value within its limits, and of a tested one.
 use Rattle.std.proofs.Common.{◌≡◌, ◌∙◌, ℕ, ◌+◌, ◌*◌, ◌<◌, ◌≤◌, ◌^◌, Bool, true, false, not, List, [], ◌∷◌, length, map, sum_by, get_or, None, Some, refl, sym, ap, arith}
-use Rattle.std.specs.Prelude.{◌&&◌, nat_le, nat_lt, slice_get, if◌then◌else◌}
+use Rattle.std.specs.Prelude.{All, ◌&&◌, nat_le, nat_lt, slice_get, if◌then◌else◌}
 use Rattle.std.specs.List.{list_all, filter_map, cons_option}
 use Rattle.std.specs.Option.{option_map}
 use Rattle.std.proofs.lemmas.Bool.{and_parts, and_from, leb-true}
+use Rattle.std.proofs.lemmas.List.Elements.{All-head}
 use Rattle.std.proofs.lemmas.List.Sums.{sum_by-cons}
 use Rattle.std.proofs.lemmas.Option.{get_or_from_slice_get, slice_get_read}
 use Rattle.model.specs.Task.{Atom, Task}
@@ -12,13 +13,14 @@ use Rattle.lower_bounds.specs.TableFunctions.{is_among}
 use Rattle.lower_bounds.specs.TableLaws.{AreAllNumbered}
 use Rattle.lower_bounds.proofs.TableLists.{all-at}
 use Rattle.landmark_functions.specs.LandmarkFunctions.{Zone, Landmark, gives, is_whole, value}
-use Rattle.landmark_functions.specs.LandmarkLines.{NumberedLandmarks, Share, landmark_of, is_share, is_value, is_zone, keep_limits, literal_count, rise, share_count}
+use Rattle.landmark_functions.specs.LandmarkLines.{NumberedLandmarks, Share, functions_of, landmark_of, is_share, is_value, is_zone, keep_limits, literal_count, rise, share_count}
 use Rattle.landmark_functions.specs.FairLandmarks.{AreClosed, IsDeadFair}
 use Rattle.landmark_functions.specs.Laws.{IsOver, is_zone_over}
+use Rattle.landmark_functions.proofs.Kept.{kept_ones_are_over}
 use Rattle.landmark_functions.proofs.LowerBound.{dead_fair_ones_report_dead_ends, fair_ones_are_lower_bounds}
 use Rattle.landmark_zones.specs.Landmarks.{landmarks_of}
 use Rattle.landmarks.specs.declared.testing.Fairness.{Fairness}
-use Rattle.landmarks.specs.Fairness.{AreFairness, IsFairness, is_dead_fair, is_unfair}
+use Rattle.landmarks.specs.Fairness.{AreFairness, IsFairness, function_over, is_dead_fair, is_unfair}
 use Rattle.landmarks.proofs.FairnessLemmas.{dead-of, fair-of, few-of}
 use Rattle.landmarks.proofs.Kept.{kept-sorted}
 use Rattle.landmarks_on_demand.specs.declared.tested.TestedValue.{TestedValue}
@@ -55,8 +57,8 @@ limit-parts count l keeps =
     let values = and_parts (list_all (is_value (length l.zones)) l.values && nat_le (length l.values) 16777216) (nat_le (share_count l.values) 67108864) both.1 in
     ((and_parts (list_all (is_zone count) l.zones) (nat_le (length l.zones) 16777216) zones.0).0, (and_parts (list_all (is_value (length l.zones)) l.values) (nat_le (length l.values) 16777216) values.0).0)
 
-pub zones_over : (count : ℕ) (l : NumberedLandmarks) → IsOne count l → list_all (is_zone_over count) l.zones ≡ true
-zones_over count l one = all-over count l.zones (limit-parts count l one.limits).0
+pub kept_over : (count : ℕ) (l : NumberedLandmarks) → keep_limits count l ≡ true → list_all (is_zone_over count) l.zones ≡ true
+kept_over count l keeps = all-over count l.zones (limit-parts count l keeps).0
 
 -- ---- the value of a state
 
@@ -100,24 +102,13 @@ fits count l shares bits one at =
 
 -- ---- tested values
 
-module _ (count : ℕ) (zones : List Zone) (are : list_all (is_zone_over count) zones ≡ true) where
-  abbrev is_over : Landmark → Bool
-  is_over m = is_zone_over count m.zone
-
-  shares-over : (shares : List Share) → list_all is_over (filter_map (landmark_of zones) shares) ≡ true
-  shares-over [] = refl
-  shares-over (s ∷ shares) =
-      elim (slice_get zones s.zone) as (λ o. slice_get zones s.zone ≡ o → list_all is_over (cons_option (option_map with_weight o) (filter_map (landmark_of zones) shares)) ≡ true) [
-        | None ↦ λ _. shares-over shares
-        | Some z ↦ λ there.
-            and_from (is_zone_over count z) (list_all is_over (filter_map (landmark_of zones) shares)) (all-at (is_zone_over count) zones z are (Contains-got zones s.zone z there)) (shares-over shares)
-      ] refl
-    where
-      with_weight : Zone → Landmark
-      with_weight z = record { zone = z; weight = s.weight }
+first-in : (count : ℕ) (zones : List Zone) (values : List (List Share)) → length values ≡ 1 → All (IsOver count) (functions_of [] (record { zones = zones; values = values }))
+    → IsOver count (function_over [] zones (get_or values 0 []))
+first-in count zones [] one all = absurd (omega (arith, one))
+first-in count zones (shares ∷ values) one all = All-head (IsOver count) (function_over [] zones shares) (functions_of [] (record { zones = zones; values = values })) all
 
 first-over : (count : ℕ) (l : NumberedLandmarks) → IsOne count l → IsOver count (first_of l)
-first-over count l one = record { zones = shares-over count l.zones (zones_over count l one) (get_or l.values 0 []); scopes = refl }
+first-over count l one = first-in count l.zones l.values one.one (kept_ones_are_over count [] l one.limits refl)
 
 none-closed : (task : Task) (atoms : List Atom) → AreClosed task atoms []
 none-closed task atoms k d below asked = refl

@@ -22,7 +22,7 @@ is_dead_at values place bits = option_map_or (λ (v : TestedValue). is_dead_by v
 abbrev pub shown_by : List TestedValue → OnDemand (List Bool)
 shown_by values = record { bases = length values; value_by = value_at values; is_dead_by = is_dead_at values }
 
--- each value is a lower bound, and what it shows to be dead ends are some
+-- each value is a lower bound, and each state that it shows to be a dead end is one
 pub admissible_at : (task : Task) (atoms : List Atom) (values : List TestedValue) → All (IsTested task atoms) values → (basis : ℕ) → basis < length values
     → IsAdmissible (ground_system task atoms) (value_at values basis)
 admissible_at task atoms [] tested basis within = absurd (omega arith)

@@ -28,7 +28,7 @@ value_by v = value (first_of (landmarks_of v.landmarks))
 abbrev pub is_dead_by : TestedValue → List Bool → Bool
 is_dead_by v bits = v.is_dead_fair && nat_le 1 (value_by v bits)
 
--- It is one fair value, and dead-fair where that is said of it. So it is a lower bound, and what it shows to be dead ends are some.
+-- It is one fair value, and dead-fair where that is said of it. So it is a lower bound, and each state that it shows to be a dead end is one.
 pub record IsTested (task : Task) (atoms : List Atom) (v : TestedValue) : Type 0 where
   pub one : IsOne (length atoms) (landmarks_of v.landmarks)
   pub fair : IsFair task atoms (first_of (landmarks_of v.landmarks))

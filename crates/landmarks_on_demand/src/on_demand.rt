@@ -20,7 +20,7 @@ use std::alloc::Global;
 /// The maximum number of values.
 const MAX_VALUES: usize = 1_048_576;
 
-/// From this number of entries of all values on, of 4 bytes each, no further value is drafted.
+/// No further value is drafted once all values have this number of entries, of 4 bytes each.
 const MAX_ENTRIES: usize = 134_217_728;
 
 /// The number of dead-fair values that are tried before one is drafted.
@@ -119,8 +119,8 @@ impl<'i, 'g, 't> LandmarksOnDemand<'i, 'g, 't> {
         }
     }
 
-    /// Whether no value is drafted for the state at this place, which has this basis: there are as many as there may be, or that is
-    /// the one that was drafted for it.
+    /// Whether no value is to be drafted for the state at this place, which has this basis: there are as many values as there may be,
+    /// or the basis was drafted for it.
     fn is_done(&self, place: u32, basis: Option<Basis>) -> bool
         ensures { result ≡ false → length self.now.values.items < 1048576 }
     {

@@ -15,8 +15,8 @@ use landmarks_drafted::{Draft, KnownValue};
 use packed_state::Packed;
 use std::alloc::Global;
 
-/// What a zone takes of memory beside its literals, as many of which take as much.
-const OF_A_ZONE: usize = 8;
+/// The memory that a zone takes beside its literals, in entries of 4 bytes. A literal takes one.
+const ZONE_ENTRIES: usize = 8;
 
 /// A landmark value that was found to be fair.
 #[derive(Drop)]
@@ -55,13 +55,13 @@ impl TestedValue {
         }))
     }
 
-    /// What it takes of memory: its literals, and `OF_A_ZONE` more for each zone.
+    /// The memory that it takes, in entries of 4 bytes: one for each literal, and `ZONE_ENTRIES` more for each zone.
     pub(crate) fn entries(&self) -> usize {
         let mut entries = 0usize;
         for number in 0..self.landmarks.zone_count() {
             let zone = self.landmarks.zone(number);
             entries = entries
-                .saturating_add(OF_A_ZONE)
+                .saturating_add(ZONE_ENTRIES)
                 .saturating_add(zone.atoms.len())
                 .saturating_add(zone.negated.len());
         }
