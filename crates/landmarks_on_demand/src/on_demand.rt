@@ -26,6 +26,12 @@ const MAX_ENTRIES: usize = 134_217_728;
 /// The number of dead-fair values that are tried before one is drafted.
 const TRIED: usize = 16;
 
+/// The number of drafts after which it is judged whether they are of use.
+const MIN_DRAFTS: u64 = 4_096;
+
+/// No further value is drafted where fewer than one in this number of drafts was kept.
+const DRAFTS_FOR_ONE: u64 = 16;
+
 /// Landmark values of a ground task, drafted by LM-cut where a search asks for them. Each is tested before it is used. It serves the
 /// state for which it was drafted, and those that are reached from there.
 #[derive(Drop)]
@@ -33,6 +39,8 @@ pub struct LandmarksOnDemand<'i, 'g, 't> {
     alloc: Global,
     index: &'i CutIndex<'g, 't>,
     drafter: CutDrafter,
+    /// The number of drafts that were made.
+    drafted: u64,
     values: Vec<TestedValue>,
     /// The entries of all values.
     entries: usize,
@@ -73,6 +81,7 @@ impl<'i, 'g, 't> LandmarksOnDemand<'i, 'g, 't> {
             alloc,
             index,
             drafter,
+            drafted: 0,
             values: Vec::new(alloc),
             entries: 0,
             dead: Vec::new(alloc),
@@ -120,7 +129,7 @@ impl<'i, 'g, 't> LandmarksOnDemand<'i, 'g, 't> {
     }
 
     /// Whether no value is to be drafted for the state at this place, which has this basis: there are as many values as there may be,
-    /// or the basis was drafted for it.
+    /// drafts are of too little use, or the basis was drafted for it.
     fn is_done(&self, place: u32, basis: Option<Basis>) -> bool
         ensures { result ≡ false → length self.now.values.items < 1048576 }
     {
@@ -130,7 +139,16 @@ impl<'i, 'g, 't> LandmarksOnDemand<'i, 'g, 't> {
         if self.entries >= MAX_ENTRIES {
             return true;
         }
+        if self.are_of_little_use() {
+            return true;
+        }
         self.is_drafted_for(place, basis)
+    }
+
+    /// Whether so few of the drafts were kept that no further one is expected to save the time that it takes.
+    fn are_of_little_use(&self) -> bool {
+        let kept = self.values.len() as u64;
+        self.drafted >= MIN_DRAFTS && kept.saturating_mul(DRAFTS_FOR_ONE) < self.drafted
     }
 
     /// Whether the basis was drafted for the state at this place.
@@ -188,6 +206,7 @@ impl<'i, 'g, 't> LandmarksOnDemand<'i, 'g, 't> {
         ensures values { self.new.values.items ≡ self.old.values.items }
         ensures drafted { IfOk result (λ found. IfSome found (IsOneValue (length (atoms_of self.new.index.now)))) }
     {
+        self.drafted = self.drafted.saturating_add(1);
         let Some(basis) = basis else {
             return self.drafter.draft(self.alloc, state);
         };
