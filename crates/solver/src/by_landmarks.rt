@@ -65,23 +65,24 @@ pub(crate) fn solve_asking<E: Sink + Clock>(
     if !pays(alloc, space.ground(), &stopped.paused())? {
         return Ok(Attempt::InVain);
     }
-    let draft = without_tables(alloc, stopped)?;
-    if !draft
-        .evidence
-        .keep_limits(Version::Three, space.ground().width() as usize)
-    {
-        return Ok(Attempt::InVain);
+    match without_tables(setting, stopped)? {
+        Some(draft) => answer_asking(setting, draft, stopped.potentials, err),
+        None => Ok(Attempt::InVain),
     }
-    answer_asking(setting, draft, stopped.potentials, err)
 }
 
-/// The potentials of the paused search, as values over no tables.
-fn without_tables(alloc: Global, stopped: &Stopped<'_, '_, '_>) -> Result<Draft, NoMemory>
-    ensures values { IfOk result (λ draft. map potentials_of draft.values.items ≡ (evidence_of draft.evidence).values) }
-    ensures dead_ends { IfOk result (λ draft. potentials_of draft.dead_ends ≡ (evidence_of draft.evidence).dead_ends) }
-    ensures first { IfOk result (λ draft. first_value (by_tables (evidence_of draft.evidence)) ≡ potentials_of stopped.now.potentials.now) }
-    ensures given_dead_ends { IfOk result (λ draft. potentials_of draft.dead_ends ≡ potentials_of stopped.now.dead_ends.now) }
+/// The potentials of the paused search, as values over no tables, if a certificate can have them.
+fn without_tables(
+    setting: Setting<'_, '_>,
+    stopped: &Stopped<'_, '_, '_>,
+) -> Result<Option<Draft>, NoMemory>
+    ensures within_limits { IfOk result (λ o. IfSome o (λ draft. IsTrue (is_evidence three (length (atoms_in (ground_in setting.entry.space))) (evidence_of draft.evidence) no_landmarks))) }
+    ensures values { IfOk result (λ o. IfSome o (λ draft. map potentials_of draft.values.items ≡ (evidence_of draft.evidence).values)) }
+    ensures dead_ends { IfOk result (λ o. IfSome o (λ draft. potentials_of draft.dead_ends ≡ (evidence_of draft.evidence).dead_ends)) }
+    ensures first { IfOk result (λ o. IfSome o (λ draft. first_value (by_tables (evidence_of draft.evidence)) ≡ potentials_of stopped.now.potentials.now)) }
+    ensures given_dead_ends { IfOk result (λ o. IfSome o (λ draft. potentials_of draft.dead_ends ≡ potentials_of stopped.now.dead_ends.now)) }
 {
+    let Setting { alloc, space, .. } = setting;
     let value = stopped.potentials.copied(alloc)?;
     let dead_ends = stopped.dead_ends.copied(alloc)?;
     let values = vec![in alloc; value]?;
@@ -91,11 +92,14 @@ fn without_tables(alloc: Global, stopped: &Stopped<'_, '_, '_>) -> Result<Draft,
         tables: Vec::new(alloc),
         landmarks: Landmarks::none(alloc),
     };
-    Ok(Draft {
+    if !evidence.keep_limits(Version::Three, space.ground().width() as usize) {
+        return Ok(None);
+    }
+    Ok(Some(Draft {
         evidence,
         values,
         dead_ends,
-    })
+    }))
 }
 
 /// The answer of a search by this draft that asks for landmark values.

@@ -42,9 +42,9 @@ asked_cert-requires-clause-lines c =
     asked.lines c.args.setting.space c.requires.space c.args.setting.limits (evidence_of c.args.evidence) (Waiting c.in-Waiting.bound c.in-Waiting.states) c.args.asked.marked is
     (bound c.in-Waiting.bound) (found_among_more is.stop.1.found is.stop.0)
 
-pub returns-in-Some-in-Waiting : goal.returns-in-Some-in-Waiting
-returns-in-Some-in-Waiting c =
-    let at = goal.at.returns-in-Some-in-Waiting c in
+pub returns-in-Some : goal.returns-in-Some
+returns-in-Some c =
+    let at = goal.at.returns-in-Some c in
     let space = c.args.setting.space in
     let known = ground_in space in
     let task = task_in known in

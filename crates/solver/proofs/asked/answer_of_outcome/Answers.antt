@@ -62,9 +62,9 @@ asked_cert-requires-clause-lines c =
     let is = found (goal.at.asked_cert-requires-clause-lines c).In-Found in
     asked.lines c.args.setting.space c.requires.space c.args.setting.limits (evidence_of c.args.evidence) (Ended (Found c.in-Found.steps c.in-Found.cost c.in-Found.states)) c.args.marked is (bound c.in-Found.cost) is.stop.0.2
 
-pub returns-in-Some-in-Found : goal.returns-in-Some-in-Found
-returns-in-Some-in-Found c =
-    let at = goal.at.returns-in-Some-in-Found c in
+pub returns-in-Some : goal.returns-in-Some
+returns-in-Some c =
+    let at = goal.at.returns-in-Some c in
     let space = c.args.setting.space in
     let known = ground_in space in
     let task = task_in known in
@@ -109,19 +109,19 @@ asked_cert-requires-in-Exhausted-clause-lines c =
     let is = exhausted (goal.at.asked_cert-requires-in-Exhausted-clause-lines c).In-Exhausted in
     asked.lines c.args.setting.space c.requires.space c.args.setting.limits (evidence_of c.args.evidence) (Ended (Exhausted c.in-Exhausted.states)) c.args.marked is (none) is.stop.0.1
 
-pub returns-in-Some-in-Exhausted : goal.returns-in-Some-in-Exhausted
-returns-in-Some-in-Exhausted c =
-    let at = goal.at.returns-in-Some-in-Exhausted c in
+pub returns-in-Some-2 : goal.returns-in-Some-2
+returns-in-Some-2 c =
+    let at = goal.at.returns-in-Some-2 c in
     let space = c.args.setting.space in
     let known = ground_in space in
     let s = evidence_of c.args.evidence in
     let limits = c.args.setting.limits in
     let is = exhausted at.In-Exhausted in
     let where_to = Ended (Exhausted c.in-Exhausted.states) in
-    let cert = c.in-Some.cert in
+    let cert = c.in-Some-2.cert in
     let certificate = certificate_of cert in
-    let made = subst (λ (o : Option Cert). IfSome o (IsMade space s none c.args.marked c.in-Exhausted.states)) c.in-Some.is c.in_ok-cert-in-Exhausted.ensures.certificate in
-    let evidence = subst (λ (o : Option Cert). IfSome o (λ (_ : Cert). IsTrue (is_evidence four (length (atoms_in known)) s (landmarks_of c.args.marked.landmarks)))) c.in-Some.is c.in_ok-cert-in-Exhausted.ensures.evidence in
+    let made = subst (λ (o : Option Cert). IfSome o (IsMade space s none c.args.marked c.in-Exhausted.states)) c.in-Some-2.is c.in_ok-cert-in-Exhausted.ensures.certificate in
+    let evidence = subst (λ (o : Option Cert). IfSome o (λ (_ : Cert). IsTrue (is_evidence four (length (atoms_in known)) s (landmarks_of c.args.marked.landmarks)))) c.in-Some-2.is c.in_ok-cert-in-Exhausted.ensures.evidence in
     let version : IsUpTo (number_of limits.version) certificate = subst (IsUpTo (number_of limits.version)) (sym made) c.requires.version in (
       (
         task_unsolvable (task_in known) (atoms_in known) c.requires.space.atoms is.stop.0.0,
@@ -142,9 +142,9 @@ asked_cert-requires-in-States-clause-lines c =
     let is = limited (goal.at.asked_cert-requires-in-States-clause-lines c).In-States in
     asked.lines c.args.setting.space c.requires.space c.args.setting.limits (evidence_of c.args.evidence) (Ended (States c.in-States.bound c.in-States.states)) c.args.marked is (bound c.in-States.bound) is.stop.0.1.found
 
-pub returns-in-Some-in-States : goal.returns-in-Some-in-States
-returns-in-Some-in-States c =
-    let at = goal.at.returns-in-Some-in-States c in
+pub returns-in-Some-3 : goal.returns-in-Some-3
+returns-in-Some-3 c =
+    let at = goal.at.returns-in-Some-3 c in
     let space = c.args.setting.space in
     let known = ground_in space in
     let task = task_in known in
@@ -155,10 +155,10 @@ returns-in-Some-in-States c =
     let is = limited at.In-States in
     let where_to = Ended (States least c.in-States.states) in
     let limit = is.stop.0.1 in
-    let cert = c.in-Some.cert in
+    let cert = c.in-Some-3.cert in
     let certificate = certificate_of cert in
-    let made = subst (λ (o : Option Cert). IfSome o (IsMade space s (bound least) c.args.marked c.in-States.states)) c.in-Some.is c.in_ok-cert-in-States.ensures.certificate in
-    let evidence = subst (λ (o : Option Cert). IfSome o (λ (_ : Cert). IsTrue (is_evidence four (length atoms) s (landmarks_of c.args.marked.landmarks)))) c.in-Some.is c.in_ok-cert-in-States.ensures.evidence in
+    let made = subst (λ (o : Option Cert). IfSome o (IsMade space s (bound least) c.args.marked c.in-States.states)) c.in-Some-3.is c.in_ok-cert-in-States.ensures.certificate in
+    let evidence = subst (λ (o : Option Cert). IfSome o (λ (_ : Cert). IsTrue (is_evidence four (length atoms) s (landmarks_of c.args.marked.landmarks)))) c.in-Some-3.is c.in_ok-cert-in-States.ensures.evidence in
     let version : IsUpTo (number_of limits.version) certificate = subst (IsUpTo (number_of limits.version)) (sym made) c.requires.version in (
       (
         more_of_task task atoms c.requires.space.atoms is.value is.is_dead limits.states is.stop.0.0,

@@ -32,16 +32,16 @@ means k = ground_system (task_in k) (atoms_in k)
 
 -- ---- what is asked
 
-pub new-2-requires-clause-numbered : goal.new-2-requires-clause-numbered
-new-2-requires-clause-numbered g c =
+pub new-requires-2-clause-numbered : goal.new-requires-2-clause-numbered
+new-requires-2-clause-numbered g c =
     let known = ground_in c.args.setting.space in
     let task_is = c.in_ok-index.ensures.task ∙ ap task_in c.ground-ground.ensures in
     let atoms_are = c.in_ok-index.ensures.atoms ∙ ap atoms_in c.ground-ground.ensures in
     subst (λ (t : Task). AreAllNumbered t (atoms_of c.in_ok-index.index)) (sym task_is)
     (subst (λ (those : List Atom). AreAllNumbered (task_in known) those) (sym atoms_are) (all_numbered known [] c.requires.space.atoms))
 
-pub new-2-requires-clause-asked : goal.new-2-requires-clause-asked
-new-2-requires-clause-asked g c =
+pub new-requires-2-clause-asked : goal.new-requires-2-clause-asked
+new-requires-2-clause-asked g c =
     let k = c.ground-ground.result.now in
     subst (λ (t : Task). AreAsked t (atoms_of c.in_ok-index.index) [] (asked_in c.in_ok-index.index)) (sym c.in_ok-index.ensures.task)
     (subst (λ (those : List Atom). AreAsked (task_in k) those [] (asked_in c.in_ok-index.index)) (sym c.in_ok-index.ensures.atoms)

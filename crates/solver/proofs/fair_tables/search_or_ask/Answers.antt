@@ -16,3 +16,7 @@ go_on_by-requires-clause-system g c = ap means c.requires.ground
 
 pub go_on_by-requires-clause-width : goal.go_on_by-requires-clause-width
 go_on_by-requires-clause-width g c = ap (λ (k : Ground). length (atoms_in k)) c.requires.ground
+
+-- what was said on the way to the pause, and after it
+pub returns-in-Paused-clause-said : goal.returns-in-Paused-clause-said
+returns-in-Paused-clause-said g c = λ origin said. c.finish_or_ask.ensures.said origin (c.go_on_by.ensures.said origin said)
