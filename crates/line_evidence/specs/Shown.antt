@@ -1,10 +1,11 @@
 -- What the marks of packed states say by several values and landmark values, and that it is so.
-use Rattle.std.specs.Prelude.{◌≡◌, ℕ, ◌<◌, ◌≤◌, ⊤, true, Bool, List, [], Some, get_or, length, slice_get}
+use Rattle.std.specs.Prelude.{◌≡◌, ℕ, ◌<◌, ◌≤◌, ⊤, nat_le, true, Bool, List, [], Some, get_or, length, slice_get}
+use Rattle.std.specs.List.{list_all}
 use Rattle.model.specs.Task.{Atom, Task}
 use Rattle.lower_bounds.specs.TableFunctions as tables
 use Rattle.lower_bounds.specs.TableFunctions.{SeveralValues, Table, dead_ends_of, functions_of, greatest_value}
 use Rattle.landmark_functions.specs.LandmarkFunctions.{LandmarkFunction, value}
-use Rattle.landmark_functions.specs.LandmarkLines.{NumberedLandmarks, keep_limits}
+use Rattle.landmark_functions.specs.LandmarkLines.{NumberedLandmarks, Share, keep_limits}
 use Rattle.landmark_functions.specs.FairLandmarks.{IsFair, IsDeadFair}
 use Rattle.landmarks.specs.declared.testing.Fairness.{Fairness}
 use Rattle.landmarks.specs.Fairness.{function_over, is_dead_fair}
@@ -46,10 +47,15 @@ IsDeadFairAt found (cut basis rest) = ⊤
 IsDeadFairAt found (dead of_all) = ⊤
 IsDeadFairAt found (dead (landmark number)) = (f : Fairness) × (slice_get found number ≡ Some f) × (is_dead_fair f ≡ true)
 
+-- the value has so few zones that its line in a certificate's text is not too long, whatever their numbers and weights are
+abbrev pub has_few_zones : List Share → Bool
+has_few_zones shares = nat_le (length shares) 524288
+
 -- The landmark values are within the limits of a certificate's text, and each is fair beside the tables. What these marks say of these
 -- packed states, in order, is so, and dead ends rest on dead-fair values.
 pub record AreSupported (task : Task) (atoms : List Atom) (s : SeveralValues) (l : NumberedLandmarks) (states : List (List Bool)) (marks : List LineMark) : Type 0 where
   pub limits : keep_limits (length atoms) l ≡ true
+  pub few_zones : list_all has_few_zones l.values ≡ true
   pub fair : (number : ℕ) → number < length l.values → IsFair task atoms (function_at s.tables l number)
   pub shown : (k : ℕ) (bits : List Bool) (mark : LineMark) → slice_get states k ≡ Some bits → slice_get marks k ≡ Some mark → IsShown s l bits mark
   pub dead_fair : (k : ℕ) (mark : LineMark) → slice_get marks k ≡ Some mark → IsFairMark task atoms s.tables l mark

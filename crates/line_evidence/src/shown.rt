@@ -2,22 +2,22 @@
 //!
 //! While a search asks for landmark values, each is tested before it is used. A certificate has those that its lines name, numbered anew.
 //! So they are tested again, as a checker tests them, and nothing has to be known of how they were numbered.
-ghost use Rattle.std.specs.Prelude.{◌≡◌, ◌≤◌, ◌<◌, IfOk, IfSome, IsTrue, true, not, length};
+ghost use Rattle.std.specs.Prelude.{◌≡◌, ◌≤◌, ◌<◌, IfOk, IfSome, IsTrue, true, not, length, map};
 ghost use Rattle.std.specs.List.{list_all};
 ghost use Rattle.grounding.specs.Ground.{atoms_in, task_in};
 ghost use Rattle.packed_state.specs.Packed.{bits_of};
 ghost use Rattle.certificate_reader.specs.Lines.{basis_of, mark_of};
 ghost use Rattle.certificate_definitions.specs.Evidence.{landmark};
 ghost use Rattle.landmark_functions.specs.LandmarkLines.{keep_limits};
-ghost use Rattle.landmark_zones.specs.Landmarks.{landmarks_of};
+ghost use Rattle.landmark_zones.specs.Landmarks.{landmarks_of, share_of};
 ghost use Rattle.landmarks.specs.Fairness.{AreFairness, is_unfair};
 ghost use Rattle.table_guides.specs.FairTables.{functions_in, ground_in};
 ghost use Rattle.tables.specs.Several.{Knows, several_of, width_of};
 ghost use Rattle.line_evidence.specs.Roles.{marks_in};
-ghost use Rattle.line_evidence.specs.Shown.{AreSupported, IsDeadFairAt, IsShown, IsThere, function_at, value_by};
+ghost use Rattle.line_evidence.specs.Shown.{AreSupported, IsDeadFairAt, IsShown, IsThere, function_at, has_few_zones, value_by};
 
 use crate::marked::{Evaluation, Marked};
-use certificate::{Basis, Landmarks, Mark, NUMBER_LIMIT};
+use certificate::{Basis, Landmarks, Mark, NUMBER_LIMIT, Share};
 use faults::NoMemory;
 use landmarks::{CutIndex, Fairness, value_in};
 use packed_state::Packed;
@@ -25,6 +25,10 @@ use search::StateListing;
 use std::alloc::Global;
 use table_guides::FairTables;
 use tables::TableFunctions;
+
+/// The maximum number of zones of a landmark value. The line of one with as many is not too long for a certificate's text: a zone takes
+/// 20 bytes at most.
+const MAX_ZONES: usize = 524_288;
 
 /// Whether the landmark values that lines name are within the limits of a certificate and fair for the ground task, and show what the
 /// lines say of these listed states, as do the values of the guide.
@@ -43,6 +47,9 @@ pub(crate) fn are_supported<L: StateListing>(
     ensures { IfOk result (λ are. IsTrue are → AreSupported (task_in (ground_in guide.now)) (atoms_in (ground_in guide.now)) (functions_in guide.now)
         (landmarks_of marked.now.landmarks) (L.states listing.now) (marks_in marked.now.marks.items)) }
 {
+    if !have_few_zones(&marked.landmarks) {
+        return Ok(false);
+    }
     let Some(fairness) = fairness_beside(alloc, guide, &marked.landmarks)? else {
         return Ok(false);
     };
@@ -65,6 +72,25 @@ pub(crate) fn are_supported<L: StateListing>(
         }
     }
     Ok(true)
+}
+
+/// Whether the line of each landmark value is short enough for a certificate's text.
+fn have_few_zones(landmarks: &Landmarks) -> bool
+    ensures { result ≡ list_all has_few_zones (landmarks_of landmarks.now).values }
+{
+    for number in 0..landmarks.value_count() {
+        if !has_few_zones(landmarks.value(number)) {
+            return false;
+        }
+    }
+    true
+}
+
+/// Whether a landmark value has no more zones than it may have.
+fn has_few_zones(shares: &[Share]) -> bool
+    ensures { result ≡ has_few_zones (map share_of shares.now) }
+{
+    shares.len() <= MAX_ZONES
 }
 
 /// Whether each landmark value is fair beside the tables of the guide, in their order; `None` if they are not within the limits of a

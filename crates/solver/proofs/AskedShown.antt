@@ -206,6 +206,7 @@ module _ (task : Task) (claim : Claim) (exchanges : List Exchange) (s : SeveralV
         exchanges = named;
         atoms = refl;
         within_limits = kept;
+        few_zones = supports.few_zones;
         version = inr (inr refl);
         dead_ends_are_reported = reported_dead task claim exchanges s l marks states class_of value is_dead most nodes found roles alive;
       }

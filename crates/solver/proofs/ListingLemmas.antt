@@ -280,6 +280,7 @@ module _ (task : Task) (claim : Claim) (most : ℕ) (exchanges : List Exchange) 
       exchanges = named;
       atoms = refl;
       within_limits = kept;
+      few_zones = refl;
       version = known_version guidance;
       dead_ends_are_reported = reported_dead;
     }
@@ -342,6 +343,7 @@ more_allowed given le = record {
   exchanges = given.exchanges;
   atoms = given.atoms;
   within_limits = given.within_limits;
+  few_zones = given.few_zones;
   version = given.version;
   dead_ends_are_reported = given.dead_ends_are_reported;
 }

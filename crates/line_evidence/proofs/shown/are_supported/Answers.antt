@@ -68,6 +68,7 @@ returns g c = λ _.
     λ k mark at. omega (arith, slice_get_within (marks_in items) k mark at, many, c.loop-place-test.false, c.len-place-end.ensures) in
     record {
       limits = rw c.in-Some.is at c.in_ok-fairness.ensures.limits;
+      few_zones = sym c.have_few_zones.ensures ∙ c.if-not-have_few_zones.false;
       fair = fair_at task atoms tables l found are all;
       shown = λ k bits mark at_s at_m.
           subst (λ (s : SeveralValues). IsShown s l bits mark) c.functions-functions.ensures (c.loop-place.invariant.shown k bits mark (so_far k mark at_m) at_s at_m);
