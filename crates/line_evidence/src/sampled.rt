@@ -13,13 +13,13 @@ use search::{Node, StateListing};
 use std::alloc::Global;
 
 /// The number of expanded states by which it is estimated, at most.
-const MAX_SAMPLES: usize = 512;
+const MAX_SAMPLES: usize = 64;
 
 /// The steps of all drafts for them, at most.
 const MAX_STEPS: u64 = 50_000_000;
 
 /// Cost model: this many steps of a draft take the time of one successor.
-const STEPS_FOR_SUCCESSOR: u64 = 40;
+const STEPS_FOR_SUCCESSOR: u64 = 10;
 
 /// A paused search: what it listed, how it reached each state, in order, and its bound so far.
 #[derive(Drop)]
