@@ -12,20 +12,14 @@ use packed_state::Packed;
 use search::{Node, StateListing};
 use std::alloc::Global;
 
-/// The number of expanded states of a first look.
-const FIRST_SAMPLES: usize = 32;
+/// The number of expanded states by which it is estimated, at most.
+const MAX_SAMPLES: usize = 64;
 
-/// The number of expanded states by which it is estimated, if the first look is promising.
-const SAMPLES: usize = 256;
-
-/// The steps of all drafts of a look, at most.
+/// The steps of all drafts for them, at most.
 const MAX_STEPS: u64 = 50_000_000;
 
-/// The first look is promising if asking is estimated to take less than this many times as long as to go on.
-const PROMISING: u64 = 2;
-
 /// Cost model: this many steps of a draft take the time of one successor.
-const STEPS_FOR_SUCCESSOR: u64 = 40;
+const STEPS_FOR_SUCCESSOR: u64 = 10;
 
 /// A paused search: what it listed, how it reached each state, in order, and its bound so far.
 #[derive(Drop)]
@@ -56,8 +50,6 @@ struct Sampled {
     saved: u64,
     /// Their successors.
     successors: u64,
-    /// The steps of the drafts for all of them.
-    steps: u64,
 }
 
 /// Whether it is estimated that a search which asks for landmark values, from the beginning, takes less time than this one to its end.
@@ -74,45 +66,22 @@ pub fn pays<L: StateListing>(
     requires one_for_each { length paused.now.nodes.now ≡ length (L.states paused.now.listing.now) }
     requires few { length paused.now.nodes.now ≤ 16777216 }
 {
-    let first = look(alloc, ground, paused, paused.nodes.len() / FIRST_SAMPLES)?;
-    if !first.take_less_time(PROMISING) {
-        return Ok(false);
-    }
-    let all = look(alloc, ground, paused, paused.nodes.len() / SAMPLES)?;
-    Ok(all.take_less_time(1))
-}
-
-/// Samples of the states that were expanded, no two of which were listed closer together than this.
-fn look<L: StateListing>(
-    alloc: Global,
-    ground: &Ground<'_>,
-    paused: &Paused<'_, L>,
-    apart: usize,
-) -> Result<Sampled, NoMemory>
-    requires width { L.width_of paused.now.listing.now ≡ length (atoms_in ground.now) }
-    requires one_for_each { length paused.now.nodes.now ≡ length (L.states paused.now.listing.now) }
-    requires few { length paused.now.nodes.now ≤ 16777216 }
-{
     let mut sampled = Sampled::none();
     let mut drafter = CutDrafter::new(alloc, ground)?;
     let mut state = Packed::empty(alloc, ground.width())?;
     let mut applicable = Vec::new(alloc);
-    let mut next = 0;
+    let step = paused.nodes.len() / MAX_SAMPLES + 1;
     for place in 0..paused.nodes.len() {
         let node = paused.nodes[place];
-        if place >= next && node.is_expanded() && drafter.steps() < MAX_STEPS {
+        if place % step == 0 && node.is_expanded() && drafter.steps() < MAX_STEPS {
             paused.listing.get(place as u32, &mut state);
             ground.list_applicable(&state, &mut applicable)?;
             let most = paused.bound.saturating_sub(node.cost);
             let fate = fate(&mut drafter, alloc, &state, most)?;
             sampled = sampled.with(applicable.len(), fate);
-            next = place.saturating_add(apart);
         }
     }
-    Ok(Sampled {
-        steps: drafter.steps(),
-        ..sampled
-    })
+    Ok(sampled.take_less_time(drafter.steps()))
 }
 
 /// Whether landmark values would have saved the expansion of the state, from which a plan is to cost no more than this.
@@ -149,7 +118,6 @@ impl Sampled {
             expanded: 0,
             saved: 0,
             successors: 0,
-            steps: 0,
         }
     }
 
@@ -163,19 +131,17 @@ impl Sampled {
             expanded: self.expanded.saturating_add(1),
             saved: self.saved.saturating_add(saved),
             successors: self.successors.saturating_add(successors as u64),
-            ..self
         }
     }
 
-    /// Whether the states that are left, with drafts for all of these, take no more than this many times the time of all without.
-    fn take_less_time(self, times: u64) -> bool {
+    /// Whether the states that are left take less time, with drafts of this many steps for all of these, than all without.
+    fn take_less_time(self, steps: u64) -> bool {
         let left = self.expanded.saturating_sub(self.saved);
         let without = self
             .successors
             .saturating_add(self.expanded)
             .saturating_mul(STEPS_FOR_SUCCESSOR);
-        let with = without.saturating_add(self.steps);
-        let limit = self.expanded.saturating_mul(without).saturating_mul(times);
-        self.expanded > 0 && left.saturating_mul(with) <= limit
+        let with = without.saturating_add(steps);
+        self.expanded > 0 && left.saturating_mul(with) <= self.expanded.saturating_mul(without)
     }
 }

@@ -1,6 +1,6 @@
 use Rattle.std.proofs.Common.{◌∙◌, [], length, ap}
 use Rattle.packed_state.proofs.PackedLemmas.{length-set_of}
-use Rattle.line_evidence.proofs.sampled.look.Goals as goal
+use Rattle.line_evidence.proofs.sampled.pays.Goals as goal
 
 pub loop-place-init : goal.loop-place-init
 loop-place-init g c = record {
