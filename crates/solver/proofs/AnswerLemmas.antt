@@ -76,7 +76,7 @@ found_width task atoms numbered states nodes found k bits at =
     length-reachable task atoms numbered bits (reached.0, reached.1)
 
 -- the estimates of those that wait are told
-estimates_of : (estimate : List Bool → ℕ) (is_dead : List Bool → Bool) (outcome : Outcome GroundListing) → HasEstimates estimate is_dead listed_states outcome
+pub estimates_of : (estimate : List Bool → ℕ) (is_dead : List Bool → Bool) (outcome : Outcome GroundListing) → HasEstimates estimate is_dead listed_states outcome
     → AreEstimates estimate is_dead (listed_states (found_in outcome).store) (found_in outcome).nodes.items (found_in outcome).estimates.items
 estimates_of estimate is_dead (Found steps cost found) stated = stated
 estimates_of estimate is_dead (Exhausted found) stated = stated

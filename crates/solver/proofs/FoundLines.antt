@@ -113,7 +113,7 @@ module _ {S : Type 0} (value : S → ℕ) (is_dead : S → Bool) where
   lines_more (x ∷ states) (n ∷ nodes) (suc i) s node at_s at_n = ap (λ l. line_of value is_dead x n ∷ l) (lines_more states nodes i s node at_s at_n)
 
   -- the line of a found state is among them
-  line_at : (states : List S) (nodes : List Node) (k : ℕ) (s : S) (node : Node) → slice_get states k ≡ Some s → slice_get nodes k ≡ Some node
+  pub line_at : (states : List S) (nodes : List Node) (k : ℕ) (s : S) (node : Node) → slice_get states k ≡ Some s → slice_get nodes k ≡ Some node
       → slice_get (lines_of value is_dead states nodes) k ≡ Some (line_of value is_dead s node)
   line_at [] nodes k s node at_s at_n = absurd (cc)
   line_at (x ∷ states) [] k s node at_s at_n = absurd (cc)

@@ -164,14 +164,14 @@ module _ (task : Task) where
   none_more = λ k d below. absurd (omega (arith, below))
 
   -- a packed state says of the state that it stands for what is said of it
-  packed : (f : List Bool → ℕ) (bits : List Bool) → length bits ≡ length atoms → in_state task (numbered_atoms task atoms) f (state_of_bits task atoms bits) ≡ f bits
+  pub packed : (f : List Bool → ℕ) (bits : List Bool) → length bits ≡ length atoms → in_state task (numbered_atoms task atoms) f (state_of_bits task atoms bits) ≡ f bits
   packed f bits long =
       let there = packs_states task [] none_more in
       let state = state_of_bits task atoms bits in
       subst (λ (those : List Atom). in_state task those f state ≡ f bits) (sym (numbered_again task))
       (ap (λ b. if b then f (bits_of_state atoms state) else 0) (numbered-has task atoms state (there.fluents bits)) ∙ ap f (there.one_packed bits long))
 
-  packed-start : (f : List Bool → ℕ) → in_state task (numbered_atoms task atoms) f (initial_state task) ≡ f (ground_system task atoms).initial
+  pub packed-start : (f : List Bool → ℕ) → in_state task (numbered_atoms task atoms) f (initial_state task) ≡ f (ground_system task atoms).initial
   packed-start f =
       subst (λ (those : List Atom). in_state task those f (initial_state task) ≡ f (ground_system task atoms).initial) (sym (numbered_again task))
       (ap (λ b. if b then f (bits_of_state atoms (initial_state task)) else 0) (numbered-has task atoms (initial_state task) (initial-numbered task [])))

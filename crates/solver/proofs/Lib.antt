@@ -14,3 +14,7 @@ pub mod ByCost
 pub mod LoopLemmas
 pub mod PauseLemmas
 pub mod EndLemmas
+pub mod AskedLemmas
+pub mod AskedShown
+pub mod AskedEnd
+pub mod AskedAnswers

@@ -33,7 +33,7 @@ use Rattle.model.specs.Meaning.{State, initial_state, system_of}
 use Rattle.model.specs.Fluents.{is_fluent, static_atoms}
 use Rattle.model.specs.NumberedAtoms.{occurs_in, are_distinct, numbered_atoms}
 use Rattle.model.specs.Grounding.{chosen, state_of_bits, ground_system, NamesKept}
-use Rattle.certificate_definitions.specs.Certificates.{two, three, Certificate, StateLine, is_number, is_claim, is_mark, is_dead_end_weight, is_state_line, keeps_limits, rise, state_of_line, lines_of, AreAlikeFor, are_exchanges, value_of, is_dead_end_of, IsSupported, landmark_function}
+use Rattle.certificate_definitions.specs.Certificates.{two, three, four, Certificate, StateLine, is_number, is_claim, is_mark, is_dead_end_weight, is_state_line, keeps_limits, rise, state_of_line, lines_of, AreAlikeFor, are_exchanges, value_of, is_dead_end_of, IsSupported, landmark_function}
 use Rattle.certificate_definitions.specs.Evidence.{bare}
 use Rattle.symmetries_definitions.specs.Exchanges.{Exchange}
 use Rattle.symmetries_definitions.specs.Symmetries.{is_symmetry}
@@ -83,7 +83,7 @@ none_named [] = refl
 none_named (n ∷ numbers) = none_named numbers
 
 -- the atoms that its numbers name are those whose bits are set
-named_chosen : (atoms : List Atom) (bits : List Bool) → filter_map (slice_get atoms) (numbers_in bits) ≡ chosen atoms bits
+pub named_chosen : (atoms : List Atom) (bits : List Bool) → filter_map (slice_get atoms) (numbers_in bits) ≡ chosen atoms bits
 named_chosen [] bits = none_named (numbers_in bits)
 named_chosen (a ∷ atoms) [] = refl
 named_chosen (a ∷ atoms) (b ∷ bits) =
@@ -116,7 +116,7 @@ numbers_rise bits = rise_filter (has bits) (length bits) 0 0 (length bits) (omeg
 -- ---- the lines
 
 -- lines of distinct states
-states_apart : {S : Type 0} (lines : List (Line S)) → AreDistinct (map (λ (l : Line S). l.state) lines) → AllPairs (λ (k l : Line S). k.state ≢ l.state) lines
+pub states_apart : {S : Type 0} (lines : List (Line S)) → AreDistinct (map (λ (l : Line S). l.state) lines) → AllPairs (λ (k l : Line S). k.state ≢ l.state) lines
 states_apart {S} lines distinct i j d before within is =
     let place = distinct i j (get_or lines i d).state (state_at i (omega (arith, before, within))) (state_at j within ∙ ap Some (sym is)) in
     absurd (omega (arith, before, place))
@@ -124,7 +124,7 @@ states_apart {S} lines distinct i j d before within is =
     state_at : (k : ℕ) → k < length lines → slice_get (map (λ (l : Line S). l.state) lines) k ≡ Some (get_or lines k d).state
     state_at k below = slice_get-map (λ (l : Line S). l.state) lines k ∙ ap (option_map (λ (l : Line S). l.state)) (slice_get-get_or lines k d below)
 
-pairs_apart : (atoms : List Atom) → are_distinct atoms ≡ true → AllPairs (λ (a b : Atom). a ≢ b) atoms
+pub pairs_apart : (atoms : List Atom) → are_distinct atoms ≡ true → AllPairs (λ (a b : Atom). a ≢ b) atoms
 pairs_apart [] distinct i j d before within = absurd (omega (arith, within))
 pairs_apart (a ∷ atoms) distinct zero zero d before within = absurd (omega (arith, before))
 pairs_apart (a ∷ atoms) distinct (suc i) zero d before within = absurd (omega (arith, before))
@@ -139,7 +139,7 @@ pairs_apart (a ∷ atoms) distinct (suc i) (suc j) d before within =
 -- ---- the exchanges
 
 -- each is a symmetry that keeps these atoms, if all are symmetries and all keep them
-each_passes : (task : Task) (atoms : List Atom) (exchanges : List Exchange) → list_all (is_symmetry task) exchanges ≡ true → list_all (keeps_atoms atoms) exchanges ≡ true
+pub each_passes : (task : Task) (atoms : List Atom) (exchanges : List Exchange) → list_all (is_symmetry task) exchanges ≡ true → list_all (keeps_atoms atoms) exchanges ≡ true
     → All (λ (e : Exchange). IsTrue (is_symmetry task e && keeps_atoms atoms e)) exchanges
 each_passes task atoms [] symmetric kept = All-nil (λ (e : Exchange). IsTrue (is_symmetry task e && keeps_atoms atoms e))
 each_passes task atoms (e ∷ exchanges) symmetric kept =
@@ -148,14 +148,14 @@ each_passes task atoms (e ∷ exchanges) symmetric kept =
     All-cons (λ (x : Exchange). IsTrue (is_symmetry task x && keeps_atoms atoms x)) e exchanges (and_from (is_symmetry task e) (keeps_atoms atoms e) is keeps_it) (each_passes task atoms exchanges all keep_all)
 
 -- which states are alike where the atoms are the numbered ones
-alike_by : (task : Task) (c : Certificate) → c.atoms ≡ numbered_atoms task [] → AreAlikeFor task c ≡ AreAlike (numbered_atoms task []) c.exchanges
+pub alike_by : (task : Task) (c : Certificate) → c.atoms ≡ numbered_atoms task [] → AreAlikeFor task c ≡ AreAlike (numbered_atoms task []) c.exchanges
 alike_by task c numbered = ap (λ (l : List Atom). AreAlike l c.exchanges) (ap (numbered_atoms task) numbered ∙ numbered_again task)
 
 -- ---- the certificate
 
-known_version : (guidance : Guidance) → (version_by guidance ≡ two) ⊎ (version_by guidance ≡ three)
+known_version : (guidance : Guidance) → (version_by guidance ≡ two) ⊎ (version_by guidance ≡ three) ⊎ (version_by guidance ≡ four)
 known_version (by_potentials p dead_ends) = inl refl
-known_version (by_tables s) = inr refl
+known_version (by_tables s) = inr (inl refl)
 
 module _ (task : Task) (claim : Claim) (most : ℕ) (exchanges : List Exchange) (guidance : Guidance) (states : List (List Bool)) (nodes : List Node) where
   abbrev atoms : List Atom
@@ -280,6 +280,7 @@ module _ (task : Task) (claim : Claim) (most : ℕ) (exchanges : List Exchange) 
       exchanges = named;
       atoms = refl;
       within_limits = kept;
+      few_zones = refl;
       version = known_version guidance;
       dead_ends_are_reported = reported_dead;
     }
@@ -342,6 +343,7 @@ more_allowed given le = record {
   exchanges = given.exchanges;
   atoms = given.atoms;
   within_limits = given.within_limits;
+  few_zones = given.few_zones;
   version = given.version;
   dead_ends_are_reported = given.dead_ends_are_reported;
 }

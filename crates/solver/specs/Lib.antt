@@ -11,4 +11,5 @@ pub mod Attempts
 pub mod Solver
 pub mod Stopped
 pub mod Stretches
+pub mod Asked
 pub mod Said

@@ -1,5 +1,5 @@
 -- What the certificate of a search's found states is made of.
-use Rattle.std.specs.Prelude.{◌≡◌, ℕ, ◌+◌, ◌≤◌, ◌⊎◌, Bool, IsTrue, List, [], length, map, Contains}
+use Rattle.std.specs.Prelude.{◌≡◌, ℕ, ◌+◌, ◌≤◌, ◌⊎◌, Bool, true, IsTrue, List, [], length, map, Contains}
 use Rattle.std.specs.List.{filter, list_all, range_with_len}
 use Rattle.packed_state.specs.Sets.{has}
 use Rattle.search.specs.declared.nodes.Node.{Node}
@@ -11,10 +11,11 @@ use Rattle.model.specs.Claims.{Claim, Mark, expanded, cut, dead, Line}
 use Rattle.certificate_definitions.specs.Evidence as evidence
 use Rattle.certificate_definitions.specs.Evidence.{of_all, LineMark}
 use Rattle.symmetries_definitions.specs.Exchanges.{Exchange}
-use Rattle.certificate_definitions.specs.Certificates.{two, three, no_landmarks, Certificate, StateLine, IsClosedFor, keeps_limits, lines_of, value_of, is_dead_end_of}
+use Rattle.certificate_definitions.specs.Certificates.{two, three, four, no_landmarks, Certificate, StateLine, IsClosedFor, keeps_limits, lines_of, value_of, is_dead_end_of}
 use Rattle.certificate.specs.ListedSets.{Marked}
 use Rattle.model.specs.NumberedAtoms.{numbered_atoms}
 use Rattle.ground_listings.specs.Exchanges.{can_be_named}
+use Rattle.line_evidence.specs.Shown.{has_few_zones}
 use Rattle.solver.specs.Guidance.{Guidance, version_by, values_by, estimate_by, reports_dead}
 
 -- the numbers of the atoms that are true in the packed state, rising
@@ -57,8 +58,8 @@ found_certificate claim exchanges atoms guidance states nodes =
 
 -- The certificate is closed for the task, claims this, keeps the limits of a certificate's text, its exchanges can be named, and it
 -- lists at most `max_states` states by the numbered atoms, each at the place that is its number: different ones, as it is closed, and
--- each at the cost of a list of instances that leads to it. It is of version 2, or of version 3 where the search went by tables or
--- exchanges, and each listed state that its values report a dead end is listed as one.
+-- each at the cost of a list of instances that leads to it. It is of version 2, of version 3 where the search went by tables or
+-- exchanges, or of version 4 where it asked for landmark values; the line of none of these is too long. Each listed state that its values report a dead end is listed as one.
 pub record IsShownBy (task : Task) (claim : Claim) (max_states : ℕ) (certificate : Certificate) : Type 0 where
   pub claims : certificate.claim ≡ claim
   pub closed : IsClosedFor task certificate
@@ -67,7 +68,8 @@ pub record IsShownBy (task : Task) (claim : Claim) (max_states : ℕ) (certifica
   pub exchanges : IsTrue (list_all (can_be_named task) certificate.exchanges)
   pub atoms : certificate.atoms ≡ numbered_atoms task []
   pub within_limits : IsTrue (keeps_limits certificate)
-  pub version : (certificate.version ≡ two) ⊎ (certificate.version ≡ three)
+  pub few_zones : list_all has_few_zones certificate.landmarks.values ≡ true
+  pub version : (certificate.version ≡ two) ⊎ (certificate.version ≡ three) ⊎ (certificate.version ≡ four)
   pub dead_ends_are_reported : (line : Line State) → Contains (lines_of task certificate) line → IsTrue (is_dead_end_of task certificate line.state) → line.mark ≡ dead
 
 -- each expanded state of the certificate costs, with its value, at most this

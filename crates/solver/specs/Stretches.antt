@@ -4,8 +4,12 @@ use Rattle.grounding.specs.Ground.{task_in, atoms_in}
 use Rattle.ground_listings.specs.GroundListing.{listed_class, listed_states, listed_width}
 use Rattle.ground_listings.specs.declared.ground_listing.GroundListing.{GroundListing}
 use Rattle.search.specs.Nodes.{AreClosed}
+use Rattle.search.specs.Estimates.{IsAdmissible}
+use Rattle.search.specs.DeadEnds.{ReportsDeadEnds}
 use Rattle.search.specs.Progress.{IsSearch, nodes_in}
+use Rattle.search.specs.OnDemand.{OnDemand}
 use Rattle.search.specs.UnderWay as under_way
+use Rattle.search.specs.declared.under_way.Halt.{Halt}
 use Rattle.search.specs.declared.under_way.Search.{Search}
 use Rattle.solver.specs.declared.searched.Stretch.{Stretch}
 use Rattle.solver.specs.declared.searched.Stretch.TheVariants.{Ended, Paused}
@@ -35,6 +39,24 @@ abbrev pub IsBetweenTurns : {R : Type 0} (space : SearchSpace) (estimate : List 
 IsBetweenTurns space estimate is_dead s =
     IsSearch (system_of space) (class_in space) estimate is_dead listed_states s.progress
     × AreClosed (system_of space) (class_in space) (nodes_in listed_states s.progress)
+
+module _ {R : Type 0} (space : SearchSpace) (estimate : List Bool → ℕ) (reported : List Bool → Bool) (shown : OnDemand (List Bool)) (fits : R → Type 0) where
+  -- the same of a search that asks for values, between two turns
+  abbrev pub IsUnderWayBy : ℕ → Search GroundListing R → Type 0
+  IsUnderWayBy max_states s =
+      under_way.IsUnderWayBy (system_of space) (class_in space) estimate reported shown fits listed_states listed_class listed_width (length (atoms_in (ground_in space))) max_states s
+
+  -- and where it halts
+  abbrev pub IsHaltBy : (pause max_states : ℕ) → Halt GroundListing R → Type 0
+  IsHaltBy = under_way.IsTrueHaltBy (system_of space) (class_in space) estimate reported shown fits listed_states listed_class listed_width (length (atoms_in (ground_in space)))
+
+-- The search goes by some admissible estimate and some test for dead ends, and reports no others.
+pub record IsSound {R : Type 0} (space : SearchSpace) (s : Search GroundListing R) : Type 0 where
+  pub value : List Bool → ℕ
+  pub is_dead : List Bool → Bool
+  pub between : IsBetweenTurns space value is_dead s
+  pub admissible : IsAdmissible (system_of space) value
+  pub reports : ReportsDeadEnds (system_of space) is_dead
 
 -- an answer by tables, or what the search came to
 abbrev pub IsTrueEnd : (space : SearchSpace) (estimate : List Bool → ℕ) (is_dead : List Bool → Bool) → Limits → Parts → Type 0

@@ -3,8 +3,7 @@
 //! Nothing is known of drafted tables. They are used if a certificate can have them, if they would have saved the paused search by
 //! potentials enough of its expansions, and if they pass the test of fairness. The potentials of the first value are those of that
 //! search. The search by tables pauses once too, and others are drafted from what it found.
-ghost use Rattle.std.specs.Prelude.{◌≡◌, ◌==◌, ◌≤◌, [], IfOk, IfSome, IsTrue, Some, length, map, slice_get};
-ghost use Rattle.std.specs.List.{list_all};
+ghost use Rattle.std.specs.Prelude.{◌≡◌, ◌≤◌, [], IfOk, IfSome, IsTrue, Some, length, map, slice_get};
 ghost use Rattle.certificate.specs.Evidence.{is_evidence, evidence_of, potential_of};
 ghost use Rattle.certificate_definitions.specs.Certificates.{no_landmarks, three};
 ghost use Rattle.grounding.specs.Ground.{task_in, atoms_in, IsGroundOf};
@@ -12,12 +11,12 @@ ghost use Rattle.model.specs.Grounding.{ground_system};
 ghost use Rattle.ground_listings.specs.GroundListing.{listed_width};
 ghost use Rattle.lower_bounds.specs.Settled.{initial_value};
 ghost use Rattle.potentials.specs.Potentials.{potentials_of};
+ghost use Rattle.solver.specs.Asked.{IsTablesEnding};
 ghost use Rattle.solver.specs.Attempts.{IfDone};
 ghost use Rattle.solver.specs.Guidance.{by_tables, estimate_by, first_value, reports_dead};
 ghost use Rattle.solver.specs.Guided.{IsEnding, IsGuidanceFor};
 ghost use Rattle.solver.specs.Improved.{AreSettledOrHigh, AreDeadSettledOrHigh};
 ghost use Rattle.ground_listings.specs.SearchSpace.{ground_in, IsSearchSpace};
-ghost use Rattle.solver.specs.SeveralOver.{several_over};
 ghost use Rattle.devices.specs.Progress.{MayContinue};
 ghost use Rattle.solver.specs.Said.{IsLineWithin};
 ghost use Rattle.solver.specs.Solver.{IsAnswerWithin};
@@ -27,15 +26,14 @@ ghost use Rattle.solver.specs.Stretches.{IsTrueEnd};
 ghost use Rattle.table_guides.specs.FairTables as guides;
 ghost use Rattle.table_guides.specs.FairTables.{functions_in};
 ghost use Rattle.lower_bounds.specs.FairTables.{AreFair};
-ghost use Rattle.lower_bounds.specs.TableFunctions.{functions_of, greatest_value};
-ghost use Rattle.table_rows.specs.Tables.{weight_count_of};
-ghost use Rattle.table_rows.specs.declared.table.Table as in_memory;
-ghost use Rattle.tables.specs.Several.{several_of, width_of};
 
 use crate::answer::{Answer, answer_of};
+use crate::asked::answer_of_asked;
 use crate::attempt::Attempt;
+use crate::fair_guide::{functions_no_lower, guide_if_fair};
+use crate::fair_tables::{TablesEnding, search_or_ask};
 use crate::guidance::{Guidance, potential_of};
-use crate::parts::{Drafting, Given, LATER, Parts, search_with_tables};
+use crate::parts::{Drafting, Given, LATER, Parts};
 use crate::searched::{Ending, search_by};
 use crate::setting::Setting;
 use crate::stopped::Stopped;
@@ -45,27 +43,24 @@ use devices::Sink;
 use devices_clock::Clock;
 use faults::NoMemory;
 use ground_listings::SearchSpace;
-use grounding::Ground;
 use potentials::Potentials;
 use std::alloc::Global;
 use table_guides::FairTables;
-use table_rows::Table;
-use tables::{IndexedTables, TableFunctions, ValuesFairness};
 
 /// A draft of values over tables: as a certificate has them, and their constants and weights of atoms as potentials.
 #[derive(Drop)]
-struct Draft {
-    evidence: Evidence,
-    values: Vec<Potentials>,
-    dead_ends: Potentials,
+pub(crate) struct Draft {
+    pub(crate) evidence: Evidence,
+    pub(crate) values: Vec<Potentials>,
+    pub(crate) dead_ends: Potentials,
 }
 
 /// A draft of which the certificate's part is only lent.
 #[derive(Drop)]
-struct ValuesOver<'a> {
-    evidence: &'a Evidence,
-    values: Vec<Potentials>,
-    dead_ends: Potentials,
+pub(crate) struct ValuesOver<'a> {
+    pub(crate) evidence: &'a Evidence,
+    pub(crate) values: Vec<Potentials>,
+    pub(crate) dead_ends: Potentials,
 }
 
 /// The answer by tables, if better ones than the potentials of the paused search are found.
@@ -179,7 +174,10 @@ fn drafted(
 }
 
 /// The constants and weights of these values, as a certificate has them.
-fn written(alloc: Global, values: &[Potentials]) -> Result<Vec<WrittenPotentials>, NoMemory>
+pub(crate) fn written(
+    alloc: Global,
+    values: &[Potentials],
+) -> Result<Vec<WrittenPotentials>, NoMemory>
     ensures { IfOk result (λ written. map potential_of written.items ≡ map potentials_of values.now) }
 {
     let mut written = Vec::with_capacity(alloc, values.len())?;
@@ -224,12 +222,34 @@ fn answer_by_tables<E: Sink + Clock>(
     };
     let attempt = search_by_tables(setting, over, stopped, err)?;
     match attempt {
-        Attempt::Done(parts) => {
+        Attempt::Done(ending) => answer_of_tables(setting, evidence, ending),
+        Attempt::Promising => Ok(Attempt::Promising),
+        Attempt::InVain => Ok(Attempt::InVain),
+    }
+}
+
+/// The answer of a search by these values, with landmark values or without.
+fn answer_of_tables(
+    setting: Setting<'_, '_>,
+    evidence: Evidence,
+    ending: TablesEnding<'_, '_>,
+) -> Result<Attempt<Answer>, NoMemory>
+    requires version { 3 ≤ number_of setting.limits.version }
+    requires space { IsSearchSpace setting.space }
+    requires ground { IsGroundOf (task_in (ground_in setting.space)) [] setting.limits.instances (ground_in setting.space) }
+    requires guidance { IsGuidanceFor setting.space (by_tables (evidence_of evidence)) }
+    requires ending { IsTablesEnding setting.space (evidence_of evidence) setting.limits ending }
+    ensures { IfOk result (IfDone (IsAnswerWithin (task_in (ground_in setting.entry.space)) setting.entry.limits)) }
+{
+    match ending {
+        TablesEnding::InParts(parts) => {
             let answer = answer_of_parts(setting, evidence, parts)?;
             Ok(Attempt::Done(answer))
         }
-        Attempt::Promising => Ok(Attempt::Promising),
-        Attempt::InVain => Ok(Attempt::InVain),
+        TablesEnding::Asked(asked) => match answer_of_asked(setting, evidence, asked)? {
+            Some(answer) => Ok(Attempt::Done(answer)),
+            None => Ok(Attempt::InVain),
+        },
     }
 }
 
@@ -297,13 +317,13 @@ fn answer_by_later_tables<E: Sink + Clock>(
     }
 }
 
-/// Searches by these values, if they are fair and better, and drafts others on the way.
+/// Searches by these values, if they are fair and better. On the way it drafts others, or asks for landmark values.
 fn search_by_tables<'l, 't, E: Sink + Clock>(
     setting: Setting<'l, 't>,
     over: ValuesOver<'_>,
     stopped: &Stopped<'_, '_, '_>,
     err: &mut E,
-) -> Result<Attempt<Parts<'l, 't>>, NoMemory>
+) -> Result<Attempt<TablesEnding<'l, 't>>, NoMemory>
     requires version { 3 ≤ number_of setting.limits.version }
     requires space { IsSearchSpace setting.space }
     requires within_limits { IsTrue (is_evidence three (length (atoms_in (ground_in setting.space))) (evidence_of over.evidence.now) no_landmarks) }
@@ -317,7 +337,7 @@ fn search_by_tables<'l, 't, E: Sink + Clock>(
     requires dead_ends_improved { AreDeadSettledOrHigh (task_in (ground_in setting.space)) (atoms_in (ground_in setting.space)) (potentials_of stopped.now.dead_ends.now) }
     ensures fair { IfOk result (IfDone (λ _. AreFair (task_in (ground_in setting.entry.space)) (atoms_in (ground_in setting.entry.space)) (evidence_of over.entry.evidence.now))) }
     ensures no_lower { IfOk result (IfDone (λ _. initial_value (task_in (ground_in setting.entry.space)) (atoms_in (ground_in setting.entry.space)) (potentials_of stopped.now.potentials.now) ≤ estimate_by (by_tables (evidence_of over.entry.evidence.now)) (ground_system (task_in (ground_in setting.entry.space)) (atoms_in (ground_in setting.entry.space))).initial)) }
-    ensures end { IfOk result (IfDone (IsTrueEnd setting.entry.space (estimate_by (by_tables (evidence_of over.entry.evidence.now))) (reports_dead (by_tables (evidence_of over.entry.evidence.now))) setting.entry.limits)) }
+    ensures ending { IfOk result (IfDone (IsTablesEnding setting.entry.space (evidence_of over.entry.evidence.now) setting.entry.limits)) }
     ensures said { MayContinue (IsLineWithin (task_in (ground_in setting.entry.space)) setting.entry.limits) E.may_lack_memory (E.failures err.old) (E.taken err.old) (E.failures err.new) (E.taken err.new) }
 {
     let given = Given {
@@ -332,8 +352,8 @@ fn search_by_tables<'l, 't, E: Sink + Clock>(
     let attempt = better_guide(setting, over, stopped, err)?;
     match attempt {
         Attempt::Done(guide) => {
-            let parts = search_with_tables(setting, &guide, drafting, err)?;
-            Ok(Attempt::Done(parts))
+            let ending = search_or_ask(setting, &guide, drafting, err)?;
+            Ok(Attempt::Done(ending))
         }
         Attempt::Promising => Ok(Attempt::Promising),
         Attempt::InVain => Ok(Attempt::InVain),
@@ -389,107 +409,19 @@ fn better_guide<'l, 't, 'a, C: Clock>(
     ensures ground { IfOk result (IfDone (λ guide. guides.ground_in guide ≡ ground_in setting.entry.space)) }
     ensures no_lower { IfOk result (IfDone (λ _. initial_value (task_in (ground_in setting.entry.space)) (atoms_in (ground_in setting.entry.space)) (potentials_of stopped.now.potentials.now) ≤ estimate_by (by_tables (evidence_of over.entry.evidence.now)) (ground_system (task_in (ground_in setting.entry.space)) (atoms_in (ground_in setting.entry.space))).initial)) }
 {
-    let alloc = setting.alloc;
-    let ground = setting.space.ground();
-    let ValuesOver {
-        evidence,
-        values,
-        dead_ends,
-    } = over;
-    let Some(functions) = functions_over(alloc, ground, &evidence.tables, values, dead_ends)? else {
+    let table_count = over.evidence.tables.len();
+    let Some(functions) = functions_no_lower(setting, over, stopped.potentials)? else {
         return Ok(Attempt::InVain);
     };
-    if !starts_no_lower(alloc, ground, &functions, stopped.potentials)? {
-        return Ok(Attempt::InVain);
-    }
     if setting.limits.are_over(clock) {
         return Ok(Attempt::InVain);
     }
-    let saving = stopped.saving_by(alloc, &functions)?;
-    if saving.is_worth(stopped.table_count, evidence.tables.len()) {
+    let saving = stopped.saving_by(setting.alloc, &functions)?;
+    if saving.is_worth(stopped.table_count, table_count) {
         return guide_if_fair(setting, functions, clock);
     }
     if saving.is_promising() {
         return Ok(Attempt::Promising);
     }
     Ok(Attempt::InVain)
-}
-
-/// Whether the initial state's value is at least that by the potentials.
-fn starts_no_lower(
-    alloc: Global,
-    ground: &Ground<'_>,
-    functions: &TableFunctions<'_>,
-    potentials: &Potentials,
-) -> Result<bool, NoMemory>
-    requires functions { width_of functions.now ≡ length (atoms_in ground.now) }
-    requires width { length (potentials_of potentials.now).weights ≡ length (atoms_in ground.now) }
-    ensures { IfOk result (λ is. IsTrue is → initial_value (task_in ground.now) (atoms_in ground.now) (potentials_of potentials.now) ≤ greatest_value (functions_of (several_of functions.now)) (ground_system (task_in ground.now) (atoms_in ground.now)).initial) }
-{
-    let initial = ground.initial(alloc)?;
-    let mut known = functions.known_state(alloc)?;
-    let value = functions.value(&initial, &mut known);
-    Ok(potentials.value(&initial) <= value)
-}
-
-/// The guide by these values, if they are fair.
-fn guide_if_fair<'l, 't, 'a, C: Clock>(
-    setting: Setting<'l, 't>,
-    functions: TableFunctions<'a>,
-    clock: &C,
-) -> Result<Attempt<FairTables<'l, 't, 'a>>, NoMemory>
-    requires space { IsSearchSpace setting.space }
-    requires width { width_of functions ≡ length (atoms_in (ground_in setting.space)) }
-    ensures functions { IfOk result (IfDone (λ guide. functions_in guide ≡ several_of functions.entry)) }
-    ensures ground { IfOk result (IfDone (λ guide. guides.ground_in guide ≡ ground_in setting.entry.space)) }
-{
-    if setting.limits.are_over(clock) {
-        return Ok(Attempt::InVain);
-    }
-    let ground = setting.space.ground();
-    match functions.fairness(setting.alloc, ground)? {
-        ValuesFairness::Fair => {
-            let guide = FairTables::new(functions, ground);
-            Ok(Attempt::Done(guide))
-        }
-        _ => Ok(Attempt::InVain),
-    }
-}
-
-/// These values over these tables, if each row has a weight for each value.
-fn functions_over<'a>(
-    alloc: Global,
-    ground: &Ground<'_>,
-    tables: &'a [Table],
-    values: Vec<Potentials>,
-    dead_ends: Potentials,
-) -> Result<Option<TableFunctions<'a>>, NoMemory>
-    requires within_limits { IsTrue (is_evidence three (length (atoms_in ground.now)) (several_over values.items dead_ends tables.now) no_landmarks) }
-    ensures { IfOk result (λ o. IfSome o (λ f. several_of f ≡ several_over values.items dead_ends tables.now)) }
-{
-    let count = values.len() as u32 + 1;
-    if !have_weights(tables, count) {
-        return Ok(None);
-    }
-    let indexed = IndexedTables::index(alloc, ground.width(), count, tables)?;
-    Ok(Some(TableFunctions::new(values, dead_ends, indexed)))
-}
-
-/// Whether each table has this number of weights a row. A table without rows has one too.
-fn have_weights(tables: &[Table], count: u32) -> bool
-    ensures { result ≡ list_all (λ (t : in_memory.Table). weight_count_of t == count) tables.now }
-{
-    for table in tables {
-        if !has_weights(table, count) {
-            return false;
-        }
-    }
-    true
-}
-
-/// Whether the table does.
-fn has_weights(table: &Table, count: u32) -> bool
-    ensures { result ≡ (weight_count_of table.now == count) }
-{
-    table.weight_count() == count
 }

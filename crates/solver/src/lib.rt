@@ -2,8 +2,13 @@
 #![tactic(auto)]
 
 mod answer;
+mod asked;
+mod asking;
 mod attempt;
+mod by_landmarks;
 mod by_tables;
+mod fair_guide;
+mod fair_tables;
 mod guidance;
 mod improved;
 mod limits;

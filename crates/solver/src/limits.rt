@@ -101,6 +101,13 @@ impl Limits {
         self.version.allows_three()
     }
 
+    /// Whether the certificate may have version 4, and with it landmark values.
+    pub(crate) fn allow_version_four(&self) -> bool
+        ensures { IsTrue result → 4 ≤ number_of self.now.version }
+    {
+        self.version.allows_four()
+    }
+
     /// Whether the clock shows that the time is over.
     pub(crate) fn are_over<C: Clock>(&self, clock: &C) -> bool
         ensures { IsTrue result → IsTrue (is_some self.now.seconds) }

@@ -96,7 +96,10 @@ fn states_of(
 
 /// The listed states in order, as a certificate has them. If each state is a class of its own, the search's store becomes the
 /// certificate's, and no state is copied.
-fn sets_of(alloc: Global, listing: GroundListing<'_, '_>) -> Result<PooledStore, NoMemory>
+pub(crate) fn sets_of(
+    alloc: Global,
+    listing: GroundListing<'_, '_>,
+) -> Result<PooledStore, NoMemory>
     requires { length (listed_states listing) ≤ MAX_STATE_LINES }
     ensures { IfOk result (λ sets. pooled_states sets ≡ listed_states listing.entry) }
 {
@@ -121,7 +124,7 @@ fn copied_sets<L: StateListing>(alloc: Global, listing: &L) -> Result<PooledStor
 }
 
 /// A copy of these distinct atoms, in order.
-fn copied(alloc: Global, atoms: &[Atom]) -> Result<IndexSet<Atom>, NoMemory>
+pub(crate) fn copied(alloc: Global, atoms: &[Atom]) -> Result<IndexSet<Atom>, NoMemory>
     requires { IsTrue (are_distinct (map atom_of atoms.now)) }
     ensures { IfOk result (λ copy. map atom_of copy.keys ≡ map atom_of atoms.now) }
 {

@@ -9,7 +9,7 @@ pub enum MaxVersion {
     Two,
     /// Version 3: also values over tables, and exchanges of objects.
     Three,
-    /// Version 4: also landmark values. No answer's certificate has them yet.
+    /// Version 4: also landmark values.
     Four,
 }
 
@@ -21,6 +21,16 @@ impl MaxVersion {
         match self {
             MaxVersion::Two => false,
             MaxVersion::Three | MaxVersion::Four => true,
+        }
+    }
+
+    /// Whether version 4 is allowed: a certificate may have landmark values.
+    pub(crate) fn allows_four(self) -> bool
+        ensures { result ≡ nat_le 4 (number_of self) }
+    {
+        match self {
+            MaxVersion::Two | MaxVersion::Three => false,
+            MaxVersion::Four => true,
         }
     }
 }

@@ -16,6 +16,7 @@ ghost use Rattle.solver.specs.Stretches.{IsTrueEnd, IsTruePart, IsUnderWay};
 
 use crate::answer::{Answer, Exceeded};
 use crate::attempt::Attempt;
+use crate::by_landmarks::solve_asking;
 use crate::by_tables::{solve_by_later_tables, solve_by_tables};
 use crate::searched::{Ending, Stretch, begin_by, finish_by, go_on_by, stop_by};
 use crate::setting::{Session, Setting};
@@ -179,31 +180,30 @@ fn search_on<'l, 't, G: Guide, E: Sink + Clock>(
     }
 }
 
-/// Searches the ground task by the guide, which is over tables of which the first value is these potentials. At a pause it tries to
-/// switch to other tables, drafted from the states that it has found.
-pub(crate) fn search_with_tables<'l, 't, G: Guide, E: Sink + Clock>(
-    setting: Setting<'l, 't>,
-    guide: &G,
+/// Continues a search by tables, of which the first value is these potentials. At a pause it tries to switch to other tables, drafted
+/// from the states that it has found.
+pub(crate) fn finish_with_tables<'l, 't, G: Guide, E: Sink + Clock>(
+    session: &Session<'_, 'l, 't, G>,
+    search: Search<GroundListing<'l, 't>, G::Scratch>,
     drafting: Drafting<'_>,
     err: &mut E,
 ) -> Result<Parts<'l, 't>, NoMemory>
-    requires version { 3 ≤ number_of setting.limits.version }
-    requires space { IsSearchSpace setting.space }
-    requires ground { IsGroundOf (task_in (ground_in setting.space)) [] setting.limits.instances (ground_in setting.space) }
-    requires system { G.system_of guide.now ≡ system_of setting.space }
-    requires guide_width { G.width_of guide.now ≡ length (atoms_in (ground_in setting.space)) }
-    requires width { length (potentials_of drafting.given.potentials.now).weights ≡ length (atoms_in (ground_in setting.space)) }
-    requires improved { AreSettledOrHigh (task_in (ground_in setting.space)) (atoms_in (ground_in setting.space)) (potentials_of drafting.given.potentials.now) }
-    requires dead_ends_improved { AreDeadSettledOrHigh (task_in (ground_in setting.space)) (atoms_in (ground_in setting.space)) (potentials_of drafting.given.dead_ends.now) }
-    ensures end { IfOk result (IsTrueEnd setting.entry.space (G.estimate_of guide.now) (G.is_dead guide.now) setting.entry.limits) }
-    ensures said { MayContinue (IsLineWithin (task_in (ground_in setting.entry.space)) setting.entry.limits) E.may_lack_memory (E.failures err.old) (E.taken err.old) (E.failures err.new) (E.taken err.new) }
+    requires version { 3 ≤ number_of session.now.setting.limits.version }
+    requires space { IsSearchSpace session.now.setting.space }
+    requires ground { IsGroundOf (task_in (ground_in session.now.setting.space)) [] session.now.setting.limits.instances (ground_in session.now.setting.space) }
+    requires system { G.system_of session.now.guide.now ≡ system_of session.now.setting.space }
+    requires guide_width { G.width_of session.now.guide.now ≡ length (atoms_in (ground_in session.now.setting.space)) }
+    requires under_way { IsUnderWay session.now.setting.space (G.estimate_of session.now.guide.now) (G.is_dead session.now.guide.now) (G.fits session.now.guide.now) session.now.setting.limits.states search }
+    requires width { length (potentials_of drafting.given.potentials.now).weights ≡ length (atoms_in (ground_in session.now.setting.space)) }
+    requires improved { AreSettledOrHigh (task_in (ground_in session.now.setting.space)) (atoms_in (ground_in session.now.setting.space)) (potentials_of drafting.given.potentials.now) }
+    requires dead_ends_improved { AreDeadSettledOrHigh (task_in (ground_in session.now.setting.space)) (atoms_in (ground_in session.now.setting.space)) (potentials_of drafting.given.dead_ends.now) }
+    ensures end { IfOk result (IsTrueEnd session.now.setting.space (G.estimate_of session.now.guide.now) (G.is_dead session.now.guide.now) session.now.setting.limits) }
+    ensures said { MayContinue (IsLineWithin (task_in (ground_in session.now.setting.space)) session.now.setting.limits) E.may_lack_memory (E.failures err.old) (E.taken err.old) (E.failures err.new) (E.taken err.new) }
 {
-    let session = Session { setting, guide };
-    let search = begin_by(&session)?;
-    match search_to_later_pause(&session, search, drafting, err)? {
+    match search_to_later_pause(session, search, drafting, err)? {
         Part::Ended(parts) => Ok(parts),
-        Part::Promising(search) => search_to_end(&session, search, err),
-        Part::InVain(search) => search_to_end(&session, search, err),
+        Part::Promising(search) => search_to_end(session, search, err),
+        Part::InVain(search) => search_to_end(session, search, err),
     }
 }
 
@@ -323,7 +323,7 @@ fn is_outdone(answer: &Answer, bound: Option<u64>) -> bool {
     }
 }
 
-/// The answer by tables, if better ones than the potentials of this search are found.
+/// The answer by tables, if better ones than the potentials of this search are found, or else by landmark values.
 fn solve_at_pause<R, E: Sink + Clock>(
     setting: Setting<'_, '_>,
     search: &Search<GroundListing<'_, '_>, R>,
@@ -353,7 +353,15 @@ fn solve_at_pause<R, E: Sink + Clock>(
         effort: drafting.pause.effort,
         table_count: drafting.table_count,
     };
-    solve_by_tables(setting, &stopped, err)
+    let attempt = solve_by_tables(setting, &stopped, err)?;
+    match attempt {
+        Attempt::Done(answer) => Ok(Attempt::Done(answer)),
+        Attempt::Promising => match solve_asking(setting, &stopped, err)? {
+            Attempt::Done(answer) => Ok(Attempt::Done(answer)),
+            _ => Ok(Attempt::Promising),
+        },
+        Attempt::InVain => solve_asking(setting, &stopped, err),
+    }
 }
 
 /// The answer by other tables, if better ones than those of this search are found.

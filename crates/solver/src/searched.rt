@@ -10,7 +10,7 @@ ghost use Rattle.solver.specs.Guided.{AreMarksOf, CanBeMarked, IsEnding, IsMarkO
 ghost use Rattle.ground_listings.specs.SearchSpace.{ground_in, system_of, IsSearchSpace};
 ghost use Rattle.devices.specs.Progress.{MayContinue};
 ghost use Rattle.solver.specs.Said.{IsLineWithin};
-ghost use Rattle.solver.specs.Stretches.{IsBetweenTurns, IsStretch, IsUnderWay};
+ghost use Rattle.solver.specs.Stretches.{IsSound, IsStretch, IsUnderWay};
 
 use crate::pauses::{Milestone, is_news, next_pause};
 use crate::reports::{Report, say};
@@ -152,7 +152,7 @@ pub(crate) fn go_on_by<'l, 't, G: Guide, E: Sink + Clock>(
             return Ok(Stretch::Ended(stop_by(session, search)?));
         }
         let next = next_pause(search.store().len(), pause);
-        said = say_news(session, &search, said, err)?;
+        said = say_news(session.setting, &search, said, err)?;
         match stretch_by(session, search, next)? {
             Stretch::Ended(ending) => return Ok(Stretch::Ended(ending)),
             Stretch::Paused(paused) => search = paused,
@@ -162,35 +162,33 @@ pub(crate) fn go_on_by<'l, 't, G: Guide, E: Sink + Clock>(
 }
 
 /// Reports progress if there is news after the last report. The result is the last report from now on.
-fn say_news<G: Guide, E: Sink>(
-    session: &Session<'_, '_, '_, G>,
-    search: &Search<GroundListing<'_, '_>, G::Scratch>,
+pub(crate) fn say_news<R, E: Sink>(
+    setting: Setting<'_, '_>,
+    search: &Search<GroundListing<'_, '_>, R>,
     last: Option<Milestone>,
     err: &mut E,
 ) -> Result<Option<Milestone>, NoMemory>
-    requires space { IsSearchSpace session.now.setting.space }
-    requires system { G.system_of session.now.guide.now ≡ system_of session.now.setting.space }
-    requires successors { IsBetweenTurns session.now.setting.space (G.estimate_of session.now.guide.now) (G.is_dead session.now.guide.now) search.now }
-    ensures { MayContinue (IsLineWithin (task_in (ground_in session.now.setting.space)) session.now.setting.limits) E.may_lack_memory (E.failures err.old) (E.taken err.old) (E.failures err.new) (E.taken err.new) }
+    requires space { IsSearchSpace setting.space }
+    requires sound { IsSound setting.space search.now }
+    ensures { MayContinue (IsLineWithin (task_in (ground_in setting.entry.space)) setting.entry.limits) E.may_lack_memory (E.failures err.old) (E.taken err.old) (E.failures err.new) (E.taken err.new) }
 {
     let now = Milestone::of(search);
     if !is_news(last, now) {
         return Ok(last);
     }
-    say_progress(session, search, err)?;
+    say_progress(setting, search, err)?;
     Ok(now)
 }
 
 /// Reports progress, unless the open list is empty: then the search is about to end.
-fn say_progress<G: Guide, E: Sink>(
-    session: &Session<'_, '_, '_, G>,
-    search: &Search<GroundListing<'_, '_>, G::Scratch>,
+fn say_progress<R, E: Sink>(
+    setting: Setting<'_, '_>,
+    search: &Search<GroundListing<'_, '_>, R>,
     err: &mut E,
 ) -> Result<(), NoMemory>
-    requires space { IsSearchSpace session.now.setting.space }
-    requires system { G.system_of session.now.guide.now ≡ system_of session.now.setting.space }
-    requires successors { IsBetweenTurns session.now.setting.space (G.estimate_of session.now.guide.now) (G.is_dead session.now.guide.now) search.now }
-    ensures { MayContinue (IsLineWithin (task_in (ground_in session.now.setting.space)) session.now.setting.limits) E.may_lack_memory (E.failures err.old) (E.taken err.old) (E.failures err.new) (E.taken err.new) }
+    requires space { IsSearchSpace setting.space }
+    requires sound { IsSound setting.space search.now }
+    ensures { MayContinue (IsLineWithin (task_in (ground_in setting.entry.space)) setting.entry.limits) E.may_lack_memory (E.failures err.old) (E.taken err.old) (E.failures err.new) (E.taken err.new) }
 {
     let Some(bound) = search.bound() else {
         return Ok(());
@@ -202,7 +200,7 @@ fn say_progress<G: Guide, E: Sink>(
         listed,
         expanded,
     };
-    say(session.setting.alloc, report, err)
+    say(setting.alloc, report, err)
 }
 
 /// The number of expanded states.
@@ -255,7 +253,7 @@ pub(crate) fn search_by<'l, 't, G: Guide, E: Sink + Clock>(
 }
 
 /// The found states.
-fn found_in<'o, 'l, 't>(
+pub(crate) fn found_in<'o, 'l, 't>(
     outcome: &'o Outcome<GroundListing<'l, 't>>,
 ) -> &'o FoundStates<GroundListing<'l, 't>>
     ensures { result.now ≡ guided.found_in outcome.now }

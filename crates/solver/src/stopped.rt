@@ -7,6 +7,7 @@ ghost use Rattle.tables.specs.Several.{width_of};
 use cost_partitioning::Effort;
 use faults::NoMemory;
 use ground_listings::GroundListing;
+use line_evidence::Paused;
 use packed_state::Packed;
 use potentials::Potentials;
 use search::{Node, StateListing};
@@ -54,7 +55,19 @@ enum Expansion {
 /// Cost model: evaluating this many tables doubles the time for a state.
 const TABLES_AT_A_TIME: usize = 12;
 
-impl Stopped<'_, '_, '_> {
+impl<'a, 'l, 't> Stopped<'a, 'l, 't> {
+    /// The paused search alone.
+    pub(crate) fn paused(&self) -> Paused<'a, GroundListing<'l, 't>>
+        ensures listing { result.listing.now ≡ self.now.listing.now }
+        ensures nodes { result.nodes.now ≡ self.now.nodes.now }
+    {
+        Paused {
+            listing: self.listing,
+            nodes: self.nodes,
+            bound: self.bound,
+        }
+    }
+
     /// The true atoms of some states, spread evenly over the listing.
     pub(crate) fn samples(&self, alloc: Global) -> Result<Vec<Vec<u32>>, NoMemory>
         requires { IsStopped self.now.listing.now self.now.nodes.now }

@@ -18,7 +18,7 @@ use Rattle.model.proofs.LimitsLemmas.{limits_alike}
 use Rattle.model.proofs.TaskNames.{task_has_atom_names}
 use Rattle.typing.proofs.TypedTasks.{task_is_typed}
 use Rattle.file_answers.proofs.NamedExchanges.{named_exchanges}
-use Rattle.file_answers.proofs.ShortLines.{short_without}
+use Rattle.file_answers.proofs.ShortLines.{no_long_line}
 use Rattle.file_answers.proofs.laws.solved_certificates_are_accepted.Goals as goal
 
 pub returns-clause-accepted : goal.returns-clause-accepted
@@ -26,7 +26,7 @@ returns-clause-accepted c = λ domain problem task claim k most_states most plan
     let well = task_is_typed domain problem task read in
     let has_names = task_has_atom_names domain problem task read in
     let (exchanged, swaps) = named_exchanges task has_names k.exchanges shown.exchanges in
-    let short = short_without task k shown.within_limits shown.version swaps in (
+    let short = no_long_line task k shown.within_limits shown.few_zones swaps in (
       closed_reads_back task k well has_names exchanged short shown.within_limits shown.closed,
       closed_is_accepted task k plan well has_names exchanged short shown.within_limits shown.closed (subst (λ claim. IsPlanWithin task claim plan) (sym shown.claims) within),
       subst (λ atoms. exceeded_limit most max_numbered_atoms task atoms ≡ None) (sym shown.atoms) (limits_alike most max_numbered_atoms task reported),
@@ -40,7 +40,7 @@ bound_is_accepted domain problem task states instances least cert read reported 
     let well = task_is_typed domain problem task read in
     let has_names = task_has_atom_names domain problem task read in
     let (exchanged, swaps) = named_exchanges task has_names k.exchanges shown.exchanges in
-    let short = short_without task k shown.within_limits shown.version swaps in
+    let short = no_long_line task k shown.within_limits shown.few_zones swaps in
     record {
       accepted = record {
         certificate = k;

@@ -6,17 +6,17 @@ use Rattle.lower_bounds.specs.PotentialFunctions.{PotentialFunction}
 use Rattle.lower_bounds.specs.Settled.{initial_value}
 use Rattle.potentials.specs.Potentials.{potentials_of}
 use Rattle.lower_bounds.specs.FairTables.{AreFair}
-use Rattle.solver.specs.declared.parts.Parts.{Parts}
+use Rattle.solver.specs.declared.fair_tables.TablesEnding.{TablesEnding}
 use Rattle.solver.specs.Attempts.{IfDone}
-use Rattle.solver.specs.Guidance.{by_tables, estimate_by, reports_dead}
-use Rattle.solver.specs.Stretches.{IsTrueEnd}
+use Rattle.solver.specs.Asked.{IsTablesEnding}
+use Rattle.solver.specs.Guidance.{by_tables, estimate_by}
 use Rattle.ground_listings.specs.SearchSpace.{ground_in}
 use Rattle.solver.specs.Improved.{AreSettledOrHigh, AreDeadSettledOrHigh}
 use Rattle.solver.proofs.TablesLemmas.{tables-written}
 use Rattle.solver.proofs.by_tables.answer_by_tables.Goals as goal
 
-pub answer_of_parts-requires-clause-guidance : goal.answer_of_parts-requires-clause-guidance
-answer_of_parts-requires-clause-guidance g c =
+pub answer_of_tables-requires-clause-guidance : goal.answer_of_tables-requires-clause-guidance
+answer_of_tables-requires-clause-guidance g c =
     let known = ground_in c.args.setting.space in
     let task = task_in known in
     let atoms = atoms_in known in
@@ -25,14 +25,12 @@ answer_of_parts-requires-clause-guidance g c =
     record {
       written = tables-written (length atoms) c.args.draft.evidence c.requires.within_limits;
       exchanges = c.requires.space.written;
-      fair = subst (IfDone (λ (s : Parts). AreFair task atoms values)) c.in-Done.is c.in_ok-attempt.ensures.fair;
+      fair = subst (IfDone (λ (s : TablesEnding). AreFair task atoms values)) c.in-Done.is c.in_ok-attempt.ensures.fair;
       improved = subst (AreSettledOrHigh task atoms) (sym c.requires.first) c.requires.improved;
       dead_ends_improved = subst (AreDeadSettledOrHigh task atoms) (sym c.requires.given_dead_ends ∙ c.requires.dead_ends) c.requires.dead_ends_improved;
       no_lower = subst (λ (p : PotentialFunction). initial_value task atoms p ≤ start) (sym c.requires.first)
-          (subst (IfDone (λ (s : Parts). initial_value task atoms (potentials_of c.args.stopped.now.potentials.now) ≤ start)) c.in-Done.is c.in_ok-attempt.ensures.no_lower);
+          (subst (IfDone (λ (s : TablesEnding). initial_value task atoms (potentials_of c.args.stopped.now.potentials.now) ≤ start)) c.in-Done.is c.in_ok-attempt.ensures.no_lower);
     }
 
-pub answer_of_parts-requires-clause-end : goal.answer_of_parts-requires-clause-end
-answer_of_parts-requires-clause-end g c =
-    let guidance = by_tables (evidence_of c.args.draft.evidence) in
-    subst (IfDone (IsTrueEnd c.args.setting.space (estimate_by guidance) (reports_dead guidance) c.args.setting.limits)) c.in-Done.is c.in_ok-attempt.ensures.end
+pub answer_of_tables-requires-clause-ending : goal.answer_of_tables-requires-clause-ending
+answer_of_tables-requires-clause-ending g c = subst (IfDone (IsTablesEnding c.args.setting.space (evidence_of c.args.draft.evidence) c.args.setting.limits)) c.in-Done.is c.in_ok-attempt.ensures.ending

@@ -1,16 +1,13 @@
-use Rattle.std.proofs.Common.{◌≡◌, ◌∙◌, ◌≤◌, length, map, Option, Result, Ok, Err, sym, ap, subst}
-use Rattle.std.specs.Prelude.{IfOk, IfSome, IsTrue}
-use Rattle.certificate.specs.Evidence.{is_evidence, evidence_of}
-use Rattle.certificate_definitions.specs.Certificates.{no_landmarks, three}
+use Rattle.std.proofs.Common.{◌≡◌, ◌∙◌, ◌≤◌, length, Option, Result, Ok, Err, sym, ap, subst}
+use Rattle.std.specs.Prelude.{IfOk, IfSome}
+use Rattle.certificate.specs.Evidence.{evidence_of}
 use Rattle.faults.specs.declared.refused.NoMemory.{NoMemory}
-use Rattle.grounding.specs.declared.ground.Ground.{Ground}
 use Rattle.grounding.specs.Ground.{task_in, atoms_in}
 use Rattle.ground_listings.specs.SearchSpace.{ground_in}
 use Rattle.model.specs.Grounding.{ground_system}
 use Rattle.lower_bounds.specs.Settled.{initial_value}
 use Rattle.potentials.specs.Potentials.{potentials_of}
-use Rattle.lower_bounds.specs.TableFunctions.{SeveralValues, functions_of, greatest_value}
-use Rattle.table_rows.specs.Tables.{table_of}
+use Rattle.lower_bounds.specs.TableFunctions.{SeveralValues}
 use Rattle.table_guides.specs.FairTables.{functions_in}
 use Rattle.table_guides.specs.declared.fair_tables.FairTables.{FairTables}
 use Rattle.tables.specs.declared.several.TableFunctions.{TableFunctions}
@@ -19,33 +16,17 @@ use Rattle.solver.specs.declared.attempt.Attempt.{Attempt}
 use Rattle.solver.specs.declared.attempt.Attempt.TheVariants.{Done, Promising, InVain}
 use Rattle.solver.specs.Attempts.{IfDone}
 use Rattle.solver.specs.Guidance.{by_tables, estimate_by}
-use Rattle.solver.specs.SeveralOver.{several_over}
 use Rattle.solver.proofs.TablesLemmas.{dead_ends_weighed}
 use Rattle.solver.proofs.by_tables.better_guide.Given.{Over}
 use Rattle.solver.proofs.by_tables.better_guide.Goals as goal
-use Rattle.solver.proofs.by_tables.better_guide.Goals.{After-deref, In-Some}
+use Rattle.solver.proofs.by_tables.better_guide.Goals.{In-Some}
 
--- the values are those of the evidence
-same : (g : Over) (c : After-deref g) → several_over c.args.over.values.items c.args.over.dead_ends c.deref.result.now ≡ evidence_of c.args.over.evidence.now
-same g c = λ i. record { values = c.requires.values i; dead_ends = c.requires.dead_ends i; tables = map table_of (c.deref.ensures.value i) }
-
-pub functions_over-requires : goal.functions_over-requires
-functions_over-requires g c = record {
-  within_limits = subst (λ (s : SeveralValues). IsTrue (is_evidence three (length (atoms_in c.ground-ground.result.now)) s no_landmarks)) (sym (same g (goal.at.functions_over-requires g c).After-deref))
-      (subst (λ (k : Ground). IsTrue (is_evidence three (length (atoms_in k)) (evidence_of c.args.over.evidence.now) no_landmarks)) (sym c.ground-ground.ensures) c.requires.within_limits);
-}
-
--- and so are those in memory
+-- the values in memory are those of the evidence
 in_memory : (g : Over) (c : In-Some g) → several_of c.in-Some.functions ≡ evidence_of c.args.over.evidence.now
-in_memory g c =
-    subst (λ (o : Option TableFunctions). IfSome o (λ (f : TableFunctions). several_of f ≡ several_over c.args.over.values.items c.args.over.dead_ends c.deref.result.now)) c.in-Some.is c.in_ok-functions.ensures
-    ∙ (λ i. record { values = c.requires.values i; dead_ends = c.requires.dead_ends i; tables = map table_of (c.deref.ensures.value i) })
+in_memory g c = subst (λ (o : Option TableFunctions). IfSome o (λ (f : TableFunctions). several_of f ≡ evidence_of c.args.over.evidence.now)) c.in-Some.is c.in_ok-functions.ensures.functions
 
 width : (g : Over) (c : In-Some g) → width_of c.in-Some.functions ≡ length (atoms_in (ground_in c.args.setting.space))
 width g c = ap (λ (s : SeveralValues). length s.dead_ends.weights) (in_memory g c) ∙ dead_ends_weighed (length (atoms_in (ground_in c.args.setting.space))) (evidence_of c.args.over.evidence.now) c.requires.within_limits
-
-pub starts_no_lower-requires-clause-functions : goal.starts_no_lower-requires-clause-functions
-starts_no_lower-requires-clause-functions g c = width g (goal.at.starts_no_lower-requires-clause-functions g c).In-Some ∙ ap (λ (k : Ground). length (atoms_in k)) (sym c.ground-ground.ensures)
 
 pub saving_by-requires-clause-width : goal.saving_by-requires-clause-width
 saving_by-requires-clause-width g c = width g (goal.at.saving_by-requires-clause-width g c).In-Some ∙ sym c.requires.store_width
@@ -64,12 +45,8 @@ pub returns-then-is_worth-clause-no_lower : goal.returns-then-is_worth-clause-no
 returns-then-is_worth-clause-no_lower g c =
     let known = ground_in c.args.setting.space in
     let first = potentials_of c.args.stopped.now.potentials.now in
-    let start = (ground_system (task_in known) (atoms_in known)).initial in
-    whatever c.guide_if_fair.result
-    (subst (λ (s : SeveralValues). initial_value (task_in known) (atoms_in known) first ≤ estimate_by (by_tables s) start)
-    (in_memory g (goal.at.returns-then-is_worth-clause-no_lower g c).In-Some)
-    (subst (λ (k : Ground). initial_value (task_in k) (atoms_in k) first ≤ greatest_value (functions_of (several_of c.in-Some.functions)) (ground_system (task_in k) (atoms_in k)).initial) c.ground-ground.ensures
-    (c.in_ok-starts_no_lower.ensures c.if-not-branch.false)))
+    let start = estimate_by (by_tables (evidence_of c.args.over.evidence.now)) (ground_system (task_in known) (atoms_in known)).initial in
+    whatever c.guide_if_fair.result (subst (λ (o : Option TableFunctions). IfSome o (λ (f : TableFunctions). initial_value (task_in known) (atoms_in known) first ≤ start)) c.in-Some.is c.in_ok-functions.ensures.no_lower)
 
 pub returns-then-is_worth-clause-functions : goal.returns-then-is_worth-clause-functions
 returns-then-is_worth-clause-functions g c =

@@ -1,4 +1,4 @@
-use Rattle.std.proofs.Common.{◌≡◌, ◌≤◌, ℕ, Bool, List, length, ap, subst}
+use Rattle.std.proofs.Common.{◌≡◌, ◌≤◌, subst}
 use Rattle.certificate.specs.Evidence.{evidence_of}
 use Rattle.grounding.specs.declared.ground.Ground.{Ground}
 use Rattle.grounding.specs.Ground.{task_in, atoms_in}
@@ -7,20 +7,16 @@ use Rattle.lower_bounds.specs.FairTables.{AreFair}
 use Rattle.lower_bounds.specs.Settled.{initial_value}
 use Rattle.lower_bounds.specs.TableFunctions.{SeveralValues}
 use Rattle.model.specs.Grounding.{ground_system}
-use Rattle.model.specs.Runs.{System}
 use Rattle.potentials.specs.Potentials.{potentials_of}
 use Rattle.table_guides.specs.FairTables as guides
 use Rattle.table_guides.specs.FairTables.{functions_in}
 use Rattle.table_guides.specs.declared.fair_tables.FairTables.{FairTables}
 use Rattle.solver.specs.Attempts.{IfDone}
-use Rattle.solver.specs.Guidance.{by_tables, estimate_by, reports_dead}
-use Rattle.solver.specs.Stretches.{IsTrueEnd}
+use Rattle.solver.specs.Asked.{IsTablesEnding}
+use Rattle.solver.specs.Guidance.{by_tables, estimate_by}
 use Rattle.solver.proofs.by_tables.search_by_tables.Given.{Over}
 use Rattle.solver.proofs.by_tables.search_by_tables.Goals as goal
 use Rattle.solver.proofs.by_tables.search_by_tables.Goals.{In-Done}
-
-abbrev means : Ground → System (List Bool) ℕ
-means k = ground_system (task_in k) (atoms_in k)
 
 -- the guide is over these values, and for this ground task
 same_functions : (g : Over) (c : In-Done g) → functions_in c.in-Done.guide ≡ evidence_of c.args.over.evidence.now
@@ -29,27 +25,24 @@ same_functions g c = subst (IfDone (λ (guide : FairTables). functions_in guide 
 same_ground : (g : Over) (c : In-Done g) → guides.ground_in c.in-Done.guide ≡ ground_in c.args.setting.space
 same_ground g c = subst (IfDone (λ (guide : FairTables). guides.ground_in guide ≡ ground_in c.args.setting.space)) c.in-Done.is c.in_ok-attempt.ensures.ground
 
-pub returns-in_ok-parts-in-Done-clause-fair : goal.returns-in_ok-parts-in-Done-clause-fair
-returns-in_ok-parts-in-Done-clause-fair g c =
-    let at = (goal.at.returns-in_ok-parts-in-Done-clause-fair g c).In-Done in
+pub returns-in_ok-ending-in-Done-clause-fair : goal.returns-in_ok-ending-in-Done-clause-fair
+returns-in_ok-ending-in-Done-clause-fair g c =
+    let at = (goal.at.returns-in_ok-ending-in-Done-clause-fair g c).In-Done in
     let known = ground_in c.args.setting.space in
     subst (AreFair (task_in known) (atoms_in known)) (same_functions g at)
     (subst (λ (k : Ground). AreFair (task_in k) (atoms_in k) (functions_in c.in-Done.guide)) (same_ground g at) c.in-Done.guide.fair)
 
-pub returns-in_ok-parts-in-Done-clause-no_lower : goal.returns-in_ok-parts-in-Done-clause-no_lower
-returns-in_ok-parts-in-Done-clause-no_lower g c =
+pub returns-in_ok-ending-in-Done-clause-no_lower : goal.returns-in_ok-ending-in-Done-clause-no_lower
+returns-in_ok-ending-in-Done-clause-no_lower g c =
     let known = ground_in c.args.setting.space in
     let first = potentials_of c.args.stopped.now.potentials.now in
     let start = estimate_by (by_tables (evidence_of c.args.over.evidence.now)) (ground_system (task_in known) (atoms_in known)).initial in
     subst (IfDone (λ (guide : FairTables). initial_value (task_in known) (atoms_in known) first ≤ start)) c.in-Done.is c.in_ok-attempt.ensures.no_lower
 
-pub search_with_tables-requires-clause-system : goal.search_with_tables-requires-clause-system
-search_with_tables-requires-clause-system g c = ap means (same_ground g (goal.at.search_with_tables-requires-clause-system g c).In-Done)
+pub search_or_ask-requires-clause-ground : goal.search_or_ask-requires-clause-ground
+search_or_ask-requires-clause-ground g c = same_ground g (goal.at.search_or_ask-requires-clause-ground g c).In-Done
 
-pub search_with_tables-requires-clause-guide_width : goal.search_with_tables-requires-clause-guide_width
-search_with_tables-requires-clause-guide_width g c = ap (λ (k : Ground). length (atoms_in k)) (same_ground g (goal.at.search_with_tables-requires-clause-guide_width g c).In-Done)
-
-pub returns-in_ok-parts-in-Done-clause-end : goal.returns-in_ok-parts-in-Done-clause-end
-returns-in_ok-parts-in-Done-clause-end g c =
-    subst (λ (s : SeveralValues). IsTrueEnd c.args.setting.space (estimate_by (by_tables s)) (reports_dead (by_tables s)) c.args.setting.limits c.in_ok-parts-in-Done.parts)
-    (same_functions g (goal.at.returns-in_ok-parts-in-Done-clause-end g c).In-Done) c.in_ok-parts-in-Done.ensures.end
+pub returns-in_ok-ending-in-Done-clause-ending : goal.returns-in_ok-ending-in-Done-clause-ending
+returns-in_ok-ending-in-Done-clause-ending g c =
+    subst (λ (s : SeveralValues). IsTablesEnding c.args.setting.space s c.args.setting.limits c.in_ok-ending-in-Done.ending)
+    (same_functions g (goal.at.returns-in_ok-ending-in-Done-clause-ending g c).In-Done) c.in_ok-ending-in-Done.ensures.ending

@@ -1,6 +1,20 @@
-use Rattle.std.proofs.Common.{subst}
+use Rattle.std.proofs.Common.{ℕ, Bool, List, subst}
+use Rattle.model.specs.Runs.{System}
+use Rattle.search.specs.DeadEnds.{ReportsDeadEnds}
+use Rattle.search.specs.Estimates.{IsAdmissible}
 use Rattle.solver.specs.Stretches.{IsStretch}
 use Rattle.solver.proofs.searched.go_on_by.Goals as goal
+
+pub say_news-requires-clause-sound : goal.say_news-requires-clause-sound
+say_news-requires-clause-sound g c =
+    let guide = c.args.session.now.guide.now in
+    record {
+      value = g.G.Guide.estimate_of guide;
+      is_dead = g.G.Guide.is_dead guide;
+      between = (c.stretches.invariant.under_way.search, c.stretches.invariant.under_way.are_open);
+      admissible = subst (λ (u : System (List Bool) ℕ). IsAdmissible u (g.G.Guide.estimate_of guide)) c.requires.system (g.met.G.Guide.is_admissible guide);
+      reports = subst (λ (u : System (List Bool) ℕ). ReportsDeadEnds u (g.G.Guide.is_dead guide)) c.requires.system (g.met.G.Guide.reports_dead_ends guide);
+    }
 
 pub stretches-preserved : goal.stretches-preserved
 stretches-preserved g c =

@@ -1,0 +1,3 @@
+pub mod TestedLemmas
+pub mod ShownLemmas
+pub mod AskedLemmas

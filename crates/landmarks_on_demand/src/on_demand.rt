@@ -1,0 +1,304 @@
+//! Landmark values, found for single states.
+ghost use Rattle.std.specs.Prelude.{◌≡◌, ◌<◌, [], All, length};
+ghost use Rattle.std.proofs.Props.{props};
+ghost use Rattle.lower_bounds.specs.TableLaws.{AreAllNumbered};
+ghost use Rattle.landmarks.specs.CutIndex.{asked_in, atoms_of, task_of};
+ghost use Rattle.landmarks.specs.Fairness.{AreAsked};
+ghost use Rattle.landmarks_drafted.specs.Drafts.{atom_count_of};
+ghost use Rattle.landmarks_on_demand.specs.Tested.{IsTested};
+
+use crate::tested::TestedValue;
+use faults::NoMemory;
+use grounding::Ground;
+use landmark_zones::Landmarks;
+use landmarks::CutIndex;
+use landmarks_drafted::{CutDrafter, Draft};
+use packed_state::Packed;
+use search::{Answer, Basis, ValuesOnDemand};
+use std::alloc::Global;
+
+/// The maximum number of values.
+const MAX_VALUES: usize = 1_048_576;
+
+/// No further value is drafted once all values have this number of entries, of 4 bytes each.
+const MAX_ENTRIES: usize = 134_217_728;
+
+/// The number of dead-fair values that are tried before one is drafted.
+const TRIED: usize = 16;
+
+/// The number of drafts after which it is judged whether they are of use.
+const MIN_DRAFTS: u64 = 4_096;
+
+/// No further value is drafted where fewer than one in this number of drafts was kept.
+const DRAFTS_FOR_ONE: u64 = 16;
+
+/// Landmark values of a ground task, drafted by LM-cut where a search asks for them. Each is tested before it is used. It serves the
+/// state for which it was drafted, and those that are reached from there.
+#[derive(Drop)]
+pub struct LandmarksOnDemand<'i, 'g, 't> {
+    alloc: Global,
+    index: &'i CutIndex<'g, 't>,
+    drafter: CutDrafter,
+    /// The number of drafts that were made.
+    drafted: u64,
+    values: Vec<TestedValue>,
+    /// The entries of all values.
+    entries: usize,
+    /// The numbers of dead-fair values, of the last ones among them.
+    dead: Vec<u32>,
+    ghost numbered: { AreAllNumbered (task_of index.now) (atoms_of index.now) } by { Prim.hlevel props },
+    ghost asked: { AreAsked (task_of index.now) (atoms_of index.now) [] (asked_in index.now) } by { Prim.hlevel props },
+    ghost drafts: { atom_count_of drafter ≡ length (atoms_of index.now) } by { Prim.hlevel props },
+    ghost tested: { All (IsTested (task_of index.now) (atoms_of index.now)) values.items } by { Prim.hlevel props },
+}
+
+impl<'i, 'g, 't> LandmarksOnDemand<'i, 'g, 't> {
+    ghost use Rattle.std.specs.Prelude.{◌^◌, ◌∷◌, ◌++◌, false, true, IfOk, IfSome, OnOk};
+    ghost use Rattle.grounding.specs.Ground.{atoms_in};
+    ghost use Rattle.packed_state.specs.Packed.{bits_of};
+    ghost use Rattle.landmark_zones.specs.Landmarks.{landmarks_of};
+    ghost use Rattle.landmarks_drafted.specs.Drafts.{IsOneValue};
+    ghost use Rattle.search.specs.OnDemand.{Extends, IsAnswer};
+    ghost use Rattle.landmarks_on_demand.specs.Shown.{is_dead_at, shown_by, value_at};
+
+    /// No values yet, for the ground task, of which this is the index of the instances that are tested (`tested_instances`).
+    ///
+    /// # Errors
+    /// An allocation failed.
+    pub fn new(
+        alloc: Global,
+        ground: &Ground<'_>,
+        index: &'i CutIndex<'g, 't>,
+    ) -> Result<LandmarksOnDemand<'i, 'g, 't>, NoMemory>
+        requires atoms { atoms_of index.now ≡ atoms_in ground.now }
+        requires numbered { AreAllNumbered (task_of index.now) (atoms_of index.now) }
+        requires asked { AreAsked (task_of index.now) (atoms_of index.now) [] (asked_in index.now) }
+        ensures index { IfOk result (λ made. made.index.now ≡ index.now) }
+        ensures values { IfOk result (λ made. made.values.items ≡ []) }
+    {
+        let drafter = CutDrafter::new(alloc, ground)?;
+        Ok(LandmarksOnDemand {
+            alloc,
+            index,
+            drafter,
+            drafted: 0,
+            values: Vec::new(alloc),
+            entries: 0,
+            dead: Vec::new(alloc),
+        })
+    }
+
+    /// The number of values.
+    pub fn count(&self) -> usize
+        ensures { result ≡ length self.now.values.items }
+    {
+        self.values.len()
+    }
+
+    /// The value with this number, the only one of these landmarks.
+    pub(crate) fn landmarks(&self, basis: Basis) -> Option<&Landmarks>
+        ensures { IfSome result (λ found. length (landmarks_of found.now).values ≡ 1) }
+    {
+        match self.values.get(basis.0 as usize) {
+            Some(value) => Some(&value.landmarks),
+            None => None,
+        }
+    }
+
+    /// Whether the value with this number shows that the state is a dead end.
+    pub fn shows_dead_end(&self, basis: Basis, state: &Packed) -> bool
+        requires { length (bits_of state.now) ≡ length (atoms_of self.now.index.now) }
+        ensures { result ≡ is_dead_at self.now.values.items basis.0 (bits_of state.now) }
+    {
+        match self.values.get(basis.0 as usize) {
+            Some(value) => value.shows_dead_end(state),
+            None => false,
+        }
+    }
+
+    /// The state's value by the value with this number.
+    fn value_at(&self, basis: Basis, state: &Packed) -> u64
+        requires { length (bits_of state.now) ≡ length (atoms_of self.now.index.now) }
+        ensures value { result ≡ value_at self.now.values.items basis.0 (bits_of state.now) }
+        ensures fits { result < 2 ^ 63 }
+    {
+        match self.values.get(basis.0 as usize) {
+            Some(value) => value.value(state),
+            None => 0,
+        }
+    }
+
+    /// Whether no value is to be drafted for the state at this place, which has this basis: there are as many values as there may be,
+    /// drafts are of too little use, or the basis was drafted for it.
+    fn is_done(&self, place: u32, basis: Option<Basis>) -> bool
+        ensures { result ≡ false → length self.now.values.items < 1048576 }
+    {
+        if self.values.len() >= MAX_VALUES {
+            return true;
+        }
+        if self.entries >= MAX_ENTRIES {
+            return true;
+        }
+        if self.are_of_little_use() {
+            return true;
+        }
+        self.is_drafted_for(place, basis)
+    }
+
+    /// Whether so few of the drafts were kept that no further one is expected to save the time that it takes.
+    fn are_of_little_use(&self) -> bool {
+        let kept = self.values.len() as u64;
+        self.drafted >= MIN_DRAFTS && kept.saturating_mul(DRAFTS_FOR_ONE) < self.drafted
+    }
+
+    /// Whether the basis was drafted for the state at this place.
+    fn is_drafted_for(&self, place: u32, basis: Option<Basis>) -> bool {
+        match basis {
+            Some(basis) => match self.values.get(basis.0 as usize) {
+                Some(value) => value.place == place,
+                None => false,
+            },
+            None => false,
+        }
+    }
+
+    /// One of the last dead-fair values that shows that the state is a dead end, if there is one.
+    fn known_dead_end(&self, state: &Packed) -> Option<Basis>
+        requires { length (bits_of state.now) ≡ length (atoms_of self.now.index.now) }
+        ensures { IfSome result (λ basis. is_dead_at self.now.values.items basis.0 (bits_of state.now) ≡ true) }
+    {
+        for place in 0..self.dead.len() {
+            let basis = Basis(self.dead[place]);
+            if self.shows_dead_end(basis, state) {
+                return Some(basis);
+            }
+        }
+        None
+    }
+
+    /// Drafts a value for the state, tests it, and keeps it if it is of use.
+    fn find(
+        &mut self,
+        state: &Packed,
+        place: u32,
+        value: u64,
+        basis: Option<Basis>,
+    ) -> Result<Answer, NoMemory>
+        requires width { length (bits_of state.now) ≡ length (atoms_of self.old.index.now) }
+        requires few { length self.old.values.items < 1048576 }
+        ensures index { self.new.index.now ≡ self.old.index.now }
+        ensures extends { IfOk result (λ _. Extends (shown_by self.old.values.items) (shown_by self.new.values.items)) }
+        ensures answer { IfOk result (IsAnswer (shown_by self.new.values.items) (bits_of state.now) value) }
+    {
+        let Some(draft) = self.draft(state, basis)? else {
+            return Ok(Answer::Nothing);
+        };
+        let Some(found) = TestedValue::test(self.alloc, self.index, draft, place)? else {
+            return Ok(Answer::Nothing);
+        };
+        self.keep(found, state, value)
+    }
+
+    /// A draft for the state. What is left of the value with this number is kept, if there is one: that gives better values than to
+    /// begin from nothing, in less time.
+    fn draft(&mut self, state: &Packed, basis: Option<Basis>) -> Result<Option<Draft>, NoMemory>
+        ensures index { self.new.index.now ≡ self.old.index.now }
+        ensures values { self.new.values.items ≡ self.old.values.items }
+        ensures drafted { IfOk result (λ found. IfSome found (IsOneValue (length (atoms_of self.new.index.now)))) }
+    {
+        self.drafted = self.drafted.saturating_add(1);
+        let Some(basis) = basis else {
+            return self.drafter.draft(self.alloc, state);
+        };
+        match self.values.get(basis.0 as usize) {
+            Some(value) => self.drafter.draft_from(self.alloc, state, value.known()),
+            None => self.drafter.draft(self.alloc, state),
+        }
+    }
+
+    /// Keeps the value if it is higher than this one, or shows that the state is a dead end.
+    fn keep(&mut self, found: TestedValue, state: &Packed, value: u64) -> Result<Answer, NoMemory>
+        requires found { IsTested (task_of self.old.index.now) (atoms_of self.old.index.now) found }
+        requires width { length (bits_of state.now) ≡ length (atoms_of self.old.index.now) }
+        requires few { length self.old.values.items < 1048576 }
+        ensures index { self.new.index.now ≡ self.old.index.now }
+        ensures extends { IfOk result (λ _. Extends (shown_by self.old.values.items) (shown_by self.new.values.items)) }
+        ensures answer { IfOk result (IsAnswer (shown_by self.new.values.items) (bits_of state.now) value) }
+    {
+        if found.shows_dead_end(state) {
+            let dead = self.add(found)?;
+            self.remember(dead)?;
+            return Ok(Answer::Dead(dead));
+        }
+        let higher = found.value(state);
+        if higher <= value {
+            return Ok(Answer::Nothing);
+        }
+        let basis = self.add(found)?;
+        Ok(Answer::Raised(basis, higher))
+    }
+
+    /// Appends the value. The result is its number.
+    fn add(&mut self, found: TestedValue) -> Result<Basis, NoMemory>
+        requires found { IsTested (task_of self.old.index.now) (atoms_of self.old.index.now) found }
+        requires few { length self.old.values.items < 1048576 }
+        ensures index { self.new.index.now ≡ self.old.index.now }
+        ensures values { OnOk result (self.new.values.items ≡ self.old.values.items ++ found ∷ []) }
+        ensures number { IfOk result (λ basis. basis.0 ≡ length self.old.values.items) }
+    {
+        let number = self.values.len() as u32;
+        let entries = found.entries();
+        self.values.push(found)?;
+        self.entries = self.entries.saturating_add(entries);
+        Ok(Basis(number))
+    }
+
+    /// Notes that the value with this number is dead-fair, in place of another one if there is no room.
+    fn remember(&mut self, basis: Basis) -> Result<(), NoMemory>
+        ensures index { self.new.index.now ≡ self.old.index.now }
+        ensures values { self.new.values.items ≡ self.old.values.items }
+    {
+        let place = basis.0 as usize % TRIED;
+        if place < self.dead.len() {
+            self.dead[place] = basis.0;
+        } else {
+            self.dead.push(basis.0)?;
+        }
+        Ok(())
+    }
+}
+
+impl ValuesOnDemand for LandmarksOnDemand<'_, '_, '_> {
+    ghost use Rattle.model.specs.Grounding.{ground_system};
+    ghost use Rattle.landmarks_on_demand.specs.Shown.{admissible_at, dead_ends_at, shown_by};
+
+    ghost width_of = { λ found. length (atoms_of found.index.now) };
+
+    ghost system_of = { λ found. ground_system (task_of found.index.now) (atoms_of found.index.now) };
+
+    ghost shows = { λ found. shown_by found.values.items };
+
+    ghost is_admissible = { λ found basis within. admissible_at (task_of found.index.now) (atoms_of found.index.now) found.values.items found.tested basis within };
+
+    ghost reports_dead_ends = { λ found basis within. dead_ends_at (task_of found.index.now) (atoms_of found.index.now) found.values.items found.tested basis within };
+
+    fn value(&self, basis: Basis, state: &Packed) -> u64 {
+        self.value_at(basis, state)
+    }
+
+    fn ask(
+        &mut self,
+        state: &Packed,
+        place: u32,
+        value: u64,
+        basis: Option<Basis>,
+    ) -> Result<Answer, NoMemory> {
+        if self.is_done(place, basis) {
+            return Ok(Answer::Nothing);
+        }
+        match self.known_dead_end(state) {
+            Some(basis) => Ok(Answer::Dead(basis)),
+            None => self.find(state, place, value, basis),
+        }
+    }
+}

@@ -1,0 +1,2 @@
+pub mod RoleLemmas
+pub mod ShownLemmas

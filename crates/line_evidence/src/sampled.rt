@@ -1,0 +1,147 @@
+//! Whether it pays to ask for landmark values, by samples of a paused search.
+ghost use Rattle.std.specs.Prelude.{◌≡◌, ◌≤◌, length};
+ghost use Rattle.grounding.specs.Ground.{atoms_in};
+ghost use Rattle.packed_state.specs.Packed.{bits_of};
+ghost use Rattle.landmarks_drafted.specs.Drafts.{IsOneValue, atom_count_of};
+
+use faults::NoMemory;
+use grounding::Ground;
+use landmarks::value_in;
+use landmarks_drafted::{Claim, CutDrafter, Draft};
+use packed_state::Packed;
+use search::{Node, StateListing};
+use std::alloc::Global;
+
+/// The number of expanded states by which it is estimated, at most.
+const MAX_SAMPLES: usize = 64;
+
+/// The steps of all drafts for them, at most.
+const MAX_STEPS: u64 = 50_000_000;
+
+/// Cost model: this many steps of a draft take the time of one successor.
+const STEPS_FOR_SUCCESSOR: u64 = 10;
+
+/// A paused search: what it listed, how it reached each state, in order, and its bound so far.
+#[derive(Drop)]
+pub struct Paused<'a, L> {
+    /// The listed states.
+    pub listing: &'a L,
+    /// How each was reached.
+    pub nodes: &'a [Node],
+    /// A lower bound of every plan's cost.
+    pub bound: u64,
+}
+
+/// Whether landmark values would have saved the expansion of a state.
+#[derive(Clone, Copy)]
+enum Expansion {
+    /// They would have.
+    Saved,
+    /// They would not have.
+    Needed,
+}
+
+/// Counts of sampled states that were expanded.
+#[derive(Clone, Copy)]
+struct Sampled {
+    /// Their number.
+    expanded: u64,
+    /// Those of them that landmark values would have saved.
+    saved: u64,
+    /// Their successors.
+    successors: u64,
+}
+
+/// Whether it is estimated that a search which asks for landmark values, from the beginning, takes less time than this one to its end.
+/// Nothing is promised of the estimate.
+///
+/// # Errors
+/// Memory is refused.
+pub fn pays<L: StateListing>(
+    alloc: Global,
+    ground: &Ground<'_>,
+    paused: &Paused<'_, L>,
+) -> Result<bool, NoMemory>
+    requires width { L.width_of paused.now.listing.now ≡ length (atoms_in ground.now) }
+    requires one_for_each { length paused.now.nodes.now ≡ length (L.states paused.now.listing.now) }
+    requires few { length paused.now.nodes.now ≤ 16777216 }
+{
+    let mut sampled = Sampled::none();
+    let mut drafter = CutDrafter::new(alloc, ground)?;
+    let mut state = Packed::empty(alloc, ground.width())?;
+    let mut applicable = Vec::new(alloc);
+    let step = paused.nodes.len() / MAX_SAMPLES + 1;
+    for place in 0..paused.nodes.len() {
+        let node = paused.nodes[place];
+        if place % step == 0 && node.is_expanded() && drafter.steps() < MAX_STEPS {
+            paused.listing.get(place as u32, &mut state);
+            ground.list_applicable(&state, &mut applicable)?;
+            let most = paused.bound.saturating_sub(node.cost);
+            let fate = fate(&mut drafter, alloc, &state, most)?;
+            sampled = sampled.with(applicable.len(), fate);
+        }
+    }
+    Ok(sampled.take_less_time(drafter.steps()))
+}
+
+/// Whether landmark values would have saved the expansion of the state, from which a plan is to cost no more than this.
+fn fate(
+    drafter: &mut CutDrafter,
+    alloc: Global,
+    state: &Packed,
+    most: u64,
+) -> Result<Expansion, NoMemory>
+    requires width { length (bits_of state.now) ≡ atom_count_of drafter.old }
+    ensures same { atom_count_of drafter.new ≡ atom_count_of drafter.old }
+{
+    match drafter.draft(alloc, state)? {
+        Some(draft) if is_beyond(&draft, state, most) => Ok(Expansion::Saved),
+        _ => Ok(Expansion::Needed),
+    }
+}
+
+/// Whether the draft shows that the state is a dead end, or that its remaining cost is greater than this.
+fn is_beyond(draft: &Draft, state: &Packed, most: u64) -> bool
+    requires { IsOneValue (length (bits_of state.now)) draft.now }
+{
+    let value = value_in(state, &draft.landmarks, draft.landmarks.value(0));
+    match draft.claim {
+        Claim::DeadEnd => value > 0,
+        Claim::LowerBound => value > most,
+    }
+}
+
+impl Sampled {
+    /// No states.
+    fn none() -> Sampled {
+        Sampled {
+            expanded: 0,
+            saved: 0,
+            successors: 0,
+        }
+    }
+
+    /// One expanded state more, with this many successors.
+    fn with(self, successors: usize, expansion: Expansion) -> Sampled {
+        let saved = match expansion {
+            Expansion::Saved => 1,
+            Expansion::Needed => 0,
+        };
+        Sampled {
+            expanded: self.expanded.saturating_add(1),
+            saved: self.saved.saturating_add(saved),
+            successors: self.successors.saturating_add(successors as u64),
+        }
+    }
+
+    /// Whether the states that are left take less time, with drafts of this many steps for all of these, than all without.
+    fn take_less_time(self, steps: u64) -> bool {
+        let left = self.expanded.saturating_sub(self.saved);
+        let without = self
+            .successors
+            .saturating_add(self.expanded)
+            .saturating_mul(STEPS_FOR_SUCCESSOR);
+        let with = without.saturating_add(steps);
+        self.expanded > 0 && left.saturating_mul(with) <= self.expanded.saturating_mul(without)
+    }
+}
