@@ -86,7 +86,7 @@ fn is_found(alloc: Global, ground: &Ground<'_>, row: &Row) -> Result<bool, NoMem
     let second = state(alloc, ground, row.1)?;
     let instances = tested_instances(alloc, ground)?;
     let index = CutIndex::new(alloc, ground, &instances)?;
-    let mut values = LandmarksOnDemand::new(alloc, ground, &index)?;
+    let mut values = LandmarksOnDemand::new(alloc, ground, &index, u64::MAX)?;
     let answers = answers(&mut values, &first, &second)?;
     let lines = lines(alloc, &values)?;
     Ok(answers == row.2 && lines.as_slice() == row.3.as_bytes())

@@ -30,6 +30,8 @@ pub(crate) struct Cut {
     /// The operators that may lead into the zone.
     entering: Vec<u32>,
     instances: Vec<u32>,
+    /// How often an operator was looked at.
+    steps: u64,
 }
 
 impl Cut {
@@ -43,7 +45,13 @@ impl Cut {
             is_in_zone: vec![in alloc; false; count]?,
             entering: Vec::new(alloc),
             instances: Vec::new(alloc),
+            steps: 0,
         })
+    }
+
+    /// How often an operator was looked at.
+    pub(crate) fn steps(&self) -> u64 {
+        self.steps
     }
 
     /// The facts of the zone.
@@ -118,7 +126,9 @@ impl Cut {
             let Some(fact) = number_at(&self.found, place) else {
                 return Ok(());
             };
-            for operator in task.reached_by(fact) {
+            let operators = task.reached_by(fact);
+            self.count(operators);
+            for operator in operators {
                 if levels.cost(*operator) == 0 {
                     if let Some(supporter) = levels.supporter(*operator) {
                         self.put(supporter, Side::Behind)?;
@@ -139,13 +149,20 @@ impl Cut {
             let Some(fact) = number_at(&self.found, place) else {
                 return Ok(());
             };
-            for operator in task.needed_by(fact) {
+            let operators = task.needed_by(fact);
+            self.count(operators);
+            for operator in operators {
                 if levels.supporter(*operator) == Some(fact) {
                     self.go_on(task.reaches(*operator))?;
                 }
             }
         }
         Ok(())
+    }
+
+    /// Counts these operators, each of which is looked at.
+    fn count(&mut self, operators: &[u32]) {
+        self.steps = self.steps.saturating_add(operators.len() as u64);
     }
 
     /// Notes that these facts are reached, unless one of them is past the cut.
@@ -204,7 +221,9 @@ impl Cut {
 
     /// Adds facts to the zone until no operators lead to this one from outside but those of the cut.
     fn close(&mut self, task: &RelaxedTask, levels: &Levels, fact: u32) -> Result<(), NoMemory> {
-        for operator in task.reached_by(fact) {
+        let operators = task.reached_by(fact);
+        self.count(operators);
+        for operator in operators {
             if !self.needs_zone(task, *operator) {
                 let need = last_need(task, levels, *operator);
                 if self.side(need) == Side::Before {
@@ -235,6 +254,7 @@ impl Cut {
     /// Lists the instances of the operators that lead into the zone.
     fn list_instances(&mut self, task: &RelaxedTask) -> Result<(), NoMemory> {
         self.instances.clear();
+        self.steps = self.steps.saturating_add(self.entering.len() as u64);
         for place in 0..self.entering.len() {
             if let Some(operator) = number_at(&self.entering, place) {
                 if !self.needs_zone(task, operator) {

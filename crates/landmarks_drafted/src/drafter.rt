@@ -98,7 +98,7 @@ impl CutDrafter {
 
     /// The steps of all drafts so far: each looks at an operator.
     pub fn steps(&self) -> u64 {
-        self.levels.steps()
+        self.levels.steps().saturating_add(self.cut.steps())
     }
 
     /// Keeps the zone of the share, if it is whole in the state from which levels are about to be computed.

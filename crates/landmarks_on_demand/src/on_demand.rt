@@ -39,6 +39,8 @@ pub struct LandmarksOnDemand<'i, 'g, 't> {
     alloc: Global,
     index: &'i CutIndex<'g, 't>,
     drafter: CutDrafter,
+    /// No further value is drafted once the drafts have taken this number of steps.
+    max_steps: u64,
     /// The number of drafts that were made.
     drafted: u64,
     values: Vec<TestedValue>,
@@ -61,7 +63,8 @@ impl<'i, 'g, 't> LandmarksOnDemand<'i, 'g, 't> {
     ghost use Rattle.search.specs.OnDemand.{Extends, IsAnswer};
     ghost use Rattle.landmarks_on_demand.specs.Shown.{is_dead_at, shown_by, value_at};
 
-    /// No values yet, for the ground task, of which this is the index of the instances that are tested (`tested_instances`).
+    /// No values yet, for the ground task, of which this is the index of the instances that are tested (`tested_instances`). No further
+    /// value is drafted once the drafts have taken `max_steps` (`CutDrafter::steps`).
     ///
     /// # Errors
     /// An allocation failed.
@@ -69,6 +72,7 @@ impl<'i, 'g, 't> LandmarksOnDemand<'i, 'g, 't> {
         alloc: Global,
         ground: &Ground<'_>,
         index: &'i CutIndex<'g, 't>,
+        max_steps: u64,
     ) -> Result<LandmarksOnDemand<'i, 'g, 't>, NoMemory>
         requires atoms { atoms_of index.now ≡ atoms_in ground.now }
         requires numbered { AreAllNumbered (task_of index.now) (atoms_of index.now) }
@@ -81,6 +85,7 @@ impl<'i, 'g, 't> LandmarksOnDemand<'i, 'g, 't> {
             alloc,
             index,
             drafter,
+            max_steps,
             drafted: 0,
             values: Vec::new(alloc),
             entries: 0,
@@ -129,7 +134,7 @@ impl<'i, 'g, 't> LandmarksOnDemand<'i, 'g, 't> {
     }
 
     /// Whether no value is to be drafted for the state at this place, which has this basis: there are as many values as there may be,
-    /// drafts are of too little use, or the basis was drafted for it.
+    /// drafts took as many steps as they may or are of too little use, or the basis was drafted for it.
     fn is_done(&self, place: u32, basis: Option<Basis>) -> bool
         ensures { result ≡ false → length self.now.values.items < 1048576 }
     {
@@ -139,7 +144,7 @@ impl<'i, 'g, 't> LandmarksOnDemand<'i, 'g, 't> {
         if self.entries >= MAX_ENTRIES {
             return true;
         }
-        if self.are_of_little_use() {
+        if self.drafter.steps() >= self.max_steps || self.are_of_little_use() {
             return true;
         }
         self.is_drafted_for(place, basis)

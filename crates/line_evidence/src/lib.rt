@@ -6,4 +6,4 @@ mod sampled;
 mod shown;
 
 pub use marked::{Marked, tested_marks};
-pub use sampled::{Paused, pays};
+pub use sampled::{Budget, Paused, budget_for_trial, pays};

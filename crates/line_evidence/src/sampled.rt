@@ -1,4 +1,4 @@
-//! Whether it pays to ask for landmark values, by samples of a paused search.
+//! Whether it pays to ask for landmark values, and for how long to try it, by samples of a paused search.
 ghost use Rattle.std.specs.Prelude.{◌≡◌, ◌≤◌, length};
 ghost use Rattle.grounding.specs.Ground.{atoms_in};
 ghost use Rattle.packed_state.specs.Packed.{bits_of};
@@ -19,7 +19,29 @@ const MAX_SAMPLES: usize = 64;
 const MAX_STEPS: u64 = 50_000_000;
 
 /// Cost model: this many steps of a draft take the time of one successor.
-const STEPS_FOR_SUCCESSOR: u64 = 10;
+const STEPS_FOR_SUCCESSOR: u64 = 15;
+
+/// A trial may list one part in this many of the states that the paused search has listed, and its drafts may take as much of its time.
+const PARTS_FOR_TRIAL: u32 = 10;
+
+/// What a search that asks for landmark values may take before it is given up.
+#[derive(Clone, Copy)]
+pub struct Budget {
+    /// The number of listed states.
+    pub states: u32,
+    /// The steps of drafts, after which no further value is drafted.
+    pub steps: u64,
+}
+
+impl Budget {
+    /// As much as there is.
+    pub fn unlimited() -> Budget {
+        Budget {
+            states: u32::MAX,
+            steps: u64::MAX,
+        }
+    }
+}
 
 /// A paused search: what it listed, how it reached each state, in order, and its bound so far.
 #[derive(Drop)]
@@ -84,6 +106,41 @@ pub fn pays<L: StateListing>(
     Ok(sampled.take_less_time(drafter.steps()))
 }
 
+/// The budget of a trial: of a search that asks for landmark values, from the beginning, up to a part of what this one has taken. Nothing
+/// is promised of the estimate.
+///
+/// # Errors
+/// Memory is refused.
+pub fn budget_for_trial<L: StateListing>(
+    alloc: Global,
+    ground: &Ground<'_>,
+    paused: &Paused<'_, L>,
+) -> Result<Budget, NoMemory>
+    requires width { L.width_of paused.now.listing.now ≡ length (atoms_in ground.now) }
+    requires one_for_each { length paused.now.nodes.now ≡ length (L.states paused.now.listing.now) }
+    requires few { length paused.now.nodes.now ≤ 16777216 }
+{
+    let mut state = Packed::empty(alloc, ground.width())?;
+    let mut applicable = Vec::new(alloc);
+    let mut expanded = 0u64;
+    let mut sampled = Sampled::none();
+    let step = paused.nodes.len() / MAX_SAMPLES + 1;
+    for place in 0..paused.nodes.len() {
+        if paused.nodes[place].is_expanded() {
+            expanded = expanded.saturating_add(1);
+            if place % step == 0 {
+                paused.listing.get(place as u32, &mut state);
+                ground.list_applicable(&state, &mut applicable)?;
+                sampled = sampled.with(applicable.len(), Expansion::Needed);
+            }
+        }
+    }
+    Ok(Budget {
+        states: paused.nodes.len() as u32 / PARTS_FOR_TRIAL,
+        steps: sampled.time_of(expanded) / u64::from(PARTS_FOR_TRIAL),
+    })
+}
+
 /// Whether landmark values would have saved the expansion of the state, from which a plan is to cost no more than this.
 fn fate(
     drafter: &mut CutDrafter,
@@ -134,14 +191,26 @@ impl Sampled {
         }
     }
 
+    /// The time of their expansions, in steps.
+    fn time(self) -> u64 {
+        self.successors
+            .saturating_add(self.expanded)
+            .saturating_mul(STEPS_FOR_SUCCESSOR)
+    }
+
     /// Whether the states that are left take less time, with drafts of this many steps for all of these, than all without.
     fn take_less_time(self, steps: u64) -> bool {
         let left = self.expanded.saturating_sub(self.saved);
-        let without = self
-            .successors
-            .saturating_add(self.expanded)
-            .saturating_mul(STEPS_FOR_SUCCESSOR);
+        let without = self.time();
         let with = without.saturating_add(steps);
         self.expanded > 0 && left.saturating_mul(with) <= self.expanded.saturating_mul(without)
+    }
+
+    /// The time of this number of expansions, in steps; 0 if there are no samples.
+    fn time_of(self, expanded: u64) -> u64 {
+        if self.expanded == 0 {
+            return 0;
+        }
+        expanded.saturating_mul(self.time()) / self.expanded
     }
 }

@@ -1,7 +1,7 @@
 //! A search by values over tables that asks for landmark values of the states whose turn comes.
 //!
-//! It begins anew where a paused search is estimated to take longer to its end. The landmark values that its lines name are tested with
-//! what the lines say, and if one test fails, which is not expected, the paused search goes on.
+//! It begins anew where a paused search is estimated to take longer to its end, or on trial. The landmark values that its lines name are
+//! tested with what the lines say. If a trial does not end, or if one test fails, which is not expected, the paused search goes on.
 ghost use Rattle.std.specs.Prelude.{◌≡◌, ◌≤◌, IfOk, IfSome, length};
 ghost use Rattle.grounding.specs.Ground.{task_in, atoms_in};
 ghost use Rattle.devices.specs.Progress.{MayContinue};
@@ -23,7 +23,7 @@ use faults::NoMemory;
 use ground_listings::{GroundListing, GroundSystem};
 use landmarks::CutIndex;
 use landmarks_on_demand::{LandmarksOnDemand, tested_instances};
-use line_evidence::{Marked, tested_marks};
+use line_evidence::{Budget, Marked, tested_marks};
 use search::{
     FoundStates, Guide, Halt, Problem, Search, StateListing, Stop, ValuesOnDemand, begin_asking,
     go_on_asking, stop_asking,
@@ -37,10 +37,12 @@ pub(crate) struct Asked<'l, 't> {
     pub(crate) marked: Marked,
 }
 
-/// Searches the ground task from the beginning by these values, and asks for landmark values. `None`: a test of what its lines say failed.
+/// Searches the ground task from the beginning by these values, and asks for landmark values. `None`: it listed as many states as its
+/// budget has before its end, or a test of what its lines say failed.
 pub(crate) fn search_asking<'l, 't, E: Sink + Clock>(
     setting: Setting<'l, 't>,
     guide: &FairTables<'_, '_, '_>,
+    budget: Budget,
     err: &mut E,
 ) -> Result<Option<Asked<'l, 't>>, NoMemory>
     requires space { IsSearchSpace setting.space }
@@ -52,44 +54,49 @@ pub(crate) fn search_asking<'l, 't, E: Sink + Clock>(
     let ground = setting.space.ground();
     let instances = tested_instances(alloc, ground)?;
     let index = CutIndex::new(alloc, ground, &instances)?;
-    let mut values = LandmarksOnDemand::new(alloc, ground, &index)?;
+    let mut values = LandmarksOnDemand::new(alloc, ground, &index, budget.steps)?;
     let session = Session { setting, guide };
-    let stop = search_to_stop(&session, &mut values, err)?;
+    let Some(stop) = search_to_stop(&session, &mut values, budget.states, err)? else {
+        return Ok(None);
+    };
     match tested_marks(alloc, guide, &values, found_at(&stop))? {
         Some(marked) => Ok(Some(Asked { stop, marked })),
         None => Ok(None),
     }
 }
 
-/// Searches until the search ends or its time is over, asks for the values of states whose turn comes, and reports progress.
+/// Searches until the search ends or its time is over, asks for the values of states whose turn comes, and reports progress. `None`: this
+/// number of states is listed before that.
 fn search_to_stop<'l, 't, G: Guide, V: ValuesOnDemand, E: Sink + Clock>(
     session: &Session<'_, 'l, 't, G>,
     values: &mut V,
+    states: u32,
     err: &mut E,
-) -> Result<Stop<GroundListing<'l, 't>>, NoMemory>
+) -> Result<Option<Stop<GroundListing<'l, 't>>>, NoMemory>
     requires space { IsSearchSpace session.now.setting.space }
     requires system { G.system_of session.now.guide.now ≡ system_of session.now.setting.space }
     requires width { G.width_of session.now.guide.now ≡ length (atoms_in (ground_in session.now.setting.space)) }
     requires values_system { V.system_of values.old ≡ system_of session.now.setting.space }
     requires values_width { V.width_of values.old ≡ length (atoms_in (ground_in session.now.setting.space)) }
-    ensures stop { IfOk result (IsTrueStopBy (system_of session.now.setting.space) (class_in session.now.setting.space) (G.estimate_of session.now.guide.now) (G.is_dead session.now.guide.now) (V.shows values.new) listed_states session.now.setting.limits.states) }
-    ensures within { IfOk result (IsStoppedWithin session.now.setting.limits) }
+    ensures stop { IfOk result (λ o. IfSome o (IsTrueStopBy (system_of session.now.setting.space) (class_in session.now.setting.space) (G.estimate_of session.now.guide.now) (G.is_dead session.now.guide.now) (V.shows values.new) listed_states session.now.setting.limits.states)) }
+    ensures within { IfOk result (λ o. IfSome o (IsStoppedWithin session.now.setting.limits)) }
     ensures said { MayContinue (IsLineWithin (task_in (ground_in session.now.setting.space)) session.now.setting.limits) E.may_lack_memory (E.failures err.old) (E.taken err.old) (E.failures err.new) (E.taken err.new) }
 {
     let mut search = begin_asking_by(session, values)?;
     let mut said = None;
-    'stretches: while search.store().len() < u32::MAX as usize {
+    'stretches: while search.store().len() < states as usize {
         if session.setting.limits.are_over(err) {
-            return stop_asking_by(session, values, search);
+            let stop = stop_asking_by(session, values, search)?;
+            return Ok(Some(stop));
         }
         said = say_news(session.setting, &search, said, err)?;
-        let next = next_pause(search.store().len(), u32::MAX);
+        let next = next_pause(search.store().len(), states);
         match stretch_asking(session, values, search, next)? {
-            Halt::Ended(outcome) => return Ok(Stop::Ended(outcome)),
+            Halt::Ended(outcome) => return Ok(Some(Stop::Ended(outcome))),
             Halt::Paused(paused) => search = paused,
         }
     }
-    unreachable!()
+    Ok(None)
 }
 
 /// Begins a search that asks for values. The initial state alone is found.

@@ -150,7 +150,7 @@ fn draft_for<C: Clock>(
     }))
 }
 
-/// A draft of tables that may be better than the potentials of the paused search.
+/// A draft of tables that may be better than the potentials of the paused search, if there is to be one.
 fn drafted(
     alloc: Global,
     space: SearchSpace<'_, '_>,
@@ -160,6 +160,9 @@ fn drafted(
     ensures first { IfOk result (λ o. IfSome o (λ draft. slice_get (map potentials_of draft.values.items) 0 ≡ Some (potentials_of stopped.now.potentials.now))) }
     ensures dead_ends { IfOk result (λ o. IfSome o (λ draft. potentials_of draft.dead_ends ≡ potentials_of stopped.now.dead_ends.now)) }
 {
+    let Some(effort) = stopped.effort else {
+        return Ok(None);
+    };
     let states = stopped.samples(alloc)?;
     let starts = space.other_starts(alloc, &states)?;
     let required = DraftInput {
@@ -167,7 +170,7 @@ fn drafted(
         dead_ends: stopped.dead_ends,
         states: &states,
         starts: &starts,
-        effort: stopped.effort,
+        effort,
     };
     let draft = drafted_tables(alloc, space.ground(), &required)?;
     Ok(draft)

@@ -25,7 +25,7 @@ use devices::Sink;
 use devices_clock::Clock;
 use faults::NoMemory;
 use ground_listings::GroundListing;
-use line_evidence::{Paused, pays};
+use line_evidence::{Budget, Paused, pays};
 use search::Search;
 use table_guides::FairTables;
 use tables::KnownState;
@@ -92,7 +92,7 @@ fn finish_or_ask<'l, 't, E: Sink + Clock>(
     if !pays_after(session.setting, &search)? {
         return finish_in_parts(session, search, drafting, err);
     }
-    match search_asking(session.setting, session.guide, err)? {
+    match search_asking(session.setting, session.guide, Budget::unlimited(), err)? {
         Some(asked) => Ok(TablesEnding::Asked(asked)),
         None => finish_in_parts(session, search, drafting, err),
     }

@@ -1,4 +1,4 @@
-//! A search that pauses to look for tables: one by potentials, or by tables that were found before.
+//! A search that pauses to look for better values: one by potentials, or by tables that were found before.
 ghost use Rattle.std.specs.Prelude.{◌≡◌, ◌≤◌, [], IfOk, length};
 ghost use Rattle.grounding.specs.Ground.{task_in, atoms_in, IsGroundOf};
 ghost use Rattle.ground_listings.specs.GroundListing.{listed_width};
@@ -16,7 +16,7 @@ ghost use Rattle.solver.specs.Stretches.{IsTrueEnd, IsTruePart, IsUnderWay};
 
 use crate::answer::{Answer, Exceeded};
 use crate::attempt::Attempt;
-use crate::by_landmarks::solve_asking;
+use crate::by_landmarks::{solve_asking, solve_on_trial};
 use crate::by_tables::{solve_by_later_tables, solve_by_tables};
 use crate::searched::{Ending, Stretch, begin_by, finish_by, go_on_by, stop_by};
 use crate::setting::{Session, Setting};
@@ -29,40 +29,46 @@ use ground_listings::{GroundListing, SearchSpace};
 use potentials::Potentials;
 use search::{Guide, Search};
 
-/// A pause of a search, at which tables are drafted.
+/// A pause of a search, at which landmark values are tried and tables are drafted.
 #[derive(Clone, Copy)]
 pub(crate) struct Pause {
     /// The number of listed states, at least.
     states: u32,
-    /// The effort of the draft.
-    effort: Effort,
+    /// The effort of the draft of tables, if there is to be one.
+    effort: Option<Effort>,
 }
 
-/// The first pause. A task that is solved by fewer states is solved without tables.
-const QUICK: Pause = Pause {
-    states: 100_000,
-    effort: Effort::Quick,
+/// The first pause, at which landmark values are tried. A task that is solved by fewer states is solved by potentials.
+const TRIAL: Pause = Pause {
+    states: 25_000,
+    effort: None,
 };
 
-/// The first pause where states take long.
+/// The first pause at which tables are drafted. A task that is solved by fewer states is solved without them.
+const QUICK: Pause = Pause {
+    states: 100_000,
+    effort: Some(Effort::Quick),
+};
+
+/// The same where states take long.
 const QUICK_IF_DEAR: Pause = Pause {
     states: 50_000,
-    effort: Effort::Quick,
+    effort: Some(Effort::Quick),
 };
 
 /// With this many exchanges of objects or more, states take long: each has to be made its representative.
 const MANY_EXCHANGES: usize = 3;
 
-/// The second pause, if a quick draft is promising.
+/// The last pause, if a quick draft is promising.
 const THOROUGH: Pause = Pause {
     states: 500_000,
-    effort: Effort::Thorough,
+    effort: Some(Effort::Thorough),
 };
 
 /// The pause of a search by tables.
 pub(crate) const LATER: Pause = Pause {
     states: 300_000,
-    effort: Effort::Thorough,
+    effort: Some(Effort::Thorough),
 };
 
 /// The potentials that guide a search, or the first value of the tables that do.
@@ -73,7 +79,7 @@ pub(crate) struct Given<'a> {
     pub(crate) dead_ends: &'a Potentials,
 }
 
-/// A draft of tables at a pause, which are to exceed these potentials.
+/// What is done at a pause of a search, with these potentials, which other values are to exceed.
 #[derive(Clone, Copy)]
 pub(crate) struct Drafting<'a> {
     pub(crate) pause: Pause,
@@ -85,13 +91,13 @@ pub(crate) struct Drafting<'a> {
 /// The end of a search in parts.
 #[derive(Drop)]
 pub(crate) enum Parts<'l, 't> {
-    /// An answer by tables that were drafted at a pause.
+    /// An answer by other values, found at a pause.
     ByTables(Answer),
     /// The search's own end.
     ByGuide(Ending<'l, 't>),
 }
 
-/// The end of a part: of the search up to a pause, and the attempt with tables there.
+/// The end of a part: of the search up to a pause, and the attempt with other values there.
 #[derive(Drop)]
 enum Part<'l, 't, R> {
     /// The end of the search.
@@ -102,7 +108,7 @@ enum Part<'l, 't, R> {
     InVain(Search<GroundListing<'l, 't>, R>),
 }
 
-/// Searches the ground task by the guide, which is that of these potentials. At each pause it tries to switch to tables, if the
+/// Searches the ground task by the guide, which is that of these potentials. At pauses it tries landmark values and tables, if the
 /// certificate may have them.
 pub(crate) fn search_in_parts<'l, 't, G: Guide, E: Sink + Clock>(
     session: &Session<'_, 'l, 't, G>,
@@ -120,7 +126,7 @@ pub(crate) fn search_in_parts<'l, 't, G: Guide, E: Sink + Clock>(
     ensures said { MayContinue (IsLineWithin (task_in (ground_in session.now.setting.space)) session.now.setting.limits) E.may_lack_memory (E.failures err.old) (E.taken err.old) (E.failures err.new) (E.taken err.new) }
 {
     let drafting = Drafting {
-        pause: first_pause(session.setting.space),
+        pause: TRIAL,
         given,
         table_count: 0,
     };
@@ -130,13 +136,44 @@ pub(crate) fn search_in_parts<'l, 't, G: Guide, E: Sink + Clock>(
     }
     match search_to_pause(session, search, drafting, err)? {
         Part::Ended(parts) => Ok(parts),
+        Part::Promising(search) => search_after_trial(session, search, given, err),
+        Part::InVain(search) => search_after_trial(session, search, given, err),
+    }
+}
+
+/// Continues the search after the first pause.
+fn search_after_trial<'l, 't, G: Guide, E: Sink + Clock>(
+    session: &Session<'_, 'l, 't, G>,
+    search: Search<GroundListing<'l, 't>, G::Scratch>,
+    given: Given<'_>,
+    err: &mut E,
+) -> Result<Parts<'l, 't>, NoMemory>
+    requires version { 3 ≤ number_of session.now.setting.limits.version }
+    requires space { IsSearchSpace session.now.setting.space }
+    requires ground { IsGroundOf (task_in (ground_in session.now.setting.space)) [] session.now.setting.limits.instances (ground_in session.now.setting.space) }
+    requires system { G.system_of session.now.guide.now ≡ system_of session.now.setting.space }
+    requires guide_width { G.width_of session.now.guide.now ≡ length (atoms_in (ground_in session.now.setting.space)) }
+    requires under_way { IsUnderWay session.now.setting.space (G.estimate_of session.now.guide.now) (G.is_dead session.now.guide.now) (G.fits session.now.guide.now) session.now.setting.limits.states search }
+    requires width { length (potentials_of given.potentials.now).weights ≡ length (atoms_in (ground_in session.now.setting.space)) }
+    requires improved { AreSettledOrHigh (task_in (ground_in session.now.setting.space)) (atoms_in (ground_in session.now.setting.space)) (potentials_of given.potentials.now) }
+    requires dead_ends_improved { AreDeadSettledOrHigh (task_in (ground_in session.now.setting.space)) (atoms_in (ground_in session.now.setting.space)) (potentials_of given.dead_ends.now) }
+    ensures end { IfOk result (IsTrueEnd session.now.setting.space (G.estimate_of session.now.guide.now) (G.is_dead session.now.guide.now) session.now.setting.limits) }
+    ensures said { MayContinue (IsLineWithin (task_in (ground_in session.now.setting.space)) session.now.setting.limits) E.may_lack_memory (E.failures err.old) (E.taken err.old) (E.failures err.new) (E.taken err.new) }
+{
+    let drafting = Drafting {
+        pause: tables_pause(session.setting.space),
+        given,
+        table_count: 0,
+    };
+    match search_to_pause(session, search, drafting, err)? {
+        Part::Ended(parts) => Ok(parts),
         Part::Promising(search) => search_on(session, search, given, err),
         Part::InVain(search) => search_to_end(session, search, err),
     }
 }
 
-/// The first pause of a search of this space.
-fn first_pause(space: SearchSpace<'_, '_>) -> Pause {
+/// The first pause of a search of this space at which tables are drafted.
+fn tables_pause(space: SearchSpace<'_, '_>) -> Pause {
     match space {
         SearchSpace::Alone(_) => QUICK,
         SearchSpace::Orbits(representatives) => {
@@ -149,7 +186,7 @@ fn first_pause(space: SearchSpace<'_, '_>) -> Pause {
     }
 }
 
-/// Continues the search after the first pause.
+/// Continues the search after a draft of tables that was promising.
 fn search_on<'l, 't, G: Guide, E: Sink + Clock>(
     session: &Session<'_, 'l, 't, G>,
     search: Search<GroundListing<'l, 't>, G::Scratch>,
@@ -224,7 +261,7 @@ fn search_to_end<'l, 't, G: Guide, E: Sink + Clock>(
     Ok(Parts::ByGuide(ending))
 }
 
-/// Continues the search to a pause, and tries to switch to tables there. There is no pause at the limit of states.
+/// Continues the search to a pause, and tries to switch to better values there. There is no pause at the limit of states.
 fn search_to_pause<'l, 't, G: Guide, E: Sink + Clock>(
     session: &Session<'_, 'l, 't, G>,
     search: Search<GroundListing<'l, 't>, G::Scratch>,
@@ -323,7 +360,7 @@ fn is_outdone(answer: &Answer, bound: Option<u64>) -> bool {
     }
 }
 
-/// The answer by tables, if better ones than the potentials of this search are found, or else by landmark values.
+/// The answer by landmark values on trial, or by tables, or by landmark values.
 fn solve_at_pause<R, E: Sink + Clock>(
     setting: Setting<'_, '_>,
     search: &Search<GroundListing<'_, '_>, R>,
@@ -353,14 +390,40 @@ fn solve_at_pause<R, E: Sink + Clock>(
         effort: drafting.pause.effort,
         table_count: drafting.table_count,
     };
-    let attempt = solve_by_tables(setting, &stopped, err)?;
-    match attempt {
+    match solve_on_trial(setting, &stopped, err)? {
         Attempt::Done(answer) => Ok(Attempt::Done(answer)),
-        Attempt::Promising => match solve_asking(setting, &stopped, err)? {
+        _ => solve_by_better_values(setting, &stopped, err),
+    }
+}
+
+/// The answer by tables, if better ones than the potentials of the paused search are found, or else by landmark values. None of both is
+/// tried if no tables are to be drafted.
+fn solve_by_better_values<E: Sink + Clock>(
+    setting: Setting<'_, '_>,
+    stopped: &Stopped<'_, '_, '_>,
+    err: &mut E,
+) -> Result<Attempt<Answer>, NoMemory>
+    requires version { 3 ≤ number_of setting.limits.version }
+    requires space { IsSearchSpace setting.space }
+    requires ground { IsGroundOf (task_in (ground_in setting.space)) [] setting.limits.instances (ground_in setting.space) }
+    requires stopped { IsStopped stopped.now.listing.now stopped.now.nodes.now }
+    requires store_width { listed_width stopped.now.listing.now ≡ length (atoms_in (ground_in setting.space)) }
+    requires width { length (potentials_of stopped.now.potentials.now).weights ≡ length (atoms_in (ground_in setting.space)) }
+    requires improved { AreSettledOrHigh (task_in (ground_in setting.space)) (atoms_in (ground_in setting.space)) (potentials_of stopped.now.potentials.now) }
+    requires dead_ends_improved { AreDeadSettledOrHigh (task_in (ground_in setting.space)) (atoms_in (ground_in setting.space)) (potentials_of stopped.now.dead_ends.now) }
+    ensures answer { IfOk result (IfDone (IsAnswerWithin (task_in (ground_in setting.entry.space)) setting.entry.limits)) }
+    ensures said { MayContinue (IsLineWithin (task_in (ground_in setting.entry.space)) setting.entry.limits) E.may_lack_memory (E.failures err.old) (E.taken err.old) (E.failures err.new) (E.taken err.new) }
+{
+    if stopped.effort.is_none() {
+        return Ok(Attempt::InVain);
+    }
+    match solve_by_tables(setting, stopped, err)? {
+        Attempt::Done(answer) => Ok(Attempt::Done(answer)),
+        Attempt::Promising => match solve_asking(setting, stopped, err)? {
             Attempt::Done(answer) => Ok(Attempt::Done(answer)),
             _ => Ok(Attempt::Promising),
         },
-        Attempt::InVain => solve_asking(setting, &stopped, err),
+        Attempt::InVain => solve_asking(setting, stopped, err),
     }
 }
 

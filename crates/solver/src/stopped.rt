@@ -30,8 +30,8 @@ pub(crate) struct Stopped<'a, 'l, 't> {
     /// The potentials that guide it, alone or as the first value over tables, and those for dead ends.
     pub(crate) potentials: &'a Potentials,
     pub(crate) dead_ends: &'a Potentials,
-    /// The effort of the next draft.
-    pub(crate) effort: Effort,
+    /// The effort of the next draft of tables, if there is to be one.
+    pub(crate) effort: Option<Effort>,
     /// The number of tables that guide it.
     pub(crate) table_count: usize,
 }

@@ -29,7 +29,7 @@ answer_of_asked-requires-clause-guidance g c =
       improved = subst (AreSettledOrHigh task atoms) (sym c.requires.first) c.requires.improved;
       dead_ends_improved = subst (AreDeadSettledOrHigh task atoms) c.requires.dead_ends c.requires.dead_ends_improved;
       no_lower = subst (λ (p : PotentialFunction). initial_value task atoms p ≤ start) (sym c.requires.first)
-          (subst (λ (o : Option Asked). IfSome o (λ (s : Asked). initial_value task atoms (potentials_of c.args.potentials.now) ≤ start)) c.in-Some.is c.in_ok-asked.ensures.no_lower);
+          (subst (λ (o : Option Asked). IfSome o (λ (s : Asked). initial_value task atoms (potentials_of c.args.trial.potentials.now) ≤ start)) c.in-Some.is c.in_ok-asked.ensures.no_lower);
     }
 
 pub answer_of_asked-requires-clause-asked : goal.answer_of_asked-requires-clause-asked

@@ -62,7 +62,7 @@ returns-in-Done-clause-fair g c =
 pub returns-in-Done-clause-no_lower : goal.returns-in-Done-clause-no_lower
 returns-in-Done-clause-no_lower g c =
     let known = ground_in c.args.setting.space in
-    let first = potentials_of c.args.potentials.now in
+    let first = potentials_of c.args.trial.potentials.now in
     let start = estimate_by (by_tables (evidence_of c.args.over.evidence.now)) (ground_system (task_in known) (atoms_in known)).initial in
     whatever c.search_asking.result (subst (λ (o : Option TableFunctions). IfSome o (λ (f : TableFunctions). initial_value (task_in known) (atoms_in known) first ≤ start)) c.in-Some.is c.in_ok-functions.ensures.no_lower)
 

@@ -5,7 +5,7 @@ use Rattle.ground_listings.specs.SearchSpace.{ground_in}
 use Rattle.potentials.specs.Potentials.{potentials_of}
 use Rattle.solver.specs.Improved.{AreDeadSettledOrHigh}
 use Rattle.solver.specs.declared.by_tables.Draft.{Draft}
-use Rattle.solver.proofs.by_landmarks.solve_asking.Goals as goal
+use Rattle.solver.proofs.by_landmarks.solve_within.Goals as goal
 
 pub answer_asking-requires-clause-dead_ends_improved : goal.answer_asking-requires-clause-dead_ends_improved
 answer_asking-requires-clause-dead_ends_improved g c =
