@@ -22,7 +22,7 @@ const MAX_STEPS: u64 = 50_000_000;
 const STEPS_FOR_SUCCESSOR: u64 = 15;
 
 /// A trial may list one part in this many of the states that the paused search has listed, and its drafts may take as much of its time.
-const PARTS_FOR_TRIAL: u32 = 10;
+const PARTS_FOR_TRIAL: u32 = 12;
 
 /// What a search that asks for landmark values may take before it is given up.
 #[derive(Clone, Copy)]
