@@ -34,6 +34,14 @@ pub struct Budget {
 }
 
 impl Budget {
+    /// Nothing.
+    pub fn none() -> Budget {
+        Budget {
+            states: 0,
+            steps: 0,
+        }
+    }
+
     /// As much as there is.
     pub fn unlimited() -> Budget {
         Budget {

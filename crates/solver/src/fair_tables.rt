@@ -1,4 +1,5 @@
-//! A search by fair values over tables. On the way others are drafted, or landmark values are asked for where that is estimated to pay.
+//! A search by fair values over tables. On the way others are drafted, or landmark values are asked for: to the end where that is estimated
+//! to pay, and else on trial.
 ghost use Rattle.std.specs.Prelude.{◌≡◌, ◌≤◌, [], IfOk, length};
 ghost use Rattle.grounding.specs.Ground.{task_in, atoms_in, IsGroundOf};
 ghost use Rattle.ground_listings.specs.GroundListing.{listed_width};
@@ -25,7 +26,7 @@ use devices::Sink;
 use devices_clock::Clock;
 use faults::NoMemory;
 use ground_listings::GroundListing;
-use line_evidence::{Budget, Paused, pays};
+use line_evidence::{Budget, Paused, budget_for_trial, pays};
 use search::Search;
 use table_guides::FairTables;
 use tables::KnownState;
@@ -42,8 +43,8 @@ pub(crate) enum TablesEnding<'l, 't> {
     Asked(Asked<'l, 't>),
 }
 
-/// Searches by these values, which are fair. After a pause it begins anew and asks for landmark values, if that is estimated to pay, and
-/// else it tries to switch to other tables at a further pause.
+/// Searches by these values, which are fair. At a pause a search that asks for landmark values begins anew. If that is on trial, and in
+/// vain, this one goes on, and tries to switch to other tables at a further pause.
 pub(crate) fn search_or_ask<'l, 't, E: Sink + Clock>(
     setting: Setting<'l, 't>,
     guide: &FairTables<'_, '_, '_>,
@@ -71,7 +72,7 @@ pub(crate) fn search_or_ask<'l, 't, E: Sink + Clock>(
     }
 }
 
-/// Begins anew and asks for landmark values, if that is estimated to pay. Else the search goes on.
+/// Begins anew and asks for landmark values, within a budget. If that is in vain, the search goes on.
 fn finish_or_ask<'l, 't, E: Sink + Clock>(
     session: &Session<'_, 'l, 't, FairTables<'_, '_, '_>>,
     search: Search<GroundListing<'l, 't>, KnownState>,
@@ -89,10 +90,8 @@ fn finish_or_ask<'l, 't, E: Sink + Clock>(
     ensures ending { IfOk result (IsTablesEnding session.now.setting.space (functions_in session.now.guide.now) session.now.setting.limits) }
     ensures said { MayContinue (IsLineWithin (task_in (ground_in session.now.setting.space)) session.now.setting.limits) E.may_lack_memory (E.failures err.old) (E.taken err.old) (E.failures err.new) (E.taken err.new) }
 {
-    if !pays_after(session.setting, &search)? {
-        return finish_in_parts(session, search, drafting, err);
-    }
-    match search_asking(session.setting, session.guide, Budget::unlimited(), err)? {
+    let budget = budget_after(session.setting, &search)?;
+    match search_asking(session.setting, session.guide, budget, err)? {
         Some(asked) => Ok(TablesEnding::Asked(asked)),
         None => finish_in_parts(session, search, drafting, err),
     }
@@ -120,21 +119,25 @@ fn finish_in_parts<'l, 't, E: Sink + Clock>(
     Ok(TablesEnding::InParts(parts))
 }
 
-/// Whether it is estimated to pay to begin anew and ask for landmark values.
-fn pays_after<R>(
+/// The budget of a search that begins anew and asks for landmark values: unlimited where that is estimated to pay.
+fn budget_after<R>(
     setting: Setting<'_, '_>,
     search: &Search<GroundListing<'_, '_>, R>,
-) -> Result<bool, NoMemory>
+) -> Result<Budget, NoMemory>
     requires stopped { IsStopped (store_in search.now) (nodes_of search.now) }
     requires store_width { listed_width (store_in search.now) ≡ length (atoms_in (ground_in setting.space)) }
 {
     let Some(bound) = search.bound() else {
-        return Ok(false);
+        return Ok(Budget::none());
     };
     let paused = Paused {
         listing: search.store(),
         nodes: search.nodes(),
         bound,
     };
-    pays(setting.alloc, setting.space.ground(), &paused)
+    let (alloc, ground) = (setting.alloc, setting.space.ground());
+    if pays(alloc, ground, &paused)? {
+        return Ok(Budget::unlimited());
+    }
+    budget_for_trial(alloc, ground, &paused)
 }

@@ -65,6 +65,12 @@ const THOROUGH: Pause = Pause {
     effort: Some(Effort::Thorough),
 };
 
+/// The last pause, if it is not.
+const LAST_TRIAL: Pause = Pause {
+    states: 500_000,
+    effort: None,
+};
+
 /// The pause of a search by tables.
 pub(crate) const LATER: Pause = Pause {
     states: 300_000,
@@ -167,8 +173,14 @@ fn search_after_trial<'l, 't, G: Guide, E: Sink + Clock>(
     };
     match search_to_pause(session, search, drafting, err)? {
         Part::Ended(parts) => Ok(parts),
-        Part::Promising(search) => search_on(session, search, given, err),
-        Part::InVain(search) => search_to_end(session, search, err),
+        Part::Promising(search) => {
+            let pause = THOROUGH;
+            search_on(session, search, Drafting { pause, ..drafting }, err)
+        }
+        Part::InVain(search) => {
+            let pause = LAST_TRIAL;
+            search_on(session, search, Drafting { pause, ..drafting }, err)
+        }
     }
 }
 
@@ -186,11 +198,11 @@ fn tables_pause(space: SearchSpace<'_, '_>) -> Pause {
     }
 }
 
-/// Continues the search after a draft of tables that was promising.
+/// Continues the search to its end, with one more pause.
 fn search_on<'l, 't, G: Guide, E: Sink + Clock>(
     session: &Session<'_, 'l, 't, G>,
     search: Search<GroundListing<'l, 't>, G::Scratch>,
-    given: Given<'_>,
+    drafting: Drafting<'_>,
     err: &mut E,
 ) -> Result<Parts<'l, 't>, NoMemory>
     requires version { 3 ≤ number_of session.now.setting.limits.version }
@@ -199,17 +211,12 @@ fn search_on<'l, 't, G: Guide, E: Sink + Clock>(
     requires system { G.system_of session.now.guide.now ≡ system_of session.now.setting.space }
     requires guide_width { G.width_of session.now.guide.now ≡ length (atoms_in (ground_in session.now.setting.space)) }
     requires under_way { IsUnderWay session.now.setting.space (G.estimate_of session.now.guide.now) (G.is_dead session.now.guide.now) (G.fits session.now.guide.now) session.now.setting.limits.states search }
-    requires width { length (potentials_of given.potentials.now).weights ≡ length (atoms_in (ground_in session.now.setting.space)) }
-    requires improved { AreSettledOrHigh (task_in (ground_in session.now.setting.space)) (atoms_in (ground_in session.now.setting.space)) (potentials_of given.potentials.now) }
-    requires dead_ends_improved { AreDeadSettledOrHigh (task_in (ground_in session.now.setting.space)) (atoms_in (ground_in session.now.setting.space)) (potentials_of given.dead_ends.now) }
+    requires width { length (potentials_of drafting.given.potentials.now).weights ≡ length (atoms_in (ground_in session.now.setting.space)) }
+    requires improved { AreSettledOrHigh (task_in (ground_in session.now.setting.space)) (atoms_in (ground_in session.now.setting.space)) (potentials_of drafting.given.potentials.now) }
+    requires dead_ends_improved { AreDeadSettledOrHigh (task_in (ground_in session.now.setting.space)) (atoms_in (ground_in session.now.setting.space)) (potentials_of drafting.given.dead_ends.now) }
     ensures end { IfOk result (IsTrueEnd session.now.setting.space (G.estimate_of session.now.guide.now) (G.is_dead session.now.guide.now) session.now.setting.limits) }
     ensures said { MayContinue (IsLineWithin (task_in (ground_in session.now.setting.space)) session.now.setting.limits) E.may_lack_memory (E.failures err.old) (E.taken err.old) (E.failures err.new) (E.taken err.new) }
 {
-    let drafting = Drafting {
-        pause: THOROUGH,
-        given,
-        table_count: 0,
-    };
     match search_to_pause(session, search, drafting, err)? {
         Part::Ended(parts) => Ok(parts),
         Part::Promising(search) => search_to_end(session, search, err),
