@@ -21,6 +21,10 @@ const MAX_STEPS: u64 = 50_000_000;
 /// Cost model: this many steps of a draft take the time of one successor.
 const STEPS_FOR_SUCCESSOR: u64 = 15;
 
+/// Cost model: a draft of a search counts one part in this many of a sample's. Samples are drafted from nothing. In a search most drafts go
+/// on from the value of the state's parent, and a value serves several states.
+const PARTS_OF_SAMPLE: u64 = 3;
+
 /// A trial may list one part in this many of the states that the paused search has listed, and its drafts may take as much of its time.
 const PARTS_FOR_TRIAL: u32 = 12;
 
@@ -210,7 +214,7 @@ impl Sampled {
     fn take_less_time(self, steps: u64) -> bool {
         let left = self.expanded.saturating_sub(self.saved);
         let without = self.time();
-        let with = without.saturating_add(steps);
+        let with = without.saturating_add(steps / PARTS_OF_SAMPLE);
         self.expanded > 0 && left.saturating_mul(with) <= self.expanded.saturating_mul(without)
     }
 
