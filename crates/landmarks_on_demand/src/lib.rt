@@ -7,5 +7,5 @@ mod tested;
 mod used;
 
 pub use asked::tested_instances;
-pub use on_demand::LandmarksOnDemand;
+pub use on_demand::{DraftLimits, LandmarksOnDemand};
 pub use used::UsedValues;

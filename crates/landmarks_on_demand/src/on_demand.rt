@@ -1,11 +1,11 @@
 //! Landmark values, found for single states.
-ghost use Rattle.std.specs.Prelude.{◌≡◌, ◌<◌, [], All, length};
+ghost use Rattle.std.specs.Prelude.{◌≡◌, ◌<◌, [], All, Some, length, slice_get, true};
 ghost use Rattle.std.proofs.Props.{props};
 ghost use Rattle.lower_bounds.specs.TableLaws.{AreAllNumbered};
 ghost use Rattle.landmarks.specs.CutIndex.{asked_in, atoms_of, task_of};
 ghost use Rattle.landmarks.specs.Fairness.{AreAsked};
 ghost use Rattle.landmarks_drafted.specs.Drafts.{atom_count_of};
-ghost use Rattle.landmarks_on_demand.specs.Tested.{IsTested};
+ghost use Rattle.landmarks_on_demand.specs.Shown.{IsTestedIfKept};
 
 use crate::tested::TestedValue;
 use faults::NoMemory;
@@ -20,8 +20,11 @@ use std::alloc::Global;
 /// The maximum number of values.
 const MAX_VALUES: usize = 1_048_576;
 
-/// No further value is drafted once all values have this number of entries, of 4 bytes each.
+/// All values together may have this number of entries, of 4 bytes each.
 const MAX_ENTRIES: usize = 134_217_728;
+
+/// Values are forgotten again after this number of questions at the earliest: a pass over all states takes less time than these do.
+const QUESTIONS_BETWEEN: u64 = 65_536;
 
 /// The number of dead-fair values that are tried before one is drafted.
 const TRIED: usize = 16;
@@ -32,6 +35,26 @@ const MIN_DRAFTS: u64 = 4_096;
 /// No further value is drafted where fewer than one in this number of drafts was kept.
 const DRAFTS_FOR_ONE: u64 = 16;
 
+/// What drafts may take.
+#[derive(Clone, Copy)]
+pub struct DraftLimits {
+    /// No further value is drafted once the drafts have taken this number of steps (`CutDrafter::steps`).
+    pub steps: u64,
+    /// No further value is drafted while all values have this number of entries: one for each literal of a zone, and 8 more for each
+    /// zone, of 4 bytes each. Then the oldest ones go on which no state rests that waits or is dead, until half as many are left.
+    pub entries: usize,
+}
+
+impl DraftLimits {
+    /// This number of steps, and 134,217,728 entries (512 MiB).
+    pub fn of_steps(steps: u64) -> DraftLimits {
+        DraftLimits {
+            steps,
+            entries: MAX_ENTRIES,
+        }
+    }
+}
+
 /// Landmark values of a ground task, drafted by LM-cut where a search asks for them. Each is tested before it is used. It serves the
 /// state for which it was drafted, and those that are reached from there.
 #[derive(Drop)]
@@ -39,11 +62,15 @@ pub struct LandmarksOnDemand<'i, 'g, 't> {
     alloc: Global,
     index: &'i CutIndex<'g, 't>,
     drafter: CutDrafter,
-    /// No further value is drafted once the drafts have taken this number of steps.
-    max_steps: u64,
+    limits: DraftLimits,
     /// The number of drafts that were made.
     drafted: u64,
-    values: Vec<TestedValue>,
+    /// The number of questions that were asked.
+    asked_for: u64,
+    /// Values may be forgotten once this number of questions were asked.
+    may_forget_at: u64,
+    /// The values, by their numbers. `None`: it was forgotten.
+    values: Vec<Option<TestedValue>>,
     /// The entries of all values.
     entries: usize,
     /// The numbers of dead-fair values, of the last ones among them.
@@ -51,20 +78,20 @@ pub struct LandmarksOnDemand<'i, 'g, 't> {
     ghost numbered: { AreAllNumbered (task_of index.now) (atoms_of index.now) } by { Prim.hlevel props },
     ghost asked: { AreAsked (task_of index.now) (atoms_of index.now) [] (asked_in index.now) } by { Prim.hlevel props },
     ghost drafts: { atom_count_of drafter ≡ length (atoms_of index.now) } by { Prim.hlevel props },
-    ghost tested: { All (IsTested (task_of index.now) (atoms_of index.now)) values.items } by { Prim.hlevel props },
+    ghost tested: { All (IsTestedIfKept (task_of index.now) (atoms_of index.now)) values.items } by { Prim.hlevel props },
 }
 
 impl<'i, 'g, 't> LandmarksOnDemand<'i, 'g, 't> {
-    ghost use Rattle.std.specs.Prelude.{◌^◌, ◌∷◌, ◌++◌, false, true, IfOk, IfSome, OnOk};
+    ghost use Rattle.std.specs.Prelude.{◌^◌, ◌∷◌, ◌++◌, false, IfOk, IfSome, MatchOption, None, OnOk, slice_set};
     ghost use Rattle.grounding.specs.Ground.{atoms_in};
     ghost use Rattle.packed_state.specs.Packed.{bits_of};
     ghost use Rattle.landmark_zones.specs.Landmarks.{landmarks_of};
     ghost use Rattle.landmarks_drafted.specs.Drafts.{IsOneValue};
-    ghost use Rattle.search.specs.OnDemand.{Extends, IsAnswer};
-    ghost use Rattle.landmarks_on_demand.specs.Shown.{is_dead_at, shown_by, value_at};
+    ghost use Rattle.search.specs.OnDemand.{Extends, IsAnswer, KeepsUsed};
+    ghost use Rattle.landmarks_on_demand.specs.Shown.{is_dead_at, kept_at, shown_by, value_at};
+    ghost use Rattle.landmarks_on_demand.specs.Tested.{IsTested};
 
-    /// No values yet, for the ground task, of which this is the index of the instances that are tested (`tested_instances`). No further
-    /// value is drafted once the drafts have taken `max_steps` (`CutDrafter::steps`).
+    /// No values yet, for the ground task, of which this is the index of the instances that are tested (`tested_instances`).
     ///
     /// # Errors
     /// An allocation failed.
@@ -72,7 +99,7 @@ impl<'i, 'g, 't> LandmarksOnDemand<'i, 'g, 't> {
         alloc: Global,
         ground: &Ground<'_>,
         index: &'i CutIndex<'g, 't>,
-        max_steps: u64,
+        limits: DraftLimits,
     ) -> Result<LandmarksOnDemand<'i, 'g, 't>, NoMemory>
         requires atoms { atoms_of index.now ≡ atoms_in ground.now }
         requires numbered { AreAllNumbered (task_of index.now) (atoms_of index.now) }
@@ -85,26 +112,38 @@ impl<'i, 'g, 't> LandmarksOnDemand<'i, 'g, 't> {
             alloc,
             index,
             drafter,
-            max_steps,
+            limits,
             drafted: 0,
+            asked_for: 0,
+            may_forget_at: 0,
             values: Vec::new(alloc),
             entries: 0,
             dead: Vec::new(alloc),
         })
     }
 
-    /// The number of values.
+    /// The number of values, those among them that were forgotten.
     pub fn count(&self) -> usize
         ensures { result ≡ length self.now.values.items }
     {
         self.values.len()
     }
 
-    /// The value with this number, the only one of these landmarks.
+    /// The value with this number, if there is one and it was not forgotten.
+    fn kept(&self, basis: Basis) -> Option<&TestedValue>
+        ensures { MatchOption result (kept_at self.now.values.items basis.0 ≡ None) (λ found. kept_at self.now.values.items basis.0 ≡ Some found.now) }
+    {
+        match self.values.get(basis.0 as usize) {
+            Some(Some(value)) => Some(value),
+            _ => None,
+        }
+    }
+
+    /// The value with this number, the only one of these landmarks, if there is one and it was not forgotten.
     pub(crate) fn landmarks(&self, basis: Basis) -> Option<&Landmarks>
         ensures { IfSome result (λ found. length (landmarks_of found.now).values ≡ 1) }
     {
-        match self.values.get(basis.0 as usize) {
+        match self.kept(basis) {
             Some(value) => Some(&value.landmarks),
             None => None,
         }
@@ -115,7 +154,7 @@ impl<'i, 'g, 't> LandmarksOnDemand<'i, 'g, 't> {
         requires { length (bits_of state.now) ≡ length (atoms_of self.now.index.now) }
         ensures { result ≡ is_dead_at self.now.values.items basis.0 (bits_of state.now) }
     {
-        match self.values.get(basis.0 as usize) {
+        match self.kept(basis) {
             Some(value) => value.shows_dead_end(state),
             None => false,
         }
@@ -127,7 +166,7 @@ impl<'i, 'g, 't> LandmarksOnDemand<'i, 'g, 't> {
         ensures value { result ≡ value_at self.now.values.items basis.0 (bits_of state.now) }
         ensures fits { result < 2 ^ 63 }
     {
-        match self.values.get(basis.0 as usize) {
+        match self.kept(basis) {
             Some(value) => value.value(state),
             None => 0,
         }
@@ -141,10 +180,10 @@ impl<'i, 'g, 't> LandmarksOnDemand<'i, 'g, 't> {
         if self.values.len() >= MAX_VALUES {
             return true;
         }
-        if self.entries >= MAX_ENTRIES {
+        if self.entries >= self.limits.entries {
             return true;
         }
-        if self.drafter.steps() >= self.max_steps || self.are_of_little_use() {
+        if self.drafter.steps() >= self.limits.steps || self.are_of_little_use() {
             return true;
         }
         self.is_drafted_for(place, basis)
@@ -159,7 +198,7 @@ impl<'i, 'g, 't> LandmarksOnDemand<'i, 'g, 't> {
     /// Whether the basis was drafted for the state at this place.
     fn is_drafted_for(&self, place: u32, basis: Option<Basis>) -> bool {
         match basis {
-            Some(basis) => match self.values.get(basis.0 as usize) {
+            Some(basis) => match self.kept(basis) {
                 Some(value) => value.place == place,
                 None => false,
             },
@@ -216,8 +255,8 @@ impl<'i, 'g, 't> LandmarksOnDemand<'i, 'g, 't> {
             return self.drafter.draft(self.alloc, state);
         };
         match self.values.get(basis.0 as usize) {
-            Some(value) => self.drafter.draft_from(self.alloc, state, value.known()),
-            None => self.drafter.draft(self.alloc, state),
+            Some(Some(value)) => self.drafter.draft_from(self.alloc, state, value.known()),
+            _ => self.drafter.draft(self.alloc, state),
         }
     }
 
@@ -248,14 +287,42 @@ impl<'i, 'g, 't> LandmarksOnDemand<'i, 'g, 't> {
         requires found { IsTested (task_of self.old.index.now) (atoms_of self.old.index.now) found }
         requires few { length self.old.values.items < 1048576 }
         ensures index { self.new.index.now ≡ self.old.index.now }
-        ensures values { OnOk result (self.new.values.items ≡ self.old.values.items ++ found ∷ []) }
+        ensures values { OnOk result (self.new.values.items ≡ self.old.values.items ++ Some found ∷ []) }
         ensures number { IfOk result (λ basis. basis.0 ≡ length self.old.values.items) }
     {
         let number = self.values.len() as u32;
         let entries = found.entries();
-        self.values.push(found)?;
+        self.values.push(Some(found))?;
         self.entries = self.entries.saturating_add(entries);
         Ok(Basis(number))
+    }
+
+    /// Forgets the oldest values whose numbers are not marked as used, until half of the entries are left that there may be.
+    fn forget_unused(&mut self, used: &[bool])
+        ensures index { self.new.index.now ≡ self.old.index.now }
+        ensures extends { Extends (shown_by self.old.values.items) (shown_by self.new.values.items) }
+        ensures kept { KeepsUsed used.now (shown_by self.old.values.items) (shown_by self.new.values.items) }
+    {
+        for number in 0..self.values.len() {
+            if self.entries > self.limits.entries / 2 && !is_used(used, number) {
+                self.forget_one(number);
+            }
+        }
+        self.may_forget_at = self.asked_for.saturating_add(QUESTIONS_BETWEEN);
+    }
+
+    /// Forgets the value with this number.
+    fn forget_one(&mut self, number: usize)
+        requires { number < length self.old.values.items }
+        ensures index { self.new.index.now ≡ self.old.index.now }
+        ensures values { self.new.values.items ≡ slice_set self.old.values.items number None }
+    {
+        let entries = match &self.values[number] {
+            Some(value) => value.entries(),
+            None => 0,
+        };
+        self.entries = self.entries.saturating_sub(entries);
+        self.values[number] = None;
     }
 
     /// Notes that the value with this number is dead-fair, in place of another one if there is no room.
@@ -270,6 +337,16 @@ impl<'i, 'g, 't> LandmarksOnDemand<'i, 'g, 't> {
             self.dead.push(basis.0)?;
         }
         Ok(())
+    }
+}
+
+/// Whether the number is marked as used.
+fn is_used(used: &[bool], number: usize) -> bool
+    ensures { slice_get used.now number ≡ Some true → result ≡ true }
+{
+    match used.get(number) {
+        Some(is_used) => *is_used,
+        None => false,
     }
 }
 
@@ -291,6 +368,14 @@ impl ValuesOnDemand for LandmarksOnDemand<'_, '_, '_> {
         self.value_at(basis, state)
     }
 
+    fn is_full(&self) -> bool {
+        self.entries >= self.limits.entries && self.asked_for >= self.may_forget_at
+    }
+
+    fn forget(&mut self, used: &[bool]) {
+        self.forget_unused(used);
+    }
+
     fn ask(
         &mut self,
         state: &Packed,
@@ -298,6 +383,7 @@ impl ValuesOnDemand for LandmarksOnDemand<'_, '_, '_> {
         value: u64,
         basis: Option<Basis>,
     ) -> Result<Answer, NoMemory> {
+        self.asked_for = self.asked_for.saturating_add(1);
         if self.is_done(place, basis) {
             return Ok(Answer::Nothing);
         }

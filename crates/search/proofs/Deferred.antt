@@ -4,9 +4,9 @@ use Rattle.std.specs.Prelude.{◌^◌, slice_get, slice_set, IfSome, IsPermutati
 use Rattle.std.proofs.lemmas.List.{length-set}
 use Rattle.std.proofs.lemmas.Option.{same_Some}
 use Rattle.model.specs.Runs.{System}
-use Rattle.search.specs.declared.nodes.Node.{Node}
 use Rattle.search.specs.declared.nodes.NodeStatus.TheVariants as status
 use Rattle.search.specs.declared.on_demand.Answer.TheVariants.{Raised, Dead}
+use Rattle.search.specs.declared.bases.Rest.{Rest}
 use Rattle.search.specs.declared.on_demand.Basis.{Basis}
 use Rattle.search.specs.declared.progress.Progress.{Progress}
 use Rattle.search.specs.declared.turns.Turn.{Turn}
@@ -19,7 +19,7 @@ use Rattle.search.proofs.Linked.{found_of-get, found_of-set, set_was}
 use Rattle.search.proofs.Lists.{get-set_here, get-set_other}
 use Rattle.search.proofs.Raised.{nodes_raised, nodes_dead, open_dead}
 use Rattle.search.proofs.Single.{single_cons, single_permutation}
-use Rattle.search.proofs.Valued.{AreShown, IsNamed, stored_basis, valued_same, valued_extends, raised, raised_is, differs_raised, valued_raised, buried, buried_is, differs_buried, valued_buried}
+use Rattle.search.proofs.Valued.{AreShown, IsNamed, stored_rest, valued_same, valued_extends, raised, raised_is, differs_raised, valued_raised, buried, buried_is, differs_buried, valued_buried}
 use Rattle.search.proofs.Work.{less_by_ask, less_by_work, work_same}
 
 -- the basis of a state, if there is one, is among those that are shown
@@ -61,15 +61,16 @@ module _ {Store : Type 0} (t : System (List Bool) ℕ) (class_of : List Bool →
   its_cost = omega (arith, by.holds.sum, by.holds.estimate)
 
   -- it is raised, and joins the open list again
-  pub defers_raised : (basis : Basis) (higher : ℕ) → IsAnswer shown' s turn.estimate (Raised basis higher) → IsBased old.bases new.bases i (Some basis) → new.nodes.items ≡ old.nodes.items
+  pub defers_raised : (basis : Basis) (higher : ℕ) → IsAnswer shown' s turn.estimate (Raised basis higher) → IsBased old.bases new.bases i (Some (record { basis = basis; value = higher })) → new.nodes.items ≡ old.nodes.items
       → Joins old.open_list new.open_list (entry (turn.sum - turn.estimate) higher i)
       → HoldsIn t estimate reported shown' states_of new (λ value is_dead. Defers t class_of value is_dead states_of old new)
   defers_raised basis higher (is_basis, is, above, fits) based same_nodes joins =
-      let kept = stored_basis basis is_basis.1 in
+      let rest : Rest = record { basis = basis; value = higher } in
+      let kept = stored_rest rest is_basis.1 in
       let above' : by.value s < higher = omega (arith, above, by.holds.estimate, ap by.value is_s) in
-      let v : List Bool → ℕ = raised t estimate reported shown' by.value by.is_dead s nodes old.bases new.bases valued i one by.holds.occurs is_s only fresh alive basis kept is_basis.0 based laws higher is above' in
-      let v_is : v one.state ≡ higher = ap v is_s ∙ raised_is t estimate reported shown' by.value by.is_dead s nodes old.bases new.bases valued i one by.holds.occurs is_s only fresh alive basis kept is_basis.0 based laws higher is above' in
-      let differs = differs_raised t estimate reported shown' by.value by.is_dead s nodes old.bases new.bases valued i one by.holds.occurs is_s only fresh alive basis kept is_basis.0 based laws higher is above' in
+      let v : List Bool → ℕ = raised t estimate reported shown' by.value by.is_dead s nodes old.bases new.bases valued i one by.holds.occurs is_s only fresh alive rest kept is_basis.0 fits based laws is above' in
+      let v_is : v one.state ≡ higher = ap v is_s ∙ raised_is t estimate reported shown' by.value by.is_dead s nodes old.bases new.bases valued i one by.holds.occurs is_s only fresh alive rest kept is_basis.0 fits based laws is above' in
+      let differs = differs_raised t estimate reported shown' by.value by.is_dead s nodes old.bases new.bases valued i one by.holds.occurs is_s only fresh alive rest kept is_basis.0 fits based laws is above' in
       let first = entry one.node.cost higher i in
       let joined : IsPermutation (first ∷ waiting_in old.open_list) (waiting_in new.open_list) = subst (λ (c : ℕ). IsPermutation (entry c higher i ∷ waiting_in old.open_list) (waiting_in new.open_list)) its_cost joins.joins in
       let joined' : IsPermutation (entry one.node.cost (v one.state) i ∷ waiting_in old.open_list) (waiting_in new.open_list) = subst (λ (e : ℕ). IsPermutation (entry one.node.cost e i ∷ waiting_in old.open_list) (waiting_in new.open_list)) (sym v_is) joined in
@@ -80,7 +81,7 @@ module _ {Store : Type 0} (t : System (List Bool) ℕ) (class_of : List Bool →
         value = v;
         is_dead = by.is_dead;
         valued = subst (λ (ns : List (Found (List Bool))). AreValued t estimate reported shown' ns new.bases v by.is_dead) (sym same)
-            (valued_raised t estimate reported shown' by.value by.is_dead s nodes old.bases new.bases valued i one by.holds.occurs is_s only fresh alive basis kept is_basis.0 based laws higher is above');
+            (valued_raised t estimate reported shown' by.value by.is_dead s nodes old.bases new.bases valued i one by.holds.occurs is_s only fresh alive rest kept is_basis.0 fits based laws is above');
         holds = record {
           search = record {
             one_each = ap length same_nodes ∙ e.one_each ∙ sym (ap length stored);
@@ -94,14 +95,16 @@ module _ {Store : Type 0} (t : System (List Bool) ℕ) (class_of : List Bool →
       }
 
   -- it is dead, and is marked so
-  pub defers_dead : (basis : Basis) → IsAnswer shown' s turn.estimate (Dead basis) → IsBased old.bases new.bases i (Some basis) → new.nodes.items ≡ slice_set old.nodes.items i (marked_as status.Dead one.node)
+  pub defers_dead : (basis : Basis) → IsAnswer shown' s turn.estimate (Dead basis) → IsBased old.bases new.bases i (Some (record { basis = basis; value = 0 })) → new.nodes.items ≡ slice_set old.nodes.items i (marked_as status.Dead one.node)
       → new.open_list ≡ old.open_list
       → HoldsIn t estimate reported shown' states_of new (λ value is_dead. Defers t class_of value is_dead states_of old new)
   defers_dead basis (is_basis, dead) based marks same_list =
-      let kept = stored_basis basis is_basis.1 in
-      let d : List Bool → Bool = buried t estimate reported shown' by.value by.is_dead s nodes old.bases new.bases valued i one by.holds.occurs is_s only fresh alive basis kept is_basis.0 based laws dead in
-      let d_is : d one.state ≡ true = ap d is_s ∙ buried_is t estimate reported shown' by.value by.is_dead s nodes old.bases new.bases valued i one by.holds.occurs is_s only fresh alive basis kept is_basis.0 based laws dead in
-      let differs = differs_buried t estimate reported shown' by.value by.is_dead s nodes old.bases new.bases valued i one by.holds.occurs is_s only fresh alive basis kept is_basis.0 based laws dead in
+      let rest : Rest = record { basis = basis; value = 0 } in
+      let kept = stored_rest rest is_basis.1 in
+      let fits : rest.value < 2 ^ 63 = omega arith in
+      let d : List Bool → Bool = buried t estimate reported shown' by.value by.is_dead s nodes old.bases new.bases valued i one by.holds.occurs is_s only fresh alive rest kept is_basis.0 fits based laws dead in
+      let d_is : d one.state ≡ true = ap d is_s ∙ buried_is t estimate reported shown' by.value by.is_dead s nodes old.bases new.bases valued i one by.holds.occurs is_s only fresh alive rest kept is_basis.0 fits based laws dead in
+      let differs = differs_buried t estimate reported shown' by.value by.is_dead s nodes old.bases new.bases valued i one by.holds.occurs is_s only fresh alive rest kept is_basis.0 fits based laws dead in
       let e = by.holds in
       let it : Found (List Bool) = marked status.Dead one in
       let now = nodes_in states_of new in
@@ -116,7 +119,7 @@ module _ {Store : Type 0} (t : System (List Bool) ℕ) (class_of : List Bool →
         is_dead = d;
         valued = valued_same t estimate reported shown' nodes now new.bases new.bases by.value d (λ _. refl)
             (λ k n at. set_was nodes it i one e.occurs refl k n (ap (λ (ns : List (Found (List Bool))). slice_get ns k) (sym same) ∙ at))
-            (valued_buried t estimate reported shown' by.value by.is_dead s nodes old.bases new.bases valued i one by.holds.occurs is_s only fresh alive basis kept is_basis.0 based laws dead);
+            (valued_buried t estimate reported shown' by.value by.is_dead s nodes old.bases new.bases valued i one by.holds.occurs is_s only fresh alive rest kept is_basis.0 fits based laws dead);
         holds = record {
           search = record {
             one_each = ap length marks ∙ length-set old.nodes.items i (marked_as status.Dead one.node) ∙ e.one_each ∙ sym (ap length stored);

@@ -9,7 +9,7 @@ use Rattle.search.specs.declared.under_way.Stop.TheVariants as stop
 use Rattle.search.specs.declared.under_way.Search.{Search}
 use Rattle.search.specs.DeadEnds.{ReportsDeadEnds}
 use Rattle.search.specs.Estimates.{IsAdmissible}
-use Rattle.search.specs.OnDemand.{OnDemand, basis_at}
+use Rattle.search.specs.OnDemand.{OnDemand, rest_at}
 use Rattle.search.specs.Progress.{nodes_in}
 use Rattle.search.specs.UnderWay.{IsUnderWay, IsUnderWayBy, IsTrueHalt, IsTrueHaltBy, IsTrueStop, IsTrueStopBy}
 use Rattle.search.proofs.Valued.{by_guide, valued_alone}
@@ -31,7 +31,7 @@ module _ {S Store R : Type 0} (t : System S ℕ) (class_of : S → S) (estimate 
     (fits : R → Type 0) (states_of : Store → List S) (classes_of : Store → S → S) (width_of : Store → ℕ) (width : ℕ) where
   pub begins_alone : {E : Type 0} (result : Result (Search Store R) E)
       → IfOk result (λ search. (max_states : ℕ) → 1 ≤ max_states → IsUnderWay t class_of estimate reported fits states_of classes_of width_of width max_states search)
-      → IfOk result (λ search. (place : ℕ) → basis_at search.progress.bases place ≡ None)
+      → IfOk result (λ search. (place : ℕ) → rest_at search.progress.bases place ≡ None)
       → IfOk result (λ search. (max_states : ℕ) → 1 ≤ max_states → IsUnderWayBy t class_of estimate reported shown fits states_of classes_of width_of width max_states search)
   begins_alone (Ok search) under_way none = λ max_states some. record {
     value = estimate;

@@ -10,7 +10,7 @@ use Rattle.search.specs.declared.nodes.NodeStatus.{NodeStatus}
 use Rattle.search.specs.declared.nodes.NodeStatus.TheVariants.{Reopened, Expanded}
 use Rattle.search.specs.Estimates.{IsConsistent}
 use Rattle.search.specs.DeadEnds.{DetectsDeadEnds}
-use Rattle.search.specs.Nodes.{Waiting, entry, IsWaiting, total_of, IsEntryOf, has_been_expanded_status, has_been_expanded, parent_of, follows, HasWay, Found, Leads, dearest, AreSettled, IsLater, AreNodes, IsClosedAt, AreClosed, AreClosedBut, IsTurn, marked}
+use Rattle.search.specs.Nodes.{Waiting, entry, IsWaiting, total_of, IsEntryOf, has_been_expanded_status, has_been_expanded, parent_of, follows, HasWay, Found, Leads, dearest, IsLater, AreNodes, IsClosedAt, AreClosed, AreClosedBut, IsTurn, marked}
 use Rattle.search.specs.Outcome.{AreOwnClasses, is_expanded, is_marked_dead, IsReachableAt, ReachingCostsAtLeast}
 use Rattle.search.proofs.Kept.{AreKept, way_kept, open_kept, settled_before, later_before, leads_kept, entries_kept}
 

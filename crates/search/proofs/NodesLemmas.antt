@@ -12,9 +12,8 @@ use Rattle.std.proofs.lemmas.List.Sums.{sum_by-append}
 use Rattle.model.specs.Runs.{System, run, CostsAtLeast}
 use Rattle.search.specs.declared.nodes.NodeStatus.{NodeStatus}
 use Rattle.search.specs.declared.nodes.NodeStatus.TheVariants.{Unexpanded, Reopened, Expanded, Dead}
-use Rattle.search.specs.Estimates.{IsConsistent}
 use Rattle.search.specs.Outcome.{is_expanded_status, is_expanded, is_marked_dead, IsReachableAt, ReachingCostsAtLeast}
-use Rattle.search.specs.Nodes.{Waiting, entry, IsWaiting, total_of, IsEntryOf, has_been_expanded_status, parent_of, begins, follows, IsWay, HasWay, Found, Leads, dearest, AreSettled, IsLater, AreNodes, IsClosedAt, AreClosedBut, IsTurn, Updates}
+use Rattle.search.specs.Nodes.{Waiting, entry, IsWaiting, total_of, IsEntryOf, has_been_expanded_status, parent_of, begins, follows, IsWay, HasWay, Found, Leads, dearest, AreNodes, IsClosedAt, AreClosedBut, IsTurn, Updates}
 use Rattle.search.specs.Progress.{Continues, IsListed}
 use Rattle.search.proofs.Kept.{AreKept, way_kept, found_kept, open_kept, settled_before, later_before, leads_kept, entries_kept}
 

@@ -1,6 +1,6 @@
 -- What the found states prove where a search is stopped at a pause: the state that would come next waits.
-use Rattle.std.proofs.Common.{◌≡◌, ℕ, ◌<◌, ◌≤◌, inl, inr, List, length, Bool, Some, sym, refl, ◌∙◌, arith}
-use Rattle.std.specs.Prelude.{slice_get, Contains, All}
+use Rattle.std.proofs.Common.{◌≡◌, ℕ, ◌<◌, inl, inr, List, length, Bool, sym, refl, ◌∙◌, arith}
+use Rattle.std.specs.Prelude.{Contains, All}
 use Rattle.std.proofs.lemmas.Option.{slice_get_within}
 use Rattle.model.specs.Runs.{System}
 use Rattle.search.specs.declared.progress.Progress.{Progress}

@@ -12,7 +12,7 @@ use Rattle.search.specs.declared.listing.Place.TheVariants.{New, Listed, Alike}
 use Rattle.search.specs.declared.nodes.Node.{Node}
 use Rattle.search.specs.declared.nodes.NodeStatus.{NodeStatus}
 use Rattle.search.specs.declared.nodes.NodeStatus.TheVariants.{Unexpanded, Reopened, Expanded, Dead}
-use Rattle.search.specs.declared.on_demand.Basis.{Basis}
+use Rattle.search.specs.declared.bases.Rest.{Rest}
 use Rattle.search.specs.declared.progress.Progress.{Progress}
 use Rattle.search.specs.DeadEnds.{IsValueUnlessDead}
 use Rattle.search.specs.Listing.{IsAlikeAt, IsPlacedBy}
@@ -213,7 +213,7 @@ module _ {S Store : Type 0} (t : System S ℕ) (class_of : S → S) (value : S �
     (one_each : length old.nodes.items ≡ length states)
     (nodes : AreNodes t class_of value is_dead (found_of states old.nodes.items) (waiting_in old.open_list)) (turn : IsTurn t value (found_of states old.nodes.items) i)
     (others : AreClosedBut t class_of (found_of states old.nodes.items) i)
-    (is_current : ℕ → Type 0) (s : S) (now : Node) (child : IsChild t value is_dead turn.found i s now) (estimate : Option ℕ) (of : IsValueUnlessDead value is_dead s estimate) (basis : Option Basis) where
+    (is_current : ℕ → Type 0) (s : S) (now : Node) (child : IsChild t value is_dead turn.found i s now) (estimate : Option ℕ) (of : IsValueUnlessDead value is_dead s estimate) (rest : Option Rest) where
   pub record IsTaken : Type 0 where
     pub each : length new.nodes.items ≡ length (states_of new.store)
     pub stepped : Stepped t class_of value is_dead (found_of states old.nodes.items) (found_of (states_of new.store) new.nodes.items) (waiting_in new.open_list) i now.action s
@@ -236,7 +236,7 @@ module _ {S Store : Type 0} (t : System S ℕ) (class_of : S → S) (value : S �
       subst (λ (r : Node). now.cost < r.cost) same cheaper
 
   pub taken : length states ≤ max_states → (place : Place) → IsPlacedBy class_of is_current states (states_of old.store) s max_states (Some place) → IsReachedCheaper old.nodes.items now.cost place
-      → TakesPlace states_of old new s now estimate basis max_states place → IsTaken
+      → TakesPlace states_of old new s now estimate rest max_states place → IsTaken
   taken within (New place) (is_new, room, stored, at_end) cheaper takes =
       let joined = joined_by value is_dead s estimate old.open_list new.open_list now.cost place of takes.open_list in
       let is : states_of new.store ≡ states ++ s ∷ [] = takes.states ∙ stored in

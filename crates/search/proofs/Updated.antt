@@ -1,5 +1,5 @@
 -- A function on states that has another value at one of them.
-use Rattle.std.proofs.Common.{◌≡◌, ◌≢◌, ◌⊎◌, inl, inr, List, [], ◌∷◌, Bool, true, false, refl, sym, ap, ◌∙◌}
+use Rattle.std.proofs.Common.{◌≡◌, ◌≢◌, ◌⊎◌, inl, inr, List, [], ◌∷◌, Bool, true, false, refl, ap, ◌∙◌}
 
 same_bit : (a b : Bool) → (a ≡ b) ⊎ (a ≢ b)
 same_bit true true = inl refl

@@ -1,12 +1,13 @@
 //! The turn of a state: its value is asked for, and it is expanded unless it waits again or is dead.
-ghost use Rattle.std.specs.Prelude.{◌≡◌, ◌≤◌, ◌+◌, ◌-◌, ◌^◌, ◌<◌, false, Some, MatchBool, IfOk, OnOk, length, slice_get, slice_set};
+ghost use Rattle.std.specs.Prelude.{◌≡◌, ◌≤◌, ◌+◌, ◌-◌, ◌^◌, ◌<◌, ℕ, false, true, Some, MatchBool, IfOk, OnOk, length, slice_get, slice_set};
 ghost use Rattle.packed_state.specs.Packed.{bits_of};
 ghost use Rattle.search.specs.Nodes.{AreClosed};
-ghost use Rattle.search.specs.OnDemand.{Extends, IsBased};
+ghost use Rattle.search.specs.OnDemand.{basis_at, Extends, IsBased};
 ghost use Rattle.search.specs.OpenList.{JoinsBy};
-ghost use Rattle.search.specs.Outcome.{AreClassesOf};
+ghost use Rattle.search.specs.Outcome.{AreClassesOf, is_expanded};
 ghost use Rattle.search.specs.Progress.{AreWide, Defers, HoldsIn, IsAtTurn, IsStopped, TurnsOver, nodes_in};
 
+use crate::bases::Rest;
 use crate::best::MAX_STATES;
 use crate::buffers::Buffers;
 use crate::guide::Guide;
@@ -18,6 +19,7 @@ use crate::progress::Progress;
 use crate::transitions::TransitionSystem;
 use crate::turns::Turn;
 use faults::NoMemory;
+use std::alloc::Global;
 
 impl<L: StateListing> Progress<L> {
     /// The turn of the state in the buffers: its value is asked for, and it is expanded unless it waits again or is dead. `false`: the
@@ -57,10 +59,27 @@ impl<L: StateListing> Progress<L> {
             (HoldsIn (T.means problem.now.system.now) (G.estimate_of problem.now.guide.now) (G.is_dead problem.now.guide.now) (V.shows values.new) L.states self.new
             (λ value is_dead. IsStopped (T.means problem.now.system.now) (L.class_of self.old.store) value is_dead L.states self.new turn problem.now.max_states))) }
     {
+        self.make_room(problem.alloc, values)?;
         if self.defer(problem.guide, values, buffers, turn)? {
             return Ok(true);
         }
         self.expand(problem, values, buffers, turn)
+    }
+
+    /// Forgets bases on which no state rests that waits or is dead, if they take too much memory.
+    fn make_room<V: ValuesOnDemand>(&self, alloc: Global, values: &mut V) -> Result<(), NoMemory>
+        requires few { length self.now.nodes.items ≤ MAX_STATES }
+        ensures width { V.width_of values.new ≡ V.width_of values.old }
+        ensures system { V.system_of values.new ≡ V.system_of values.old }
+        ensures extends { Extends (V.shows values.old) (V.shows values.new) }
+        ensures kept { (place : ℕ) (node : _) (basis : _) → slice_get self.now.nodes.items place ≡ Some node → is_expanded node ≡ false
+            → basis_at self.now.bases place ≡ Some basis → (V.shows values.old).keeps basis.0 ≡ true → (V.shows values.new).keeps basis.0 ≡ true }
+    {
+        if values.is_full() {
+            let used = self.bases.used(alloc, &self.nodes)?;
+            values.forget(&used);
+        }
+        Ok(())
     }
 
     /// Asks for the value of the state in the buffers, whose turn it is, if it was never expanded. `true`: the value is raised, and the
@@ -122,11 +141,11 @@ impl<L: StateListing> Progress<L> {
         requires place { turn.id.0 < MAX_STATES }
         ensures store { self.new.store ≡ self.old.store }
         ensures nodes { self.new.nodes.items ≡ self.old.nodes.items }
-        ensures bases { OnOk result (IsBased self.old.bases self.new.bases turn.id.0 (Some basis)) }
+        ensures bases { OnOk result (IsBased self.old.bases self.new.bases turn.id.0 (Some (record { basis = basis; value = value }))) }
         ensures open_list { OnOk result (JoinsBy self.old.open_list self.new.open_list (turn.sum - turn.estimate) turn.id.0 (Some value)) }
     {
         self.enqueue(turn.id, turn.sum - turn.estimate, Some(value))?;
-        self.bases.set(turn.id, Some(basis))?;
+        self.bases.set(turn.id, Some(Rest { basis, value }))?;
         Ok(())
     }
 
@@ -136,10 +155,10 @@ impl<L: StateListing> Progress<L> {
         ensures store { self.new.store ≡ self.old.store }
         ensures nodes { (node : _) → slice_get self.old.nodes.items id.0 ≡ Some node
             → self.new.nodes.items ≡ slice_set self.old.nodes.items id.0 (record node { status = NodeStatus.Dead }) }
-        ensures bases { OnOk result (IsBased self.old.bases self.new.bases id.0 (Some basis)) }
+        ensures bases { OnOk result (IsBased self.old.bases self.new.bases id.0 (Some (record { basis = basis; value = 0 }))) }
         ensures open_list { self.new.open_list ≡ self.old.open_list }
     {
         self.mark(id, NodeStatus::Dead);
-        self.bases.set(id, Some(basis))
+        self.bases.set(id, Some(Rest { basis, value: 0 }))
     }
 }

@@ -9,7 +9,7 @@ ghost use Rattle.model.specs.Runs.{System};
 ghost use Rattle.packed_state.specs.Packed.{bits_of};
 ghost use Rattle.search.specs.Estimates.{IsAdmissible};
 ghost use Rattle.search.specs.DeadEnds.{ReportsDeadEnds};
-ghost use Rattle.search.specs.OnDemand.{Extends, IsAnswer, OnDemand};
+ghost use Rattle.search.specs.OnDemand.{Extends, IsAnswer, KeepsUsed, OnDemand};
 
 use crate::guide::Guide;
 use faults::NoMemory;
@@ -32,8 +32,9 @@ pub enum Answer {
 
 /// Values of single states, found on demand.
 ///
-/// Each rests on a basis, by which every state has a value: the remaining cost is no lower. Bases are only added, and what they show
-/// stays. So a state that is found later has a value by the basis of its parent, and a state that is reached again has its own.
+/// Each rests on a basis, by which every state has a value: the remaining cost is no lower. So a state that is found later has a value by
+/// the basis of its parent. Bases are only added, and what they show stays, unless they are forgotten: then by them every state has the
+/// value 0, and none is shown to be dead.
 pub trait ValuesOnDemand {
     ghost width_of: { Self → ℕ };
 
@@ -47,6 +48,16 @@ pub trait ValuesOnDemand {
         requires width { length (bits_of state.now) ≡ width_of self.now }
         ensures value { result ≡ (shows self.now).value_by basis.0 (bits_of state.now) }
         ensures fits { result < 2 ^ 63 };
+
+    /// Whether bases should be forgotten before the next question, since they take too much memory.
+    fn is_full(&self) -> bool;
+
+    /// Forgets bases, but none whose number is marked as used.
+    fn forget(&mut self, used: &[bool])
+        ensures width { width_of self.new ≡ width_of self.old }
+        ensures system { system_of self.new ≡ system_of self.old }
+        ensures extends { Extends (shows self.old) (shows self.new) }
+        ensures kept { KeepsUsed used.now (shows self.old) (shows self.new) };
 
     /// Asked of the state at this place, which has this value, resting on this basis or on none. It was never expanded.
     ///
@@ -95,6 +106,12 @@ impl<G: Guide> ValuesOnDemand for GuideAlone<'_, G> {
     fn value(&self, _basis: Basis, _state: &Packed) -> u64 {
         0
     }
+
+    fn is_full(&self) -> bool {
+        false
+    }
+
+    fn forget(&mut self, _used: &[bool]) {}
 
     fn ask(
         &mut self,

@@ -3,8 +3,8 @@ ghost use Rattle.std.specs.Prelude.{◌≡◌, ◌≢◌, ℕ, ◌+◌, ◌<◌,
 ghost use Rattle.packed_state.specs.Packed.{bits_of};
 ghost use Rattle.search.specs.Outcome.{AreClassesOf};
 ghost use Rattle.search.specs.Nodes.{Waiting, IsEntry, IsCurrent, AreClosed, IsPath, IsReachedIn};
-ghost use Rattle.search.specs.OnDemand.{basis_at, IsBased};
-ghost use Rattle.search.specs.Standing.{IsStandingAt};
+ghost use Rattle.search.specs.OnDemand.{rest_at, IsBased};
+ghost use Rattle.search.specs.Standing.{rest_of, IsStandingAt};
 ghost use Rattle.search.specs.OpenList.{waiting_in, IsOpenList, JoinsBy};
 ghost use Rattle.search.specs.Progress.{AreNotedWith, HoldsIn, TakesNext, IsLeastWith, nodes_in, IsSearch, IsAtTurn, IsStopped, IsExpanding, IsPlaceAmong, IsReachedWithin, IsReachedCheaper, IsFreeFor, TakesPlace, IsLeftOut, Reaches, IsFull, Expands, AreWide};
 
@@ -18,7 +18,7 @@ use crate::on_demand::ValuesOnDemand;
 use crate::open_list::OpenList;
 use crate::problem::Problem;
 use crate::transitions::TransitionSystem;
-use crate::turns::{Reached, Standing, Successor, Turn};
+use crate::turns::{Reached, Standing, Successor, Turn, rest_by};
 use faults::NoMemory;
 use std::alloc::Global;
 use std::cmp::Reverse;
@@ -52,7 +52,7 @@ impl<L: StateListing> Progress<L> {
         ensures search { IfOk result (λ p. IsSearch (T.means system.now) (L.class_of store) (G.estimate_of guide.now) (G.is_dead guide.now) L.states p) }
         ensures open { IfOk result (λ p. AreClosed (T.means system.now) (L.class_of store) (nodes_in L.states p)) }
         ensures one { IfOk result (λ p. length (L.states p.store) ≡ 1) }
-        ensures bases { IfOk result (λ p. (place : ℕ) → basis_at p.bases place ≡ None) }
+        ensures bases { IfOk result (λ p. (place : ℕ) → rest_at p.bases place ≡ None) }
         ensures width { IfOk result (λ p. L.width_of p.store ≡ T.width_of system.now) }
         ensures class { IfOk result (λ p. L.class_of p.store ≡ L.class_of store) }
     {
@@ -135,11 +135,11 @@ impl<L: StateListing> Progress<L> {
         requires place { id.0 < MAX_STATES }
         ensures store { self.new.store ≡ self.old.store }
         ensures nodes { OnOk result (self.new.nodes.items ≡ self.old.nodes.items ++ reached.entry.node ∷ []) }
-        ensures bases { OnOk result (IsBased self.old.bases self.new.bases id.0 reached.entry.basis) }
+        ensures bases { OnOk result (IsBased self.old.bases self.new.bases id.0 reached.entry.rest) }
         ensures open_list { OnOk result
             (JoinsBy self.old.open_list self.new.open_list reached.entry.node.cost id.0 reached.entry.estimate) }
     {
-        self.bases.set(id, reached.basis)?;
+        self.bases.set(id, reached.rest)?;
         self.add(id, reached.node, reached.estimate)?;
         Ok(())
     }
@@ -151,11 +151,11 @@ impl<L: StateListing> Progress<L> {
         requires place { id.0 < MAX_STATES }
         ensures store { self.new.store ≡ self.old.store }
         ensures nodes { OnOk result (self.new.nodes.items ≡ slice_set self.old.nodes.items id.0 reached.entry.node) }
-        ensures bases { OnOk result (IsBased self.old.bases self.new.bases id.0 reached.entry.basis) }
+        ensures bases { OnOk result (IsBased self.old.bases self.new.bases id.0 reached.entry.rest) }
         ensures open_list { OnOk result
             (JoinsBy self.old.open_list self.new.open_list reached.entry.node.cost id.0 reached.entry.estimate) }
     {
-        self.bases.set(id, reached.basis)?;
+        self.bases.set(id, reached.rest)?;
         self.improve(id, reached.node, reached.estimate)?;
         Ok(())
     }
@@ -248,14 +248,14 @@ impl<L: StateListing> Progress<L> {
         if self.is_reached_within(place, cost) {
             return Ok(true);
         }
-        let standing = self.standing_at(place, to.parent);
-        let estimate = standing.estimate(problem.guide, values, to.state, scratch);
+        let standing = self.standing_at(values, place, to);
+        let estimate = standing.estimate(problem.guide, to.state, scratch);
         let node = to.node(cost, NodeStatus::of_reached(estimate));
         let reached = Reached {
             state: to.state,
             node,
             estimate,
-            basis: standing.basis(),
+            rest: standing.rest(),
         };
         self.take_place(place, reached, problem.max_states)
     }
@@ -272,18 +272,28 @@ impl<L: StateListing> Progress<L> {
         }
     }
 
-    /// What the value of a state stands on that is reached at this place, from this parent.
-    fn standing_at(&self, place: Place, parent: StateId) -> Standing
-        requires { IsPlaceAmong (length self.now.nodes.items) place }
-        ensures { IsStandingAt self.now.nodes.items self.now.bases parent.0 place result }
+    /// What the value of the successor stands on, which is reached at this place.
+    fn standing_at<V: ValuesOnDemand>(
+        &self,
+        values: &V,
+        place: Place,
+        to: Successor<'_>,
+    ) -> Standing
+        requires place { IsPlaceAmong (length self.now.nodes.items) place }
+        requires width { length (bits_of to.state.now) ≡ V.width_of values.now }
+        requires noted { (k : ℕ) (rest : _) → rest_at self.now.bases k ≡ Some rest → rest.value < 2 ^ 63 }
+        ensures standing { IsStandingAt (V.shows values.now) self.now.nodes.items self.now.bases to.entry.parent.0 (bits_of to.entry.state.now) place result }
+        ensures fits { IfSome (rest_of result) (λ rest. rest.value < 2 ^ 63) }
     {
         match place {
-            Place::New(_) => Standing::Based(self.bases.at(parent.0)),
             Place::Listed(place) => match self.nodes[place as usize].is_marked_dead() {
                 true => Standing::Dead,
-                false => Standing::Based(self.bases.at(place)),
+                false => Standing::Based(self.bases.rest_at(place)),
             },
-            Place::Alike(_) => Standing::Based(self.bases.at(parent.0)),
+            Place::New(_) | Place::Alike(_) => {
+                let parents = self.bases.at(to.parent.0);
+                Standing::Based(rest_by(values, parents, to.state))
+            }
         }
     }
 
@@ -306,7 +316,7 @@ impl<L: StateListing> Progress<L> {
         ensures width { L.width_of self.new.store ≡ L.width_of self.old.store }
         ensures class { L.class_of self.new.store ≡ L.class_of self.old.store }
         ensures taken { IfOk result (λ is_taken. MatchBool is_taken
-            (TakesPlace L.states self.old self.new (bits_of reached.entry.state.now) reached.entry.node reached.entry.estimate reached.entry.basis max_states place)
+            (TakesPlace L.states self.old self.new (bits_of reached.entry.state.now) reached.entry.node reached.entry.estimate reached.entry.rest max_states place)
             (IsLeftOut L.states self.old self.new (bits_of reached.entry.state.now) max_states)) }
     {
         match place {

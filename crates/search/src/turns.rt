@@ -1,9 +1,11 @@
 //! The state that is expanded next, its successors, and a state as it is reached.
-ghost use Rattle.std.specs.Prelude.{◌≡◌, ◌<◌, length};
+ghost use Rattle.std.specs.Prelude.{◌≡◌, ◌<◌, ◌^◌, IfSome, length};
 ghost use Rattle.packed_state.specs.Packed.{bits_of};
 ghost use Rattle.search.specs.Nodes.{parent_of};
-ghost use Rattle.search.specs.Standing.{basis_of, IsEstimateBy, IsNamedAt};
+ghost use Rattle.search.specs.OnDemand.{rest_by};
+ghost use Rattle.search.specs.Standing.{rest_of, IsEstimateBy};
 
+use crate::bases::Rest;
 use crate::best::MAX_STATES;
 use crate::guide::Guide;
 use crate::nodes::{Node, NodeStatus, ShortId, StateId};
@@ -31,8 +33,8 @@ pub(crate) struct Successor<'a> {
 pub(crate) enum Standing {
     /// It is listed, and marked dead.
     Dead,
-    /// On the guide, and on this basis if there is one.
-    Based(Option<Basis>),
+    /// On the guide, and on this if it has a basis.
+    Based(Option<Rest>),
 }
 
 /// A state as it is reached now, with its node, its estimate, and what that stands on beside the guide. Without an estimate it is dead.
@@ -41,45 +43,62 @@ pub(crate) struct Reached<'a> {
     pub(crate) state: &'a Packed,
     pub(crate) node: Node,
     pub(crate) estimate: Option<u64>,
-    pub(crate) basis: Option<Basis>,
+    pub(crate) rest: Option<Rest>,
 }
 
 impl Standing {
-    /// The basis, if there is one.
-    pub(crate) fn basis(self) -> Option<Basis>
-        ensures { result ≡ basis_of self }
+    /// What it stands on beside the guide, if there is such a thing.
+    pub(crate) fn rest(self) -> Option<Rest>
+        ensures { result ≡ rest_of self }
     {
         match self {
             Standing::Dead => None,
-            Standing::Based(basis) => basis,
+            Standing::Based(rest) => rest,
         }
     }
 
     /// The estimate of a state by the guide and by what it stands on, or `None` if it is dead.
-    pub(crate) fn estimate<G: Guide, V: ValuesOnDemand>(
+    pub(crate) fn estimate<G: Guide>(
         self,
         guide: &G,
-        values: &V,
         state: &Packed,
         scratch: &mut G::Scratch,
     ) -> Option<u64>
         requires width { length (bits_of state.now) ≡ G.width_of guide.now }
-        requires values_width { V.width_of values.now ≡ G.width_of guide.now }
         requires scratch { G.fits guide.now scratch.old }
-        requires named { IsNamedAt (V.shows values.now) self }
-        ensures estimate { IsEstimateBy (G.estimate_of guide.now) (G.is_dead guide.now) (V.shows values.now) (bits_of state.now) self result }
+        requires fits { IfSome (rest_of self) (λ rest. rest.value < 2 ^ 63) }
+        ensures estimate { IsEstimateBy (G.estimate_of guide.now) (G.is_dead guide.now) (bits_of state.now) self result }
         ensures scratch { G.fits guide.now scratch.new }
     {
-        let Standing::Based(basis) = self else {
+        let Standing::Based(rest) = self else {
             return None;
         };
         let Some(estimate) = guide.value(state, scratch) else {
             return None;
         };
-        match basis {
-            Some(basis) => Some(estimate.max(values.value(basis, state))),
+        match rest {
+            Some(rest) => Some(estimate.max(rest.value)),
             None => Some(estimate),
         }
+    }
+}
+
+/// What the value of a state rests on by this basis, if there is one.
+pub(crate) fn rest_by<V: ValuesOnDemand>(
+    values: &V,
+    basis: Option<Basis>,
+    state: &Packed,
+) -> Option<Rest>
+    requires width { length (bits_of state.now) ≡ V.width_of values.now }
+    ensures rest { result ≡ rest_by (V.shows values.now) basis (bits_of state.now) }
+    ensures fits { IfSome result (λ rest. rest.value < 2 ^ 63) }
+{
+    match basis {
+        Some(basis) => Some(Rest {
+            basis,
+            value: values.value(basis, state),
+        }),
+        None => None,
     }
 }
 

@@ -57,7 +57,7 @@
 //! found in the order of successors, is only tested.
 ghost use Rattle.std.specs.Prelude.{◌≡◌, ◌≤◌, ℕ, [], IfOk, None, length};
 ghost use Rattle.model.specs.Limits.{max_states_listed};
-ghost use Rattle.search.specs.OnDemand.{basis_at, Extends};
+ghost use Rattle.search.specs.OnDemand.{rest_at, Extends};
 ghost use Rattle.search.specs.OpenList.{IsLeastSum};
 ghost use Rattle.search.specs.Outcome.{AreClassesOf, HasEstimates, IsTrueOutcome};
 ghost use Rattle.search.specs.Nodes.{AreClosed};
@@ -113,7 +113,7 @@ impl<L: StateListing, R> Search<L, R> {
         ensures store { result.progress.store ≡ self.progress.store }
         ensures nodes { result.progress.nodes ≡ self.progress.nodes }
         ensures open_list { result.progress.open_list ≡ self.progress.open_list }
-        ensures bases { (place : ℕ) → basis_at result.progress.bases place ≡ None }
+        ensures bases { (place : ℕ) → rest_at result.progress.bases place ≡ None }
         ensures buffers { result.buffers ≡ self.buffers }
     {
         let Search { progress, buffers } = self;
@@ -207,7 +207,7 @@ fn start<T: TransitionSystem, G: Guide, L: StateListing>(
     requires width { L.width_of store ≡ T.width_of system.now }
     ensures under_way { IfOk result (λ search. (max_states : ℕ) → 1 ≤ max_states
         → IsUnderWay (T.means system.now) (L.class_of store) (G.estimate_of guide.now) (G.is_dead guide.now) (G.fits guide.now) L.states L.class_of L.width_of (T.width_of system.now) max_states search) }
-    ensures bases { IfOk result (λ search. (place : ℕ) → basis_at search.progress.bases place ≡ None) }
+    ensures bases { IfOk result (λ search. (place : ℕ) → rest_at search.progress.bases place ≡ None) }
 {
     let scratch = guide.scratch(alloc)?;
     let mut buffers = Buffers::new(alloc, system.width(), scratch)?;

@@ -1,4 +1,4 @@
-use Rattle.std.proofs.Common.{refl, List, ◌≡◌, ℕ, length, ap, sym, ◌∙◌, subst, arith, Some, get_or, true, false}
+use Rattle.std.proofs.Common.{refl, ◌≡◌, ℕ, length, ap, sym, ◌∙◌, subst, arith, Some, get_or, true, false}
 use Rattle.std.specs.Prelude.{slice_get, All}
 use Rattle.search.specs.OpenList.{waiting_in}
 use Rattle.std.proofs.lemmas.Option.{same_Some, get_or_from_slice_get, slice_get_within}

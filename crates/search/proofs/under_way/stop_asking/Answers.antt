@@ -1,4 +1,3 @@
-use Rattle.std.proofs.Common.{ap, arith}
 use Rattle.search.proofs.Closed.{unsolvable}
 use Rattle.search.proofs.Noted.{none_estimated}
 use Rattle.search.proofs.Paused.{turn_there, entries_left, estimates_noted, at_pause}

@@ -1,9 +1,15 @@
-use Rattle.std.proofs.Common.{◌≡◌, ◌+◌, ◌-◌, ℕ, length}
-use Rattle.search.specs.OnDemand.{basis_at}
+use Rattle.std.proofs.Common.{◌≡◌, ◌+◌, ◌-◌, ◌<◌, ℕ, length}
+use Rattle.search.specs.OnDemand.{rest_at}
 use Rattle.search.proofs.bases.Bases.extend_to.Given as goal
 
-abbrev pub invariant-loop-id : goal.invariant-loop-id
-invariant-loop-id l = (place : ℕ) → basis_at l.self place ≡ basis_at l.initial.self place
+abbrev pub invariant-words : goal.invariant-words
+invariant-words l = (place : ℕ) → rest_at l.self place ≡ rest_at l.initial.self place
 
-abbrev pub decreases-loop-id : goal.decreases-loop-id
-decreases-loop-id l = l.id.0 + 1 - length l.self.words.items
+abbrev pub decreases-words : goal.decreases-words
+decreases-words l = l.id.0 + 1 - length l.self.words.items
+
+abbrev pub invariant-values : goal.invariant-values
+invariant-values l = (l.id.0 < length l.self.words.items) × ((place : ℕ) → rest_at l.self place ≡ rest_at l.initial.self place)
+
+abbrev pub decreases-values : goal.decreases-values
+decreases-values l = l.id.0 + 1 - length l.self.values.items

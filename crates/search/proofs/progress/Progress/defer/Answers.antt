@@ -1,5 +1,5 @@
-use Rattle.std.proofs.Common.{◌≡◌, ℕ, ◌≤◌, ◌<◌, ◌+◌, ◌-◌, List, Bool, Option, length, get_or, Some, sym, ap, ◌∙◌, subst, false, arith}
-use Rattle.std.specs.Prelude.{◌^◌, slice_get, IfSome}
+use Rattle.std.proofs.Common.{◌≡◌, ℕ, ◌≤◌, ◌<◌, ◌+◌, ◌-◌, List, Bool, Option, length, get_or, sym, ap, ◌∙◌, subst, false, arith}
+use Rattle.std.specs.Prelude.{◌^◌, IfSome}
 use Rattle.std.proofs.lemmas.Option.{get_or_from_slice_get, slice_get_within}
 use Rattle.packed_state.specs.Packed.{bits_of}
 use Rattle.model.specs.Runs.{System}
@@ -10,7 +10,7 @@ use Rattle.search.specs.Nodes.{found_of, has_been_expanded}
 use Rattle.search.specs.OnDemand.{IsAnswer}
 use Rattle.search.proofs.Deferred.{some_named, raised_fits, defers_raised, defers_dead}
 use Rattle.search.proofs.Linked.{found_of-get, length-found_of}
-use Rattle.search.proofs.Valued.{AreShown, extends_same}
+use Rattle.search.proofs.Valued.{AreShown, extends_same, named_basis}
 use Rattle.search.proofs.progress.Progress.defer.Given.{Over}
 use Rattle.search.proofs.progress.Progress.defer.Goals.{In_ok-answer, In-Raised}
 use Rattle.search.proofs.progress.Progress.defer.Goals as goal
@@ -56,7 +56,7 @@ fits g c =
 pub ask-requires-clause-basis : goal.ask-requires-clause-basis
 ask-requires-clause-basis g c =
     let shown = g.V.ValuesOnDemand.shows c.args.values.now in
-    subst (λ (o : Option Basis). IfSome o (λ b. b.0 < shown.bases)) (sym c.at-basis.ensures) (some_named shown _ (c.requires.turn.valued.named c.args.turn.id.0))
+    subst (λ (o : Option Basis). IfSome o (λ b. b.0 < shown.bases)) (sym c.at-basis.ensures) (some_named shown _ (named_basis _ _ _ shown _ _ _ _ c.requires.turn.valued c.args.turn.id.0))
 
 pub raise-requires-clause-sum : goal.raise-requires-clause-sum
 raise-requires-clause-sum g c = (fits g (goal.at.raise-requires-clause-sum g c).In-Raised).0

@@ -7,10 +7,10 @@ use Rattle.std.proofs.lemmas.Option.{same_Some, slice_get_within}
 use Rattle.model.proofs.ListLemmas.{Contains-here}
 use Rattle.packed_state.specs.Packed.{bits_of}
 use Rattle.search.specs.declared.bases.Bases.{Bases}
-use Rattle.search.specs.declared.on_demand.Basis.{Basis}
+use Rattle.search.specs.declared.bases.Rest.{Rest}
 use Rattle.search.specs.declared.nodes.Node.{Node}
 use Rattle.search.specs.Nodes.{AreClosedBut, AreNodes, Found, Waiting, entry, found_of, marked, marked_as, total_of}
-use Rattle.search.specs.OnDemand.{basis_at, value_on}
+use Rattle.search.specs.OnDemand.{rest_at, value_on}
 use Rattle.search.proofs.Linked.{found_of-get, found_of-set, length-found_of, set_was}
 use Rattle.search.proofs.Lists.{get-set_here, get-set_other}
 use Rattle.search.proofs.Marked.{open_all, nodes_unmarked, open_unmarked}
@@ -81,14 +81,14 @@ loop-action-init g c =
         is_dead = by.is_dead;
         valued = valued_same t (g.G.Guide.estimate_of c.args.problem.now.guide.now) (g.G.Guide.is_dead c.args.problem.now.guide.now) (g.V.ValuesOnDemand.shows c.args.values.now)
             (found_of (g.L.StateListing.states c.args.self.now.store) c.args.self.now.nodes.items) nodes c.args.self.now.bases begun.bases by.value by.is_dead
-            (λ k. ap (λ (b : Bases). basis_at b k) c.mark.ensures.bases) begins.was by.valued;
+            (λ k. ap (λ (b : Bases). rest_at b k) c.mark.ensures.bases) begins.was by.valued;
         holds = rw same (record {
           search = record { one_each = begins.one_each; nodes = rw c.mark.ensures.open_list begins.nodes; heap = rw c.mark.ensures.open_list turn.heap; single = rw c.mark.ensures.open_list turn.single };
           turn = begins.turn;
           others_open = begins.others_open;
         });
       };
-      basis = refl;
+      rest = refl;
       within = rw c.mark.ensures.store c.requires.within;
       continues = continues_same (g.L.StateListing.class_of begun.store) nodes c.args.turn.id.0;
       class = refl;
@@ -139,7 +139,7 @@ loop-action-preserved g c =
     let reaches = reached.holds in
     record {
       by = record { value = reached.value; is_dead = reached.is_dead; valued = reached.valued; holds = reaches.expanding };
-      basis = reaches.basis ∙ inv.basis;
+      rest = reaches.rest ∙ inv.rest;
       within = reaches.within;
       continues = continues_trans class_of begun nodes after c.args.turn.id.0 inv.continues reaches.continues;
       class = c.in_ok-reach.ensures.class ∙ inv.class;
@@ -183,11 +183,11 @@ returns-then-not-branch-clause-listed g c =
     let shown = g.V.ValuesOnDemand.shows c.args.values.now in
     let alive = e.search.nodes.alive i e.turn.found e.turn.occurs e.turn.expanded in
     let same_state : first.holds.found.state ≡ e.turn.found.state = ap (λ (x : Found (List Bool)). x.state) same in
-    let then_is : first.value first.holds.found.state ≡ value_on estimate shown (basis_at c.args.self.now.bases i) first.holds.found.state = first.valued.value_is i first.holds.found first.holds.occurs first.holds.waits.1 in
-    let now_is : value e.turn.found.state ≡ value_on estimate shown (basis_at c.loop-action.self.bases i) e.turn.found.state = by.valued.value_is i e.turn.found e.turn.occurs alive in
-    let based : basis_at c.loop-action.self.bases i ≡ basis_at c.args.self.now.bases i = inv.basis ∙ ap (λ (b : Bases). basis_at b i) c.mark.ensures.bases in
+    let then_is : first.value first.holds.found.state ≡ value_on estimate (rest_at c.args.self.now.bases i) first.holds.found.state = first.valued.value_is i first.holds.found first.holds.occurs first.holds.waits.1 in
+    let now_is : value e.turn.found.state ≡ value_on estimate (rest_at c.loop-action.self.bases i) e.turn.found.state = by.valued.value_is i e.turn.found e.turn.occurs alive in
+    let based : rest_at c.loop-action.self.bases i ≡ rest_at c.args.self.now.bases i = inv.rest ∙ ap (λ (b : Bases). rest_at b i) c.mark.ensures.bases in
     let same_value : first.value first.holds.found.state ≡ value e.turn.found.state =
-    then_is ∙ ap (λ (b : Option Basis). value_on estimate shown b first.holds.found.state) (sym based) ∙ ap (value_on estimate shown (basis_at c.loop-action.self.bases i)) same_state ∙ sym now_is in
+    then_is ∙ ap (λ (r : Option Rest). value_on estimate r first.holds.found.state) (sym based) ∙ ap (value_on estimate (rest_at c.loop-action.self.bases i)) same_state ∙ sym now_is in
     let same_cost : first.holds.found.node.cost ≡ e.turn.found.node.cost = ap (λ (x : Found (List Bool)). x.node.cost) same in
     let sum : c.args.turn.sum ≡ total_of value e.turn.found = omega (arith, first.holds.sum, same_value, same_cost) in
     let t = g.T.TransitionSystem.means c.args.problem.now.system.now in
@@ -207,7 +207,7 @@ returns-then-not-branch-clause-listed g c =
     record {
       value = value;
       is_dead = is_dead;
-      valued = valued_same t estimate reported shown nodes after c.loop-action.self.bases back.bases value is_dead (λ k. ap (λ (b : Bases). basis_at b k) (c.mark-then-not-branch.ensures.bases ∙ full.bases))
+      valued = valued_same t estimate reported shown nodes after c.loop-action.self.bases back.bases value is_dead (λ k. ap (λ (b : Bases). rest_at b k) (c.mark-then-not-branch.ensures.bases ∙ full.bases))
           (λ k n at. set_was nodes waiting i e.turn.found e.turn.occurs refl k n (ap (λ (ns : List (Found (List Bool))). slice_get ns k) (sym is) ∙ at)) by.valued;
       holds = record {
         more = full.more;

@@ -1,6 +1,6 @@
 use Rattle.std.proofs.Common.{◌≡◌, ℕ, ◌+◌, ◌≤◌, ◌<◌, List, Bool, length, get_or, ap, sym, subst, refl, ◌∙◌, arith, Some}
 use Rattle.std.specs.Prelude.{MatchBool, Contains, Option}
-use Rattle.search.specs.declared.on_demand.Basis.{Basis}
+use Rattle.search.specs.declared.bases.Rest.{Rest}
 use Rattle.search.specs.declared.bases.Bases.{Bases}
 use Rattle.search.specs.declared.open_list.OpenList.{OpenList}
 use Rattle.search.specs.declared.progress.Progress.{Progress}
@@ -19,7 +19,7 @@ use Rattle.search.specs.Progress.{HoldsIn, IsExpanding, IsReachedWithin, IsReach
 use Rattle.search.proofs.Limit.{more_reachable}
 use Rattle.search.proofs.Linked.{found_of-get, length-found_of}
 use Rattle.search.proofs.Reached.{place_among, placed_within, placed_nowhere, free_for, match_each, reached_before}
-use Rattle.search.proofs.Reaching.{IsStepTo, reached_placed, named_at}
+use Rattle.search.proofs.Reaching.{IsStepTo, reached_placed}
 use Rattle.search.proofs.Steps.{turn_limits}
 use Rattle.search.proofs.Standings.{estimate_fits}
 use Rattle.search.proofs.Valued.{AreShown}
@@ -130,23 +130,20 @@ take_place-requires-clause-within g c =
 
 pub take_place-requires-clause-sum : goal.take_place-requires-clause-sum
 take_place-requires-clause-sum g c =
-    estimate_fits (g.G.Guide.estimate_of c.args.problem.now.guide.now) (g.G.Guide.is_dead c.args.problem.now.guide.now) (g.V.ValuesOnDemand.shows c.args.values.now) (bits_of c.args.to.state.now)
+    estimate_fits (g.G.Guide.estimate_of c.args.problem.now.guide.now) (g.G.Guide.is_dead c.args.problem.now.guide.now) (bits_of c.args.to.state.now)
     c.standing_at-standing.result c.estimate-estimate.result c.node-node.result.cost c.estimate-estimate.ensures.estimate
     (omega (arith, c.node-node.ensures.cost, limits g (goal.at.take_place-requires-clause-sum g c).After-from, c.from.ensures, c.cost.ensures))
 
-pub standing_at-standing-requires : goal.standing_at-standing-requires
-standing_at-standing-requires g c =
-    place_among _ _ _ _ _ _ (length c.args.self.now.nodes.items) c.requires.expanding.holds.search.one_each c.requires.within c.requires.limit c.in-Some.place (placed g (goal.at.standing_at-standing-requires g c).In-Some)
+pub standing_at-standing-requires-clause-place : goal.standing_at-standing-requires-clause-place
+standing_at-standing-requires-clause-place g c =
+    place_among _ _ _ _ _ _ (length c.args.self.now.nodes.items) c.requires.expanding.holds.search.one_each c.requires.within c.requires.limit c.in-Some.place
+    (placed g (goal.at.standing_at-standing-requires-clause-place g c).In-Some)
 
-pub estimate-estimate-requires-clause-values_width : goal.estimate-estimate-requires-clause-values_width
-estimate-estimate-requires-clause-values_width g c = c.requires.values_width ∙ sym c.requires.guide_width
+pub standing_at-standing-requires-clause-width : goal.standing_at-standing-requires-clause-width
+standing_at-standing-requires-clause-width g c = c.requires.width ∙ sym c.requires.values_width
 
-pub estimate-estimate-requires-clause-named : goal.estimate-estimate-requires-clause-named
-estimate-estimate-requires-clause-named g c =
-    let by = c.requires.expanding in
-    named_at (g.T.TransitionSystem.means c.args.problem.now.system.now) (g.G.Guide.estimate_of c.args.problem.now.guide.now) (g.G.Guide.is_dead c.args.problem.now.guide.now) (g.V.ValuesOnDemand.shows c.args.values.now)
-    (found_of (g.L.StateListing.states c.args.self.now.store) c.args.self.now.nodes.items) c.args.self.now.nodes.items c.args.self.now.bases by.value by.is_dead by.valued c.args.to.parent.0 c.in-Some.place
-    c.standing_at-standing.result c.standing_at-standing.ensures
+pub standing_at-standing-requires-clause-noted : goal.standing_at-standing-requires-clause-noted
+standing_at-standing-requires-clause-noted g c = λ k rest is. (c.requires.expanding.valued.named k rest is).1
 
 pub returns-in_default-clause-listed : goal.returns-in_default-clause-listed
 returns-in_default-clause-listed g c =
@@ -206,7 +203,7 @@ returns-then-is_reached_within-clause-listed g c =
         within = placed_within _ _ _ _ _ _ c.requires.within c.in-Some.place placed_at;
         continues = step.1.1.continues;
         listed = step.1.1.listed;
-        basis = refl;
+        rest = refl;
       };
     }
 
@@ -241,7 +238,7 @@ returns-clause-listed g c =
     (λ takes.
     let is = reached_placed t class_of estimate reported shown states_of states old new i max_states e.search.one_each by.value by.is_dead by.valued e.search.nodes e.turn e.others_open
     (admissible g at.After-from) (reports g at.After-from) (laws g at.After-from) is_current s node c.estimate-estimate.result (step g at.After-node-node) c.requires.within
-    place placed_at cheaper c.standing_at-standing.result c.standing_at-standing.ensures c.estimate-estimate.ensures.estimate (subst (λ (b : Option Basis). TakesPlace states_of old new s node c.estimate-estimate.result b max_states place) c.basis.ensures takes) in
+    place placed_at cheaper c.standing_at-standing.result c.standing_at-standing.ensures.fits c.standing_at-standing.ensures.standing c.estimate-estimate.ensures.estimate (subst (λ (r : Option Rest). TakesPlace states_of old new s node c.estimate-estimate.result r max_states place) c.rest.ensures takes) in
     let of = is.holds in
     record {
       value = is.value;
@@ -256,7 +253,7 @@ returns-clause-listed g c =
         within = of.within;
         continues = of.stepped.continues;
         listed = subst (λ a. IsListed t class_of (found_of (states_of new.store) new.nodes.items) i a s) c.node-node.ensures.action of.stepped.listed;
-        basis = of.basis;
+        rest = of.rest;
       };
     })
     (λ left.

@@ -1,4 +1,4 @@
-use Rattle.std.proofs.Common.{◌≡◌, ◌≤◌, ◌<◌, List, Bool, length, true, false, sym, ap, ◌∙◌, subst, arith}
+use Rattle.std.proofs.Common.{◌≡◌, ◌≤◌, ◌<◌, length, true, false, sym, ap, ◌∙◌, subst, arith}
 use Rattle.std.specs.Prelude.{IfOk, MatchBool}
 use Rattle.faults.proofs.Results.{if_ok}
 use Rattle.packed_state.specs.Packed.{bits_of}
@@ -8,19 +8,37 @@ use Rattle.search.specs.Progress.{HoldsIn, IsAtTurn, IsStopped, Expands, TurnsOv
 use Rattle.search.proofs.Deferred.{over_by_ask, over_by_work}
 use Rattle.search.proofs.Reached.{match_each}
 use Rattle.search.proofs.Results.{both_ok}
-use Rattle.search.proofs.Valued.{valued_extends}
+use Rattle.search.proofs.Valued.{extends_trans, valued_extends}
 use Rattle.search.proofs.progress.Progress.take_turn.Given.{Over}
 use Rattle.search.proofs.progress.Progress.take_turn.Goals.{In_ok-defer}
 use Rattle.search.proofs.progress.Progress.take_turn.Goals as goal
 
+pub make_room-requires : goal.make_room-requires
+make_room-requires g c = rw c.requires.turn.holds.one_each (omega (arith, c.requires.within, c.requires.limit))
+
 pub defer-requires-clause-values_for : goal.defer-requires-clause-values_for
-defer-requires-clause-values_for g c = c.requires.values_for ∙ sym c.requires.made_for
+defer-requires-clause-values_for g c = c.make_room.ensures.system ∙ c.requires.values_for ∙ sym c.requires.made_for
 
 pub defer-requires-clause-values_width : goal.defer-requires-clause-values_width
-defer-requires-clause-values_width g c = c.requires.buffers.state ∙ sym c.requires.values_width
+defer-requires-clause-values_width g c = c.requires.buffers.state ∙ sym c.requires.values_width ∙ sym c.make_room.ensures.width
 
 pub defer-requires-clause-turn : goal.defer-requires-clause-turn
-defer-requires-clause-turn g c = rw c.requires.made_for c.requires.turn
+defer-requires-clause-turn g c =
+    let by = c.requires.turn in
+    let t = g.T.TransitionSystem.means c.args.problem.now.system.now in
+    let estimate = g.G.Guide.estimate_of c.args.problem.now.guide.now in
+    let reported = g.G.Guide.is_dead c.args.problem.now.guide.now in
+    let shown = g.V.ValuesOnDemand.shows c.args.values.now in
+    let shown' = g.V.ValuesOnDemand.shows c.make_room.new.values in
+    let states_of = g.L.StateListing.states in
+    let old = c.args.self.now in
+    let with_room : HoldsIn t estimate reported shown' states_of old (λ value is_dead. IsAtTurn t (g.L.StateListing.class_of old.store) value is_dead states_of old c.args.turn) = record {
+      value = by.value;
+      is_dead = by.is_dead;
+      valued = valued_extends t estimate reported shown shown' c.make_room.ensures.extends (nodes_in states_of old) old.bases by.value by.is_dead by.valued;
+      holds = by.holds;
+    } in
+    rw c.requires.made_for with_room
 
 pub defer-requires-clause-open : goal.defer-requires-clause-open
 defer-requires-clause-open g c = rw c.requires.made_for c.requires.open
@@ -57,10 +75,10 @@ returns-then-branch-clause-over g c =
     (rw (deferred, c.requires.made_for) at c.in_ok-defer.ensures.deferred)
 
 pub expand-requires-clause-values_for : goal.expand-requires-clause-values_for
-expand-requires-clause-values_for g c = c.defer.ensures.values_for ∙ c.requires.values_for
+expand-requires-clause-values_for g c = c.defer.ensures.values_for ∙ c.make_room.ensures.system ∙ c.requires.values_for
 
 pub expand-requires-clause-values_width : goal.expand-requires-clause-values_width
-expand-requires-clause-values_width g c = c.defer.ensures.values_width ∙ c.requires.values_width
+expand-requires-clause-values_width g c = c.defer.ensures.values_width ∙ c.make_room.ensures.width ∙ c.requires.values_width
 
 pub expand-requires-clause-turn : goal.expand-requires-clause-turn
 expand-requires-clause-turn g c =
@@ -77,7 +95,7 @@ expand-requires-clause-turn g c =
     (record {
       value = by.value;
       is_dead = by.is_dead;
-      valued = valued_extends t estimate reported shown shown' c.in_ok-defer.ensures.extends (nodes_in states_of old) old.bases by.value by.is_dead by.valued;
+      valued = valued_extends t estimate reported shown shown' (extends_trans c.make_room.ensures.extends c.in_ok-defer.ensures.extends) (nodes_in states_of old) old.bases by.value by.is_dead by.valued;
       holds = by.holds;
     })
 
@@ -115,7 +133,7 @@ pub returns-clause-class : goal.returns-clause-class
 returns-clause-class g c = rw c.defer.ensures.store at c.expand.ensures.class
 
 pub returns-clause-extends : goal.returns-clause-extends
-returns-clause-extends g c = if_ok c.expand.result (λ _ _. c.in_ok-defer.ensures.extends) c.expand.ensures.width
+returns-clause-extends g c = if_ok c.expand.result (λ _ _. extends_trans c.make_room.ensures.extends c.in_ok-defer.ensures.extends) c.expand.ensures.width
 
 pub returns-clause-over : goal.returns-clause-over
 returns-clause-over g c =
