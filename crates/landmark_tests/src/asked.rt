@@ -9,7 +9,7 @@ use faults::NoMemory;
 use grounding::Ground;
 use landmark_zones::{add_value, add_zone};
 use landmarks::CutIndex;
-use landmarks_on_demand::{LandmarksOnDemand, UsedValues, tested_instances};
+use landmarks_on_demand::{DraftLimits, LandmarksOnDemand, UsedValues, tested_instances};
 use packed_state::Packed;
 use search::{Answer, Basis, ValuesOnDemand};
 use std::alloc::Global;
@@ -86,7 +86,8 @@ fn is_found(alloc: Global, ground: &Ground<'_>, row: &Row) -> Result<bool, NoMem
     let second = state(alloc, ground, row.1)?;
     let instances = tested_instances(alloc, ground)?;
     let index = CutIndex::new(alloc, ground, &instances)?;
-    let mut values = LandmarksOnDemand::new(alloc, ground, &index, u64::MAX)?;
+    let limits = DraftLimits::of_steps(u64::MAX);
+    let mut values = LandmarksOnDemand::new(alloc, ground, &index, limits)?;
     let answers = answers(&mut values, &first, &second)?;
     let lines = lines(alloc, &values)?;
     Ok(answers == row.2 && lines.as_slice() == row.3.as_bytes())
@@ -103,6 +104,63 @@ fn values_are_those_of_cuts_by_hand(rt: HostRuntime) -> Result<(), Fail> {
     for row in &ROWS {
         on_task(&rt, rt.alloc(), &row.0, |rt, alloc, task| {
             assert!(rt; is_found_in(alloc, task, row)?);
+            Ok(())
+        })?;
+    }
+    Ok(())
+}
+
+/// Marks of used values, and what is left of the values by the first two bases, each for the state that was asked for.
+type Forgetting = (&'static [bool], [u64; 2]);
+
+/// Of the lamp's values the first one has 19 entries, and the second one 9. There may be 20, so 10 are left. The first value goes first; a
+/// value that is used stays, even if all of them are.
+const FORGETTINGS: [Forgetting; 4] = [
+    (&[], [0, 1]),
+    (&[true], [2, 0]),
+    (&[false, true], [0, 1]),
+    (&[true, true], [2, 1]),
+];
+
+/// What is left of both values after the marked ones are kept; `None` if they were not too many before, or still are.
+fn left(
+    alloc: Global,
+    ground: &Ground<'_>,
+    second: &'static [u32],
+    used: &[bool],
+) -> Result<Option<[u64; 2]>, NoMemory>
+    requires { AreAllNumbered (task_in ground.now) (atoms_in ground.now) }
+{
+    let first = ground.initial(alloc)?;
+    let second = state(alloc, ground, second)?;
+    let instances = tested_instances(alloc, ground)?;
+    let index = CutIndex::new(alloc, ground, &instances)?;
+    let limits = DraftLimits {
+        steps: u64::MAX,
+        entries: 20,
+    };
+    let mut values = LandmarksOnDemand::new(alloc, ground, &index, limits)?;
+    answers(&mut values, &first, &second)?;
+    if !values.is_full() {
+        return Ok(None);
+    }
+    values.forget(used);
+    if values.is_full() {
+        return Ok(None);
+    }
+    let left = [
+        values.value(Basis(0), &first),
+        values.value(Basis(1), &second),
+    ];
+    Ok(Some(left))
+}
+
+#[test]
+fn oldest_values_are_forgotten_that_are_not_used(rt: HostRuntime) -> Result<(), Fail> {
+    for (used, expected) in &FORGETTINGS {
+        on_task(&rt, rt.alloc(), &LAMP, |rt, alloc, task| {
+            let ground = Ground::new(alloc, task, &[], 100)?;
+            assert_eq!(rt; left(alloc, &ground, &[0, 1], used)?, Some(*expected));
             Ok(())
         })?;
     }

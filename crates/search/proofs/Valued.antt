@@ -57,10 +57,10 @@ basis_named : {S : Type 0} (shown : OnDemand S) (rest : Option Rest) → ((r : R
 basis_named shown None named b is = absurd (cc is)
 basis_named shown (Some r) named b is = subst (λ (c : Basis). c.0 < shown.bases) (same_Some r.basis b is) (named r refl).0
 
-module _ {S : Type 0} (t : System S ℕ) (estimate : S → ℕ) (reported : S → Bool) where
-  pub value_on-least : (rest : Option Rest) (s : S) → estimate s ≤ value_on estimate rest s
-  value_on-least None s = omega arith
-  value_on-least (Some r) s = omega arith
+-- a state's value is no less than its estimate
+pub value_on-least : {S : Type 0} (estimate : S → ℕ) (rest : Option Rest) (s : S) → estimate s ≤ value_on estimate rest s
+value_on-least estimate None s = omega arith
+value_on-least estimate (Some r) s = omega arith
 
 module _ {S : Type 0} (t : System S ℕ) (estimate : S → ℕ) (reported : S → Bool) (shown : OnDemand S) where
   -- the bases of found states are among those that are shown
@@ -303,7 +303,7 @@ module _ (t : System (List Bool) ℕ) (estimate : List Bool → ℕ) (reported :
               | inl here ↦
                   let same = state_at n (ap (slice_get nodes) (sym here) ∙ at) in
                   let was : value s ≡ value_on estimate (rest_at bases i) s = ap value (sym is_s) ∙ old.value_is i one stood (ap is_dead is_s ∙ alive) ∙ ap (value_on estimate (rest_at bases i)) is_s in
-                  let it : value_on estimate (Some rest) s ≡ higher = omega (arith, above, was, value_on-least t estimate reported (rest_at bases i) s) in
+                  let it : value_on estimate (Some rest) s ≡ higher = omega (arith, above, was, value_on-least estimate (rest_at bases i) s) in
                   ap raised same ∙ raised_is ∙ sym it ∙ ap (λ (r : Option Rest). value_on estimate r s) (sym (here_now k here))
                   ∙ ap (value_on estimate (rest_at bases' k)) (sym same)
               | inr other ↦

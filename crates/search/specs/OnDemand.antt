@@ -11,8 +11,8 @@ use Rattle.search.specs.Estimates.{IsAdmissible}
 use Rattle.search.specs.DeadEnds.{ReportsDeadEnds}
 use Rattle.search.specs.Nodes.{Found}
 
--- What is shown on demand: bases, numbered from 0, each with a value of every state, and with the states that it shows to be dead. Some may
--- have been forgotten: they are kept no longer, and show nothing.
+-- What is shown on demand: bases, numbered from 0, each with a value of every state, and with the states that it shows to be dead. Those
+-- that are not kept were forgotten.
 pub record OnDemand (S : Type 0) : Type 0 where
   pub bases : ℕ
   pub keeps : ℕ → Bool

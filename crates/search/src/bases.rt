@@ -12,12 +12,11 @@ use std::alloc::Global;
 const NONE: u32 = 4_294_967_295;
 
 /// What the value of a state rests on beside the guide.
-#[derive(Clone, Copy, Debug, PartialEq, Eq)]
-pub struct Rest {
-    /// The basis.
-    pub basis: Basis,
-    /// The state's value by it. So it is known even where the basis was forgotten.
-    pub value: u64,
+#[derive(Clone, Copy)]
+pub(crate) struct Rest {
+    pub(crate) basis: Basis,
+    /// The state's value by the basis. So it is known even where the basis was forgotten.
+    pub(crate) value: u64,
 }
 
 /// What the value of each found state rests on, by its place, in 12 bytes. Nothing is stored past the last place that has a basis: so no
@@ -118,7 +117,8 @@ impl Bases {
         Ok(())
     }
 
-    /// Which bases the states with these nodes rest on that wait or are dead, by their numbers. Numbers past the end are of none.
+    /// For each basis, by its number, whether one of these states rests on it that waits or is dead. No state rests on those past the
+    /// end.
     ///
     /// # Errors
     /// Memory is refused.

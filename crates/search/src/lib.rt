@@ -18,7 +18,7 @@ mod transitions;
 mod turns;
 mod under_way;
 
-pub use bases::{Bases, Rest};
+pub use bases::Bases;
 pub use best::{MAX_STATES, Outcome, best_first};
 pub use dead_ends::{DeadEnd, NoDeadEnd};
 pub use estimates::{Estimate, NoEstimate, value_of};

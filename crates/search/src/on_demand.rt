@@ -33,8 +33,7 @@ pub enum Answer {
 /// Values of single states, found on demand.
 ///
 /// Each rests on a basis, by which every state has a value: the remaining cost is no lower. So a state that is found later has a value by
-/// the basis of its parent. Bases are only added, and what they show stays, unless they are forgotten: then by them every state has the
-/// value 0, and none is shown to be dead.
+/// the basis of its parent. Bases are only added, and what they show stays, until they are forgotten. A found state has its value still.
 pub trait ValuesOnDemand {
     ghost width_of: { Self → ℕ };
 

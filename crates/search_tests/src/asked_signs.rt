@@ -1,5 +1,5 @@
 //! Signs that are looked at only when a room's turn comes, and the search that asks for them.
-ghost use Rattle.std.specs.Prelude.{◌≡◌, min, []};
+ghost use Rattle.std.specs.Prelude.{◌≡◌, min, nat_le, Some, [], slice_get, true};
 ghost use Rattle.search_tests.specs.AskedSigns.{admissible_signs, shown_signs};
 ghost use Rattle.search_tests.specs.FarSigns.{none_dead};
 ghost use Rattle.search_tests.specs.Rooms.{rooms};
@@ -18,11 +18,25 @@ use search::{
 use std::alloc::Global;
 use std::test::Fail;
 
-/// The signs. Each answer that raises a value adds a basis, by which each room has its sign.
+/// The signs. Each answer that raises a value adds a basis, by which each room has its sign. Basis 0 is forgotten as soon as no room
+/// rests on it.
 #[derive(Clone, Copy)]
 struct AskedSigns {
     signs: Signs,
+    /// The number of bases.
     bases: u32,
+    /// The first basis that is kept.
+    first: u32,
+}
+
+/// Whether basis 0 is marked as used.
+fn is_first_used(used: &[bool]) -> bool
+    ensures { slice_get used.now 0 ≡ Some true → result ≡ true }
+{
+    match used.get(0) {
+        Some(is_used) => *is_used,
+        None => false,
+    }
 }
 
 impl ValuesOnDemand for AskedSigns {
@@ -30,14 +44,27 @@ impl ValuesOnDemand for AskedSigns {
 
     ghost system_of = { λ values. rooms values.signs.rooms.width values.signs.rooms.first.now values.signs.rooms.second.now values.signs.rooms.first_cost values.signs.rooms.second_cost values.signs.rooms.goal };
 
-    ghost shows = { λ values. shown_signs values.bases (min values.signs.rooms.first_cost values.signs.rooms.second_cost) values.signs.signs.now values.signs.rooms.goal };
+    ghost shows = { λ values. shown_signs values.first values.bases (min values.signs.rooms.first_cost values.signs.rooms.second_cost) values.signs.signs.now values.signs.rooms.goal };
 
-    ghost is_admissible = { λ values basis within. admissible_signs values.signs.rooms.width values.signs.rooms.first.now values.signs.rooms.second.now values.signs.rooms.first_cost values.signs.rooms.second_cost values.signs.rooms.goal values.signs.signs.now };
+    ghost is_admissible = { λ values basis within. admissible_signs values.signs.rooms.width values.signs.rooms.first.now values.signs.rooms.second.now values.signs.rooms.first_cost values.signs.rooms.second_cost values.signs.rooms.goal values.signs.signs.now (nat_le values.first basis) };
 
     ghost reports_dead_ends = { λ values basis within. none_dead (rooms values.signs.rooms.width values.signs.rooms.first.now values.signs.rooms.second.now values.signs.rooms.first_cost values.signs.rooms.second_cost values.signs.rooms.goal) };
 
-    fn value(&self, _basis: Basis, state: &Packed) -> u64 {
+    fn value(&self, basis: Basis, state: &Packed) -> u64 {
+        if basis.0 < self.first {
+            return 0;
+        }
         value_of(self.signs.score(state))
+    }
+
+    fn is_full(&self) -> bool {
+        self.bases > 0 && self.first == 0
+    }
+
+    fn forget(&mut self, used: &[bool]) {
+        if self.is_full() && !is_first_used(used) {
+            self.first = 1;
+        }
     }
 
     fn ask(
@@ -48,7 +75,7 @@ impl ValuesOnDemand for AskedSigns {
         _basis: Option<Basis>,
     ) -> Result<Answer, NoMemory> {
         let higher = value_of(self.signs.score(state));
-        if higher <= value || self.bases >= 1_000 {
+        if higher <= value || self.bases >= 1_000 || self.bases < self.first {
             return Ok(Answer::Nothing);
         }
         let basis = Basis(self.bases);
@@ -96,6 +123,7 @@ fn is_as_expected<S: StateStore>(alloc: Global, row: &Row, store: S) -> Result<b
             signs: row.signs,
         },
         bases: 0,
+        first: 0,
     };
     let problem = Problem {
         alloc,

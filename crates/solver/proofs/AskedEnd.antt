@@ -19,7 +19,7 @@ use Rattle.ground_listings.specs.declared.ground_listing.GroundListing.{GroundLi
 use Rattle.ground_listings.specs.declared.ground_listing.GroundListing.TheVariants as listing
 use Rattle.ground_listings.specs.declared.search_space.SearchSpace.{SearchSpace}
 use Rattle.search.specs.Nodes.{found_of as found_nodes}
-use Rattle.search.specs.OnDemand.{AreValued, OnDemand, basis_at}
+use Rattle.search.specs.OnDemand.{AreValued, OnDemand, rest_at}
 use Rattle.search.specs.Outcome.{AreFound}
 use Rattle.search.specs.UnderWay.{IsTrueStop, IsTrueStopBy}
 use Rattle.search.specs.declared.bases.Bases.{Bases}
@@ -45,7 +45,7 @@ module _ (t : System (List Bool) ℕ) (estimate : List Bool → ℕ) (reported :
   pub valued_no_lower : (k : ℕ) (bits : List Bool) → slice_get states k ≡ Some bits → is_dead bits ≡ false → estimate bits ≤ value bits
   valued_no_lower k bits at lives =
       let (node, there) = node_at nodes k (omega (arith, slice_get_within states k bits at, one_each)) in
-      omega (arith, value_on-least t estimate reported shown (basis_at bases k) bits, valued.value_is k (record { state = bits; node = node }) (get-found_of states nodes k bits node at there) lives)
+      omega (arith, value_on-least estimate (rest_at bases k) bits, valued.value_is k (record { state = bits; node = node }) (get-found_of states nodes k bits node at there) lives)
 
   pub valued_alive : (k : ℕ) (bits : List Bool) → slice_get states k ≡ Some bits → is_dead bits ≡ false → reported bits ≡ false
   valued_alive k bits at lives =

@@ -22,7 +22,7 @@ use devices_clock::Clock;
 use faults::NoMemory;
 use ground_listings::{GroundListing, GroundSystem};
 use landmarks::CutIndex;
-use landmarks_on_demand::{LandmarksOnDemand, tested_instances};
+use landmarks_on_demand::{DraftLimits, LandmarksOnDemand, tested_instances};
 use line_evidence::{Budget, Marked, tested_marks};
 use search::{
     FoundStates, Guide, Halt, Problem, Search, StateListing, Stop, ValuesOnDemand, begin_asking,
@@ -54,7 +54,8 @@ pub(crate) fn search_asking<'l, 't, E: Sink + Clock>(
     let ground = setting.space.ground();
     let instances = tested_instances(alloc, ground)?;
     let index = CutIndex::new(alloc, ground, &instances)?;
-    let mut values = LandmarksOnDemand::new(alloc, ground, &index, budget.steps)?;
+    let limits = DraftLimits::of_steps(budget.steps);
+    let mut values = LandmarksOnDemand::new(alloc, ground, &index, limits)?;
     let session = Session { setting, guide };
     let Some(stop) = search_to_stop(&session, &mut values, budget.states, err)? else {
         return Ok(None);

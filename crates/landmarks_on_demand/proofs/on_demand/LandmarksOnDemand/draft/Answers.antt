@@ -1,7 +1,8 @@
-use Rattle.std.proofs.Common.{◌≡◌, ℕ, Some, subst}
-use Rattle.std.specs.Prelude.{IfOk, IfSome, slice_get}
+use Rattle.std.proofs.Common.{◌≡◌, ℕ, Some, ap, sym, ◌∙◌, subst}
+use Rattle.std.specs.Prelude.{IfOk, IfSome}
 use Rattle.landmarks.specs.CutIndex.{atoms_of, task_of}
 use Rattle.landmarks_drafted.specs.Drafts.{IsOneValue}
+use Rattle.landmarks_on_demand.specs.Shown.{kept_at}
 use Rattle.landmarks_on_demand.proofs.ShownLemmas.{got, tested_at}
 use Rattle.landmarks_on_demand.proofs.on_demand.LandmarksOnDemand.draft.Goals as goal
 

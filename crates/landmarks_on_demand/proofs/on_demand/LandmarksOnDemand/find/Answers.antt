@@ -1,4 +1,4 @@
-use Rattle.std.proofs.Common.{◌∙◌, ◌<◌, List, length, ap, subst, sym}
+use Rattle.std.proofs.Common.{◌∙◌, ◌<◌, List, Option, length, ap, subst, sym}
 use Rattle.std.specs.Prelude.{IfOk}
 use Rattle.landmarks.specs.declared.cut_index.CutIndex.{CutIndex}
 use Rattle.landmarks.specs.CutIndex.{atoms_of}
@@ -18,7 +18,7 @@ pub keep-requires-clause-width : goal.keep-requires-clause-width
 keep-requires-clause-width c = c.requires.width ∙ ap (λ (i : CutIndex). length (atoms_of i)) (sym c.draft.ensures.index)
 
 pub keep-requires-clause-few : goal.keep-requires-clause-few
-keep-requires-clause-few c = subst (λ (values : List TestedValue). length values < 1048576) (sym c.draft.ensures.values) c.requires.few
+keep-requires-clause-few c = subst (λ (values : List (Option TestedValue)). length values < 1048576) (sym c.draft.ensures.values) c.requires.few
 
 pub returns-in_default-clause-extends : goal.returns-in_default-clause-extends
 returns-in_default-clause-extends c = extends_as c.args.self.now.values.items c.draft.new.self.values.items c.draft.ensures.values
@@ -31,4 +31,4 @@ returns-clause-index c = c.keep.ensures.index ∙ c.draft.ensures.index
 
 pub returns-clause-extends : goal.returns-clause-extends
 returns-clause-extends c =
-    subst (λ (values : List TestedValue). IfOk c.keep.result (λ _. Extends (shown_by values) (shown_by c.keep.new.self.values.items))) c.draft.ensures.values c.keep.ensures.extends
+    subst (λ (values : List (Option TestedValue)). IfOk c.keep.result (λ _. Extends (shown_by values) (shown_by c.keep.new.self.values.items))) c.draft.ensures.values c.keep.ensures.extends
