@@ -1,11 +1,11 @@
 //! Landmark values, found for single states.
-ghost use Rattle.std.specs.Prelude.{◌≡◌, ◌<◌, [], All, Some, length, slice_get, true};
+ghost use Rattle.std.specs.Prelude.{◌≡◌, ◌<◌, [], All, MatchOption, None, Some, length, slice_get, true};
 ghost use Rattle.std.proofs.Props.{props};
 ghost use Rattle.lower_bounds.specs.TableLaws.{AreAllNumbered};
 ghost use Rattle.landmarks.specs.CutIndex.{asked_in, atoms_of, task_of};
 ghost use Rattle.landmarks.specs.Fairness.{AreAsked};
 ghost use Rattle.landmarks_drafted.specs.Drafts.{atom_count_of};
-ghost use Rattle.landmarks_on_demand.specs.Shown.{IsTestedIfKept};
+ghost use Rattle.landmarks_on_demand.specs.Shown.{IsTestedIfKept, kept_at};
 
 use crate::tested::TestedValue;
 use faults::NoMemory;
@@ -82,13 +82,13 @@ pub struct LandmarksOnDemand<'i, 'g, 't> {
 }
 
 impl<'i, 'g, 't> LandmarksOnDemand<'i, 'g, 't> {
-    ghost use Rattle.std.specs.Prelude.{◌^◌, ◌∷◌, ◌++◌, false, IfOk, IfSome, MatchOption, None, OnOk, slice_set};
+    ghost use Rattle.std.specs.Prelude.{◌^◌, ◌∷◌, ◌++◌, false, IfOk, IfSome, OnOk, slice_set};
     ghost use Rattle.grounding.specs.Ground.{atoms_in};
     ghost use Rattle.packed_state.specs.Packed.{bits_of};
     ghost use Rattle.landmark_zones.specs.Landmarks.{landmarks_of};
     ghost use Rattle.landmarks_drafted.specs.Drafts.{IsOneValue};
     ghost use Rattle.search.specs.OnDemand.{Extends, IsAnswer, KeepsUsed};
-    ghost use Rattle.landmarks_on_demand.specs.Shown.{is_dead_at, kept_at, shown_by, value_at};
+    ghost use Rattle.landmarks_on_demand.specs.Shown.{is_dead_at, shown_by, value_at};
     ghost use Rattle.landmarks_on_demand.specs.Tested.{IsTested};
 
     /// No values yet, for the ground task, of which this is the index of the instances that are tested (`tested_instances`).
@@ -133,10 +133,7 @@ impl<'i, 'g, 't> LandmarksOnDemand<'i, 'g, 't> {
     fn kept(&self, basis: Basis) -> Option<&TestedValue>
         ensures { MatchOption result (kept_at self.now.values.items basis.0 ≡ None) (λ found. kept_at self.now.values.items basis.0 ≡ Some found.now) }
     {
-        match self.values.get(basis.0 as usize) {
-            Some(Some(value)) => Some(value),
-            _ => None,
-        }
+        kept_in(&self.values, basis)
     }
 
     /// The value with this number, the only one of these landmarks, if there is one and it was not forgotten.
@@ -254,9 +251,9 @@ impl<'i, 'g, 't> LandmarksOnDemand<'i, 'g, 't> {
         let Some(basis) = basis else {
             return self.drafter.draft(self.alloc, state);
         };
-        match self.values.get(basis.0 as usize) {
-            Some(Some(value)) => self.drafter.draft_from(self.alloc, state, value.known()),
-            _ => self.drafter.draft(self.alloc, state),
+        match kept_in(&self.values, basis) {
+            Some(value) => self.drafter.draft_from(self.alloc, state, value.known()),
+            None => self.drafter.draft(self.alloc, state),
         }
     }
 
@@ -317,11 +314,9 @@ impl<'i, 'g, 't> LandmarksOnDemand<'i, 'g, 't> {
         ensures index { self.new.index.now ≡ self.old.index.now }
         ensures values { self.new.values.items ≡ slice_set self.old.values.items number None }
     {
-        let entries = match &self.values[number] {
-            Some(value) => value.entries(),
-            None => 0,
-        };
-        self.entries = self.entries.saturating_sub(entries);
+        if let Some(value) = &self.values[number] {
+            self.entries = self.entries.saturating_sub(value.entries());
+        }
         self.values[number] = None;
     }
 
@@ -337,6 +332,16 @@ impl<'i, 'g, 't> LandmarksOnDemand<'i, 'g, 't> {
             self.dead.push(basis.0)?;
         }
         Ok(())
+    }
+}
+
+/// The value with this number among these, if there is one and it was not forgotten.
+fn kept_in(values: &[Option<TestedValue>], basis: Basis) -> Option<&TestedValue>
+    ensures { MatchOption result (kept_at values.now basis.0 ≡ None) (λ found. kept_at values.now basis.0 ≡ Some found.now) }
+{
+    match values.get(basis.0 as usize) {
+        Some(Some(value)) => Some(value),
+        _ => None,
     }
 }
 
