@@ -1,6 +1,5 @@
 -- Signs that are looked at only when a room's turn comes.
-use Rattle.std.specs.Prelude.{◌≡◌, ℕ, min, nat_le, true, false, if◌then◌else◌, List, Bool}
-use Rattle.model.specs.Runs.{System}
+use Rattle.std.specs.Prelude.{ℕ, min, nat_le, true, false, if◌then◌else◌, List, Bool}
 use Rattle.search.specs.Estimates.{IsAdmissible}
 use Rattle.search.specs.OnDemand.{OnDemand, none_admissible}
 use Rattle.search.proofs.Consistent.{admissible}

@@ -58,11 +58,11 @@ impl ValuesOnDemand for AskedSigns {
     }
 
     fn is_full(&self) -> bool {
-        self.bases > 0 && self.first == 0
+        self.first == 0 && self.bases > 0
     }
 
     fn forget(&mut self, used: &[bool]) {
-        if self.is_full() && !is_first_used(used) {
+        if self.first == 0 && !is_first_used(used) {
             self.first = 1;
         }
     }
