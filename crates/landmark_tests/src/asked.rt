@@ -40,6 +40,7 @@ fn answers<V: ValuesOnDemand>(
 ) -> Result<[Answer; 2], NoMemory>
     requires first { length (bits_of first.now) ≡ V.width_of values.old }
     requires second { length (bits_of second.now) ≡ V.width_of values.old }
+    ensures width { V.width_of values.new ≡ V.width_of values.old }
 {
     let answer = values.ask(first, 0, 0, None)?;
     match answer {
@@ -123,16 +124,11 @@ const FORGETTINGS: [Forgetting; 4] = [
 ];
 
 /// What is left of both values after the marked ones are kept; `None` if they were not too many before, or still are.
-fn left(
-    alloc: Global,
-    ground: &Ground<'_>,
-    second: &'static [u32],
-    used: &[bool],
-) -> Result<Option<[u64; 2]>, NoMemory>
+fn left(alloc: Global, ground: &Ground<'_>, used: &[bool]) -> Result<Option<[u64; 2]>, NoMemory>
     requires { AreAllNumbered (task_in ground.now) (atoms_in ground.now) }
 {
     let first = ground.initial(alloc)?;
-    let second = state(alloc, ground, second)?;
+    let second = state(alloc, ground, &[0, 1])?;
     let instances = tested_instances(alloc, ground)?;
     let index = CutIndex::new(alloc, ground, &instances)?;
     let limits = DraftLimits {
@@ -155,12 +151,17 @@ fn left(
     Ok(Some(left))
 }
 
+/// The same, in the lamp's task.
+fn left_in(alloc: Global, task: &Task, used: &[bool]) -> Result<Option<[u64; 2]>, Fail> {
+    let ground = Ground::new(alloc, task, &[], 100)?;
+    Ok(left(alloc, &ground, used)?)
+}
+
 #[test]
 fn oldest_values_are_forgotten_that_are_not_used(rt: HostRuntime) -> Result<(), Fail> {
     for (used, expected) in &FORGETTINGS {
         on_task(&rt, rt.alloc(), &LAMP, |rt, alloc, task| {
-            let ground = Ground::new(alloc, task, &[], 100)?;
-            assert_eq!(rt; left(alloc, &ground, &[0, 1], used)?, Some(*expected));
+            assert_eq!(rt; left_in(alloc, task, used)?, Some(*expected));
             Ok(())
         })?;
     }
