@@ -1,8 +1,8 @@
 -- What tested values show, one more, and one less.
-use Rattle.std.proofs.Common.{◌≡◌, ◌≢◌, ◌∙◌, ℕ, zero, suc, ◌<◌, ◌^◌, Bool, true, false, List, [], ◌∷◌, ◌++◌, length, set, get_or, Option, None, Some, refl, sym, ap, subst, arith}
+use Rattle.std.proofs.Common.{◌≡◌, ◌≢◌, ◌∙◌, ℕ, zero, suc, ◌+◌, ◌<◌, ◌^◌, Bool, true, false, List, [], ◌∷◌, ◌++◌, length, set, get_or, Option, None, Some, inl, inr, refl, sym, ap, subst, arith}
 use Rattle.std.specs.Prelude.{All, if◌then◌else◌, is_some, option_and_then, slice_get}
 use Rattle.std.specs.Option.{option_map_or}
-use Rattle.std.proofs.lemmas.Bool.{false≢true}
+use Rattle.std.proofs.lemmas.Bool.{cases_eq, false≢true}
 use Rattle.std.proofs.lemmas.List.{length_push, length-set}
 use Rattle.std.proofs.lemmas.List.Elements.{All-head, All-tail, All-push, All-set}
 use Rattle.std.proofs.lemmas.Option.{slice_get_read}
@@ -13,7 +13,7 @@ use Rattle.search.specs.OnDemand.{Extends, IsAnswer, KeepsUsed}
 use Rattle.landmarks_on_demand.specs.declared.tested.TestedValue.{TestedValue}
 use Rattle.landmark_zones.specs.Landmarks.{landmarks_of}
 use Rattle.landmarks_on_demand.specs.Tested.{IsOne, IsTested, is_dead_by, value_by}
-use Rattle.landmarks_on_demand.specs.Shown.{IsTestedIfKept, is_dead_at, kept_at, shown_by, value_at}
+use Rattle.landmarks_on_demand.specs.Shown.{ForgetsOldest, IsTestedIfKept, is_used, is_dead_at, kept_at, shown_by, value_at}
 
 abbrev Values : Type 0
 Values = List (Option TestedValue)
@@ -169,3 +169,49 @@ keeps_trans used first second third one two basis marked kept = two basis marked
 
 pub all_forgotten : (task : Task) (atoms : List Atom) (values items : Values) (number : ℕ) → items ≡ set values number None → All (IsTestedIfKept task atoms) values → All (IsTestedIfKept task atoms) items
 all_forgotten task atoms values items number is all = subst (All (IsTestedIfKept task atoms)) (sym is) (All-set (IsTestedIfKept task atoms) values number None tt all)
+
+-- ---- the oldest go first
+
+-- the values before this number are gone that are not used
+abbrev pub AreGone : List Bool → ℕ → Values → Type 0
+AreGone used number values = (older : ℕ) → older < number → is_used used older ≡ false → is_some (kept_at values older) ≡ false
+
+pub unmarked : (used : List Bool) (number : ℕ) → is_used used number ≡ false → ¬ (slice_get used number ≡ Some true)
+unmarked used number unused marked = false≢true (sym unused ∙ ap (λ o. option_map_or (λ (b : Bool). b) o false) marked)
+
+-- what is gone stays so
+stays-gone : (values : Values) (number place : ℕ) → is_some (kept_at values place) ≡ false → is_some (kept_at (set values number None) place) ≡ false
+stays-gone values number place gone =
+    elim (cases_eq place number) [
+      | inl here ↦ ap is_some (ap (kept_at (set values number None)) here ∙ set-here values number)
+      | inr other ↦ ap is_some (set-other values number place other) ∙ gone
+    ]
+
+pub gone_next : (used : List Bool) (number : ℕ) (was now : Values) → now ≡ set was number None → AreGone used number was → AreGone used (number + 1) now
+gone_next used number was now is gone older below unused =
+    subst (λ values. is_some (kept_at values older) ≡ false) (sym is)
+    (elim (cases_eq older number) [
+      | inl here ↦ ap is_some (ap (kept_at (set was number None)) here ∙ set-here was number)
+      | inr other ↦ stays-gone was number older (gone older (omega (arith, below, other)) unused)
+    ])
+
+pub gone_used : (used : List Bool) (number : ℕ) (values : Values) → is_used used number ≡ true → AreGone used number values → AreGone used (number + 1) values
+gone_used used number values marked gone older below unused =
+    elim (cases_eq older number) [
+      | inl here ↦ absurd (false≢true (sym unused ∙ ap (is_used used) here ∙ marked))
+      | inr other ↦ gone older (omega (arith, below, other)) unused
+    ]
+
+pub oldest_next : (used : List Bool) (first was now : Values) (number : ℕ) → now ≡ set was number None → AreGone used number was → ForgetsOldest used (shown_by first) (shown_by was)
+    → ForgetsOldest used (shown_by first) (shown_by now)
+oldest_next used first was now number is gone oldest older value before unused had lost =
+    let lost' : is_some (kept_at (set was number None) value) ≡ false = ap (λ values. is_some (kept_at values value)) (sym is) ∙ lost in
+    subst (λ values. is_some (kept_at values older) ≡ false) (sym is)
+    (stays-gone was number older
+    (elim (cases_eq value number) [
+      | inl here ↦ gone older (omega (arith, before, here)) unused
+      | inr other ↦ oldest older value before unused had (ap is_some (sym (set-other was number value other)) ∙ lost')
+    ]))
+
+pub oldest_first : (used : List Bool) (values : Values) → ForgetsOldest used (shown_by values) (shown_by values)
+oldest_first used values older value before unused had lost = absurd (false≢true (sym lost ∙ had))

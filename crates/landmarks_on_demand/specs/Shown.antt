@@ -1,6 +1,6 @@
 -- What tested landmark values show, by their places.
 use Rattle.std.proofs.Common.{arith}
-use Rattle.std.specs.Prelude.{ℕ, zero, suc, ◌<◌, Bool, false, IfSome, is_some, option_and_then, List, [], ◌∷◌, All, length, slice_get, Option, None, Some}
+use Rattle.std.specs.Prelude.{◌≡◌, ℕ, zero, suc, ◌<◌, Bool, true, false, IfSome, is_some, option_and_then, List, [], ◌∷◌, All, length, slice_get, Option, None, Some}
 use Rattle.std.specs.Option.{option_map_or}
 use Rattle.std.proofs.lemmas.List.Elements.{All-head, All-tail}
 use Rattle.model.specs.Task.{Atom, Task}
@@ -25,6 +25,14 @@ is_dead_at values place bits = option_map_or (λ (v : TestedValue). is_dead_by v
 -- the values are the bases
 abbrev pub shown_by : List (Option TestedValue) → OnDemand (List Bool)
 shown_by values = record { bases = length values; keeps = λ place. is_some (kept_at values place); value_by = value_at values; is_dead_by = is_dead_at values }
+
+-- the number is marked as used
+abbrev pub is_used : List Bool → ℕ → Bool
+is_used used number = option_map_or (λ (b : Bool). b) (slice_get used number) false
+
+-- whichever value was forgotten, each older one that is not used is forgotten too
+abbrev pub ForgetsOldest : List Bool → (old new : OnDemand (List Bool)) → Type 0
+ForgetsOldest used old new = (older value : ℕ) → older < value → is_used used older ≡ false → old.keeps value ≡ true → new.keeps value ≡ false → new.keeps older ≡ false
 
 -- it was tested, unless it was forgotten
 abbrev pub IsTestedIfKept : Task → List Atom → Option TestedValue → Type 0

@@ -1,11 +1,11 @@
 //! Landmark values, found for single states.
-ghost use Rattle.std.specs.Prelude.{◌≡◌, ◌<◌, [], All, MatchOption, None, Some, length, slice_get, true};
+ghost use Rattle.std.specs.Prelude.{◌≡◌, ◌<◌, [], All, MatchOption, None, Some, length, true};
 ghost use Rattle.std.proofs.Props.{props};
 ghost use Rattle.lower_bounds.specs.TableLaws.{AreAllNumbered};
 ghost use Rattle.landmarks.specs.CutIndex.{asked_in, atoms_of, task_of};
 ghost use Rattle.landmarks.specs.Fairness.{AreAsked};
 ghost use Rattle.landmarks_drafted.specs.Drafts.{atom_count_of};
-ghost use Rattle.landmarks_on_demand.specs.Shown.{IsTestedIfKept, kept_at};
+ghost use Rattle.landmarks_on_demand.specs.Shown.{IsTestedIfKept, is_used, kept_at};
 
 use crate::tested::TestedValue;
 use faults::NoMemory;
@@ -88,7 +88,7 @@ impl<'i, 'g, 't> LandmarksOnDemand<'i, 'g, 't> {
     ghost use Rattle.landmark_zones.specs.Landmarks.{landmarks_of};
     ghost use Rattle.landmarks_drafted.specs.Drafts.{IsOneValue};
     ghost use Rattle.search.specs.OnDemand.{Extends, IsAnswer, KeepsUsed};
-    ghost use Rattle.landmarks_on_demand.specs.Shown.{is_dead_at, shown_by, value_at};
+    ghost use Rattle.landmarks_on_demand.specs.Shown.{ForgetsOldest, is_dead_at, shown_by, value_at};
     ghost use Rattle.landmarks_on_demand.specs.Tested.{IsTested};
 
     /// No values yet, for the ground task, of which this is the index of the instances that are tested (`tested_instances`).
@@ -299,6 +299,7 @@ impl<'i, 'g, 't> LandmarksOnDemand<'i, 'g, 't> {
         ensures index { self.new.index.now ≡ self.old.index.now }
         ensures extends { Extends (shown_by self.old.values.items) (shown_by self.new.values.items) }
         ensures kept { KeepsUsed used.now (shown_by self.old.values.items) (shown_by self.new.values.items) }
+        ensures oldest { ForgetsOldest used.now (shown_by self.old.values.items) (shown_by self.new.values.items) }
     {
         for number in 0..self.values.len() {
             if self.entries > self.limits.entries / 2 && !is_used(used, number) {
@@ -347,7 +348,7 @@ fn kept_in(values: &[Option<TestedValue>], basis: Basis) -> Option<&TestedValue>
 
 /// Whether the number is marked as used.
 fn is_used(used: &[bool], number: usize) -> bool
-    ensures { slice_get used.now number ≡ Some true → result ≡ true }
+    ensures { result ≡ is_used used.now number }
 {
     match used.get(number) {
         Some(is_used) => *is_used,
@@ -357,7 +358,8 @@ fn is_used(used: &[bool], number: usize) -> bool
 
 impl ValuesOnDemand for LandmarksOnDemand<'_, '_, '_> {
     ghost use Rattle.model.specs.Grounding.{ground_system};
-    ghost use Rattle.landmarks_on_demand.specs.Shown.{admissible_at, dead_ends_at, shown_by};
+    ghost use Rattle.search.specs.OnDemand.{Extends, KeepsUsed};
+    ghost use Rattle.landmarks_on_demand.specs.Shown.{admissible_at, dead_ends_at, ForgetsOldest, shown_by};
 
     ghost width_of = { λ found. length (atoms_of found.index.now) };
 
@@ -377,7 +379,13 @@ impl ValuesOnDemand for LandmarksOnDemand<'_, '_, '_> {
         self.entries >= self.limits.entries && self.asked_for >= self.may_forget_at
     }
 
-    fn forget(&mut self, used: &[bool]) {
+    fn forget(&mut self, used: &[bool])
+        ensures width { length (atoms_of self.new.index.now) ≡ length (atoms_of self.old.index.now) }
+        ensures system { ground_system (task_of self.new.index.now) (atoms_of self.new.index.now) ≡ ground_system (task_of self.old.index.now) (atoms_of self.old.index.now) }
+        ensures extends { Extends (shown_by self.old.values.items) (shown_by self.new.values.items) }
+        ensures kept { KeepsUsed used.now (shown_by self.old.values.items) (shown_by self.new.values.items) }
+        ensures oldest { ForgetsOldest used.now (shown_by self.old.values.items) (shown_by self.new.values.items) }
+    {
         self.forget_unused(used);
     }
 
