@@ -1,5 +1,5 @@
 //! The clock of a case.
-use devices_clock::Clock;
+use devices::Clock;
 use std::cell::Cell;
 
 /// A clock that answers its first questions with 0 seconds, and each later one with more than any limit.

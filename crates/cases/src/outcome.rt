@@ -2,7 +2,7 @@
 use crate::case::{Case, CaseFault};
 use crate::clock::CaseClock;
 use crate::stream::StreamDevice;
-use devices_clock::Timed;
+use devices::Timed;
 use std::alloc::{AllocError, Global};
 
 /// The texts of a case, and the byte that it is run for, if it lists some.

@@ -1,2 +1,1 @@
 mod RoomLemmas
-mod TwinLemmas

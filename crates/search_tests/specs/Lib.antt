@@ -1,5 +1,2 @@
 pub mod Rooms
-pub mod BlindRooms
-pub mod FarSigns
-pub mod Twins
 pub mod AskedSigns

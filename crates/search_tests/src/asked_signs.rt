@@ -1,32 +1,36 @@
 //! Signs that are looked at only when a room's turn comes, and the search that asks for them.
-ghost use Rattle.std.specs.Prelude.{◌≡◌, min, nat_le, Some, [], slice_get, true};
-ghost use Rattle.search_tests.specs.AskedSigns.{admissible_signs, shown_signs};
-ghost use Rattle.search_tests.specs.FarSigns.{none_dead};
-ghost use Rattle.search_tests.specs.Rooms.{rooms};
+ghost use Rattle.std.specs.Prelude.{◌≡◌, Some, length, slice_get, true};
+ghost use Rattle.packed_state.specs.Packed.{bits_of};
+ghost use Rattle.search_tests.specs.AskedSigns.{shown_signs};
+ghost use Rattle.search_tests.specs.Rooms.{rooms, sign, signs_admissible, none_dead};
 
-use crate::blind_rooms::Blind;
-use crate::pauses::in_store;
-use crate::rooms::Rooms;
-use crate::searches::{Row, is_reported};
-use crate::signs::Signs;
+use crate::found_rooms::{FoundRoom, found_rooms};
+use crate::rooms::{Door, Rooms};
 use faults::NoMemory;
-use packed_state::{Packed, PlainStore, PooledStore, StateStore};
+use packed_state::{Packed, PooledStore};
 use search::{
-    Answer, Basis, Estimate, EstimateWithDeadEnds, Halt, OwnClasses, Problem, ValuesOnDemand,
-    begin_asking, go_on_asking, value_of,
+    Answer, Basis, EstimateWithDeadEnds, Halt, NoDeadEnd, NoEstimate, Outcome, OwnClasses, Problem,
+    ValuesOnDemand, begin_asking, go_on_asking,
 };
 use std::alloc::Global;
 use std::test::Fail;
 
-/// The signs. Each answer that raises a value adds a basis, by which each room has its sign. Basis 0 is forgotten as soon as no room
-/// rests on it.
+/// The value 2 of each room with door 63. An answer that raises a value adds a basis. Basis 0 is forgotten as soon as no room rests on it.
 #[derive(Clone, Copy)]
 struct AskedSigns {
-    signs: Signs,
-    /// The number of bases.
+    rooms: Rooms,
+    questions: u32,
     bases: u32,
     /// The first basis that is kept.
     first: u32,
+}
+
+/// The value of a room.
+fn sign(state: &Packed) -> u64
+    requires { length (bits_of state.now) ≡ 64 }
+    ensures { result ≡ sign 2 (bits_of state.now) }
+{
+    if state.has(63) { 2 } else { 0 }
 }
 
 /// Whether basis 0 is marked as used.
@@ -40,21 +44,18 @@ fn is_first_used(used: &[bool]) -> bool
 }
 
 impl ValuesOnDemand for AskedSigns {
-    ghost width_of = { λ values. values.signs.rooms.width };
+    ghost width_of = { λ _. 64 };
 
-    ghost system_of = { λ values. rooms values.signs.rooms.width values.signs.rooms.first.now values.signs.rooms.second.now values.signs.rooms.first_cost values.signs.rooms.second_cost values.signs.rooms.goal };
+    ghost system_of = { λ v. rooms v.rooms.first v.rooms.doors.now };
 
-    ghost shows = { λ values. shown_signs values.first values.bases (min values.signs.rooms.first_cost values.signs.rooms.second_cost) values.signs.signs.now values.signs.rooms.goal };
+    ghost shows = { λ v. shown_signs v.first v.bases };
 
-    ghost is_admissible = { λ values basis within. admissible_signs values.signs.rooms.width values.signs.rooms.first.now values.signs.rooms.second.now values.signs.rooms.first_cost values.signs.rooms.second_cost values.signs.rooms.goal values.signs.signs.now (nat_le values.first basis) };
+    ghost is_admissible = { λ v basis within. signs_admissible v.rooms.first v.rooms.doors.now 2 };
 
-    ghost reports_dead_ends = { λ values basis within. none_dead (rooms values.signs.rooms.width values.signs.rooms.first.now values.signs.rooms.second.now values.signs.rooms.first_cost values.signs.rooms.second_cost values.signs.rooms.goal) };
+    ghost reports_dead_ends = { λ v basis within. none_dead v.rooms.first v.rooms.doors.now };
 
-    fn value(&self, basis: Basis, state: &Packed) -> u64 {
-        if basis.0 < self.first {
-            return 0;
-        }
-        value_of(self.signs.score(state))
+    fn value(&self, _basis: Basis, state: &Packed) -> u64 {
+        sign(state)
     }
 
     fn is_full(&self) -> bool {
@@ -74,7 +75,8 @@ impl ValuesOnDemand for AskedSigns {
         value: u64,
         _basis: Option<Basis>,
     ) -> Result<Answer, NoMemory> {
-        let higher = value_of(self.signs.score(state));
+        self.questions = self.questions.saturating_add(1);
+        let higher = sign(state);
         if higher <= value || self.bases >= 1_000 || self.bases < self.first {
             return Ok(Answer::Nothing);
         }
@@ -84,73 +86,67 @@ impl ValuesOnDemand for AskedSigns {
     }
 }
 
-/// Two ways from room 0 of equal cost: by the rooms 1, 3 and 5, and by 2, 4 and 6.
-const ARMS_FIRST: &[u32] = &[1, 3, 4, 5, 6];
+/// Two ways from the first room: by the doors 0, 3 and 5, of whose rooms two have signs, and by 1, 4 and 6. And a dear door.
+const ROOMS: Rooms = Rooms {
+    first: 0b111,
+    doors: &[
+        Door(2, 1 << 3 | 1 << 63),
+        Door(2, 1 << 4),
+        Door(20, 1 << 9),
+        Door(2, 1 << 5 | 1 << 63),
+        Door(2, 1 << 6),
+        Door(2, 1 << 7),
+        Door(2, 1 << 8),
+    ],
+};
 
-#[rattlefmt::skip]
-static ROWS: [Row; 3] = [
-    // without signs room 1 is expanded before room 2, and room 3 before room 4
-    Row {
-        rooms: Rooms { width: 64, first: ARMS_FIRST, second: &[2], first_cost: 1, second_cost: 1, goal: 6 },
-        signs: &[], most: 100, plan: Some((&[2, 1, 1], 3)), limit: None, found: &[0, 1, 2, 3, 4, 5, 6], costs: &[0, 1, 1, 2, 2, 3, 3],
-    },
-    // The sign in room 1 is looked at when its turn comes: it waits again, and the rooms 2 and 4 are expanded before it.
-    Row {
-        rooms: Rooms { width: 64, first: ARMS_FIRST, second: &[2], first_cost: 1, second_cost: 1, goal: 6 },
-        signs: &[0, 1], most: 100, plan: Some((&[2, 1, 1], 3)), limit: None, found: &[0, 1, 2, 4, 6, 3, 5], costs: &[0, 1, 1, 2, 3, 2, 3],
-    },
-    // Room 3 has the value of its sign from the basis of room 1, so it waits behind room 6.
-    Row {
-        rooms: Rooms { width: 64, first: ARMS_FIRST, second: &[2], first_cost: 1, second_cost: 1, goal: 6 },
-        signs: &[0, 1, 0, 1], most: 100, plan: Some((&[2, 1, 1], 3)), limit: None, found: &[0, 1, 2, 4, 6, 3], costs: &[0, 1, 1, 2, 3, 2],
-    },
+/// The room behind door 0 waits again when its turn comes: the way without signs comes first. The room behind door 3 has a value by the
+/// same basis, so it waits at once, and its turn comes once.
+static FOUND: [FoundRoom; 8] = [
+    (0, 0),
+    (3, 2),
+    (4, 2),
+    (9, 20),
+    (6, 4),
+    (8, 6),
+    (5, 4),
+    (7, 6),
 ];
 
-/// Whether the search that asks for the row's signs has the row's outcome.
-fn is_as_expected<S: StateStore>(alloc: Global, row: &Row, store: S) -> Result<bool, NoMemory>
-    requires empty { S.states store ≡ [] }
-    requires width { S.width_of store ≡ row.now.rooms.width }
-{
-    let no_signs = Signs {
-        rooms: row.rooms,
-        signs: &[],
-    };
-    let blind = Blind(row.rooms);
-    let guide = EstimateWithDeadEnds::new(&no_signs, &blind);
+/// Whether the search has the right outcome, after nine questions and one basis, which is forgotten: nothing rests on it when the turn of
+/// the room behind the dear door comes.
+fn is_as_expected(alloc: Global) -> Result<bool, NoMemory> {
+    let estimate = NoEstimate(&ROOMS);
+    let dead_ends = NoDeadEnd(&ROOMS);
+    let guide = EstimateWithDeadEnds::new(&estimate, &dead_ends);
     let mut values = AskedSigns {
-        signs: Signs {
-            rooms: row.rooms,
-            signs: row.signs,
-        },
+        rooms: ROOMS,
+        questions: 0,
         bases: 0,
         first: 0,
     };
     let problem = Problem {
         alloc,
-        system: &row.rooms,
+        system: &ROOMS,
         guide: &guide,
         max_states: 100,
     };
-    let search = begin_asking(&problem, &values, OwnClasses(store))?;
+    let store = OwnClasses(PooledStore::new(alloc, 64)?);
+    let search = begin_asking(&problem, &values, store)?;
     match go_on_asking(&problem, &mut values, search, u32::MAX)? {
-        Halt::Ended(outcome) => is_reported(alloc, &in_store(outcome), row),
-        Halt::Paused(_) => Ok(false),
+        Halt::Ended(Outcome::Exhausted { states }) => {
+            let found = found_rooms(alloc, &states.store.0, &states.nodes)?;
+            Ok(
+                found.as_slice() == FOUND.as_slice()
+                    && [values.questions, values.bases, values.first] == [9, 1, 1],
+            )
+        }
+        _ => Ok(false),
     }
-}
-
-/// The same in the plain store and in the pooled one.
-fn are_as_expected(alloc: Global, row: &Row) -> Result<[bool; 2], NoMemory> {
-    let width = row.rooms.width;
-    let plain = is_as_expected(alloc, row, PlainStore::new(alloc, width)?)?;
-    let pooled = is_as_expected(alloc, row, PooledStore::new(alloc, width)?)?;
-    Ok([plain, pooled])
 }
 
 #[test]
-fn waits_again_where_a_value_is_raised(rt: HostRuntime) -> Result<(), Fail> {
-    for (number, row) in ROWS.iter().enumerate() {
-        let are_found = are_as_expected(rt.alloc(), row)?;
-        assert_eq!(rt; are_found, [true, true], "row {number}");
-    }
+fn rooms_wait_again_whose_values_are_raised(rt: HostRuntime) -> Result<(), Fail> {
+    assert!(rt; is_as_expected(rt.alloc())?);
     Ok(())
 }

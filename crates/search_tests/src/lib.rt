@@ -1,31 +1,15 @@
-//! Tests of packed states, of both stores, and of the search over a small system of rooms.
+//! Tests of the search over a small system of rooms: the order of finding, values that are asked for; and of sets in words.
 #![tactic(auto)]
 
 #[cfg(test)]
 mod asked_signs;
 #[cfg(test)]
-mod blind_rooms;
+mod found_rooms;
 #[cfg(test)]
-mod classes;
-#[cfg(test)]
-mod dear_doors;
-#[cfg(test)]
-mod far_signs;
-#[cfg(test)]
-mod laws;
+mod orders;
 #[cfg(test)]
 mod packed_states;
 #[cfg(test)]
-mod pauses;
-#[cfg(test)]
 mod refused_inserts;
 #[cfg(test)]
-mod reopened;
-#[cfg(test)]
 mod rooms;
-#[cfg(test)]
-mod searches;
-#[cfg(test)]
-mod signs;
-#[cfg(test)]
-mod twins;
