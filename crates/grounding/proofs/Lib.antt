@@ -17,3 +17,4 @@ pub mod FiledNumbers
 pub mod WatchLemmas
 pub mod TreeLemmas
 pub mod MatchLemmas
+pub mod InstanceLemmas

@@ -23,7 +23,6 @@ use std::alloc::Global;
 use task::{Atom, Task};
 
 /// A ground task: the task over the numbers of its kept instances and of its atoms. A state has a bit for each numbered atom.
-#[derive(Drop)]
 pub struct Ground<'t> {
     pub(crate) numbering: Numbering<'t>,
     /// The compiled precondition of each instance.
@@ -40,6 +39,19 @@ pub struct Ground<'t> {
     ghost each_cost: { costs.items ≡ map (cost_of (numbering_views.task_in numbering)) (numbering_views.instances_in numbering) } by { Prim.hlevel props },
     ghost matched: { AreMatched (length (numbering_views.atoms_in numbering)) conditions.items tree } by { Prim.hlevel props },
     ghost of_goal: { IsConditionOf (numbering_views.task_in numbering) (numbering_views.atoms_in numbering) (numbering_views.task_in numbering).goal [] goal } by { Prim.hlevel props },
+}
+
+impl Drop for Ground<'_> {
+    fn drop(self) {
+        let Self {
+            numbering: _,
+            conditions: _,
+            changes: _,
+            costs: _,
+            goal: _,
+            tree: _,
+        } = self;
+    }
 }
 
 impl<'t> Ground<'t> {

@@ -6,6 +6,7 @@
 mod changes;
 mod condition;
 mod ground;
+mod instances;
 mod laws;
 mod match_tree;
 mod often;
@@ -21,6 +22,7 @@ mod watch_lists;
 pub use changes::CountingChange;
 pub use ground::Ground;
 pub use grounding_instances::{GroundFault, GroundLimit, NumberedLiteral};
+pub use instances::instance_count;
 pub use laws::{
     atoms_are_numbered, ground_task_is_bisimilar, ground_task_solves_alike,
     grounding_examples_are_judged, numbered_literals_hold, only_counting_changes_are_made,

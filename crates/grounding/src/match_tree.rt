@@ -27,12 +27,20 @@ pub(crate) enum Node {
 }
 
 /// The trees. An instance that is applicable in no packed state is in none of them.
-#[derive(Drop)]
 pub(crate) struct MatchTree {
     /// For each atom, the tree that is walked in states where it is true.
     rows: Vec<Vec<Node>>,
     /// The tree of the instances that need no atom to be true, which is walked in each state.
     pub(crate) unwatched: Vec<Node>,
+}
+
+impl Drop for MatchTree {
+    fn drop(self) {
+        let Self {
+            rows: _,
+            unwatched: _,
+        } = self;
+    }
 }
 
 impl MatchTree {

@@ -19,3 +19,8 @@ pub mod TableLowerBound
 pub mod WithoutTables
 pub mod Certain
 pub mod TableExampleProofs
+pub mod LandmarkZones
+pub mod LandmarkValues
+pub mod LandmarkLowerBound
+pub mod LandmarkExampleProofs
+pub mod KeptLandmarks

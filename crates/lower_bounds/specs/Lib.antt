@@ -1,4 +1,4 @@
--- docs/definitions.md names each definition, in the order in which a reader needs them: potential functions, then tables.
+-- docs/definitions.md names each definition, in the order in which a reader needs them: potential functions, then tables, then landmarks.
 pub mod PotentialFunctions
 pub mod FairPotentials
 pub mod Settled
@@ -8,3 +8,8 @@ pub mod TableFunctions
 pub mod FairTables
 pub mod TableLaws
 pub mod TableExamples
+pub mod LandmarkFunctions
+pub mod FairLandmarks
+pub mod LandmarkLaws
+pub mod LandmarkExamples
+pub mod LandmarkLines

@@ -1,2 +1,0 @@
-mod RisingLemmas
-mod ValueLemmas

@@ -1,5 +1,0 @@
-use Rattle.ground_listings.proofs.TaskLemmas.{classes_reach_alike}
-use Rattle.ground_listings.proofs.laws.classes_reach_goals_alike.Goals as goal
-
-pub returns : goal.returns
-returns c = classes_reach_alike

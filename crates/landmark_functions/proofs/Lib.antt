@@ -1,5 +1,0 @@
-pub mod Zones
-pub mod Values
-pub mod LowerBound
-pub mod LandmarkExampleProofs
-pub mod Kept
