@@ -1,9 +1,8 @@
 //! Which instances add an atom, and whether they preserve that one atom of a set is true.
+use crate::lists::empty_lists;
 use crate::numbers::place_of;
-use faults::NoMemory;
-use grounding::{CountingChange, Ground};
-use potentials::instance_count;
-use std::alloc::Global;
+use faults::DraftMemory;
+use grounding::{CountingChange, Ground, instance_count};
 
 /// For each atom the instances that may add it, in ascending order.
 #[derive(Drop)]
@@ -24,36 +23,32 @@ pub(crate) enum Balance {
 
 impl Adders {
     /// The adders of the ground task's atoms.
-    pub(crate) fn new(alloc: Global, ground: &Ground<'_>) -> Result<Adders, NoMemory> {
-        let mut of_atom: Vec<Vec<u32>> = Vec::new(alloc);
-        for _ in 0..ground.width() {
-            of_atom.push(Vec::new(alloc))?;
-        }
-        let mut adders = Adders { of_atom };
+    pub(crate) fn new(memory: &DraftMemory, ground: &Ground<'_>) -> Adders {
+        let mut adders = Adders {
+            of_atom: empty_lists(memory, ground.width()),
+        };
         for number in 0..instance_count(ground) {
-            adders.file(number, ground.counting(number))?;
+            adders.file(memory, number, ground.counting(number));
         }
-        Ok(adders)
+        adders
     }
 
     /// Files the instance under the atoms that it may add.
-    fn file(&mut self, number: u32, changes: &[CountingChange<'_>]) -> Result<(), NoMemory> {
+    fn file(&mut self, memory: &DraftMemory, number: u32, changes: &[CountingChange<'_>]) {
         for change in changes {
             if change.value {
-                self.push(change.atom, number)?;
+                self.push(memory, change.atom, number);
             }
         }
-        Ok(())
     }
 
     /// Records that the instance adds the atom. Repetitions are ignored.
-    fn push(&mut self, atom: u32, number: u32) -> Result<(), NoMemory> {
+    fn push(&mut self, memory: &DraftMemory, atom: u32, number: u32) {
         if let Some(instances) = self.of_atom.get_mut(place_of(atom)) {
             if instances.last() != Some(&number) {
-                instances.push(number)?;
+                memory.push(instances, number);
             }
         }
-        Ok(())
     }
 
     /// The instances that may add the atom, in ascending order.

@@ -1,10 +1,10 @@
 //! Classes of instances with the same behaviour in a table.
 use crate::by_counting::places_in_order;
+use crate::lists::with_room;
 use crate::numbers::{number_of, place_of};
 use crate::reached::MAX_TABLE_VARIABLES;
 use crate::steps::{Shutters, StepUse, Steps};
-use faults::NoMemory;
-use std::alloc::Global;
+use faults::DraftMemory;
 
 /// The step of an instance for each variable of a table; none if it does not mention the variable.
 #[derive(Clone, Copy, PartialEq, Eq)]
@@ -47,35 +47,34 @@ impl TableSteps {
 impl Classes {
     /// The classes of the instances that mention one of these variables and are not shut out.
     pub(crate) fn new(
-        alloc: Global,
+        memory: &DraftMemory,
         steps: &Steps,
         variables: &[u32],
         shutters: &Shutters,
-    ) -> Result<Classes, NoMemory> {
-        let entries = entries(alloc, steps, variables, shutters)?;
+    ) -> Classes {
+        let entries = entries(memory, steps, variables, shutters);
         let mut classes = Classes {
-            steps: Vec::new(alloc),
-            ends: Vec::new(alloc),
-            instances: Vec::with_capacity(alloc, entries.len())?,
+            steps: memory.list(),
+            ends: memory.list(),
+            instances: with_room(memory, entries.len()),
         };
         for entry in &entries {
-            classes.add(entry.steps, entry.instance)?;
+            classes.add(memory, entry.steps, entry.instance);
         }
-        Ok(classes)
+        classes
     }
 
     /// Adds the instance to the last class if that has these steps, otherwise to a new class.
-    fn add(&mut self, steps: TableSteps, instance: u32) -> Result<(), NoMemory> {
-        self.instances.push(instance)?;
+    fn add(&mut self, memory: &DraftMemory, steps: TableSteps, instance: u32) {
+        memory.push(&mut self.instances, instance);
         let end = number_of(self.instances.len());
         if self.steps.last() != Some(&steps) {
-            self.steps.push(steps)?;
-            self.ends.push(end)?;
+            memory.push(&mut self.steps, steps);
+            memory.push(&mut self.ends, end);
         }
         if let Some(last) = self.ends.last_mut() {
             *last = end;
         }
-        Ok(())
     }
 }
 
@@ -115,40 +114,40 @@ impl Left<'_> {
 /// The instances that mention one of these variables and are not shut out, each with its steps, sorted so that equal steps are
 /// adjacent and instances ascend within a class.
 fn entries(
-    alloc: Global,
+    memory: &DraftMemory,
     steps: &Steps,
     variables: &[u32],
     shutters: &Shutters,
-) -> Result<Vec<Entry>, NoMemory> {
-    let mut left = Vec::new(alloc);
-    let mut counts = Vec::new(alloc);
+) -> Vec<Entry> {
+    let mut left = memory.list();
+    let mut counts = memory.list();
     let mut most = 0usize;
     for variable in variables {
         if let Some(of_variable) = steps.of(*variable) {
             let uses = of_variable.uses();
             most = most.saturating_add(uses.len());
-            left.push(Left { uses })?;
-            counts.push(of_variable.step_count())?;
+            memory.push(&mut left, Left { uses });
+            memory.push(&mut counts, of_variable.step_count());
         }
     }
-    let mut entries = joined(alloc, &mut left, most, shutters)?;
+    let mut entries = joined(memory, &mut left, most, shutters);
     for (place, count) in counts.iter().enumerate() {
-        entries = by_step(alloc, &entries, place, *count)?;
+        entries = by_step(memory, &entries, place, *count);
     }
-    Ok(entries)
+    entries
 }
 
 /// The entries of all instances with remaining uses that are not shut out, up to a limit, in ascending order.
 fn joined(
-    alloc: Global,
+    memory: &DraftMemory,
     left: &mut [Left<'_>],
     most: usize,
     shutters: &Shutters,
-) -> Result<Vec<Entry>, NoMemory> {
-    let mut entries: Vec<Entry> = Vec::new(alloc);
+) -> Vec<Entry> {
+    let mut entries: Vec<Entry> = memory.list();
     for _ in 0..most {
         let Some(instance) = least(left) else {
-            return Ok(entries);
+            break;
         };
         let mut steps = TableSteps::NONE;
         for (place, uses) in left.iter_mut().enumerate() {
@@ -157,10 +156,10 @@ fn joined(
             }
         }
         if !shutters.is_shut_out(instance) {
-            entries.push(Entry { instance, steps })?;
+            memory.push(&mut entries, Entry { instance, steps });
         }
     }
-    Ok(entries)
+    entries
 }
 
 /// The least of the next instances.
@@ -178,24 +177,22 @@ fn least(left: &[Left<'_>]) -> Option<u32> {
 }
 
 /// Sorts the entries stably by the step at this position, entries without one first. There are `count` steps.
-fn by_step(
-    alloc: Global,
-    entries: &[Entry],
-    place: usize,
-    step_count: usize,
-) -> Result<Vec<Entry>, NoMemory> {
-    let mut numbers: Vec<u32> = Vec::with_capacity(alloc, entries.len())?;
+fn by_step(memory: &DraftMemory, entries: &[Entry], place: usize, step_count: usize) -> Vec<Entry> {
+    let mut numbers: Vec<u32> = with_room(memory, entries.len());
     for entry in entries {
-        numbers.push(match entry.steps.at(place) {
-            Some(step) => step.saturating_add(1),
-            None => 0,
-        })?;
+        memory.push(
+            &mut numbers,
+            match entry.steps.at(place) {
+                Some(step) => step.saturating_add(1),
+                None => 0,
+            },
+        );
     }
-    let mut sorted = Vec::with_capacity(alloc, entries.len())?;
-    for at in &places_in_order(alloc, &numbers, step_count.saturating_add(1))? {
+    let mut sorted = with_room(memory, entries.len());
+    for at in &places_in_order(memory, &numbers, step_count.saturating_add(1)) {
         if let Some(entry) = entries.get(place_of(*at)) {
-            sorted.push(*entry)?;
+            memory.push(&mut sorted, *entry);
         }
     }
-    Ok(sorted)
+    sorted
 }

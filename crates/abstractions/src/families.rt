@@ -1,8 +1,7 @@
 //! Families of atoms: all atoms of a predicate, or those with given objects at one or two given positions.
 use crate::numbers::number_of;
-use faults::NoMemory;
+use faults::DraftMemory;
 use grounding::Ground;
-use std::alloc::Global;
 use task::{ObjectId, PredicateId};
 
 /// The minimum number of arguments of atoms of which two are shared. With two arguments such a family would have one atom.
@@ -46,42 +45,39 @@ pub(crate) struct Families {
 
 impl Families {
     /// The families of the ground task's atoms.
-    pub(crate) fn new(alloc: Global, ground: &Ground<'_>) -> Result<Families, NoMemory> {
-        let of_atom = families_of_atoms(alloc, ground)?;
+    pub(crate) fn new(memory: &DraftMemory, ground: &Ground<'_>) -> Families {
         let mut all = Families {
-            families: Vec::new(alloc),
-            atoms: Vec::new(alloc),
-            of_atom,
+            families: memory.list(),
+            atoms: memory.list(),
+            of_atom: families_of_atoms(memory, ground),
         };
-        all.file(alloc)?;
-        Ok(all)
+        all.file(memory);
+        all
     }
 
     /// Files each atom under its families.
-    fn file(&mut self, alloc: Global) -> Result<(), NoMemory> {
-        let mut entries: Vec<(Family, u32)> = Vec::new(alloc);
+    fn file(&mut self, memory: &DraftMemory) {
+        let mut entries: Vec<(Family, u32)> = memory.list();
         for (atom, families) in self.of_atom.iter().enumerate() {
             for family in families {
-                entries.push((*family, number_of(atom)))?;
+                memory.push(&mut entries, (*family, number_of(atom)));
             }
         }
         entries.sort_unstable();
         for (family, atom) in &entries {
-            self.file_one(alloc, *family, *atom)?;
+            self.file_one(memory, *family, *atom);
         }
-        Ok(())
     }
 
     /// Files the atom under the family, which is the last one or comes after it.
-    fn file_one(&mut self, alloc: Global, family: Family, atom: u32) -> Result<(), NoMemory> {
+    fn file_one(&mut self, memory: &DraftMemory, family: Family, atom: u32) {
         if self.families.last() != Some(&family) {
-            self.families.push(family)?;
-            self.atoms.push(Vec::new(alloc))?;
+            memory.push(&mut self.families, family);
+            memory.push(&mut self.atoms, memory.list());
         }
         if let Some(atoms) = self.atoms.last_mut() {
-            atoms.push(atom)?;
+            memory.push(atoms, atom);
         }
-        Ok(())
     }
 
     /// The families, in ascending order.
@@ -125,63 +121,59 @@ impl Family {
 }
 
 /// For each atom its families.
-fn families_of_atoms(alloc: Global, ground: &Ground<'_>) -> Result<Vec<Vec<Family>>, NoMemory> {
-    let mut of_atom = Vec::new(alloc);
+fn families_of_atoms(memory: &DraftMemory, ground: &Ground<'_>) -> Vec<Vec<Family>> {
+    let mut of_atom = memory.list();
     for atom in ground.atoms().as_slice() {
-        of_atom.push(families_of(alloc, atom.predicate, atom.objects.as_slice())?)?;
+        let families = families_of(memory, atom.predicate, atom.objects.as_slice());
+        memory.push(&mut of_atom, families);
     }
-    Ok(of_atom)
+    of_atom
 }
 
 /// The families of an atom with this predicate and these objects, beginning with that of all the predicate's atoms.
-fn families_of(
-    alloc: Global,
-    predicate: PredicateId,
-    objects: &[ObjectId],
-) -> Result<Vec<Family>, NoMemory> {
-    let arguments = arguments_of(alloc, objects)?;
-    let mut families = Vec::new(alloc);
-    families.push(Family {
-        shared: Shared::Nothing,
-        predicate,
-    })?;
+fn families_of(memory: &DraftMemory, predicate: PredicateId, objects: &[ObjectId]) -> Vec<Family> {
+    let arguments = arguments_of(memory, objects);
+    let mut families = memory.list();
+    let shared = Shared::Nothing;
+    memory.push(&mut families, Family { shared, predicate });
     for argument in &arguments {
-        families.push(Family {
-            shared: Shared::One(*argument),
-            predicate,
-        })?;
+        let shared = Shared::One(*argument);
+        memory.push(&mut families, Family { shared, predicate });
     }
     if arguments.len() >= LEAST_WITH_PAIRS {
-        add_pairs(&mut families, predicate, &arguments)?;
+        add_pairs(memory, &mut families, predicate, &arguments);
     }
-    Ok(families)
+    families
 }
 
 /// The arguments of an atom with these objects, in the order of their positions.
-fn arguments_of(alloc: Global, objects: &[ObjectId]) -> Result<Vec<Argument>, NoMemory> {
-    let mut arguments = Vec::new(alloc);
+fn arguments_of(memory: &DraftMemory, objects: &[ObjectId]) -> Vec<Argument> {
+    let mut arguments = memory.list();
     for (place, object) in objects.iter().enumerate() {
-        arguments.push(Argument {
-            place: number_of(place),
-            object: *object,
-        })?;
+        memory.push(
+            &mut arguments,
+            Argument {
+                place: number_of(place),
+                object: *object,
+            },
+        );
     }
-    Ok(arguments)
+    arguments
 }
 
 /// Adds the predicate's families that share two of the arguments.
 fn add_pairs(
+    memory: &DraftMemory,
     families: &mut Vec<Family>,
     predicate: PredicateId,
     arguments: &[Argument],
-) -> Result<(), NoMemory> {
+) {
     for first in arguments {
         for second in arguments {
             if first.place < second.place {
                 let shared = Shared::Two(*first, *second);
-                families.push(Family { shared, predicate })?;
+                memory.push(families, Family { shared, predicate });
             }
         }
     }
-    Ok(())
 }

@@ -1,9 +1,8 @@
 //! The values of variables that the goal allows.
 use crate::numbers::place_of;
 use crate::variables::{VariableValue, Variables};
-use faults::NoMemory;
+use faults::DraftMemory;
 use grounding::NumberedLiteral;
-use std::alloc::Global;
 
 /// For each variable, which of its values the goal allows.
 #[derive(Drop)]
@@ -15,25 +14,24 @@ pub struct GoalValues {
 impl GoalValues {
     /// The values that these goal literals allow.
     pub fn new(
-        alloc: Global,
+        memory: &DraftMemory,
         variables: &Variables,
         literals: &[NumberedLiteral],
-    ) -> Result<GoalValues, NoMemory> {
+    ) -> GoalValues {
         let mut goals = GoalValues {
-            is_allowed: Vec::new(alloc),
-            is_asked: Vec::new(alloc),
+            is_allowed: memory.list(),
+            is_asked: memory.filled(false, place_of(variables.count())),
         };
         for variable in 0..variables.count() {
             let count = place_of(variables.value_count(variable));
-            goals.is_allowed.push(vec![in alloc; true; count]?)?;
-            goals.is_asked.push(false)?;
+            memory.push(&mut goals.is_allowed, memory.filled(true, count));
         }
         for literal in literals {
             for said in variables.of_atom(literal.atom) {
                 goals.ask(*said, literal);
             }
         }
-        Ok(goals)
+        goals
     }
 
     /// Requires this value, or forbids it, as the literal says of its atom.

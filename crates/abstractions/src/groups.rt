@@ -6,12 +6,11 @@
 //! Length").
 use crate::adders::{Adders, Balance, balance_of, surely_deletes};
 use crate::families::{Families, Family};
+use crate::lists::append;
 use crate::numbers::place_of;
-use faults::NoMemory;
-use grounding::Ground;
+use faults::DraftMemory;
+use grounding::{Ground, instance_count};
 use packed_state::Packed;
-use potentials::instance_count;
-use std::alloc::Global;
 
 /// The maximum number of families in a group.
 const MAX_FAMILIES: usize = 5;
@@ -28,7 +27,7 @@ pub type AtomGroup = Vec<u32>;
 /// The state of the search for groups.
 #[derive(Drop)]
 struct Finder<'g, 't> {
-    alloc: Global,
+    memory: &'g DraftMemory,
     ground: &'g Ground<'t>,
     families: Families,
     adders: Adders,
@@ -50,21 +49,17 @@ enum Trial {
 }
 
 /// Groups of the ground task's atoms, the largest first, without repetition: exactly one atom of each is initially true.
-pub fn found_groups(
-    alloc: Global,
-    ground: &Ground<'_>,
-    initial: &Packed,
-) -> Result<Vec<AtomGroup>, NoMemory> {
+pub fn found_groups(memory: &DraftMemory, ground: &Ground<'_>, initial: &Packed) -> Vec<AtomGroup> {
     let mut finder = Finder {
-        alloc,
+        memory,
         ground,
-        families: Families::new(alloc, ground)?,
-        adders: Adders::new(alloc, ground)?,
-        marked: vec![in alloc; false; place_of(ground.width())]?,
+        families: Families::new(memory, ground),
+        adders: Adders::new(memory, ground),
+        marked: memory.filled(false, place_of(ground.width())),
         looks: 0,
-        found: Vec::new(alloc),
+        found: memory.list(),
     };
-    finder.find_all(initial)?;
+    finder.find_all(initial);
     let Finder { mut found, .. } = finder;
     found.sort_unstable_by(|one, other| {
         other
@@ -73,52 +68,51 @@ pub fn found_groups(
             .then_with(|| one.as_slice().cmp(other.as_slice()))
     });
     found.dedup();
-    Ok(found)
+    found
 }
 
 impl Finder<'_, '_> {
     /// Starts from each family. Those that share two objects come last, so they take no look from others.
-    fn find_all(&mut self, initial: &Packed) -> Result<(), NoMemory> {
+    fn find_all(&mut self, initial: &Packed) {
         for place in 0..self.families.all().len() {
+            if self.memory.is_refused() {
+                break;
+            }
             let Some(first) = self.families.all().get(place) else {
-                return Ok(());
+                break;
             };
             let first = *first;
-            self.find_from(first, initial)?;
+            self.find_from(first, initial);
         }
-        Ok(())
     }
 
     /// Tries the family alone, and then with others that instances suggest.
-    fn find_from(&mut self, first: Family, initial: &Packed) -> Result<(), NoMemory> {
-        let alloc = self.alloc;
-        let mut waiting: Vec<Vec<Family>> = Vec::new(alloc);
-        waiting.push(vec![in alloc; first]?)?;
+    fn find_from(&mut self, first: Family, initial: &Packed) {
+        let memory = self.memory;
+        let mut waiting: Vec<Vec<Family>> = memory.list();
+        memory.push(&mut waiting, memory.filled(first, 1));
         for _ in 0..MAX_TRIED {
             let Some(families) = waiting.pop() else {
-                return Ok(());
+                break;
             };
-            let atoms = self.atoms_of(&families)?;
+            let atoms = self.atoms_of(&families);
             match self.tried(&atoms, initial) {
-                Trial::Group => self.keep(atoms, initial)?,
-                Trial::RaisedBy(number) => {
-                    self.grow(&families, number, &mut waiting)?;
-                }
+                Trial::Group => self.keep(atoms, initial),
+                Trial::RaisedBy(number) => self.grow(&families, number, &mut waiting),
                 Trial::GivenUp => {}
             }
         }
-        Ok(())
     }
 
     /// The atoms of the families, in ascending order.
-    fn atoms_of(&self, families: &[Family]) -> Result<AtomGroup, NoMemory> {
-        let mut atoms = Vec::new(self.alloc);
+    fn atoms_of(&self, families: &[Family]) -> AtomGroup {
+        let mut atoms = self.memory.list();
         for family in families {
-            atoms.extend_from_slice(self.families.atoms(family))?;
+            append(self.memory, &mut atoms, self.families.atoms(family));
         }
         atoms.sort_unstable();
         atoms.dedup();
-        Ok(atoms)
+        atoms
     }
 
     /// Tests whether the atoms seem to be a group.
@@ -166,41 +160,30 @@ impl Finder<'_, '_> {
     }
 
     /// Keeps the group if it has several atoms and one of them is initially true.
-    fn keep(&mut self, atoms: AtomGroup, initial: &Packed) -> Result<(), NoMemory> {
+    fn keep(&mut self, atoms: AtomGroup, initial: &Packed) {
+        let memory = self.memory;
         if atoms.len() > 1 && true_among(&atoms, initial) == 1 {
-            self.found.push(atoms)?;
+            memory.push(&mut self.found, atoms);
         }
-        Ok(())
     }
 
     /// Queues the families extended by a family of an atom that the instance requires and deletes.
-    fn grow(
-        &self,
-        families: &[Family],
-        number: u32,
-        waiting: &mut Vec<Vec<Family>>,
-    ) -> Result<(), NoMemory> {
+    fn grow(&self, families: &[Family], number: u32, waiting: &mut Vec<Vec<Family>>) {
         if families.len() >= MAX_FAMILIES || number >= instance_count(self.ground) {
-            return Ok(());
+            return;
         }
         let changes = self.ground.counting(number);
         for literal in self.ground.literals(number) {
             if literal.value && surely_deletes(changes, literal.atom) {
-                self.grow_by(families, literal.atom, waiting)?;
+                self.grow_by(families, literal.atom, waiting);
             }
         }
-        Ok(())
     }
 
     /// The same for one atom.
-    fn grow_by(
-        &self,
-        families: &[Family],
-        atom: u32,
-        waiting: &mut Vec<Vec<Family>>,
-    ) -> Result<(), NoMemory> {
+    fn grow_by(&self, families: &[Family], atom: u32, waiting: &mut Vec<Vec<Family>>) {
         let Some(first) = families.first() else {
-            return Ok(());
+            return;
         };
         let of_atom = self.families.of_atom(atom);
         // An atom without arguments has one family, which may join any other.
@@ -210,12 +193,11 @@ impl Finder<'_, '_> {
                 .iter()
                 .all(|family| family.predicate != more.predicate);
             if is_new && (has_no_arguments || more.shares_objects_with(first)) {
-                let mut grown = Vec::from_slice(self.alloc, families)?;
-                grown.push(*more)?;
-                waiting.push(grown)?;
+                let mut grown = self.memory.copied(families);
+                self.memory.push(&mut grown, *more);
+                self.memory.push(waiting, grown);
             }
         }
-        Ok(())
     }
 }
 

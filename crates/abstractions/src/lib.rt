@@ -14,6 +14,7 @@ mod families;
 mod goals;
 mod groups;
 mod growing;
+mod lists;
 mod mentioned;
 mod numbers;
 mod reached;

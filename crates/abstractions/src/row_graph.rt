@@ -1,10 +1,10 @@
 //! The reachable rows of a table, and the arcs between them.
 use crate::abstraction::{Abstraction, Arc, InstanceClass};
+use crate::lists::{append, with_room};
 use crate::numbers::{number_of, place_of};
 use crate::reached::VariableTask;
 use crate::variables::Variables;
-use faults::NoMemory;
-use std::alloc::Global;
+use faults::DraftMemory;
 
 /// The reachable rows of a table, by number, the initial state's first, with the arcs between them.
 #[derive(Drop)]
@@ -31,16 +31,15 @@ impl RowGraph {
     }
 
     /// Finds out whether the goal allows each of the rows.
-    pub(crate) fn find_goals(&mut self, task: &VariableTask<'_>) -> Result<(), NoMemory> {
+    pub(crate) fn find_goals(&mut self, memory: &DraftMemory, task: &VariableTask<'_>) {
         self.is_goal.clear();
         for index in &self.rows {
             let is_goal = self.variables.iter().zip(&self.radices).all(|(variable, radix)| {
                 let value = value_at(*index, *radix, task.variables.value_count(*variable));
                 task.goals.allow(*variable, value)
             });
-            self.is_goal.push(is_goal)?;
+            memory.push(&mut self.is_goal, is_goal);
         }
-        Ok(())
     }
 
     /// The number of arcs that lead to another row.
@@ -67,14 +66,14 @@ impl RowGraph {
     }
 
     /// The instances that no row allows.
-    pub fn shut_out(&self, alloc: Global) -> Result<Vec<u32>, NoMemory> {
-        let mut found = Vec::new(alloc);
+    pub fn shut_out(&self, memory: &DraftMemory) -> Vec<u32> {
+        let mut found = memory.list();
         for class in &self.classes {
             if class.state_count == 0 {
-                found.extend_from_slice(self.instances_of(class))?;
+                append(memory, &mut found, self.instances_of(class));
             }
         }
-        Ok(found)
+        found
     }
 
     /// The index of the row with these values.
@@ -89,37 +88,32 @@ impl RowGraph {
     }
 
     /// The true atoms in the row with this number, in ascending order.
-    pub fn atoms_of(
-        &self,
-        alloc: Global,
-        variables: &Variables,
-        row: u32,
-    ) -> Result<Vec<u32>, NoMemory> {
-        let mut atoms = Vec::new(alloc);
+    pub fn atoms_of(&self, memory: &DraftMemory, variables: &Variables, row: u32) -> Vec<u32> {
+        let mut atoms = memory.list();
         let Some(index) = self.rows.get(place_of(row)) else {
-            return Ok(atoms);
+            return atoms;
         };
         for (variable, radix) in self.variables.iter().zip(&self.radices) {
             let value = value_at(*index, *radix, variables.value_count(*variable));
             if let Some(place) = place_of(value).checked_sub(1) {
                 if let Some(atom) = variables.atoms(*variable).get(place) {
-                    atoms.push(*atom)?;
+                    memory.push(&mut atoms, *atom);
                 }
             }
         }
         atoms.sort_unstable();
-        Ok(atoms)
+        atoms
     }
 
     /// The atoms of the table's scope, in ascending order.
-    pub fn scope(&self, alloc: Global, variables: &Variables) -> Result<Vec<u32>, NoMemory> {
-        let mut scope = Vec::new(alloc);
+    pub fn scope(&self, memory: &DraftMemory, variables: &Variables) -> Vec<u32> {
+        let mut scope = memory.list();
         for variable in &self.variables {
-            scope.extend_from_slice(variables.atoms(*variable))?;
+            append(memory, &mut scope, variables.atoms(*variable));
         }
         scope.sort_unstable();
         scope.dedup();
-        Ok(scope)
+        scope
     }
 }
 
@@ -191,11 +185,11 @@ pub(crate) fn value_at(index: u32, radix: u32, count: u32) -> u32 {
 }
 
 /// The numbers of the rows, sorted by index.
-pub(crate) fn by_index(alloc: Global, rows: &[u32]) -> Result<Vec<(u32, u32)>, NoMemory> {
-    let mut by_index = Vec::with_capacity(alloc, rows.len())?;
+pub(crate) fn by_index(memory: &DraftMemory, rows: &[u32]) -> Vec<(u32, u32)> {
+    let mut by_index = with_room(memory, rows.len());
     for (place, index) in rows.iter().enumerate() {
-        by_index.push((*index, number_of(place)))?;
+        memory.push(&mut by_index, (*index, number_of(place)));
     }
     by_index.sort_unstable();
-    Ok(by_index)
+    by_index
 }

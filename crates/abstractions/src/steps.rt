@@ -1,11 +1,10 @@
 //! The effects of all instances on each variable.
+use crate::lists::{append, empty_lists};
 use crate::numbers::{number_of, place_of};
 use crate::transitions::{InstancePart, Transition, source_count, transitions_from};
 use crate::variables::Variables;
-use faults::NoMemory;
-use grounding::{CountingChange, Ground, NumberedLiteral};
-use potentials::instance_count;
-use std::alloc::Global;
+use faults::DraftMemory;
+use grounding::{CountingChange, Ground, NumberedLiteral, instance_count};
 
 /// The maximum number of transitions kept in total.
 const MAX_MOVES: usize = 4_000_000;
@@ -40,44 +39,28 @@ pub struct Shutters {
 /// For each variable, the effects of instances on it, still in the order of instances.
 #[derive(Drop)]
 struct Drafts<'a> {
-    alloc: Global,
+    memory: &'a DraftMemory,
     variables: &'a Variables,
     transitions: Vec<Vec<(Vec<Transition>, u32)>>,
     count: usize,
 }
 
 impl Steps {
-    /// The steps of the ground task's instances; `None` if there would be too many transitions.
-    pub fn new(
-        alloc: Global,
-        ground: &Ground<'_>,
-        variables: &Variables,
-    ) -> Result<Option<Steps>, NoMemory> {
+    /// The steps of the ground task's instances; `None` if there would be too many transitions, or if memory was refused.
+    pub fn new(memory: &DraftMemory, ground: &Ground<'_>, variables: &Variables) -> Option<Steps> {
         let mut drafts = Drafts {
-            alloc,
+            memory,
             variables,
-            transitions: Vec::new(alloc),
+            transitions: empty_lists(memory, variables.count()),
             count: 0,
         };
-        for _ in 0..variables.count() {
-            drafts.transitions.push(Vec::new(alloc))?;
-        }
         for number in 0..instance_count(ground) {
-            drafts.add(number, ground.literals(number), ground.counting(number))?;
-            if drafts.count > MAX_MOVES {
-                return Ok(None);
+            drafts.add(number, ground.literals(number), ground.counting(number));
+            if drafts.count > MAX_MOVES || memory.is_refused() {
+                return None;
             }
         }
-        let Drafts { transitions, .. } = drafts;
-        let mut steps = Steps {
-            variables: Vec::new(alloc),
-        };
-        for of_variable in transitions {
-            steps
-                .variables
-                .push(VariableSteps::new(alloc, of_variable)?)?;
-        }
-        Ok(Some(steps))
+        Some(drafts.finish())
     }
 
     /// The effects of instances on the variable with this number.
@@ -88,61 +71,70 @@ impl Steps {
 
 impl Drafts<'_> {
     /// Adds the effect of the instance with these literals and changes on each variable of their atoms.
-    fn add(
-        &mut self,
-        number: u32,
-        literals: &[NumberedLiteral],
-        changes: &[CountingChange<'_>],
-    ) -> Result<(), NoMemory> {
-        let alloc = self.alloc;
+    fn add(&mut self, number: u32, literals: &[NumberedLiteral], changes: &[CountingChange<'_>]) {
+        let memory = self.memory;
         let variables = self.variables;
-        let mut mentioned = variables.of_literals(alloc, literals)?;
-        mentioned.extend_from_slice(&variables.of_changes(alloc, changes)?)?;
+        let mut mentioned = variables.of_literals(memory, literals);
+        append(
+            memory,
+            &mut mentioned,
+            &variables.of_changes(memory, changes),
+        );
         mentioned.sort_unstable();
         mentioned.dedup();
         for variable in mentioned {
             let part = InstancePart {
+                memory,
                 variables,
                 variable,
                 literals,
                 changes,
             };
-            let transitions = part.transitions(alloc)?;
+            let transitions = part.transitions();
             self.count = self.count.saturating_add(transitions.len());
             if let Some(all) = self.transitions.get_mut(place_of(variable)) {
-                all.push((transitions, number))?;
+                memory.push(all, (transitions, number));
             }
         }
-        Ok(())
+    }
+
+    /// The steps of each variable.
+    fn finish(self) -> Steps {
+        let Drafts {
+            memory,
+            transitions,
+            ..
+        } = self;
+        let mut variables = memory.list();
+        for of_variable in transitions {
+            memory.push(&mut variables, VariableSteps::new(memory, of_variable));
+        }
+        Steps { variables }
     }
 }
 
 impl VariableSteps {
     /// The steps for these lists of transitions, each distinct list once, and the instances that take them.
-    fn new(
-        alloc: Global,
-        mut drafts: Vec<(Vec<Transition>, u32)>,
-    ) -> Result<VariableSteps, NoMemory> {
+    fn new(memory: &DraftMemory, mut drafts: Vec<(Vec<Transition>, u32)>) -> VariableSteps {
         drafts.sort_unstable();
         let mut of_variable = VariableSteps {
-            steps: Vec::new(alloc),
-            uses: Vec::new(alloc),
+            steps: memory.list(),
+            uses: memory.list(),
         };
         for (transitions, instance) in drafts {
-            of_variable.take(transitions, instance)?;
+            of_variable.take(memory, transitions, instance);
         }
         of_variable.uses.sort_unstable();
-        Ok(of_variable)
+        of_variable
     }
 
     /// Records that the instance takes these transitions, which are those of the last step or come after them.
-    fn take(&mut self, transitions: Vec<Transition>, instance: u32) -> Result<(), NoMemory> {
+    fn take(&mut self, memory: &DraftMemory, transitions: Vec<Transition>, instance: u32) {
         if self.steps.last() != Some(&transitions) {
-            self.steps.push(transitions)?;
+            memory.push(&mut self.steps, transitions);
         }
         let step = number_of(self.steps.len()).saturating_sub(1);
-        self.uses.push(StepUse { instance, step })?;
-        Ok(())
+        memory.push(&mut self.uses, StepUse { instance, step });
     }
 
     /// The instances that mention the variable, in ascending order, each with its step.
@@ -181,12 +173,12 @@ impl VariableSteps {
 
 impl Shutters {
     /// The instances of the ground task that require an atom without a number.
-    pub fn new(alloc: Global, ground: &Ground<'_>) -> Result<Shutters, NoMemory> {
-        let mut is_shut_out = Vec::new(alloc);
+    pub fn new(memory: &DraftMemory, ground: &Ground<'_>) -> Shutters {
+        let mut is_shut_out = memory.list();
         for number in 0..instance_count(ground) {
-            is_shut_out.push(ground.requires_unnumbered(number))?;
+            memory.push(&mut is_shut_out, ground.requires_unnumbered(number));
         }
-        Ok(Shutters { is_shut_out })
+        Shutters { is_shut_out }
     }
 
     /// Whether the instance is shut out.

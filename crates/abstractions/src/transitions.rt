@@ -1,8 +1,7 @@
 //! The effect of an instance on a variable, for each value in which it may be applicable.
 use crate::variables::Variables;
-use faults::NoMemory;
+use faults::DraftMemory;
 use grounding::{CountingChange, NumberedLiteral};
-use std::alloc::Global;
 
 /// The target of a transition.
 #[derive(Clone, Copy, PartialEq, Eq, PartialOrd, Ord)]
@@ -45,6 +44,7 @@ impl Kind {
 /// The part of an instance that concerns one variable.
 #[derive(Clone, Copy)]
 pub(crate) struct InstancePart<'a, 't> {
+    pub(crate) memory: &'a DraftMemory,
     pub(crate) variables: &'a Variables,
     pub(crate) variable: u32,
     pub(crate) literals: &'a [NumberedLiteral],
@@ -53,17 +53,17 @@ pub(crate) struct InstancePart<'a, 't> {
 
 impl InstancePart<'_, '_> {
     /// The transitions from each value that the literals allow, in ascending order of these values.
-    pub(crate) fn transitions(&self, alloc: Global) -> Result<Vec<Transition>, NoMemory> {
-        let mut transitions = Vec::new(alloc);
+    pub(crate) fn transitions(&self) -> Vec<Transition> {
+        let mut transitions = self.memory.list();
         for from in self.first_value()..self.variables.value_count(self.variable) {
             if self.allows(self.literals, from) {
-                self.add_transitions(from, &mut transitions)?;
+                self.add_transitions(from, &mut transitions);
                 if self.requires_atom() {
-                    return Ok(transitions);
+                    break;
                 }
             }
         }
-        Ok(transitions)
+        transitions
     }
 
     /// The first value that the literals may allow.
@@ -102,25 +102,21 @@ impl InstancePart<'_, '_> {
     }
 
     /// Adds the transitions from this value.
-    fn add_transitions(
-        &self,
-        from: u32,
-        transitions: &mut Vec<Transition>,
-    ) -> Result<(), NoMemory> {
+    fn add_transitions(&self, from: u32, transitions: &mut Vec<Transition>) {
         let certain = self.certain_target(from);
+        self.memory
+            .push(transitions, Transition { from, to: certain });
         let Target::Value(value) = certain else {
-            transitions.push(Transition { from, to: certain })?;
-            return Ok(());
+            return;
         };
-        transitions.push(Transition { from, to: certain })?;
         if value > 0
             && !self.makes(Kind::SureAdd, value, from)
             && self.makes(Kind::PossibleDelete, value, from)
         {
             let to = Target::Value(0);
-            transitions.push(Transition { from, to })?;
+            self.memory.push(transitions, Transition { from, to });
         }
-        self.add_uncertain_adds(from, value, transitions)
+        self.add_uncertain_adds(from, value, transitions);
     }
 
     /// The target of the unconditional changes from this value.
@@ -143,30 +139,24 @@ impl InstancePart<'_, '_> {
     }
 
     /// Adds the transitions in which a change under a `when` adds an atom, given the target of the others.
-    fn add_uncertain_adds(
-        &self,
-        from: u32,
-        value: u32,
-        transitions: &mut Vec<Transition>,
-    ) -> Result<(), NoMemory> {
+    fn add_uncertain_adds(&self, from: u32, value: u32, transitions: &mut Vec<Transition>) {
         let mut first = value;
         for change in self.changes {
             if change.value && !change.is_unconditional() && self.is_open(change, from) {
                 if let Some(added) = self.value_of(change.atom) {
                     if first > 0 && first != added {
                         let to = Target::NoValue;
-                        transitions.push(Transition { from, to })?;
-                        return Ok(());
+                        self.memory.push(transitions, Transition { from, to });
+                        break;
                     }
                     if first != added {
                         let to = Target::Value(added);
-                        transitions.push(Transition { from, to })?;
+                        self.memory.push(transitions, Transition { from, to });
                     }
                     first = added;
                 }
             }
         }
-        Ok(())
     }
 
     /// Whether a change of this kind is made to the atom of this value, from that value.

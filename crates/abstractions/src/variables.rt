@@ -3,9 +3,9 @@
 //! The first groups are chosen by the greedy covering of Helmert 2009, "Concise finite-domain representations for PDDL planning
 //! tasks". Other groups are variables too, so an atom may have several: a table has the one that serves it best.
 use crate::groups::AtomGroup;
+use crate::lists::empty_lists;
 use crate::numbers::{number_of, place_of};
-use faults::NoMemory;
-use std::alloc::Global;
+use faults::DraftMemory;
 
 /// The maximum number of values of the variables beyond a cover of the atoms, as a multiple of the number of atoms.
 const MAX_TIMES: usize = 4;
@@ -32,40 +32,44 @@ impl Variables {
     /// Variables for this many atoms. While some group has several atoms without a variable, the one with the most such atoms
     /// becomes a variable with all its atoms. So do other groups that are no part of one before, within a limit. Each remaining atom
     /// is a variable by itself.
-    pub fn new(alloc: Global, width: u32, groups: &[AtomGroup]) -> Result<Variables, NoMemory> {
-        let mut of_atom: Vec<Vec<VariableValue>> = Vec::new(alloc);
-        for _ in 0..width {
-            of_atom.push(Vec::new(alloc))?;
-        }
+    pub fn new(memory: &DraftMemory, width: u32, groups: &[AtomGroup]) -> Variables {
         let mut variables = Variables {
-            atoms: Vec::new(alloc),
-            of_atom,
+            atoms: memory.list(),
+            of_atom: empty_lists(memory, width),
         };
-        for _ in 0..groups.len() {
-            let Some(group) = variables.best_of(groups) else {
-                break;
-            };
-            variables.add(Vec::from_slice(alloc, group)?)?;
-        }
-        variables.add_others(alloc, groups)?;
+        variables.add_best(memory, groups);
+        variables.add_others(memory, groups);
         for atom in 0..width {
             if !variables.has(atom) {
-                variables.add(vec![in alloc; atom]?)?;
+                variables.add(memory, memory.filled(atom, 1));
             }
         }
-        Ok(variables)
+        variables
+    }
+
+    /// Adds the group with the most atoms without a variable, while one has several.
+    fn add_best(&mut self, memory: &DraftMemory, groups: &[AtomGroup]) {
+        for _ in 0..groups.len() {
+            // A group that could not be added would be the best again.
+            if memory.is_refused() {
+                break;
+            }
+            let Some(group) = self.best_of(groups) else {
+                break;
+            };
+            self.add(memory, memory.copied(group));
+        }
     }
 
     /// Adds the groups of which no variable has all atoms, the first ones first, within a limit.
-    fn add_others(&mut self, alloc: Global, groups: &[AtomGroup]) -> Result<(), NoMemory> {
+    fn add_others(&mut self, memory: &DraftMemory, groups: &[AtomGroup]) {
         let mut left = self.of_atom.len().saturating_mul(MAX_TIMES);
         for group in groups {
             if group.len() <= left && !self.has_all(group) {
                 left = left.saturating_sub(group.len());
-                self.add(Vec::from_slice(alloc, group)?)?;
+                self.add(memory, memory.copied(group));
             }
         }
-        Ok(())
     }
 
     /// Whether some variable has all these atoms, which ascend.
@@ -99,16 +103,15 @@ impl Variables {
     }
 
     /// Adds the variable with these atoms.
-    fn add(&mut self, atoms: AtomGroup) -> Result<(), NoMemory> {
+    fn add(&mut self, memory: &DraftMemory, atoms: AtomGroup) {
         let variable = number_of(self.atoms.len());
         for (place, atom) in atoms.iter().enumerate() {
             let value = number_of(place).saturating_add(1);
             if let Some(values) = self.of_atom.get_mut(place_of(*atom)) {
-                values.push(VariableValue { variable, value })?;
+                memory.push(values, VariableValue { variable, value });
             }
         }
-        self.atoms.push(atoms)?;
-        Ok(())
+        memory.push(&mut self.atoms, atoms);
     }
 
     /// The number of variables.

@@ -1,6 +1,6 @@
 -- What is promised of a draft: its form, and nothing of its worth.
 use Rattle.std.specs.Prelude.{◌≡◌, ℕ, true, length}
-use Rattle.landmark_functions.specs.LandmarkLines.{keep_limits}
+use Rattle.lower_bounds.specs.LandmarkLines.{keep_limits}
 use Rattle.landmark_zones.specs.Landmarks.{landmarks_of}
 use Rattle.landmarks_drafted.specs.declared.draft.Draft.{Draft}
 use Rattle.landmarks_drafted.specs.declared.drafter.CutDrafter.{CutDrafter}

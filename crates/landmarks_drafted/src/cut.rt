@@ -3,10 +3,9 @@
 use crate::facts::{ALWAYS, GOAL};
 use crate::levels::Levels;
 use crate::relaxed_task::RelaxedTask;
-use faults::NoMemory;
+use faults::DraftMemory;
 use grounding::NumberedLiteral;
 use landmark_zones::ZoneRef;
-use std::alloc::Global;
 
 /// Where a fact is, seen from the cut, in the graph in which each operator leads from its supporter to all that it reaches.
 #[derive(Clone, Copy, PartialEq, Eq)]
@@ -36,17 +35,17 @@ pub(crate) struct Cut {
 
 impl Cut {
     /// No cut, for the relaxation.
-    pub(crate) fn new(alloc: Global, task: &RelaxedTask) -> Result<Cut, NoMemory> {
+    pub(crate) fn new(memory: &DraftMemory, task: &RelaxedTask) -> Cut {
         let count = task.facts.count() as usize;
-        Ok(Cut {
-            sides: vec![in alloc; Side::Between; count]?,
-            found: Vec::new(alloc),
-            zone: Vec::new(alloc),
-            is_in_zone: vec![in alloc; false; count]?,
-            entering: Vec::new(alloc),
-            instances: Vec::new(alloc),
+        Cut {
+            sides: memory.filled(Side::Between, count),
+            found: memory.list(),
+            zone: memory.list(),
+            is_in_zone: memory.filled(false, count),
+            entering: memory.list(),
+            instances: memory.list(),
             steps: 0,
-        })
+        }
     }
 
     /// How often an operator was looked at.
@@ -66,98 +65,92 @@ impl Cut {
 
     /// Finds the next cut of the state from which these levels are, and its zone. If the goal is not reached, the cut is empty: no
     /// instance leads into the zone.
-    pub(crate) fn find(&mut self, task: &RelaxedTask, levels: &Levels) -> Result<(), NoMemory> {
+    pub(crate) fn find(&mut self, memory: &DraftMemory, task: &RelaxedTask, levels: &Levels) {
         self.sides.fill(Side::Between);
         if levels.is_reached(GOAL) {
-            self.find_behind(task, levels)?;
-            self.find_before(task, levels)?;
+            self.find_behind(memory, task, levels);
+            self.find_before(memory, task, levels);
         }
         self.clear_zone();
-        self.add_to_zone(GOAL)?;
-        for place in 0..self.sides.len() {
-            let Some(fact) = number_at(&self.zone, place) else {
-                break;
-            };
-            self.close(task, levels, fact)?;
-        }
-        self.list_instances(task)
+        self.add_to_zone(memory, GOAL);
+        self.close(memory, task, levels);
+        self.list_instances(memory, task);
     }
 
     /// Takes this zone, and finds its cut. Whether all its literals are facts: if not, an instance may be missing.
     pub(crate) fn take_zone(
         &mut self,
+        memory: &DraftMemory,
         task: &RelaxedTask,
         zone: ZoneRef<'_>,
-    ) -> Result<bool, NoMemory> {
+    ) -> bool {
         self.clear_zone();
         for atom in zone.atoms {
             let (atom, value) = (*atom, true);
-            if !self.take(task, NumberedLiteral { atom, value })? {
-                return Ok(false);
+            if !self.take(memory, task, NumberedLiteral { atom, value }) {
+                return false;
             }
         }
         for atom in zone.negated {
             let (atom, value) = (*atom, false);
-            if !self.take(task, NumberedLiteral { atom, value })? {
-                return Ok(false);
+            if !self.take(memory, task, NumberedLiteral { atom, value }) {
+                return false;
             }
         }
         for fact in &self.zone {
-            self.entering.extend_from_slice(task.reached_by(*fact))?;
+            memory.kept(self.entering.extend_from_slice(task.reached_by(*fact)));
         }
-        self.list_instances(task)?;
-        Ok(true)
+        self.list_instances(memory, task);
+        true
     }
 
     /// Adds the literal to the zone, if it is a fact. Whether it is one.
-    fn take(&mut self, task: &RelaxedTask, literal: NumberedLiteral) -> Result<bool, NoMemory> {
+    fn take(&mut self, memory: &DraftMemory, task: &RelaxedTask, literal: NumberedLiteral) -> bool {
         let Some(fact) = task.facts.of(literal) else {
-            return Ok(false);
+            return false;
         };
-        self.add_to_zone(fact)?;
-        Ok(true)
+        self.add_to_zone(memory, fact);
+        true
     }
 
     /// Finds the facts from which the goal is reached at no cost.
-    fn find_behind(&mut self, task: &RelaxedTask, levels: &Levels) -> Result<(), NoMemory> {
+    fn find_behind(&mut self, memory: &DraftMemory, task: &RelaxedTask, levels: &Levels) {
         self.found.clear();
-        self.put(GOAL, Side::Behind)?;
+        self.put(memory, GOAL, Side::Behind);
         for place in 0..self.sides.len() {
             let Some(fact) = number_at(&self.found, place) else {
-                return Ok(());
+                break;
             };
             let operators = task.reached_by(fact);
             self.count(operators);
             for operator in operators {
                 if levels.cost(*operator) == 0 {
                     if let Some(supporter) = levels.supporter(*operator) {
-                        self.put(supporter, Side::Behind)?;
+                        self.put(memory, supporter, Side::Behind);
                     }
                 }
             }
         }
-        Ok(())
     }
 
     /// Finds the facts that are reached from the state without a fact that is past the cut.
-    fn find_before(&mut self, task: &RelaxedTask, levels: &Levels) -> Result<(), NoMemory> {
+    fn find_before(&mut self, memory: &DraftMemory, task: &RelaxedTask, levels: &Levels) {
         self.found.clear();
         for fact in levels.holding() {
-            self.put(*fact, Side::Before)?;
+            self.put(memory, *fact, Side::Before);
         }
         for place in 0..self.sides.len() {
             let Some(fact) = number_at(&self.found, place) else {
-                return Ok(());
+                break;
             };
             let operators = task.needed_by(fact);
             self.count(operators);
             for operator in operators {
                 if levels.supporter(*operator) == Some(fact) {
-                    self.go_on(task.reaches(*operator))?;
+                    self.go_on(memory, task.reaches(*operator));
                 }
             }
         }
-        Ok(())
     }
 
     /// Counts these operators, each of which is looked at.
@@ -166,27 +159,25 @@ impl Cut {
     }
 
     /// Notes that these facts are reached, unless one of them is past the cut.
-    fn go_on(&mut self, facts: &[u32]) -> Result<(), NoMemory> {
+    fn go_on(&mut self, memory: &DraftMemory, facts: &[u32]) {
         for fact in facts {
             if self.side(*fact) == Side::Behind {
-                return Ok(());
+                return;
             }
         }
         for fact in facts {
-            self.put(*fact, Side::Before)?;
+            self.put(memory, *fact, Side::Before);
         }
-        Ok(())
     }
 
     /// Notes the side of a fact, and that it is found if its side is a new one.
-    fn put(&mut self, fact: u32, side: Side) -> Result<(), NoMemory> {
+    fn put(&mut self, memory: &DraftMemory, fact: u32, side: Side) {
         if let Some(found) = self.sides.get_mut(fact as usize) {
             if *found != side {
                 *found = side;
-                self.found.push(fact)?;
+                memory.push(&mut self.found, fact);
             }
         }
-        Ok(())
     }
 
     /// The side of the fact.
@@ -209,31 +200,39 @@ impl Cut {
     }
 
     /// Adds the fact to the zone.
-    fn add_to_zone(&mut self, fact: u32) -> Result<(), NoMemory> {
+    fn add_to_zone(&mut self, memory: &DraftMemory, fact: u32) {
         if let Some(is_in_zone) = self.is_in_zone.get_mut(fact as usize) {
             if !*is_in_zone {
                 *is_in_zone = true;
-                self.zone.push(fact)?;
+                memory.push(&mut self.zone, fact);
             }
         }
-        Ok(())
     }
 
-    /// Adds facts to the zone until no operators lead to this one from outside but those of the cut.
-    fn close(&mut self, task: &RelaxedTask, levels: &Levels, fact: u32) -> Result<(), NoMemory> {
-        let operators = task.reached_by(fact);
-        self.count(operators);
-        for operator in operators {
-            if !self.needs_zone(task, *operator) {
-                let need = last_need(task, levels, *operator);
-                if self.side(need) == Side::Before {
-                    self.entering.push(*operator)?;
-                } else {
-                    self.add_to_zone(need)?;
+    /// Adds facts to the zone until no operators lead into it from outside but those of the cut.
+    fn close(&mut self, memory: &DraftMemory, task: &RelaxedTask, levels: &Levels) {
+        for place in 0..self.sides.len() {
+            let Some(fact) = number_at(&self.zone, place) else {
+                break;
+            };
+            let operators = task.reached_by(fact);
+            self.count(operators);
+            for operator in operators {
+                if !self.needs_zone(task, *operator) {
+                    let need = last_need(task, levels, *operator);
+                    self.enter(memory, *operator, need);
                 }
             }
         }
-        Ok(())
+    }
+
+    /// Notes that the operator leads into the zone, if this fact that it needs is before the cut; if not, the fact is of the zone too.
+    fn enter(&mut self, memory: &DraftMemory, operator: u32, need: u32) {
+        if self.side(need) == Side::Before {
+            memory.push(&mut self.entering, operator);
+        } else {
+            self.add_to_zone(memory, need);
+        }
     }
 
     /// Whether the operator needs a fact of the zone.
@@ -252,19 +251,18 @@ impl Cut {
     }
 
     /// Lists the instances of the operators that lead into the zone.
-    fn list_instances(&mut self, task: &RelaxedTask) -> Result<(), NoMemory> {
+    fn list_instances(&mut self, memory: &DraftMemory, task: &RelaxedTask) {
         self.instances.clear();
         self.steps = self.steps.saturating_add(self.entering.len() as u64);
         for place in 0..self.entering.len() {
             if let Some(operator) = number_at(&self.entering, place) {
                 if !self.needs_zone(task, operator) {
-                    self.instances.push(task.instance_of(operator))?;
+                    memory.push(&mut self.instances, task.instance_of(operator));
                 }
             }
         }
         self.instances.sort_unstable();
         self.instances.dedup();
-        Ok(())
     }
 }
 

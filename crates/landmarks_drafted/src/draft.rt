@@ -1,9 +1,8 @@
 //! What is drafted.
-ghost use Rattle.std.specs.Prelude.{◌≡◌, IfOk, IfSome, length};
+ghost use Rattle.std.specs.Prelude.{IfSome};
 ghost use Rattle.landmarks_drafted.specs.Drafts.{IsOneValue};
 
-use faults::NoMemory;
-use landmark_zones::{Landmarks, Share};
+use landmark_zones::Landmarks;
 
 /// What a draft claims, which is to be tested before it is used.
 #[derive(Clone, Copy, Debug, PartialEq, Eq)]
@@ -23,19 +22,13 @@ pub struct Draft {
 }
 
 impl Draft {
-    /// The draft of a value with these shares, if a certificate's text with this many atoms may have it.
-    pub(crate) fn new(
-        mut landmarks: Landmarks,
-        shares: &[Share],
-        atom_count: u32,
-        claim: Claim,
-    ) -> Result<Option<Draft>, NoMemory>
-        ensures { IfOk result (λ found. IfSome found (IsOneValue atom_count)) }
+    /// The draft of this value, if it is one, and a certificate's text with this many atoms may have it.
+    pub(crate) fn new(landmarks: Landmarks, atom_count: u32, claim: Claim) -> Option<Draft>
+        ensures { IfSome result (IsOneValue atom_count) }
     {
-        landmarks.push_value(shares)?;
         if landmarks.value_count() != 1 || !landmarks.keep_limits(atom_count as usize) {
-            return Ok(None);
+            return None;
         }
-        Ok(Some(Draft { landmarks, claim }))
+        Some(Draft { landmarks, claim })
     }
 }

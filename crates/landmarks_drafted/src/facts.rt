@@ -1,8 +1,7 @@
 //! Facts: the literals that an instance or the goal needs, by numbers of their own.
 use crate::rows::number_of;
-use faults::NoMemory;
+use faults::DraftMemory;
 use grounding::NumberedLiteral;
-use std::alloc::Global;
 
 /// The fact that all literals of the goal are reached.
 pub(crate) const GOAL: u32 = 0;
@@ -24,30 +23,28 @@ pub(crate) struct Facts {
 
 impl Facts {
     /// No literals, of atoms below `width`.
-    pub(crate) fn none(alloc: Global, width: u32) -> Result<Facts, NoMemory> {
-        Ok(Facts {
-            literals: Vec::new(alloc),
-            numbers: vec![in alloc; None; width as usize * 2]?,
-        })
+    pub(crate) fn none(memory: &DraftMemory, width: u32) -> Facts {
+        Facts {
+            literals: memory.list(),
+            numbers: memory.filled(None, width as usize * 2),
+        }
     }
 
     /// Numbers these literals. One that has a number keeps it.
-    pub(crate) fn add_all(&mut self, literals: &[NumberedLiteral]) -> Result<(), NoMemory> {
+    pub(crate) fn add_all(&mut self, memory: &DraftMemory, literals: &[NumberedLiteral]) {
         for literal in literals {
-            self.add(*literal)?;
+            self.add(memory, *literal);
         }
-        Ok(())
     }
 
     /// Numbers the literal, if it has no number yet.
-    fn add(&mut self, literal: NumberedLiteral) -> Result<(), NoMemory> {
+    fn add(&mut self, memory: &DraftMemory, literal: NumberedLiteral) {
         let number = self.count();
         let place = place_of(literal);
         if place < self.numbers.len() && self.numbers[place].is_none() {
-            self.literals.push(literal)?;
+            memory.push(&mut self.literals, literal);
             self.numbers[place] = Some(number);
         }
-        Ok(())
     }
 
     /// The number of facts.

@@ -1,7 +1,6 @@
 //! Facts that wait, the one of the least level first.
 use crate::rows::number_of;
-use faults::NoMemory;
-use std::alloc::Global;
+use faults::DraftMemory;
 use std::cmp::Reverse;
 use std::collections::BinaryHeap;
 
@@ -30,33 +29,32 @@ pub(crate) struct LevelQueue {
 
 impl LevelQueue {
     /// A queue in which nothing waits.
-    pub(crate) fn new(alloc: Global) -> Result<LevelQueue, NoMemory> {
-        let mut buckets = Vec::new(alloc);
+    pub(crate) fn new(memory: &DraftMemory) -> LevelQueue {
+        let mut buckets = memory.list();
         for _ in 0..NEAR {
-            buckets.push(Vec::new(alloc))?;
+            memory.push(&mut buckets, memory.list());
         }
-        Ok(LevelQueue {
+        LevelQueue {
             buckets,
             first: 0,
             near: 0,
-            far: BinaryHeap::new(alloc),
-        })
+            far: BinaryHeap::new(memory.alloc()),
+        }
     }
 
     /// Adds a fact.
-    pub(crate) fn push(&mut self, waiting: Waiting) -> Result<(), NoMemory> {
+    pub(crate) fn push(&mut self, memory: &DraftMemory, waiting: Waiting) {
         let place = waiting.level as usize;
         if place < self.buckets.len() {
-            self.buckets[place].push(waiting.fact)?;
+            memory.push(&mut self.buckets[place], waiting.fact);
             if self.near == 0 || place < self.first {
                 self.first = place;
             }
             self.near = self.near.saturating_add(1);
         } else {
             let word = (u64::from(waiting.level) << 32) | u64::from(waiting.fact);
-            self.far.push(Reverse(word))?;
+            memory.kept(self.far.push(Reverse(word)));
         }
-        Ok(())
     }
 
     /// Removes a fact of the least level.

@@ -4,10 +4,9 @@ use crate::facts::{ALWAYS, FIRST, Facts};
 use crate::level_queue::{LevelQueue, Waiting};
 use crate::relaxed_task::RelaxedTask;
 use crate::rows::number_of;
-use faults::NoMemory;
+use faults::DraftMemory;
 use grounding::NumberedLiteral;
 use packed_state::Packed;
-use std::alloc::Global;
 
 /// The level of a fact that is not reached.
 const UNREACHED: u32 = u32::MAX;
@@ -44,44 +43,43 @@ pub(crate) struct Levels {
 
 impl Levels {
     /// Levels for the relaxation, before they are computed from a state.
-    pub(crate) fn new(alloc: Global, task: &RelaxedTask) -> Result<Levels, NoMemory> {
-        let mut fresh = Vec::new(alloc);
+    pub(crate) fn new(memory: &DraftMemory, task: &RelaxedTask) -> Levels {
+        let mut fresh = memory.list();
         for operator in 0..task.operator_count() {
-            fresh.push(OperatorState::fresh(task, operator))?;
+            memory.push(&mut fresh, OperatorState::fresh(task, operator));
         }
-        Ok(Levels {
+        Levels {
             fresh,
-            operators: Vec::new(alloc),
-            levels: Vec::new(alloc),
-            holding: Vec::new(alloc),
-            queue: LevelQueue::new(alloc)?,
+            operators: memory.list(),
+            levels: memory.list(),
+            holding: memory.list(),
+            queue: LevelQueue::new(memory),
             steps: 0,
-        })
+        }
     }
 
     /// Begins at this state, with the costs of all instances whole. No level is computed yet.
-    pub(crate) fn start(&mut self, facts: &Facts, state: &Packed) -> Result<(), NoMemory> {
+    pub(crate) fn start(&mut self, memory: &DraftMemory, facts: &Facts, state: &Packed) {
         self.queue.clear();
         self.operators.clear();
-        self.operators.extend_from_slice(&self.fresh)?;
+        memory.kept(self.operators.extend_from_slice(&self.fresh));
         self.holding.clear();
         self.levels.clear();
-        self.levels.resize(facts.count() as usize, UNREACHED)?;
-        self.hold(ALWAYS)?;
+        memory.kept(self.levels.resize(facts.count() as usize, UNREACHED));
+        self.hold(memory, ALWAYS);
         let mut fact = FIRST;
         for literal in facts.literals() {
             if holds(state, *literal) {
-                self.hold(fact)?;
+                self.hold(memory, fact);
             }
             fact = fact.saturating_add(1);
         }
-        Ok(())
     }
 
     /// Notes that the fact holds in the state.
-    fn hold(&mut self, fact: u32) -> Result<(), NoMemory> {
-        self.holding.push(fact)?;
-        self.lower(fact, 0)
+    fn hold(&mut self, memory: &DraftMemory, fact: u32) {
+        memory.push(&mut self.holding, fact);
+        self.lower(memory, fact, 0);
     }
 
     /// How often an operator was looked at.
@@ -129,28 +127,26 @@ impl Levels {
     }
 
     /// Computes all levels.
-    pub(crate) fn explore(&mut self, task: &RelaxedTask) -> Result<(), NoMemory> {
+    pub(crate) fn explore(&mut self, memory: &DraftMemory, task: &RelaxedTask) {
         for _ in 0..u64::MAX {
             let Some(waiting) = self.queue.pop() else {
-                return Ok(());
+                break;
             };
             if self.of(waiting.fact) == waiting.level {
-                self.expand(task, waiting)?;
+                self.expand(memory, task, waiting);
             }
         }
-        Ok(())
     }
 
     /// Goes on from a fact, whose level is final.
-    fn expand(&mut self, task: &RelaxedTask, waiting: Waiting) -> Result<(), NoMemory> {
+    fn expand(&mut self, memory: &DraftMemory, task: &RelaxedTask, waiting: Waiting) {
         let operators = task.needed_by(waiting.fact);
         self.steps = self.steps.saturating_add(operators.len() as u64);
         for operator in operators {
             if let Some(level) = self.support(*operator, waiting) {
-                self.lower_all(task.reaches(*operator), level)?;
+                self.lower_all(memory, task.reaches(*operator), level);
             }
         }
-        Ok(())
     }
 
     /// Notes that a fact is reached that the operator needs. If it is the last one, it is the supporter, and the result is the level
@@ -167,21 +163,19 @@ impl Levels {
     }
 
     /// Lowers the levels of these facts to at most this.
-    fn lower_all(&mut self, facts: &[u32], level: u32) -> Result<(), NoMemory> {
+    fn lower_all(&mut self, memory: &DraftMemory, facts: &[u32], level: u32) {
         for fact in facts {
-            self.lower(*fact, level)?;
+            self.lower(memory, *fact, level);
         }
-        Ok(())
     }
 
     /// Lowers the level of the fact to at most this.
-    fn lower(&mut self, fact: u32, level: u32) -> Result<(), NoMemory> {
+    fn lower(&mut self, memory: &DraftMemory, fact: u32, level: u32) {
         let place = fact as usize;
         if place < self.levels.len() && level < self.levels[place] {
             self.levels[place] = level;
-            self.queue.push(Waiting { level, fact })?;
+            self.queue.push(memory, Waiting { level, fact });
         }
-        Ok(())
     }
 
     /// What is left of the costs of each of these instances; 0 if there are none.
@@ -212,44 +206,41 @@ impl Levels {
     }
 
     /// Lowers the levels after the costs of these instances have fallen, where all levels have been computed before.
-    pub(crate) fn settle(&mut self, task: &RelaxedTask, instances: &[u32]) -> Result<(), NoMemory> {
+    pub(crate) fn settle(&mut self, memory: &DraftMemory, task: &RelaxedTask, instances: &[u32]) {
         for instance in instances {
             for operator in task.operators_of(*instance) {
-                self.lower_reached(task, operator)?;
+                self.lower_reached(memory, task, operator);
             }
         }
         for _ in 0..u64::MAX {
             let Some(waiting) = self.queue.pop() else {
-                return Ok(());
+                break;
             };
             if self.of(waiting.fact) == waiting.level {
-                self.expand_lowered(task, waiting)?;
+                self.expand_lowered(memory, task, waiting);
             }
         }
-        Ok(())
     }
 
     /// Lowers the levels of what the operator reaches, if all that it needs is reached.
-    fn lower_reached(&mut self, task: &RelaxedTask, operator: u32) -> Result<(), NoMemory> {
+    fn lower_reached(&mut self, memory: &DraftMemory, task: &RelaxedTask, operator: u32) {
         if let Some(state) = self.operators.get(operator as usize) {
             if state.missing == 0 {
                 let level = state.level_after();
-                self.lower_all(task.reaches(operator), level)?;
+                self.lower_all(memory, task.reaches(operator), level);
             }
         }
-        Ok(())
     }
 
     /// Goes on from a fact whose level has fallen: to the operators that it supports.
-    fn expand_lowered(&mut self, task: &RelaxedTask, waiting: Waiting) -> Result<(), NoMemory> {
+    fn expand_lowered(&mut self, memory: &DraftMemory, task: &RelaxedTask, waiting: Waiting) {
         let operators = task.needed_by(waiting.fact);
         self.steps = self.steps.saturating_add(operators.len() as u64);
         for operator in operators {
             if let Some(level) = self.support_again(task, *operator, waiting) {
-                self.lower_all(task.reaches(*operator), level)?;
+                self.lower_all(memory, task.reaches(*operator), level);
             }
         }
-        Ok(())
     }
 
     /// Finds the operator's supporter again, if the fact was it and its level has fallen. If the operator's level falls too, the

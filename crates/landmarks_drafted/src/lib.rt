@@ -11,6 +11,7 @@ mod operators;
 mod relaxed_task;
 mod rows;
 mod value;
+mod value_maker;
 
 pub use draft::{Claim, Draft};
 pub use drafter::{CutDrafter, KnownValue};

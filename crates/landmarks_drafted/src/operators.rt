@@ -1,9 +1,8 @@
 //! The operators of a delete relaxation, made instance by instance.
 use crate::facts::{ALWAYS, Facts, GOAL};
 use crate::rows::{Rows, number_of};
-use faults::NoMemory;
+use faults::DraftMemory;
 use grounding::{CountingChange, NumberedLiteral};
-use std::alloc::Global;
 
 /// An instance of the ground task, by its parts.
 #[derive(Clone, Copy)]
@@ -33,122 +32,118 @@ pub(crate) struct Operators {
 
 impl Operators {
     /// No operators.
-    pub(crate) fn none(alloc: Global) -> Result<Operators, NoMemory> {
-        Ok(Operators {
-            needs: Rows::none(alloc)?,
-            reaches: Rows::none(alloc)?,
-            instances: Vec::new(alloc),
-            firsts: Vec::new(alloc),
-            needed: Vec::new(alloc),
-            reached: Vec::new(alloc),
-        })
+    pub(crate) fn none(memory: &DraftMemory) -> Operators {
+        Operators {
+            needs: Rows::none(memory),
+            reaches: Rows::none(memory),
+            instances: memory.list(),
+            firsts: memory.list(),
+            needed: memory.list(),
+            reached: memory.list(),
+        }
     }
 
     /// Adds the operators of the next instance.
     pub(crate) fn add_instance(
         &mut self,
+        memory: &DraftMemory,
         facts: &Facts,
         instance: InstanceParts<'_, '_>,
-    ) -> Result<(), NoMemory> {
-        self.begin_instance()?;
+    ) {
+        self.begin_instance(memory);
         let InstanceParts { literals, changes } = instance;
-        self.begin(facts, literals, &[])?;
+        self.begin(memory, facts, literals);
         for change in changes {
             if change.is_unconditional() && counts(change, changes) {
-                self.reach(facts, change)?;
+                self.reach(memory, facts, change);
             }
         }
-        self.end()?;
+        self.end(memory);
         for change in changes {
             if is_possible(change) && counts(change, changes) {
-                self.begin(facts, literals, change.condition())?;
-                self.reach(facts, change)?;
-                self.end()?;
+                self.begin(memory, facts, literals);
+                self.need(memory, facts, change.condition());
+                self.reach(memory, facts, change);
+                self.end(memory);
             }
         }
-        Ok(())
     }
 
     /// Adds an instance that is never applicable.
-    pub(crate) fn add_none(&mut self) -> Result<(), NoMemory> {
-        self.begin_instance()
+    pub(crate) fn add_none(&mut self, memory: &DraftMemory) {
+        self.begin_instance(memory);
     }
 
     /// Adds the operator that reaches the goal, which has these sure literals, after all instances.
     pub(crate) fn add_goal(
         &mut self,
+        memory: &DraftMemory,
         facts: &Facts,
         literals: &[NumberedLiteral],
-    ) -> Result<(), NoMemory> {
-        self.begin_instance()?;
-        self.begin(facts, literals, &[])?;
-        self.reached.push(GOAL)?;
-        self.end()?;
-        self.begin_instance()
+    ) {
+        self.begin_instance(memory);
+        self.begin(memory, facts, literals);
+        memory.push(&mut self.reached, GOAL);
+        self.end(memory);
+        self.begin_instance(memory);
     }
 
     /// Begins the next instance.
-    fn begin_instance(&mut self) -> Result<(), NoMemory> {
-        self.firsts.push(self.needs.count())?;
-        Ok(())
+    fn begin_instance(&mut self, memory: &DraftMemory) {
+        let first = self.needs.count();
+        memory.push(&mut self.firsts, first);
     }
 
-    /// Begins an operator that needs the facts of these literals and of this condition's.
-    fn begin(
-        &mut self,
-        facts: &Facts,
-        literals: &[NumberedLiteral],
-        condition: &[NumberedLiteral],
-    ) -> Result<(), NoMemory> {
+    /// Begins an operator that needs the facts of these literals.
+    fn begin(&mut self, memory: &DraftMemory, facts: &Facts, literals: &[NumberedLiteral]) {
         self.needed.clear();
         self.reached.clear();
-        self.need(facts, literals)?;
-        self.need(facts, condition)?;
-        if self.needed.is_empty() {
-            self.needed.push(ALWAYS)?;
-        }
-        self.needed.sort_unstable();
-        self.needed.dedup();
-        Ok(())
+        self.need(memory, facts, literals);
     }
 
     /// Adds the facts of these literals to what the operator needs.
-    fn need(&mut self, facts: &Facts, literals: &[NumberedLiteral]) -> Result<(), NoMemory> {
+    fn need(&mut self, memory: &DraftMemory, facts: &Facts, literals: &[NumberedLiteral]) {
         for literal in literals {
             if let Some(fact) = facts.of(*literal) {
-                self.needed.push(fact)?;
+                memory.push(&mut self.needed, fact);
             }
         }
-        Ok(())
     }
 
     /// Adds the fact of the literal that the change makes true to what the operator reaches, if it does not need it.
-    fn reach(&mut self, facts: &Facts, change: &CountingChange<'_>) -> Result<(), NoMemory> {
+    fn reach(&mut self, memory: &DraftMemory, facts: &Facts, change: &CountingChange<'_>) {
         let literal = NumberedLiteral {
             atom: change.atom,
             value: change.value,
         };
         if let Some(fact) = facts.of(literal) {
             if !self.needed.contains(&fact) {
-                self.reached.push(fact)?;
+                memory.push(&mut self.reached, fact);
             }
         }
-        Ok(())
     }
 
     /// Ends the operator, which is one of the last instance. One that reaches nothing is left out.
-    fn end(&mut self) -> Result<(), NoMemory> {
+    fn end(&mut self, memory: &DraftMemory) {
         if self.reached.is_empty() {
-            return Ok(());
+            return;
         }
-        self.reached.sort_unstable();
-        self.reached.dedup();
-        self.needs.push(&self.needed)?;
-        self.reaches.push(&self.reached)?;
+        if self.needed.is_empty() {
+            memory.push(&mut self.needed, ALWAYS);
+        }
+        put_in_order(&mut self.needed);
+        put_in_order(&mut self.reached);
+        self.needs.push(memory, &self.needed);
+        self.reaches.push(memory, &self.reached);
         let instance = number_of(self.firsts.len()).saturating_sub(1);
-        self.instances.push(instance)?;
-        Ok(())
+        memory.push(&mut self.instances, instance);
     }
+}
+
+/// Puts the facts in ascending order, without repetition.
+fn put_in_order(facts: &mut Vec<u32>) {
+    facts.sort_unstable();
+    facts.dedup();
 }
 
 /// Whether the change is under a `when` that may hold.

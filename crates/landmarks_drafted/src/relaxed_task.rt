@@ -6,10 +6,8 @@
 use crate::facts::Facts;
 use crate::operators::{InstanceParts, Operators};
 use crate::rows::Rows;
-use faults::NoMemory;
-use grounding::Ground;
-use potentials::instance_count;
-use std::alloc::Global;
+use faults::DraftMemory;
+use grounding::{Ground, instance_count};
 use std::ops::Range;
 
 /// A delete relaxation, over the kept instances: those that some state reaches and the others.
@@ -27,23 +25,18 @@ pub(crate) struct RelaxedTask {
 
 impl RelaxedTask {
     /// The relaxation of the ground task.
-    pub(crate) fn new(alloc: Global, ground: &Ground<'_>) -> Result<RelaxedTask, NoMemory> {
-        let facts = facts_of(alloc, ground)?;
-        let operators = operators_of(alloc, ground, &facts)?;
-        let mut costs = Vec::new(alloc);
-        for number in 0..instance_count(ground) {
-            costs.push(ground.cost(number))?;
-        }
-        costs.push(0)?;
-        let needed_by = operators.needs.turned(alloc, facts.count())?;
-        let reached_by = operators.reaches.turned(alloc, facts.count())?;
-        Ok(RelaxedTask {
+    pub(crate) fn new(memory: &DraftMemory, ground: &Ground<'_>) -> RelaxedTask {
+        let facts = facts_of(memory, ground);
+        let operators = operators_of(memory, ground, &facts);
+        let needed_by = operators.needs.turned(memory, facts.count());
+        let reached_by = operators.reaches.turned(memory, facts.count());
+        RelaxedTask {
             facts,
             operators,
-            costs,
+            costs: costs_of(memory, ground),
             needed_by,
             reached_by,
-        })
+        }
     }
 
     /// The number of operators.
@@ -100,32 +93,42 @@ impl RelaxedTask {
 }
 
 /// The literals that the goal, an instance or a change's condition needs. Instances that are never applicable are left out.
-fn facts_of(alloc: Global, ground: &Ground<'_>) -> Result<Facts, NoMemory> {
-    let mut facts = Facts::none(alloc, ground.width())?;
-    facts.add_all(ground.goal_literals())?;
+fn facts_of(memory: &DraftMemory, ground: &Ground<'_>) -> Facts {
+    let mut facts = Facts::none(memory, ground.width());
+    facts.add_all(memory, ground.goal_literals());
     for number in 0..instance_count(ground) {
         if !ground.requires_unnumbered(number) {
-            facts.add_all(ground.literals(number))?;
+            facts.add_all(memory, ground.literals(number));
             for change in ground.counting(number) {
-                facts.add_all(change.condition())?;
+                facts.add_all(memory, change.condition());
             }
         }
     }
-    Ok(facts)
+    facts
 }
 
 /// The operators of all instances, and the one that reaches the goal.
-fn operators_of(alloc: Global, ground: &Ground<'_>, facts: &Facts) -> Result<Operators, NoMemory> {
-    let mut operators = Operators::none(alloc)?;
+fn operators_of(memory: &DraftMemory, ground: &Ground<'_>, facts: &Facts) -> Operators {
+    let mut operators = Operators::none(memory);
     for number in 0..instance_count(ground) {
         if ground.requires_unnumbered(number) {
-            operators.add_none()?;
+            operators.add_none(memory);
         } else {
             let literals = ground.literals(number);
             let changes = ground.counting(number);
-            operators.add_instance(facts, InstanceParts { literals, changes })?;
+            operators.add_instance(memory, facts, InstanceParts { literals, changes });
         }
     }
-    operators.add_goal(facts, ground.goal_literals())?;
-    Ok(operators)
+    operators.add_goal(memory, facts, ground.goal_literals());
+    operators
+}
+
+/// What each instance costs, and 0 for the goal's operator.
+fn costs_of(memory: &DraftMemory, ground: &Ground<'_>) -> Vec<u32> {
+    let mut costs = memory.list();
+    for number in 0..instance_count(ground) {
+        memory.push(&mut costs, ground.cost(number));
+    }
+    memory.push(&mut costs, 0);
+    costs
 }

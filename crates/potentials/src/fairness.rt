@@ -10,11 +10,10 @@ ghost use Rattle.potentials.specs.Fairness.{allowed_by, AreInstancesFairAt, Repo
 
 use crate::allowance::Allowance;
 use crate::goals::GoalAtoms;
-use crate::instances::instance_count;
 use crate::losses::loses_at_most;
 use crate::potentials::Potentials;
 use faults::NoMemory;
-use grounding::Ground;
+use grounding::{Ground, instance_count};
 use std::alloc::Global;
 
 /// Whether potentials are fair for a ground task, and what violates fairness if not.

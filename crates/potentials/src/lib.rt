@@ -4,7 +4,6 @@
 mod allowance;
 mod fairness;
 mod goals;
-mod instances;
 mod laws;
 mod losses;
 mod potentials;
@@ -16,7 +15,6 @@ mod words;
 pub use allowance::Allowance;
 pub use fairness::Fairness;
 pub use goals::GoalAtoms;
-pub use instances::instance_count;
 pub use laws::ground_atoms_are_numberable;
 pub use losses::loses_at_most;
 pub use potentials::{Potentials, or_zero};

@@ -1,7 +1,6 @@
 //! The objective: the states whose values are to be raised.
 use crate::program_input::ProgramInput;
-use faults::NoMemory;
-use std::alloc::Global;
+use faults::DraftMemory;
 use std::num::nearest_i64_to_f64;
 
 /// A change of an atom's weight by one.
@@ -19,10 +18,18 @@ pub(crate) struct Aim {
 }
 
 /// The initial state, whose value has priority, and sampled states.
-#[derive(Drop)]
 pub(crate) struct Aims {
     initial: Aim,
     sampled: Aim,
+}
+
+impl Drop for Aims {
+    fn drop(self) {
+        let Self {
+            initial: _,
+            sampled: _,
+        } = self;
+    }
 }
 
 /// The gain of the initial state, and the sum of the gains of the sampled states.
@@ -34,27 +41,27 @@ pub(crate) struct Gain {
 
 impl Aim {
     /// No states.
-    pub(crate) fn none(alloc: Global, width: u32) -> Result<Aim, NoMemory> {
-        Ok(Aim {
+    pub(crate) fn none(memory: &DraftMemory, width: u32) -> Aim {
+        Aim {
             states: 0,
-            times: vec![in alloc; 0; width as usize]?,
-        })
+            times: memory.filled(0, width as usize),
+        }
     }
 
     /// The single state with these true atoms.
-    pub(crate) fn one(alloc: Global, width: u32, atoms: &[u32]) -> Result<Aim, NoMemory> {
-        let mut aim = Aim::none(alloc, width)?;
+    pub(crate) fn one(memory: &DraftMemory, width: u32, atoms: &[u32]) -> Aim {
+        let mut aim = Aim::none(memory, width);
         aim.add(atoms);
-        Ok(aim)
+        aim
     }
 
     /// These states, each given by its true atoms.
-    pub(crate) fn all(alloc: Global, width: u32, states: &[Vec<u32>]) -> Result<Aim, NoMemory> {
-        let mut aim = Aim::none(alloc, width)?;
+    pub(crate) fn all(memory: &DraftMemory, width: u32, states: &[Vec<u32>]) -> Aim {
+        let mut aim = Aim::none(memory, width);
         for atoms in states {
             aim.add(atoms);
         }
-        Ok(aim)
+        aim
     }
 
     /// Adds a state with these true atoms.

@@ -7,9 +7,8 @@ use crate::linear_program::LinearProgram;
 use crate::program_input::ProgramInput;
 use crate::repair::is_whole;
 use crate::simplex::Vertex;
-use faults::NoMemory;
+use faults::DraftMemory;
 use potentials::Allowance;
-use std::alloc::Global;
 use std::num::{nearest_i64_to_f64, saturating_f64_to_i64};
 
 /// The maximum number of states that weights are drafted for: the initial one, and sampled ones.
@@ -27,8 +26,8 @@ const MAX_FACTOR: i64 = 60;
 const NOTHING: f64 = 1e-9;
 
 /// The states that weights are drafted for, and the linear program.
-#[derive(Drop)]
 pub struct DeadDrafts<'a> {
+    memory: &'a DraftMemory,
     input: &'a ProgramInput,
     program: LinearProgram<'a>,
     vertex: Vertex,
@@ -36,6 +35,19 @@ pub struct DeadDrafts<'a> {
     states: &'a [Vec<u32>],
     /// The number of states already processed.
     done: usize,
+}
+
+impl Drop for DeadDrafts<'_> {
+    fn drop(self) {
+        let Self {
+            memory: _,
+            input: _,
+            program: _,
+            vertex: _,
+            states: _,
+            done: _,
+        } = self;
+    }
 }
 
 /// The states that weights detect as dead ends: whether the initial one, and how many in all.
@@ -46,84 +58,83 @@ struct Reported {
 }
 
 impl<'a> DeadDrafts<'a> {
-    /// Drafts for the initial state and for some states reached by random walks from it.
-    pub fn new(alloc: Global, input: &'a ProgramInput) -> Result<DeadDrafts<'a>, NoMemory> {
+    /// Drafts for the initial state and for some states reached by random walks from it. The memory knows whether it was refused.
+    pub fn new(memory: &'a DraftMemory, input: &'a ProgramInput) -> DeadDrafts<'a> {
         let all = input.states();
         let states = &all[..all.len().min(MAX_STATES)];
         let width = input.width();
-        let aims = Aims::new(Aim::none(alloc, width)?, Aim::all(alloc, width, states)?);
-        let program = LinearProgram::new(alloc, input, &aims)?;
-        let vertex = Vertex::new(alloc, &program, Allowance::Nothing, MAX_WORK)?;
-        Ok(DeadDrafts {
+        let aims = Aims::new(Aim::none(memory, width), Aim::all(memory, width, states));
+        let program = LinearProgram::new(memory, input, &aims);
+        let vertex = Vertex::new(&program, Allowance::Nothing, MAX_WORK);
+        DeadDrafts {
+            memory,
             input,
             program,
             vertex,
             states,
             done: 0,
-        })
+        }
     }
 
     /// The next weights that may detect more of the states as dead ends than the given ones, if there are any. Nothing more is
     /// drafted once the initial state is detected.
-    pub fn next(&mut self, alloc: Global, weights: &[i64]) -> Result<Option<Vec<i64>>, NoMemory> {
+    pub fn next(&mut self, weights: &[i64]) -> Option<Vec<i64>> {
         if self.is_reported(0, weights) {
-            return Ok(None);
+            return None;
         }
         for place in self.done..self.states.len() {
             self.done = place.saturating_add(1);
             if !self.is_reported(place, weights) {
-                let draft = self.draft(alloc, place, weights)?;
+                let draft = self.draft(place, weights);
                 if place == 0 {
                     self.vertex.limit_work(MAX_WORK_SAMPLED);
                 }
                 if draft.is_some() {
-                    return Ok(draft);
+                    return draft;
                 }
             }
         }
-        Ok(None)
+        None
     }
 
     /// Weights, drafted for the state at this index, that detect more of the states than the given ones: either alone or added to
     /// them.
-    fn draft(
-        &mut self,
-        alloc: Global,
-        place: usize,
-        weights: &[i64],
-    ) -> Result<Option<Vec<i64>>, NoMemory> {
-        let Some(found) = self.found(alloc, place)? else {
-            return Ok(None);
-        };
-        let mut both = Vec::with_capacity(alloc, found.len())?;
-        for (more, weight) in found.iter().zip(weights) {
-            both.push(more.saturating_add(*weight))?;
-        }
+    fn draft(&mut self, place: usize, weights: &[i64]) -> Option<Vec<i64>> {
+        let found = self.found(place)?;
+        let both = self.sums(&found, weights);
         let before = self.reported(weights);
         let alone = self.reported(&found);
         let together = self.reported(&both);
         if together.is_more_than(before) && !alone.is_more_than(together) {
-            return Ok(Some(both));
+            return Some(both);
         }
-        Ok(if alone.is_more_than(before) {
+        if alone.is_more_than(before) {
             Some(found)
         } else {
             None
-        })
+        }
+    }
+
+    /// The sums of the weights.
+    fn sums(&self, found: &[i64], weights: &[i64]) -> Vec<i64> {
+        let mut both = self.memory.list();
+        for (more, weight) in found.iter().zip(weights) {
+            self.memory.push(&mut both, more.saturating_add(*weight));
+        }
+        both
     }
 
     /// Weights along an unbounded ray on which the state at this index gains, if there is one.
-    fn found(&mut self, alloc: Global, place: usize) -> Result<Option<Vec<i64>>, NoMemory> {
-        let Some(atoms) = self.states.get(place) else {
-            return Ok(None);
-        };
+    fn found(&mut self, place: usize) -> Option<Vec<i64>> {
+        let atoms = self.states.get(place)?;
         let width = self.input.width();
-        let aims = Aims::new(Aim::one(alloc, width, atoms)?, Aim::none(alloc, width)?);
-        let Some(along) = self.vertex.unbounded_ray(&self.program, &aims)? else {
-            return Ok(None);
-        };
-        let weights = self.program.weights(alloc, along)?;
-        whole(alloc, &weights)
+        let aims = Aims::new(
+            Aim::one(self.memory, width, atoms),
+            Aim::none(self.memory, width),
+        );
+        let along = self.vertex.unbounded_ray(&self.program, &aims)?;
+        let weights = self.program.weights(along);
+        whole(self.memory, &weights)
     }
 
     /// Which of the states these weights detect as dead ends, with the greatest constant that the goal allows.
@@ -173,7 +184,7 @@ fn score(constant: i64, weights: &[i64], atoms: &[u32]) -> i64 {
 }
 
 /// Integers in the same proportions, if small multiples of the least weight give them.
-fn whole(alloc: Global, weights: &[f64]) -> Result<Option<Vec<i64>>, NoMemory> {
+fn whole(memory: &DraftMemory, weights: &[f64]) -> Option<Vec<i64>> {
     let mut least = f64::INFINITY;
     for weight in weights {
         if weight.abs() > NOTHING {
@@ -183,17 +194,17 @@ fn whole(alloc: Global, weights: &[f64]) -> Result<Option<Vec<i64>>, NoMemory> {
     for factor in 1..=MAX_FACTOR {
         let scale = nearest_i64_to_f64(factor) / least;
         if weights.iter().all(|weight| is_whole(*weight * scale)) {
-            return Ok(Some(scaled(alloc, weights, scale)?));
+            return Some(scaled(memory, weights, scale));
         }
     }
-    Ok(None)
+    None
 }
 
 /// The weights times `scale`, rounded to integers.
-fn scaled(alloc: Global, weights: &[f64], scale: f64) -> Result<Vec<i64>, NoMemory> {
-    let mut whole = Vec::with_capacity(alloc, weights.len())?;
+fn scaled(memory: &DraftMemory, weights: &[f64], scale: f64) -> Vec<i64> {
+    let mut whole = memory.list();
     for weight in weights {
-        whole.push(saturating_f64_to_i64((*weight * scale).round()))?;
+        memory.push(&mut whole, saturating_f64_to_i64((*weight * scale).round()));
     }
-    Ok(whole)
+    whole
 }

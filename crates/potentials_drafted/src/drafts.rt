@@ -4,9 +4,8 @@ use crate::linear_program::LinearProgram;
 use crate::program_input::ProgramInput;
 use crate::repair::Repair;
 use crate::simplex::Vertex;
-use faults::NoMemory;
+use faults::DraftMemory;
 use potentials::Allowance;
-use std::alloc::Global;
 
 /// The weight of the sampled states together in the objective, relative to the initial state's weight of 1: first none, then
 /// little.
@@ -16,35 +15,31 @@ const SHARES: [f64; 2] = [0.0, 0.01];
 const MAX_WORK: u64 = 4_194_304;
 
 /// Weights that may be better than these: rounded solutions of a linear program, optimized first for the initial state alone and
-/// then also for the sampled states. Nothing is claimed about them, not even that there is one for each atom.
+/// then also for the sampled states. Nothing is claimed about them, not even that there is one for each atom. The memory knows
+/// whether it was refused.
 ///
 /// Both objectives are from Seipp, Pommerening & Helmert 2015, "New Optimization Functions for Potential Heuristics".
-pub fn drafted_weights(
-    alloc: Global,
-    input: &ProgramInput,
-    weights: &[i64],
-) -> Result<Vec<i64>, NoMemory> {
-    let aims = aims(alloc, input)?;
-    let program = LinearProgram::new(alloc, input, &aims)?;
-    let mut vertex = Vertex::new(alloc, &program, Allowance::Cost, MAX_WORK)?;
-    let mut repair = Repair::new(alloc, input, &aims, weights)?;
+pub fn drafted_weights(memory: &DraftMemory, input: &ProgramInput, weights: &[i64]) -> Vec<i64> {
+    let aims = aims(memory, input);
+    let program = LinearProgram::new(memory, input, &aims);
+    let mut vertex = Vertex::new(&program, Allowance::Cost, MAX_WORK);
+    let mut repair = Repair::new(memory, input, &aims, weights);
     for share in SHARES {
-        if vertex.climb(&program, &aims, share)? {
-            let grown = vertex.grown(alloc, input)?;
-            let solution = program.weights(alloc, &grown)?;
-            repair.take(input, &aims, &solution)?;
+        if vertex.climb(&program, &aims, share) {
+            let grown = vertex.grown(&program);
+            repair.take(input, &aims, &program.weights(&grown));
         }
     }
-    Ok(repair.into_best())
+    repair.into_best()
 }
 
 /// The initial state, and the sampled ones.
-fn aims(alloc: Global, input: &ProgramInput) -> Result<Aims, NoMemory> {
+fn aims(memory: &DraftMemory, input: &ProgramInput) -> Aims {
     let width = input.width();
     let states = input.states();
     let first = states.len().min(1);
-    Ok(Aims::new(
-        Aim::all(alloc, width, &states[..first])?,
-        Aim::all(alloc, width, &states[first..])?,
-    ))
+    Aims::new(
+        Aim::all(memory, width, &states[..first]),
+        Aim::all(memory, width, &states[first..]),
+    )
 }

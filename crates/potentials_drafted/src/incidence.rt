@@ -7,8 +7,8 @@ ghost use Rattle.model.specs.NumberedLiterals.{NumberedChange};
 ghost use Rattle.potentials_drafted.specs.Incidence.{touches_at, IsAdded, IsIncidence};
 
 use faults::NoMemory;
-use grounding::{CountingChange, Ground, NumberedLiteral};
-use potentials::{Swing, instance_count, is_in_range, touches};
+use grounding::{CountingChange, Ground, NumberedLiteral, instance_count};
+use potentials::{Swing, is_in_range, touches};
 use std::alloc::Global;
 
 /// An entry for an instance that touches an atom, or for an atom that an instance touches: its number, and what the instance may
@@ -40,12 +40,21 @@ struct AddedInstance<'a, 't> {
 }
 
 /// For each numbered atom the instances that touch it, and for each instance the atoms that it touches.
-#[derive(Drop)]
 pub struct Incidence {
     rows: Vec<Vec<IncidenceEntry>>,
     /// The atoms that the instances touch, instance by instance, and the end of each instance's part.
     atoms: Vec<IncidenceEntry>,
     ends: Vec<usize>,
+}
+
+impl Drop for Incidence {
+    fn drop(self) {
+        let Self {
+            rows: _,
+            atoms: _,
+            ends: _,
+        } = self;
+    }
 }
 
 impl Incidence {

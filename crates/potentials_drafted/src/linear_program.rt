@@ -5,8 +5,7 @@
 //! at most a sum of variables, each at most once, and so is the contribution in goal states.
 use crate::aims::{Aims, WeightStep};
 use crate::program_input::ProgramInput;
-use faults::NoMemory;
-use std::alloc::Global;
+use faults::DraftMemory;
 use std::num::nearest_i64_to_f64;
 
 /// The variables for an atom's weight, if there are any.
@@ -19,6 +18,7 @@ struct WeightVariables {
 /// The variables of the program, with an index by atom.
 #[derive(Drop)]
 pub(crate) struct LinearProgram<'a> {
+    memory: &'a DraftMemory,
     input: &'a ProgramInput,
     /// The move of a weight that each variable stands for.
     variables: Vec<WeightStep>,
@@ -28,27 +28,28 @@ pub(crate) struct LinearProgram<'a> {
 impl<'a> LinearProgram<'a> {
     /// The program for this input. A variable is left out if no state gains by it and no instance loses less.
     pub(crate) fn new(
-        alloc: Global,
+        memory: &'a DraftMemory,
         input: &'a ProgramInput,
         aims: &Aims,
-    ) -> Result<LinearProgram<'a>, NoMemory> {
+    ) -> LinearProgram<'a> {
         let mut program = LinearProgram {
+            memory,
             input,
-            variables: Vec::new(alloc),
-            pairs: Vec::new(alloc),
+            variables: memory.list(),
+            pairs: memory.list(),
         };
         for atom in 0..input.width() {
             let pair = WeightVariables {
-                below: program.add(aims, WeightStep { atom, by: -1 })?,
-                above: program.add(aims, WeightStep { atom, by: 1 })?,
+                below: program.add(aims, WeightStep { atom, by: -1 }),
+                above: program.add(aims, WeightStep { atom, by: 1 }),
             };
-            program.pairs.push(pair)?;
+            memory.push(&mut program.pairs, pair);
         }
-        Ok(program)
+        program
     }
 
     /// Adds the variable for this move if it is useful. Returns its index.
-    fn add(&mut self, aims: &Aims, step: WeightStep) -> Result<Option<usize>, NoMemory> {
+    fn add(&mut self, aims: &Aims, step: WeightStep) -> Option<usize> {
         let input = self.input;
         let is_of_use = aims.shared_gain(input, step, 1.0) > 0.0
             || input
@@ -56,11 +57,16 @@ impl<'a> LinearProgram<'a> {
                 .iter()
                 .any(|touch| touch.loss(step.by) < 0);
         if !is_of_use {
-            return Ok(None);
+            return None;
         }
         let place = self.variables.len();
-        self.variables.push(step)?;
-        Ok(Some(place))
+        self.memory.push(&mut self.variables, step);
+        Some(place)
+    }
+
+    /// The memory of the draft.
+    pub(crate) fn memory(&self) -> &'a DraftMemory {
+        self.memory
     }
 
     /// The data that the program is made of.
@@ -82,14 +88,14 @@ impl<'a> LinearProgram<'a> {
     }
 
     /// The weights given by the values of the variables.
-    pub(crate) fn weights(&self, alloc: Global, along: &[f64]) -> Result<Vec<f64>, NoMemory> {
-        let mut weights = vec![in alloc; 0.0; self.pairs.len()]?;
+    pub(crate) fn weights(&self, along: &[f64]) -> Vec<f64> {
+        let mut weights = self.memory.filled(0.0, self.pairs.len());
         for (step, far) in self.variables.iter().zip(along) {
             let place = step.atom as usize;
             if place < weights.len() {
                 weights[place] += nearest_i64_to_f64(step.by) * *far;
             }
         }
-        Ok(weights)
+        weights
     }
 }

@@ -3,11 +3,11 @@ ghost use Rattle.std.specs.Prelude.{◌≡◌, IfOk};
 ghost use Rattle.potentials_drafted.specs.ProgramInputs.{IsInputOf};
 
 use crate::incidence::{Incidence, IncidenceEntry};
-use crate::samples::{sampled, true_atoms};
-use faults::NoMemory;
-use grounding::Ground;
+use crate::samples::sampled;
+use faults::{DraftMemory, NoMemory};
+use grounding::{Ground, instance_count};
 use packed_state::Packed;
-use potentials::{Said, instance_count, is_in_range};
+use potentials::{Said, is_in_range};
 use std::alloc::Global;
 
 /// The number of sampled states.
@@ -22,7 +22,6 @@ pub(crate) struct AtGoal {
 
 /// The data that drafts read, for values and for dead ends alike: for each atom what the goal requires of it and the instances
 /// that touch it, for each instance its cost and the atoms that it touches, and states sampled by random walks.
-#[derive(Drop)]
 pub struct ProgramInput {
     width: u32,
     at_goal: Vec<AtGoal>,
@@ -30,6 +29,18 @@ pub struct ProgramInput {
     incidence: Incidence,
     /// The true atoms of the initial state and then of the sampled states.
     states: Vec<Vec<u32>>,
+}
+
+impl Drop for ProgramInput {
+    fn drop(self) {
+        let Self {
+            width: _,
+            at_goal: _,
+            costs: _,
+            incidence: _,
+            states: _,
+        } = self;
+    }
 }
 
 impl AtGoal {
@@ -60,6 +71,9 @@ impl AtGoal {
 
 impl ProgramInput {
     /// The data of the ground task with this initial state.
+    ///
+    /// # Errors
+    /// An allocation failed.
     pub fn new(
         alloc: Global,
         ground: &Ground<'_>,
@@ -67,13 +81,16 @@ impl ProgramInput {
     ) -> Result<ProgramInput, NoMemory>
         ensures { IfOk result (IsInputOf ground.now) }
     {
-        Ok(ProgramInput {
+        let memory = DraftMemory::new(alloc);
+        let incidence = Incidence::new(alloc, ground)?;
+        let input = ProgramInput {
             width: ground.width(),
-            at_goal: reported_at_goal(alloc, ground)?,
-            costs: costs(alloc, ground)?,
-            incidence: Incidence::new(alloc, ground)?,
-            states: states(alloc, ground, initial)?,
-        })
+            at_goal: reported_at_goal(&memory, ground),
+            costs: costs(&memory, ground),
+            incidence,
+            states: sampled(&memory, ground, initial, SAMPLES),
+        };
+        memory.finish(input)
     }
 
     /// The number of atoms.
@@ -150,8 +167,8 @@ impl ProgramInput {
 }
 
 /// What the goal requires of each atom.
-fn reported_at_goal(alloc: Global, ground: &Ground<'_>) -> Result<Vec<AtGoal>, NoMemory> {
-    let mut reported = vec![in alloc; AtGoal::OPEN; ground.width() as usize]?;
+fn reported_at_goal(memory: &DraftMemory, ground: &Ground<'_>) -> Vec<AtGoal> {
+    let mut reported = memory.filled(AtGoal::OPEN, ground.width() as usize);
     for literal in ground.goal_literals() {
         let place = literal.atom as usize;
         if place < reported.len() {
@@ -159,21 +176,14 @@ fn reported_at_goal(alloc: Global, ground: &Ground<'_>) -> Result<Vec<AtGoal>, N
             reported[place].is_false |= !literal.value;
         }
     }
-    Ok(reported)
+    reported
 }
 
 /// The cost of each instance.
-fn costs(alloc: Global, ground: &Ground<'_>) -> Result<Vec<i64>, NoMemory> {
-    let mut costs = Vec::new(alloc);
+fn costs(memory: &DraftMemory, ground: &Ground<'_>) -> Vec<i64> {
+    let mut costs = memory.list();
     for number in 0..instance_count(ground) {
-        costs.push(i64::from(ground.cost(number)))?;
+        memory.push(&mut costs, i64::from(ground.cost(number)));
     }
-    Ok(costs)
-}
-
-/// The true atoms of the initial state and of the sampled states.
-fn states(alloc: Global, ground: &Ground<'_>, initial: &Packed) -> Result<Vec<Vec<u32>>, NoMemory> {
-    let mut states = sampled(alloc, ground, initial, SAMPLES)?;
-    states.insert(0, true_atoms(alloc, initial)?)?;
-    Ok(states)
+    costs
 }

@@ -2,9 +2,8 @@
 use crate::aims::{Aims, Gain, WeightStep};
 use crate::incidence::IncidenceEntry;
 use crate::program_input::ProgramInput;
-use faults::NoMemory;
+use faults::DraftMemory;
 use potentials::is_in_range;
-use std::alloc::Global;
 use std::num::saturating_f64_to_i64;
 
 /// Repair limit per rounding; of these, moves away from zero.
@@ -34,7 +33,8 @@ enum Direction {
 
 /// The weights under repair, and the best weights so far.
 #[derive(Drop)]
-pub(crate) struct Repair {
+pub(crate) struct Repair<'a> {
+    memory: &'a DraftMemory,
     weights: Vec<i64>,
     /// The slack of each instance, and the instances with negative slack.
     slacks: Vec<i64>,
@@ -46,23 +46,24 @@ pub(crate) struct Repair {
     gain: Gain,
 }
 
-impl Repair {
+impl<'a> Repair<'a> {
     /// Starts with these weights as the best so far.
     pub(crate) fn new(
-        alloc: Global,
+        memory: &'a DraftMemory,
         input: &ProgramInput,
         aims: &Aims,
         weights: &[i64],
-    ) -> Result<Repair, NoMemory> {
-        Ok(Repair {
-            weights: Vec::new(alloc),
-            slacks: Vec::new(alloc),
-            unfair: Vec::new(alloc),
+    ) -> Repair<'a> {
+        Repair {
+            memory,
+            weights: memory.list(),
+            slacks: memory.list(),
+            unfair: memory.list(),
             direction: Direction::Any,
             work: 0,
-            best: Vec::from_slice(alloc, weights)?,
+            best: memory.copied(weights),
             gain: aims.gain_of_all(input, weights),
-        })
+        }
     }
 
     /// The best weights.
@@ -71,43 +72,36 @@ impl Repair {
     }
 
     /// Rounds the weights in each mode, unless they are integral, repairs them, and keeps them if they are better than the best.
-    pub(crate) fn take(
-        &mut self,
-        input: &ProgramInput,
-        aims: &Aims,
-        weights: &[f64],
-    ) -> Result<(), NoMemory> {
+    pub(crate) fn take(&mut self, input: &ProgramInput, aims: &Aims, weights: &[f64]) {
         for lift in LIFTS {
-            self.start(input, weights, lift)?;
-            if self.repair(input, aims)? {
+            self.start(input, weights, lift);
+            if self.repair(input, aims) {
                 self.keep_if_better(input, aims);
             }
             if weights.iter().all(|weight| is_whole(*weight)) {
-                return Ok(());
+                return;
             }
         }
-        Ok(())
     }
 
     /// Rounds the weights, and lists the instances that are then unfair.
-    fn start(&mut self, input: &ProgramInput, weights: &[f64], lift: f64) -> Result<(), NoMemory> {
+    fn start(&mut self, input: &ProgramInput, weights: &[f64], lift: f64) {
         self.weights.clear();
         for weight in weights {
-            self.weights
-                .push(saturating_f64_to_i64((*weight + lift).round()))?;
+            let rounded = saturating_f64_to_i64((*weight + lift).round());
+            self.memory.push(&mut self.weights, rounded);
         }
         self.slacks.clear();
         self.unfair.clear();
         let mut number = 0u32;
         for cost in input.costs() {
             let slack = self.slack(input.atoms_of(number), *cost);
-            self.slacks.push(slack)?;
+            self.memory.push(&mut self.slacks, slack);
             if slack < 0 {
-                self.unfair.push(number)?;
+                self.memory.push(&mut self.unfair, number);
             }
             number = number.saturating_add(1);
         }
-        Ok(())
     }
 
     /// The slack of an instance that touches these atoms: its cost minus its loss.
@@ -130,24 +124,29 @@ impl Repair {
     }
 
     /// Changes single weights by one until each instance is fair. Returns whether that succeeds.
-    fn repair(&mut self, input: &ProgramInput, aims: &Aims) -> Result<bool, NoMemory> {
+    fn repair(&mut self, input: &ProgramInput, aims: &Aims) -> bool {
         for moves in 0..MAX_MOVES {
             let Some(number) = self.unfair.pop() else {
-                return Ok(true);
+                return true;
             };
             if self.slack_of(number) < 0 {
                 self.choose_direction(moves);
                 let Some(step) = self.best_move(input, aims, number) else {
-                    return Ok(false);
+                    return false;
                 };
-                if self.work > MAX_WORK {
-                    return Ok(false);
+                if self.is_done() {
+                    return false;
                 }
-                self.unfair.push(number)?;
-                self.shift(input, step)?;
+                self.memory.push(&mut self.unfair, number);
+                self.shift(input, step);
             }
         }
-        Ok(false)
+        false
+    }
+
+    /// Whether the work limit is reached, or memory was refused.
+    fn is_done(&self) -> bool {
+        self.work > MAX_WORK || self.memory.is_refused()
     }
 
     /// Moves lead away from zero only at first: as long as few were made, with little work.
@@ -216,35 +215,28 @@ impl Repair {
     }
 
     /// Makes the move, and lists the instances that become unfair.
-    fn shift(&mut self, input: &ProgramInput, step: WeightStep) -> Result<(), NoMemory> {
+    fn shift(&mut self, input: &ProgramInput, step: WeightStep) {
         let before = self.weight(step.atom);
         let after = before.saturating_add(step.by);
         self.set_weight(step.atom, after);
         let touches = input.instances_of(step.atom);
         for touch in touches {
-            self.shift_slack(*touch, before, after)?;
+            self.shift_slack(*touch, before, after);
         }
         self.count(touches.len());
-        Ok(())
     }
 
     /// Updates the slack of an instance after a change of a weight.
-    fn shift_slack(
-        &mut self,
-        touch: IncidenceEntry,
-        before: i64,
-        after: i64,
-    ) -> Result<(), NoMemory> {
+    fn shift_slack(&mut self, touch: IncidenceEntry, before: i64, after: i64) {
         let less = touch.loss(before).saturating_sub(touch.loss(after));
         let place = touch.number as usize;
         if place < self.slacks.len() {
             let slack = self.slacks[place].saturating_add(less);
             self.slacks[place] = slack;
             if slack < 0 {
-                self.unfair.push(touch.number)?;
+                self.memory.push(&mut self.unfair, touch.number);
             }
         }
-        Ok(())
     }
 
     /// Counts this many touches as work.

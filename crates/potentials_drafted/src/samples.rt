@@ -1,8 +1,7 @@
 //! States sampled by random walks from the initial state.
-use faults::NoMemory;
-use grounding::Ground;
+use faults::{DraftMemory, NoMemory};
+use grounding::{Ground, instance_count};
 use packed_state::Packed;
-use potentials::instance_count;
 use std::alloc::Global;
 use std::num::nearest_usize_to_f64;
 
@@ -30,33 +29,34 @@ struct RandomWalk {
     random: RandomGenerator,
 }
 
-/// The end states of this many random walks from the initial state, each given by its true atoms; empty if there are too many
-/// instances for a walk to take a step.
+/// The initial state and then the end states of this many random walks from it, each given by its true atoms; no end states if
+/// there are too many instances for a walk to take a step.
 pub(crate) fn sampled(
-    alloc: Global,
+    memory: &DraftMemory,
     ground: &Ground<'_>,
     initial: &Packed,
     walks: u32,
-) -> Result<Vec<Vec<u32>>, NoMemory> {
-    let mut samples = Vec::new(alloc);
+) -> Vec<Vec<u32>> {
+    let mut samples = memory.list();
+    add(memory, initial, &mut samples);
     let most = most_steps(instance_count(ground));
-    if most == 0 {
-        return Ok(samples);
+    if most > 0 {
+        if let Some(mut walk) = memory.kept(RandomWalk::new(memory.alloc(), ground.width())) {
+            for _ in 0..walks {
+                walk.start(initial);
+                walk.go(memory, ground, most);
+                add(memory, &walk.state, &mut samples);
+            }
+        }
     }
-    let mut walk = RandomWalk::new(alloc, ground.width())?;
-    for _ in 0..walks {
-        walk.start(initial);
-        walk.go(ground, most)?;
-        samples.push(true_atoms(alloc, &walk.state)?)?;
-    }
-    Ok(samples)
+    samples
 }
 
-/// The true atoms of the state, by number.
-pub(crate) fn true_atoms(alloc: Global, state: &Packed) -> Result<Vec<u32>, NoMemory> {
-    let mut atoms = Vec::new(alloc);
-    state.list_numbers(&mut atoms)?;
-    Ok(atoms)
+/// Adds the true atoms of the state, by number.
+fn add(memory: &DraftMemory, state: &Packed, samples: &mut Vec<Vec<u32>>) {
+    let mut atoms = memory.list();
+    memory.kept(state.list_numbers(&mut atoms));
+    memory.push(samples, atoms);
 }
 
 /// The maximum number of steps of a walk, given the number of instances.
@@ -110,14 +110,14 @@ impl RandomWalk {
     }
 
     /// Takes a random number of steps, at most `most`, and fewer if no instance is applicable any more.
-    fn go(&mut self, ground: &Ground<'_>, most: u32) -> Result<(), NoMemory> {
+    fn go(&mut self, memory: &DraftMemory, ground: &Ground<'_>, most: u32) {
         let steps = self.random.below(most as usize + 1);
         for _ in 0..steps {
-            if !self.step(ground)? {
-                return Ok(());
+            let is_taken = memory.kept(self.step(ground)).unwrap_or(false);
+            if !is_taken {
+                return;
             }
         }
-        Ok(())
     }
 
     /// Applies a random applicable instance, if there is one. Returns whether there was one.

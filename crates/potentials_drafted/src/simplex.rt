@@ -7,11 +7,9 @@
 //! (Charnes 1952).
 use crate::aims::Aims;
 use crate::linear_program::LinearProgram;
-use crate::program_input::ProgramInput;
 use crate::samples::RandomGenerator;
-use faults::NoMemory;
+use faults::DraftMemory;
 use potentials::Allowance;
-use std::alloc::Global;
 use std::num::nearest_i64_to_f64;
 
 /// The maximum number of pivots.
@@ -94,34 +92,30 @@ fn allowed(allowance: Allowance, cost: i64) -> i64 {
 
 impl Vertex {
     /// The vertex with all weights 0, for this allowance and this work limit.
-    pub(crate) fn new(
-        alloc: Global,
-        program: &LinearProgram<'_>,
-        allowance: Allowance,
-        max_work: u64,
-    ) -> Result<Vertex, NoMemory> {
+    pub(crate) fn new(program: &LinearProgram<'_>, allowance: Allowance, max_work: u64) -> Vertex {
+        let memory = program.memory();
         let input = program.input();
         let instances = input.costs().len();
         let variables = program.variables().len();
         let mut vertex = Vertex {
-            edges: Vec::new(alloc),
+            edges: memory.list(),
             instances,
             variables,
-            slacks: Vec::new(alloc),
-            rates: vec![in alloc; 0.0; instances.saturating_add(variables)]?,
-            nearing: Vec::new(alloc),
+            slacks: memory.list(),
+            rates: memory.filled(0.0, instances.saturating_add(variables)),
+            nearing: memory.list(),
             work: 0,
             max_work,
         };
-        vertex.fill_slacks(input.costs(), allowance)?;
+        vertex.fill_slacks(memory, input.costs(), allowance);
         for variable in 0..variables {
-            vertex.add_edge(alloc, variable)?;
+            vertex.add_edge(memory, variable);
         }
-        Ok(vertex)
+        vertex
     }
 
     /// Sets the slacks of the instances' constraints, slightly perturbed.
-    fn fill_slacks(&mut self, costs: &[i64], allowance: Allowance) -> Result<(), NoMemory> {
+    fn fill_slacks(&mut self, memory: &DraftMemory, costs: &[i64], allowance: Allowance) {
         let mut most = 1;
         for cost in costs {
             most = most.max(allowed(allowance, *cost));
@@ -130,41 +124,35 @@ impl Vertex {
         let mut random = RandomGenerator::new();
         for cost in costs {
             let more = rise * (1.0 + random.part());
-            self.slacks
-                .push(nearest_i64_to_f64(allowed(allowance, *cost)) + more)?;
+            let slack = nearest_i64_to_f64(allowed(allowance, *cost)) + more;
+            memory.push(&mut self.slacks, slack);
         }
-        Ok(())
     }
 
     /// Adds the constraint of a variable, and the edge along which only this variable grows.
-    fn add_edge(&mut self, alloc: Global, variable: usize) -> Result<(), NoMemory> {
-        self.slacks.push(TIGHT)?;
-        self.edges.push(Edge {
+    fn add_edge(&mut self, memory: &DraftMemory, variable: usize) {
+        memory.push(&mut self.slacks, TIGHT);
+        let edge = Edge {
             constraint: self.instances.saturating_add(variable),
             alone: variable,
-            along: Vec::new(alloc),
+            along: memory.list(),
             gain: 0.0,
             square: 1.0,
-        })?;
-        Ok(())
+        };
+        memory.push(&mut self.edges, edge);
     }
 
     /// Pivots as long as the objective improves: the initial state's gain, plus `share` times that of the sampled states. Returns
     /// whether a step was taken.
-    pub(crate) fn climb(
-        &mut self,
-        program: &LinearProgram<'_>,
-        aims: &Aims,
-        share: f64,
-    ) -> Result<bool, NoMemory> {
+    pub(crate) fn climb(&mut self, program: &LinearProgram<'_>, aims: &Aims, share: f64) -> bool {
         self.aim_at(program, aims, share);
         let before = self.work;
         for _ in 0..MAX_PIVOTS {
-            if self.work > self.max_work || self.pivot(program)? != Pivot::Made {
-                return Ok(self.work > before);
+            if self.is_done(program) || self.pivot(program) != Pivot::Made {
+                return self.work > before;
             }
         }
-        Ok(true)
+        true
     }
 
     /// Pivots until it finds an unbounded ray along which the initial state gains. Returns the growth of each variable along it.
@@ -172,24 +160,29 @@ impl Vertex {
         &mut self,
         program: &LinearProgram<'_>,
         aims: &Aims,
-    ) -> Result<Option<&[f64]>, NoMemory> {
+    ) -> Option<&[f64]> {
         self.aim_at(program, aims, 0.0);
         for _ in 0..MAX_PIVOTS {
-            if self.work > self.max_work {
-                return Ok(None);
+            if self.is_done(program) {
+                return None;
             }
-            match self.pivot(program)? {
+            match self.pivot(program) {
                 Pivot::Made => {}
-                Pivot::Optimal => return Ok(None),
+                Pivot::Optimal => return None,
                 Pivot::Unbounded => {
-                    return Ok(match self.edges.last() {
+                    return match self.edges.last() {
                         Some(edge) => Some(edge.along.as_slice()),
                         None => None,
-                    });
+                    };
                 }
             }
         }
-        Ok(None)
+        None
+    }
+
+    /// Whether the work limit is reached, or memory was refused.
+    fn is_done(&self, program: &LinearProgram<'_>) -> bool {
+        self.work > self.max_work || program.memory().is_refused()
     }
 
     /// Limits the further work to this amount.
@@ -208,16 +201,17 @@ impl Vertex {
     }
 
     /// Moves to the next vertex, if there is one.
-    fn pivot(&mut self, program: &LinearProgram<'_>) -> Result<Pivot, NoMemory> {
+    fn pivot(&mut self, program: &LinearProgram<'_>) -> Pivot {
         let Some(place) = self.steepest_edge() else {
-            return Ok(Pivot::Optimal);
+            return Pivot::Optimal;
         };
         if place >= self.edges.len() {
-            return Ok(Pivot::Optimal);
+            return Pivot::Optimal;
         }
+        let memory = program.memory();
         let mut edge = self.edges.swap_remove(place);
-        edge.fill(self.variables)?;
-        self.fill_rates(program, &edge)?;
+        edge.fill(memory, self.variables);
+        self.fill_rates(program, &edge);
         let blocking = self.blocking_constraint();
         self.advance(blocking);
         let mut pivot = Pivot::Unbounded;
@@ -225,11 +219,11 @@ impl Vertex {
             self.set_slack(edge.constraint, blocking.far);
             self.set_slack(blocking.constraint, TIGHT);
             edge.exchange(blocking);
-            self.update_edges(program, &edge)?;
+            self.update_edges(program, &edge);
             pivot = Pivot::Made;
         }
-        self.edges.push(edge)?;
-        Ok(pivot)
+        memory.push(&mut self.edges, edge);
+        pivot
     }
 
     /// The index of the edge with the greatest gain relative to its length.
@@ -247,35 +241,35 @@ impl Vertex {
     }
 
     /// Computes the rate at which each constraint approaches along the edge.
-    fn fill_rates(&mut self, program: &LinearProgram<'_>, edge: &Edge) -> Result<(), NoMemory> {
+    fn fill_rates(&mut self, program: &LinearProgram<'_>, edge: &Edge) {
+        let memory = program.memory();
         let input = program.input();
         let mut constraint = self.instances;
         for (step, far) in program.variables().iter().zip(&edge.along) {
             if *far != 0.0 {
-                self.add_rate(constraint, -*far)?;
+                self.add_rate(memory, constraint, -*far);
                 for touch in input.instances_of(step.atom) {
                     let loss = touch.loss(step.by);
                     if loss != 0 {
-                        self.add_rate(touch.number as usize, nearest_i64_to_f64(loss) * *far)?;
+                        let more = nearest_i64_to_f64(loss) * *far;
+                        self.add_rate(memory, touch.number as usize, more);
                     }
                 }
             }
             constraint = constraint.saturating_add(1);
         }
         self.count(edge.along.len());
-        Ok(())
     }
 
     /// Increases the rate of the constraint by this amount.
-    fn add_rate(&mut self, constraint: usize, more: f64) -> Result<(), NoMemory> {
+    fn add_rate(&mut self, memory: &DraftMemory, constraint: usize, more: f64) {
         self.count(1);
         if constraint < self.rates.len() {
             if self.rates[constraint] == 0.0 {
-                self.nearing.push(constraint)?;
+                memory.push(&mut self.nearing, constraint);
             }
             self.rates[constraint] += more;
         }
-        Ok(())
     }
 
     /// The first constraint that blocks the edge.
@@ -313,7 +307,7 @@ impl Vertex {
     }
 
     /// Updates the other edges so that the new constraint stays tight along them.
-    fn update_edges(&mut self, program: &LinearProgram<'_>, by: &Edge) -> Result<(), NoMemory> {
+    fn update_edges(&mut self, program: &LinearProgram<'_>, by: &Edge) {
         let constraint = match by.constraint.checked_sub(self.instances) {
             Some(variable) => Constraint::Variable(variable),
             None => Constraint::Instance(by.constraint),
@@ -322,7 +316,7 @@ impl Vertex {
         for edge in self.edges.iter_mut() {
             let rate = edge.rate(program, constraint);
             if rate.abs() > ERROR {
-                edge.fill(by.along.len())?;
+                edge.fill(program.memory(), by.along.len());
                 edge.add(rate, by);
                 updated = updated.saturating_add(1);
             }
@@ -335,21 +329,21 @@ impl Vertex {
         let edges = self.edges.len();
         self.count(read.saturating_mul(edges));
         self.count(updated.saturating_mul(by.along.len()));
-        Ok(())
     }
 
     /// The value of each variable, for the unperturbed costs.
-    pub(crate) fn grown(&self, alloc: Global, input: &ProgramInput) -> Result<Vec<f64>, NoMemory> {
-        let mut grown = vec![in alloc; 0.0; self.variables]?;
+    pub(crate) fn grown(&self, program: &LinearProgram<'_>) -> Vec<f64> {
+        let costs = program.input().costs();
+        let mut grown = program.memory().filled(0.0, self.variables);
         for edge in &self.edges {
-            if let Some(cost) = input.costs().get(edge.constraint) {
+            if let Some(cost) = costs.get(edge.constraint) {
                 let back = nearest_i64_to_f64(*cost);
                 for (sum, far) in grown.iter_mut().zip(&edge.along) {
                     *sum -= back * *far;
                 }
             }
         }
-        Ok(grown)
+        grown
     }
 
     /// Counts this much work.
@@ -419,14 +413,13 @@ impl Edge {
     }
 
     /// Fills `along` with the growth of each of this many variables.
-    fn fill(&mut self, variables: usize) -> Result<(), NoMemory> {
+    fn fill(&mut self, memory: &DraftMemory, variables: usize) {
         if self.along.is_empty() {
             for variable in 0..variables {
-                self.along
-                    .push(if variable == self.alone { 1.0 } else { 0.0 })?;
+                let far = if variable == self.alone { 1.0 } else { 0.0 };
+                memory.push(&mut self.along, far);
             }
         }
-        Ok(())
     }
 
     /// Adds a multiple of the other edge.

@@ -12,7 +12,7 @@ use crate::allowance::Allowance;
 use crate::drafted::{Drafts, no_worse};
 use crate::fair_at::FairAt;
 use crate::groundwork::Groundwork;
-use faults::NoMemory;
+use faults::{DraftMemory, NoMemory};
 use grounding::Ground;
 use packed_state::Packed;
 use potentials::{Fairness, Potentials};
@@ -56,7 +56,9 @@ impl Drafts for Costs {
         groundwork: &Groundwork<'_, '_>,
         _rounds: u32,
     ) -> Result<Potentials, NoMemory> {
-        let weights = drafted_weights(alloc, &groundwork.input, potentials.weights())?;
+        let memory = DraftMemory::new(alloc);
+        let weights = drafted_weights(&memory, &groundwork.input, potentials.weights());
+        let weights = memory.finish(weights)?;
         no_worse::<Costs>(alloc, potentials, groundwork, weights)
     }
 }

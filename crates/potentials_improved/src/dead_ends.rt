@@ -3,7 +3,7 @@ use crate::allowance::Allowance;
 use crate::drafted::{Drafts, no_worse};
 use crate::fair_at::FairAt;
 use crate::groundwork::Groundwork;
-use faults::NoMemory;
+use faults::{DraftMemory, NoMemory};
 use grounding::Ground;
 use packed_state::Packed;
 use potentials::{Fairness, Potentials};
@@ -48,13 +48,17 @@ impl Drafts for DeadEnds {
         groundwork: &Groundwork<'_, '_>,
         rounds: u32,
     ) -> Result<Potentials, NoMemory> {
-        let mut drafts = DeadDrafts::new(alloc, &groundwork.input)?;
+        let memory = DraftMemory::new(alloc);
+        let mut drafts = DeadDrafts::new(&memory, &groundwork.input);
         let mut best = potentials;
         for _ in 0..rounds {
-            let Some(weights) = drafts.next(alloc, best.weights())? else {
-                return Ok(best);
+            let Some(weights) = drafts.next(best.weights()) else {
+                break;
             };
             best = no_worse::<DeadEnds>(alloc, best, groundwork, weights)?;
+        }
+        if memory.is_refused() {
+            return Err(NoMemory);
         }
         Ok(best)
     }

@@ -17,7 +17,6 @@ use std::alloc::Global;
 
 /// What improving potentials of a ground task needs, at any allowance: the input of drafts, its initial state, and what
 /// its goal says of each atom. Made once.
-#[derive(Drop)]
 pub struct Groundwork<'g, 't> {
     pub(crate) ground: &'g Ground<'t>,
     pub(crate) input: ProgramInput,
@@ -26,6 +25,17 @@ pub struct Groundwork<'g, 't> {
     ghost incidence: { IsTestedInput ground.now input } by { Prim.hlevel props },
     ghost initial_is: { bits_of initial ≡ (ground_system (task_in ground.now) (atoms_in ground.now)).initial } by { Prim.hlevel props },
     ghost goal_is: { AreSaid (literals_of_goal (task_in ground.now) (atoms_in ground.now)) (length (atoms_in ground.now)) goal } by { Prim.hlevel props },
+}
+
+impl Drop for Groundwork<'_, '_> {
+    fn drop(self) {
+        let Self {
+            ground: _,
+            input: _,
+            initial: _,
+            goal: _,
+        } = self;
+    }
 }
 
 impl<'g, 't> Groundwork<'g, 't> {

@@ -1,8 +1,7 @@
 //! Colours of objects by what is stated about them: objects that a symmetry maps to each other have the same colour. Computed by
 //! colour refinement, the one-dimensional Weisfeiler-Leman algorithm (Weisfeiler & Leman 1968), on hashes.
 use crate::facts::{Fact, Facts, Source};
-use faults::NoMemory;
-use std::alloc::Global;
+use faults::DraftMemory;
 use task::{ObjectId, Task};
 
 /// The number of rounds of colour refinement.
@@ -25,15 +24,15 @@ fn mixed(hash: u64, word: u64) -> u64 {
 
 /// The colour of each object: computed from its declared type and the facts that name it, with the colours of the other objects
 /// in these facts. A symmetry maps an object to one of the same colour.
-pub(crate) fn colours_of(alloc: Global, task: &Task, facts: &Facts) -> Result<Vec<u64>, NoMemory> {
-    let mut colours = Vec::new(alloc);
+pub(crate) fn colours_of(memory: &DraftMemory, task: &Task, facts: &Facts) -> Vec<u64> {
+    let mut colours = memory.list();
     for number in 0..task.object_count() {
-        colours.push(type_colour(task, object_at(number)))?;
+        memory.push(&mut colours, type_colour(task, object_at(number)));
     }
     for _ in 0..ROUNDS {
-        colours = refined(alloc, facts, &colours)?;
+        colours = refined(memory, facts, &colours);
     }
-    Ok(colours)
+    colours
 }
 
 /// The initial colour: that of the object's declared type.
@@ -53,13 +52,13 @@ pub(crate) fn colour_of(colours: &[u64], object: ObjectId) -> u64 {
 }
 
 /// One round of refinement: the colours, split by the colours of objects that occur in the same facts.
-fn refined(alloc: Global, facts: &Facts, colours: &[u64]) -> Result<Vec<u64>, NoMemory> {
-    let mut refined = Vec::new(alloc);
+fn refined(memory: &DraftMemory, facts: &Facts, colours: &[u64]) -> Vec<u64> {
+    let mut refined = memory.list();
     for (number, colour) in colours.iter().enumerate() {
         let sum = colour_by_facts(facts, colours, object_at(number));
-        refined.push(mixed(*colour, sum))?;
+        memory.push(&mut refined, mixed(*colour, sum));
     }
-    Ok(refined)
+    refined
 }
 
 /// A hash of the facts that name the object, independent of their order.
@@ -99,13 +98,13 @@ fn begun(fact: &Fact) -> u64 {
 
 /// The key of each object: computed from its colour and the facts that name it, with the other objects themselves, except those
 /// of its own colour. A symmetry that swaps just two objects maps an object to one with the same key.
-pub(crate) fn keys_of(alloc: Global, facts: &Facts, colours: &[u64]) -> Result<Vec<u64>, NoMemory> {
-    let mut keys = Vec::new(alloc);
+pub(crate) fn keys_of(memory: &DraftMemory, facts: &Facts, colours: &[u64]) -> Vec<u64> {
+    let mut keys = memory.list();
     for (number, colour) in colours.iter().enumerate() {
         let sum = key_by_facts(facts, colours, object_at(number));
-        keys.push(mixed(*colour, sum))?;
+        memory.push(&mut keys, mixed(*colour, sum));
     }
-    Ok(keys)
+    keys
 }
 
 /// A hash of the facts that name the object, independent of their order.

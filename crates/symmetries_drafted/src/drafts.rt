@@ -1,5 +1,5 @@
 //! The exchanges that the search for symmetries returns.
-ghost use Rattle.std.specs.Prelude.{◌≤◌, IfOk, IsTrue, OnOk, length, map};
+ghost use Rattle.std.specs.Prelude.{◌≤◌, IfOk, IsTrue, length, map};
 ghost use Rattle.std.specs.List.{list_all};
 ghost use Rattle.task.specs.Task.{task_of};
 ghost use Rattle.symmetries.specs.Exchange.{exchange_of};
@@ -8,7 +8,7 @@ ghost use Rattle.symmetries_definitions.specs.Symmetries.{is_symmetry};
 ghost use Rattle.symmetries_drafted.specs.Drafts.{AreTested};
 
 use crate::finder::found_exchanges;
-use faults::NoMemory;
+use faults::{DraftMemory, NoMemory};
 use std::alloc::Global;
 use symmetries::{Exchange, SymmetryTest};
 use task::Task;
@@ -26,39 +26,37 @@ pub fn drafted_exchanges(alloc: Global, task: &Task) -> Result<Vec<Exchange>, No
     ensures few { IfOk result (λ found. length found.items ≤ MAX_EXCHANGES) }
 {
     let test = SymmetryTest::new(alloc, task)?;
-    let drafts = found_exchanges(alloc, task, &test)?;
-    tested(alloc, &test, drafts)
+    let memory = DraftMemory::new(alloc);
+    let drafts = found_exchanges(&memory, task, &test);
+    let exchanges = tested(&memory, &test, drafts);
+    memory.finish(exchanges)
 }
 
 /// The exchanges that pass the test, in order, up to the limit.
-fn tested(
-    alloc: Global,
-    test: &SymmetryTest<'_>,
-    drafts: Vec<Exchange>,
-) -> Result<Vec<Exchange>, NoMemory>
-    ensures { IfOk result (λ found. AreTested (task_tested test.now) found.items) }
+fn tested(memory: &DraftMemory, test: &SymmetryTest<'_>, drafts: Vec<Exchange>) -> Vec<Exchange>
+    ensures { AreTested (task_tested test.now) result.items }
 {
-    let mut passed = Vec::new(alloc);
+    let mut passed = memory.list();
     for exchange in drafts {
-        add_tested(test, exchange, &mut passed)?;
+        add_tested(memory, test, exchange, &mut passed);
     }
-    Ok(passed)
+    passed
 }
 
 /// Adds the exchange if it passes the test and the limit is not reached.
 fn add_tested(
+    memory: &DraftMemory,
     test: &SymmetryTest<'_>,
     exchange: Exchange,
     passed: &mut Vec<Exchange>,
-) -> Result<(), NoMemory>
-    ensures { OnOk result (AreTested (task_tested test.now) passed.old.items → AreTested (task_tested test.now) passed.new.items) }
+)
+    ensures { AreTested (task_tested test.now) passed.old.items → AreTested (task_tested test.now) passed.new.items }
 {
     if passed.len() >= MAX_EXCHANGES {
-        return Ok(());
+        return;
     }
     if !test.is_symmetry(&exchange) {
-        return Ok(());
+        return;
     }
-    passed.push(exchange)?;
-    Ok(())
+    memory.kept(passed.push(exchange));
 }

@@ -1,7 +1,6 @@
 //! What a task states about its objects that no action changes: static initial atoms, values of functions, and atoms of the goal.
-use faults::NoMemory;
+use faults::DraftMemory;
 use formulas::FluentPredicates;
-use std::alloc::Global;
 use task::{Atom, Formula, LiftedAtom, ObjectId, PredicateId, Task, Term};
 
 /// The origin of a fact.
@@ -34,15 +33,15 @@ pub(crate) struct Facts {
 
 impl Facts {
     /// The facts of the task.
-    pub(crate) fn new(alloc: Global, task: &Task) -> Result<Facts, NoMemory> {
-        let mut all = Vec::new(alloc);
-        add_start(alloc, task, &mut all)?;
-        add_values(alloc, task, &mut all)?;
-        add_goal(alloc, task.goal(), &mut all)?;
+    pub(crate) fn new(memory: &DraftMemory, task: &Task) -> Facts {
+        let mut all = memory.list();
+        add_start(memory, task, &mut all);
+        add_values(memory, task, &mut all);
+        add_goal(memory, task.goal(), &mut all);
         all.sort_unstable();
         all.dedup();
-        let rows = rows_of(alloc, task.object_count(), &all)?;
-        Ok(Facts { all, rows })
+        let rows = rows_of(memory, task.object_count(), &all);
+        Facts { all, rows }
     }
 
     /// The indices of the facts that name the object.
@@ -70,94 +69,91 @@ impl Facts {
 }
 
 /// Adds the static initial atoms.
-fn add_start(alloc: Global, task: &Task, all: &mut Vec<Fact>) -> Result<(), NoMemory> {
-    let fluents = FluentPredicates::new(alloc, task)?;
+fn add_start(memory: &DraftMemory, task: &Task, all: &mut Vec<Fact>) {
+    let Some(fluents) = memory.kept(FluentPredicates::new(memory.alloc(), task)) else {
+        return;
+    };
     for atom in task.init() {
         if !fluents.contains(atom.predicate) {
-            add(alloc, Source::Start, atom, all)?;
+            add(memory, Source::Start, atom, all);
         }
     }
-    Ok(())
 }
 
 /// Adds the functions with values.
-fn add_values(alloc: Global, task: &Task, all: &mut Vec<Fact>) -> Result<(), NoMemory> {
+fn add_values(memory: &DraftMemory, task: &Task, all: &mut Vec<Fact>) {
     for (function, value) in task.values() {
-        add(alloc, Source::Value(*value), function, all)?;
+        add(memory, Source::Value(*value), function, all);
     }
-    Ok(())
 }
 
 /// Adds the atom.
-fn add(alloc: Global, source: Source, atom: &Atom, all: &mut Vec<Fact>) -> Result<(), NoMemory> {
-    let mut objects = Vec::new(alloc);
-    objects.extend_from_slice(atom.objects.as_slice())?;
-    all.push(Fact {
+fn add(memory: &DraftMemory, source: Source, atom: &Atom, all: &mut Vec<Fact>) {
+    let fact = Fact {
         source,
         predicate: atom.predicate,
-        objects,
-    })?;
-    Ok(())
+        objects: memory.copied(atom.objects.as_slice()),
+    };
+    memory.push(all, fact);
 }
 
 /// Adds the ground atoms of the formula.
-fn add_goal(alloc: Global, formula: &Formula, all: &mut Vec<Fact>) -> Result<(), NoMemory> {
+fn add_goal(memory: &DraftMemory, formula: &Formula, all: &mut Vec<Fact>) {
     match formula {
-        Formula::Atom(atom) => add_lifted(alloc, atom, all),
-        Formula::Equal(_, _) => Ok(()),
+        Formula::Atom(atom) => add_lifted(memory, atom, all),
+        Formula::Equal(_, _) => {}
         Formula::And(parts) | Formula::Or(parts) => {
             for part in parts {
-                add_goal(alloc, part, all)?;
+                add_goal(memory, part, all);
             }
-            Ok(())
         }
         Formula::Not(part) | Formula::Exists(_, part) | Formula::Forall(_, part) => {
-            add_goal(alloc, part, all)
+            add_goal(memory, part, all);
         }
         Formula::Imply(premise, conclusion) => {
-            add_goal(alloc, premise, all)?;
-            add_goal(alloc, conclusion, all)
+            add_goal(memory, premise, all);
+            add_goal(memory, conclusion, all);
         }
     }
 }
 
 /// Adds the atom if it is ground.
-fn add_lifted(alloc: Global, atom: &LiftedAtom, all: &mut Vec<Fact>) -> Result<(), NoMemory> {
-    let mut objects = Vec::new(alloc);
+fn add_lifted(memory: &DraftMemory, atom: &LiftedAtom, all: &mut Vec<Fact>) {
+    let mut objects = memory.list();
     for term in &atom.terms {
-        match term {
-            Term::Object(object) => objects.push(*object)?,
-            Term::Variable(_) => return Ok(()),
+        if let Term::Object(object) = term {
+            memory.push(&mut objects, *object);
         }
     }
-    all.push(Fact {
-        source: Source::Goal,
-        predicate: atom.predicate,
-        objects,
-    })?;
-    Ok(())
+    if objects.len() == atom.terms.len() {
+        let fact = Fact {
+            source: Source::Goal,
+            predicate: atom.predicate,
+            objects,
+        };
+        memory.push(all, fact);
+    }
 }
 
 /// For each of `count` objects, the indices of the facts that name it, in ascending order and without repetition.
-fn rows_of(alloc: Global, count: usize, all: &[Fact]) -> Result<Vec<Vec<usize>>, NoMemory> {
-    let mut rows: Vec<Vec<usize>> = Vec::new(alloc);
+fn rows_of(memory: &DraftMemory, count: usize, all: &[Fact]) -> Vec<Vec<usize>> {
+    let mut rows: Vec<Vec<usize>> = memory.list();
     for _ in 0..count {
-        rows.push(Vec::new(alloc))?;
+        memory.push(&mut rows, memory.list());
     }
     for (place, fact) in all.iter().enumerate() {
         for object in &fact.objects {
-            note(&mut rows, *object, place)?;
+            note(memory, &mut rows, *object, place);
         }
     }
-    Ok(rows)
+    rows
 }
 
 /// Adds the index to the object's row, unless it is the row's last one.
-fn note(rows: &mut [Vec<usize>], object: ObjectId, place: usize) -> Result<(), NoMemory> {
+fn note(memory: &DraftMemory, rows: &mut [Vec<usize>], object: ObjectId, place: usize) {
     if let Some(row) = rows.get_mut(object.0 as usize) {
         if row.last() != Some(&place) {
-            row.push(place)?;
+            memory.push(row, place);
         }
     }
-    Ok(())
 }

@@ -5,9 +5,8 @@
 use crate::colours::{colours_of, keys_of, object_at};
 use crate::facts::Facts;
 use crate::partners::Partners;
-use faults::NoMemory;
+use faults::DraftMemory;
 use indexmap::{IndexMap, IndexSet};
-use std::alloc::Global;
 use symmetries::{Exchange, SymmetryTest};
 use task::{ObjectId, Task};
 
@@ -23,7 +22,7 @@ type Classes = IndexMap<u64, Vec<ObjectId>>;
 /// The state of the search for exchanges.
 #[derive(Drop)]
 struct Finder<'f, 'x, 't> {
-    alloc: Global,
+    memory: &'x DraftMemory,
     task: &'x Task,
     test: &'x SymmetryTest<'t>,
     partners: Partners<'f>,
@@ -43,97 +42,91 @@ enum Trial {
 
 /// Exchanges that are symmetries of the task; `test` is for this task.
 pub(crate) fn found_exchanges<'x>(
-    alloc: Global,
+    memory: &'x DraftMemory,
     task: &'x Task,
     test: &'x SymmetryTest<'_>,
-) -> Result<Vec<Exchange>, NoMemory> {
-    let facts = Facts::new(alloc, task)?;
-    let colours = colours_of(alloc, task, &facts)?;
-    let keys = keys_of(alloc, &facts, &colours)?;
+) -> Vec<Exchange> {
+    let facts = Facts::new(memory, task);
+    let colours = colours_of(memory, task, &facts);
+    let keys = keys_of(memory, &facts, &colours);
     let mut finder = Finder {
-        alloc,
+        memory,
         task,
         test,
-        partners: Partners::new(alloc, &facts, &colours),
-        alike: IndexSet::new(alloc),
-        found: Vec::new(alloc),
+        partners: Partners::new(memory, &facts, &colours),
+        alike: IndexSet::new(memory.alloc()),
+        found: memory.list(),
     };
-    finder.file_all(&keys, Trial::Alone)?;
-    finder.file_all(&colours, Trial::WithPartners)?;
+    finder.file_all(&keys, Trial::Alone);
+    finder.file_all(&colours, Trial::WithPartners);
     let Finder { found, .. } = finder;
-    Ok(found)
+    found
 }
 
 impl Finder<'_, '_, '_> {
     /// Puts every object into a class, among those with its key.
-    fn file_all(&mut self, keys: &[u64], trial: Trial) -> Result<(), NoMemory> {
-        let mut classes: Classes = IndexMap::new(self.alloc);
+    fn file_all(&mut self, keys: &[u64], trial: Trial) {
+        let memory = self.memory;
+        let mut classes: Classes = IndexMap::new(memory.alloc());
         for (number, key) in keys.iter().enumerate() {
+            if memory.is_refused() {
+                break;
+            }
             if !classes.contains_key(key) {
-                classes.insert(*key, Vec::new(self.alloc))?;
+                memory.kept(classes.insert(*key, memory.list()));
             }
             if let Some(lasts) = classes.get_mut(key) {
-                self.file(object_at(number), lasts, trial)?;
+                self.file(object_at(number), lasts, trial);
             }
         }
-        Ok(())
     }
 
     /// Puts the object into one of the classes with these last objects, or begins a new class.
-    fn file(
-        &mut self,
-        object: ObjectId,
-        lasts: &mut Vec<ObjectId>,
-        trial: Trial,
-    ) -> Result<(), NoMemory> {
+    fn file(&mut self, object: ObjectId, lasts: &mut Vec<ObjectId>, trial: Trial) {
         for last in lasts.iter_mut().rev().take(MAX_KNOWN) {
             if self.alike.contains(&ordered(*last, object)) {
                 *last = object;
-                return Ok(());
+                return;
             }
         }
         for last in lasts.iter_mut().rev().take(MAX_CLASSES) {
-            if self.are_alike(*last, object, trial)? {
+            if self.are_alike(*last, object, trial) {
                 *last = object;
-                return Ok(());
+                return;
             }
         }
-        lasts.push(object)?;
-        Ok(())
+        self.memory.push(lasts, object);
     }
 
     /// Whether an exchange that swaps the objects is found to be a symmetry.
-    fn are_alike(
-        &mut self,
-        one: ObjectId,
-        other: ObjectId,
-        trial: Trial,
-    ) -> Result<bool, NoMemory> {
-        let objects = match trial {
-            Trial::Alone => vec![in self.alloc; one, other]?,
+    fn are_alike(&mut self, one: ObjectId, other: ObjectId, trial: Trial) -> bool {
+        match trial {
+            Trial::Alone => self.try_exchange(&[one, other]),
             Trial::WithPartners => {
-                if !self.partners.find(self.alloc, one, other)? {
-                    return Ok(false);
+                if !self.partners.find(self.memory, one, other) {
+                    return false;
                 }
-                objects_in(self.alloc, self.partners.pairs())?
+                let objects = objects_in(self.memory, self.partners.pairs());
+                self.try_exchange(&objects)
             }
-        };
-        self.try_exchange(&objects)
+        }
     }
 
     /// Keeps the exchange of these objects if it is a symmetry. Returns whether it is.
-    fn try_exchange(&mut self, objects: &[ObjectId]) -> Result<bool, NoMemory> {
-        let Some(exchange) = Exchange::new(self.alloc, self.task, objects)? else {
-            return Ok(false);
+    fn try_exchange(&mut self, objects: &[ObjectId]) -> bool {
+        let memory = self.memory;
+        let made = memory.kept(Exchange::new(memory.alloc(), self.task, objects));
+        let Some(Some(exchange)) = made else {
+            return false;
         };
         if !self.test.is_symmetry(&exchange) {
-            return Ok(false);
+            return false;
         }
         for (one, other) in exchange.pairs() {
-            self.alike.insert(ordered(*one, *other))?;
+            memory.kept(self.alike.insert(ordered(*one, *other)));
         }
-        self.found.push(exchange)?;
-        Ok(true)
+        memory.push(&mut self.found, exchange);
+        true
     }
 }
 
@@ -147,11 +140,11 @@ fn ordered(one: ObjectId, other: ObjectId) -> (ObjectId, ObjectId) {
 }
 
 /// The objects of the pairs, in order.
-fn objects_in(alloc: Global, pairs: &[(ObjectId, ObjectId)]) -> Result<Vec<ObjectId>, NoMemory> {
-    let mut objects = Vec::new(alloc);
+fn objects_in(memory: &DraftMemory, pairs: &[(ObjectId, ObjectId)]) -> Vec<ObjectId> {
+    let mut objects = memory.list();
     for (one, other) in pairs {
-        objects.push(*one)?;
-        objects.push(*other)?;
+        memory.push(&mut objects, *one);
+        memory.push(&mut objects, *other);
     }
-    Ok(objects)
+    objects
 }

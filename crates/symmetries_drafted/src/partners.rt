@@ -1,8 +1,7 @@
 //! Objects that must be swapped together: the facts that an exchange violates show which further swaps it needs.
 use crate::colours::colour_of;
 use crate::facts::{Fact, Facts};
-use faults::NoMemory;
-use std::alloc::Global;
+use faults::DraftMemory;
 use task::ObjectId;
 
 /// The maximum number of pairs in an exchange.
@@ -27,11 +26,11 @@ pub(crate) struct Partners<'f> {
 
 impl<'f> Partners<'f> {
     /// A search before its first use.
-    pub(crate) fn new(alloc: Global, facts: &'f Facts, colours: &'f [u64]) -> Partners<'f> {
+    pub(crate) fn new(memory: &DraftMemory, facts: &'f Facts, colours: &'f [u64]) -> Partners<'f> {
         Partners {
             facts,
             colours,
-            pairs: Vec::new(alloc),
+            pairs: memory.list(),
             looks_left: facts
                 .count()
                 .saturating_mul(LOOKS_AT_EACH)
@@ -46,90 +45,84 @@ impl<'f> Partners<'f> {
 
     /// Extends the swap of the two objects until all facts that name a swapped object are preserved. Returns whether that
     /// succeeds.
-    pub(crate) fn find(
-        &mut self,
-        alloc: Global,
-        one: ObjectId,
-        other: ObjectId,
-    ) -> Result<bool, NoMemory> {
+    pub(crate) fn find(&mut self, memory: &DraftMemory, one: ObjectId, other: ObjectId) -> bool {
         self.pairs.clear();
-        self.pairs.push((one, other))?;
+        memory.push(&mut self.pairs, (one, other));
         for place in 0..MAX_PAIRS {
             let Some(pair) = self.pairs.get(place) else {
-                return Ok(true);
+                return true;
             };
             let (first, second) = *pair;
-            let kept = self.keep(alloc, first, second)? && self.keep(alloc, second, first)?;
-            if !kept {
-                return Ok(false);
+            if !self.keep(memory, first, second) || !self.keep(memory, second, first) {
+                return false;
             }
         }
-        Ok(false)
+        false
     }
 
     /// Adds pairs until the facts that name the object, whose image is given, are preserved. Returns whether that succeeds.
-    fn keep(&mut self, alloc: Global, object: ObjectId, image: ObjectId) -> Result<bool, NoMemory> {
+    fn keep(&mut self, memory: &DraftMemory, object: ObjectId, image: ObjectId) -> bool {
         let facts = self.facts;
         for place in facts.places_of(object) {
             if let Some(fact) = facts.at(*place) {
-                if !self.keep_fact(alloc, fact, image)? {
-                    return Ok(false);
+                if !self.keep_fact(memory, fact, image) {
+                    return false;
                 }
             }
         }
-        Ok(true)
+        true
     }
 
     /// Adds pairs until the image of the fact, which names the object, is a fact. Returns whether that succeeds.
-    fn keep_fact(&mut self, alloc: Global, fact: &Fact, image: ObjectId) -> Result<bool, NoMemory> {
-        if self.is_kept(alloc, fact)? {
-            return Ok(true);
+    fn keep_fact(&mut self, memory: &DraftMemory, fact: &Fact, image: ObjectId) -> bool {
+        if self.is_kept(memory, fact) {
+            return true;
         }
         let facts = self.facts;
         for place in facts.places_of(image) {
             if self.looks_left == 0 || self.pairs.len() > MAX_PAIRS {
-                return Ok(false);
+                return false;
             }
             if let Some(other) = facts.at(*place) {
-                if self.match_up(alloc, fact, other)? {
-                    return Ok(true);
+                if self.match_up(memory, fact, other) {
+                    return true;
                 }
             }
         }
-        Ok(false)
+        false
     }
 
     /// Adds pairs that make the second fact the image of the first. Returns whether there are such pairs and the second fact is
     /// not the image of another one.
-    fn match_up(&mut self, alloc: Global, fact: &Fact, other: &Fact) -> Result<bool, NoMemory> {
+    fn match_up(&mut self, memory: &DraftMemory, fact: &Fact, other: &Fact) -> bool {
         let may_be = fact.source == other.source
             && fact.predicate == other.predicate
             && fact.objects.len() == other.objects.len();
-        if !may_be || self.is_kept(alloc, other)? {
-            return Ok(false);
+        if !may_be || self.is_kept(memory, other) {
+            return false;
         }
         let before = self.pairs.len();
         for (object, image) in fact.objects.iter().zip(&other.objects) {
-            if !self.pair(*object, *image)? {
+            if !self.pair(memory, *object, *image) {
                 self.pairs.truncate(before);
-                return Ok(false);
+                return false;
             }
         }
-        Ok(true)
+        true
     }
 
     /// Makes the second object the image of the first, unless one of them has another image or their colours differ. Returns
     /// whether it is the image then.
-    fn pair(&mut self, object: ObjectId, image: ObjectId) -> Result<bool, NoMemory> {
+    fn pair(&mut self, memory: &DraftMemory, object: ObjectId, image: ObjectId) -> bool {
         if self.image_of(object) == image {
-            return Ok(true);
+            return true;
         }
         let free = self.image_of(object) == object && self.image_of(image) == image;
         if !free || colour_of(self.colours, object) != colour_of(self.colours, image) {
-            return Ok(false);
+            return false;
         }
-        self.pairs.push((object, image))?;
-        Ok(true)
+        memory.push(&mut self.pairs, (object, image));
+        true
     }
 
     /// The image of this object.
@@ -146,17 +139,17 @@ impl<'f> Partners<'f> {
     }
 
     /// Whether the image of the fact is a fact; counts as a lookup.
-    fn is_kept(&mut self, alloc: Global, fact: &Fact) -> Result<bool, NoMemory> {
+    fn is_kept(&mut self, memory: &DraftMemory, fact: &Fact) -> bool {
         self.looks_left = self.looks_left.saturating_sub(1);
-        let mut objects = Vec::new(alloc);
+        let mut objects = memory.list();
         for object in &fact.objects {
-            objects.push(self.image_of(*object))?;
+            memory.push(&mut objects, self.image_of(*object));
         }
         let image = Fact {
             source: fact.source,
             predicate: fact.predicate,
             objects,
         };
-        Ok(self.facts.contain(&image))
+        self.facts.contain(&image)
     }
 }
