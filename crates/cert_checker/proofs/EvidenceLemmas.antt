@@ -8,8 +8,8 @@ use Rattle.packed_state.specs.declared.pooled.PooledStore.{PooledStore}
 use Rattle.model.specs.Task.{Atom, Task}
 use Rattle.model.specs.Grounding.{state_of_bits}
 use Rattle.lower_bounds.specs.TableFunctions.{Table, has_rows}
-use Rattle.landmark_functions.specs.LandmarkFunctions.{LandmarkFunction, gives, value}
-use Rattle.landmark_functions.specs.LandmarkLines.{NumberedLandmarks, Share, functions_of, landmark_of}
+use Rattle.lower_bounds.specs.LandmarkFunctions.{LandmarkFunction, gives, value}
+use Rattle.lower_bounds.specs.LandmarkLines.{NumberedLandmarks, Share, functions_of, landmark_of}
 use Rattle.landmark_zones.specs.Landmarks.{landmarks_of}
 use Rattle.tables.specs.Several.{several_of}
 use Rattle.certificate_definitions.specs.Evidence.{Basis, of_all, landmark}

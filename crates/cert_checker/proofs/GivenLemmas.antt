@@ -13,8 +13,8 @@ use Rattle.model.specs.WellTyped.{is_atom}
 use Rattle.model.specs.Fluents.{is_fluent}
 use Rattle.model.specs.Claims.{Claim, bound, none}
 use Rattle.lower_bounds.specs.TableFunctions.{SeveralValues, Table}
-use Rattle.landmark_functions.specs.LandmarkFunctions.{Zone}
-use Rattle.landmark_functions.specs.LandmarkLines.{LandmarkLine, zone, value, Share, NumberedLandmarks}
+use Rattle.lower_bounds.specs.LandmarkFunctions.{Zone}
+use Rattle.lower_bounds.specs.LandmarkLines.{LandmarkLine, zone, value, Share, NumberedLandmarks}
 use Rattle.landmark_zones.specs.Landmarks.{with_value, with_zone}
 use Rattle.certificate_definitions.specs.Certificates.{Version, one, no_landmarks}
 use Rattle.certificate_definitions.specs.CertificateText.{NamedAtom, WeightedAtom, TableLine, TextLine, version, claims, constant, swapped, atom, Part, tabled, landmark_line, part, listed, last, BeginCertificate, AreWhole}

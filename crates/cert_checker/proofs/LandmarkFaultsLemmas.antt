@@ -11,10 +11,10 @@ use Rattle.model.specs.NumberedAtoms.{numbered_atoms}
 use Rattle.model.proofs.ListLemmas.{Contains-place, filter_map-Contains}
 use Rattle.model.proofs.Tests.{passes_got}
 use Rattle.lower_bounds.specs.TableFunctions.{is_among}
-use Rattle.landmark_functions.specs.LandmarkFunctions.{LandmarkFunction, Zone}
-use Rattle.landmark_functions.specs.LandmarkLines.{Share, functions_of as landmark_functions, is_value, is_zone, keep_limits, literal_count, most_entries, most_values, most_zones, share_count}
-use Rattle.landmark_functions.specs.Laws.{is_zone_over}
-use Rattle.landmark_functions.specs.FairLandmarks.{IsDeadFair, IsFair}
+use Rattle.lower_bounds.specs.LandmarkFunctions.{LandmarkFunction, Zone}
+use Rattle.lower_bounds.specs.LandmarkLines.{Share, functions_of as landmark_functions, is_value, is_zone, keep_limits, literal_count, most_entries, most_values, most_zones, share_count}
+use Rattle.lower_bounds.specs.LandmarkLaws.{is_zone_over}
+use Rattle.lower_bounds.specs.FairLandmarks.{IsDeadFair, IsFair}
 use Rattle.landmarks.specs.declared.testing.Fairness.{Fairness}
 use Rattle.landmarks.specs.declared.testing.Fairness.TheVariants.{Unfair}
 use Rattle.landmarks.specs.Fairness.{AreFairness, is_dead_fair, is_unfair}

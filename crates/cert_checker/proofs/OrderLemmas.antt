@@ -12,8 +12,8 @@ use Rattle.model.specs.Limits.{max_numbered_atoms}
 use Rattle.model.specs.Grounding.{exceeded_limit}
 use Rattle.model.specs.Claims.{none, Allows, expanded, cut, Line, IsListedWithin}
 use Rattle.model.specs.Fluents.{is_fluent}
-use Rattle.landmark_functions.specs.LandmarkFunctions.{LandmarkFunction}
-use Rattle.landmark_functions.specs.FairLandmarks.{IsFair, IsDeadFair}
+use Rattle.lower_bounds.specs.LandmarkFunctions.{LandmarkFunction}
+use Rattle.lower_bounds.specs.FairLandmarks.{IsFair, IsDeadFair}
 use Rattle.model.specs.NumberedAtoms.{numbered_atoms}
 use Rattle.model.proofs.ListLemmas.{Contains-filter_map, Contains-got}
 use Rattle.certificate_definitions.specs.Evidence.{bare, dead, landmark}
@@ -24,7 +24,7 @@ use Rattle.cert_checker.specs.FluentAtoms.{AreFluent}
 use Rattle.cert_checker.specs.CheckedLines.{AreSymmetries, CutsAreAllowed, IsClosedAs, IsLineClosed, IsRightUpTo}
 use Rattle.cert_checker.proofs.CertCheckerLemmas.{entry, got_mapped, open_line, slice_get-map}
 use Rattle.certificate_definitions.proofs.CertificateRefusalsLemmas.{apart, dead_goals_fair, goals_fair, none_dead_unfair, none_unfair, right_line}
-use Rattle.landmark_functions.specs.LandmarkLines.{functions_of as landmark_functions}
+use Rattle.lower_bounds.specs.LandmarkLines.{functions_of as landmark_functions}
 
 -- ---- what is known of a beginning of the certificate
 

@@ -12,7 +12,7 @@ use Rattle.certificate_definitions.specs.Certificates.{Version, one, two, three,
 use Rattle.model.proofs.ListLemmas.{Contains-here, Contains-there}
 use Rattle.certificate_definitions.specs.CertificateText.{scope, row, NamedCertificate, TextLine, version, claims, constant, swapped, atom, tabled, landmark_line, part, listed, last, Format, format_of, BeginCertificate, HasLine, IsInOneLine, after_blank, are_exchanged, is_line, is_weight_count, keeps_text_limits, line_text, longest_line, mark_text, most_atoms, most_states, most_swaps, numbers_text, text_lines, text_of, version_number, weights_text, whole_line}
 use Rattle.lower_bounds.specs.TableFunctions.{is_among}
-use Rattle.landmark_functions.specs.LandmarkLines.{zone, value, is_value, is_zone, most_values, most_zones, negated_text, number_text}
+use Rattle.lower_bounds.specs.LandmarkLines.{zone, value, is_value, is_zone, most_values, most_zones, negated_text, number_text}
 use Rattle.certificate_definitions.specs.Parts.{are_in_order, counts_after, no_parts}
 use Rattle.certificate_definitions.specs.CertificateMachine.{CertificatePlace, at_version, ended, format_at, next_place, place_from}
 use Rattle.certificate_definitions.proofs.Machine.{end_of_whole, never, place_of_beginning, place_same}

@@ -36,13 +36,13 @@ use Rattle.lower_bounds.proofs.PotentialLowerBound.{dead_fair_ones_detect_dead_e
 use Rattle.lower_bounds.specs.TableFunctions.{Table, has_numbered_fluents, has_rows}
 use Rattle.lower_bounds.specs.FairTables as tables
 use Rattle.lower_bounds.specs.TableLaws.{are_over, AreAllNumbered, AreOver, AreSound}
-use Rattle.landmark_functions.specs.LandmarkFunctions as landmarks
-use Rattle.landmark_functions.specs.LandmarkFunctions.{Landmark, LandmarkFunction, gives}
-use Rattle.landmark_functions.specs.FairLandmarks.{AreClosed, IsDeadFair, IsFair}
-use Rattle.landmark_functions.specs.LandmarkLines.{Share, functions_of as landmark_functions, keep_limits, landmark_of}
-use Rattle.landmark_functions.specs.Laws.{is_zone_over, IsOver}
-use Rattle.landmark_functions.proofs.Kept.{kept_ones_are_over}
-use Rattle.landmark_functions.proofs.LowerBound as landmarks_below
+use Rattle.lower_bounds.specs.LandmarkFunctions as landmarks
+use Rattle.lower_bounds.specs.LandmarkFunctions.{Landmark, LandmarkFunction, gives}
+use Rattle.lower_bounds.specs.FairLandmarks.{AreClosed, IsDeadFair, IsFair}
+use Rattle.lower_bounds.specs.LandmarkLines.{Share, functions_of as landmark_functions, keep_limits, landmark_of}
+use Rattle.lower_bounds.specs.LandmarkLaws.{is_zone_over, IsOver}
+use Rattle.lower_bounds.proofs.KeptLandmarks.{kept_ones_are_over}
+use Rattle.lower_bounds.proofs.LandmarkLowerBound as landmarks_below
 use Rattle.lower_bounds.proofs.TableLowerBound.{fair_values_are_sound}
 use Rattle.lower_bounds.proofs.WithoutTables.{ground_atoms_are_all_numbered}
 use Rattle.cert_checker.proofs.VersionLemmas.{some_value}

@@ -7,8 +7,8 @@ use Rattle.std.proofs.lemmas.List.Elements.{filter_map-append}
 use Rattle.std.proofs.lemmas.List.{map-append}
 use Rattle.std.proofs.lemmas.List.Sums.{sum_by-cons}
 use Rattle.lower_bounds.specs.TableFunctions.{Row, Table}
-use Rattle.landmark_functions.specs.LandmarkFunctions.{Zone}
-use Rattle.landmark_functions.specs.LandmarkLines.{LandmarkLine, zone, value, Share, NumberedLandmarks, lines_of, rise, is_value, is_share, literal_count, share_count, most_zones, most_values, most_entries}
+use Rattle.lower_bounds.specs.LandmarkFunctions.{Zone}
+use Rattle.lower_bounds.specs.LandmarkLines.{LandmarkLine, zone, value, Share, NumberedLandmarks, lines_of, rise, is_value, is_share, literal_count, share_count, most_zones, most_values, most_entries}
 use Rattle.certificate_definitions.specs.Certificates.{Certificate, rows_of}
 use Rattle.certificate_definitions.specs.CertificateText.{TableLine, row, scope, tabled, landmark_line, Part, TextLine, version, claims, constant, swapped, atom, part, listed, last}
 use Rattle.certificate_definitions.specs.CertificateLines.{parts_given}

@@ -26,7 +26,7 @@ use Rattle.certificate_definitions.proofs.PartLemmas.{none_yet}
 use Rattle.certificate_definitions.specs.CertificateLines.{parts_given}
 use Rattle.certificate.specs.declared.header.Header.{Header}
 use Rattle.task.specs.TaskParts.{atom_of}
-use Rattle.landmark_functions.specs.LandmarkLines.{zone, value, NumberedLandmarks}
+use Rattle.lower_bounds.specs.LandmarkLines.{zone, value, NumberedLandmarks}
 use Rattle.landmark_zones.specs.Landmarks.{landmarks_of, with_value, with_zone}
 use Rattle.certificate_reader.specs.Lines.{claim_of, version_of}
 use Rattle.certificate.specs.declared.evidence.Evidence.{Evidence}

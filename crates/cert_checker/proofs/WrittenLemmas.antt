@@ -37,8 +37,8 @@ use Rattle.certificate.proofs.LimitsLemmas.{AreLimits, limits_of}
 use Rattle.cert_checker.proofs.LimitsLemmas.{said_kept}
 use Rattle.cert_checker.proofs.NamesLemmas.{few_objects}
 use Rattle.cert_checker.proofs.WrittenExchanges.{exchange_lines, exchanges_back}
-use Rattle.landmark_functions.specs.LandmarkFunctions.{Zone}
-use Rattle.landmark_functions.specs.LandmarkLines.{LandmarkLine, zone, value, Share, NumberedLandmarks, is_value, is_zone, lines_of, literal_count, share_count, most_zones, most_values, most_entries}
+use Rattle.lower_bounds.specs.LandmarkFunctions.{Zone}
+use Rattle.lower_bounds.specs.LandmarkLines.{LandmarkLine, zone, value, Share, NumberedLandmarks, is_value, is_zone, lines_of, literal_count, share_count, most_zones, most_values, most_entries}
 use Rattle.certificate_definitions.specs.Parts.{PartCounts, counts_after, no_parts}
 use Rattle.cert_checker.specs.Exchanged.{are_short, is_short, is_short_value}
 

@@ -6,7 +6,7 @@ use Rattle.symmetries_definitions.specs.Exchanges.{Exchange, objects_in}
 use Rattle.symmetries_definitions.specs.Symmetries.{is_symmetry}
 use Rattle.symmetries_definitions.specs.Orbits.{keeps_atoms}
 use Rattle.certificate_definitions.specs.Certificates.{Certificate}
-use Rattle.landmark_functions.specs.LandmarkLines.{Share, value}
+use Rattle.lower_bounds.specs.LandmarkLines.{Share, value}
 use Rattle.certificate_definitions.specs.CertificateText.{swapped, landmark_line, part, line_text, longest_line}
 use Rattle.certificate_definitions.specs.CertificateNames.{named_exchange}
 

@@ -9,8 +9,8 @@ use Rattle.certificate_definitions.specs.Certificates.{Version}
 use Rattle.symmetries_definitions.specs.Exchanges.{Exchange}
 use Rattle.lower_bounds.specs.PotentialFunctions.{PotentialFunction}
 use Rattle.lower_bounds.specs.TableFunctions.{SeveralValues}
-use Rattle.landmark_functions.specs.LandmarkFunctions.{Zone}
-use Rattle.landmark_functions.specs.LandmarkLines.{zone, value, Share, NumberedLandmarks}
+use Rattle.lower_bounds.specs.LandmarkFunctions.{Zone}
+use Rattle.lower_bounds.specs.LandmarkLines.{zone, value, Share, NumberedLandmarks}
 pub use Rattle.certificate_definitions.specs.CertificateLines.{swap_in, atom_in, part_in, state_in, swaps_given, atoms_given, parts_given, states_given}
 use Rattle.certificate_definitions.specs.CertificateText.{NamedAtom, WeightedAtom, TableLine, Part, tabled, landmark_line, TextLine, version, claims, constant, swapped, atom, part, listed, last}
 use Rattle.certificate_definitions.specs.CertificateNames.{AllName, exchange_said, table_lines, value_count, weight_said}

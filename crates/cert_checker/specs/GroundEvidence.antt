@@ -1,9 +1,9 @@
 -- What the state lines of a certificate rest on, in its ground task, in the model's terms. Each kind of evidence has its arms here.
 use Rattle.std.specs.Prelude.{◌≡◌, ℕ, nat_le, nat_lt, Bool, true, List, [], get_or, length}
 use Rattle.lower_bounds.specs.TableFunctions.{functions_of, dead_ends_of, greatest_value, is_dead_by}
-use Rattle.landmark_functions.specs.LandmarkFunctions as landmarks
-use Rattle.landmark_functions.specs.LandmarkFunctions.{LandmarkFunction}
-use Rattle.landmark_functions.specs.LandmarkLines.{functions_of as landmark_functions}
+use Rattle.lower_bounds.specs.LandmarkFunctions as landmarks
+use Rattle.lower_bounds.specs.LandmarkFunctions.{LandmarkFunction}
+use Rattle.lower_bounds.specs.LandmarkLines.{functions_of as landmark_functions}
 use Rattle.landmark_zones.specs.Landmarks.{landmarks_of}
 use Rattle.tables.specs.declared.known_state.KnownState.{KnownState}
 use Rattle.tables.specs.Several.{several_of, width_of, Knows}

@@ -8,7 +8,7 @@ use Rattle.table_rows.specs.Adding.{IsAdded}
 use Rattle.table_rows.specs.declared.by_atoms.Added.{Added}
 use Rattle.table_rows.specs.declared.by_atoms.Added.TheVariants.{New, OutsideScope, Repeated}
 use Rattle.table_rows.specs.declared.table.Table.{Table}
-use Rattle.landmark_functions.specs.LandmarkLines.{zone, value}
+use Rattle.lower_bounds.specs.LandmarkLines.{zone, value}
 use Rattle.landmark_zones.specs.Landmarks.{landmarks_of, with_value, with_zone}
 use Rattle.certificate_definitions.specs.CertificateText.{Part, TextLine, version, claims, constant, swapped, atom, scope, row, tabled, landmark_line, part, listed, last}
 use Rattle.certificate.specs.declared.cert.Cert.{Cert}

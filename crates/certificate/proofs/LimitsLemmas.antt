@@ -4,7 +4,7 @@ use Rattle.std.specs.Prelude.{◌&&◌, ◌||◌, IsTrue, All, nat_le}
 use Rattle.std.specs.List.{list_all}
 use Rattle.std.proofs.lemmas.Bool.{and_parts, leb-true}
 use Rattle.std.proofs.lemmas.List.Elements.{All-cons, All-nil}
-use Rattle.landmark_functions.specs.LandmarkLines.{is_value, is_zone, keep_limits, literal_count, most_entries, most_values, most_zones, share_count}
+use Rattle.lower_bounds.specs.LandmarkLines.{is_value, is_zone, keep_limits, literal_count, most_entries, most_values, most_zones, share_count}
 use Rattle.certificate.specs.CertificateParts.{keeps_exchange_limits, keeps_item_limits}
 use Rattle.certificate.specs.Evidence.{is_evidence}
 use Rattle.certificate_definitions.specs.CertificateText.{most_atoms, most_states, most_swaps}

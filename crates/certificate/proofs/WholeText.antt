@@ -10,8 +10,8 @@ use Rattle.model.specs.Task.{Task}
 use Rattle.model.specs.Claims.{Claim}
 use Rattle.lower_bounds.specs.TableFunctions.{Table}
 use Rattle.certificate_definitions.specs.Certificates.{Version, Certificate, several_of}
-use Rattle.landmark_functions.specs.LandmarkLines as marks
-use Rattle.landmark_functions.specs.LandmarkLines.{LandmarkLine, NumberedLandmarks, lines_of}
+use Rattle.lower_bounds.specs.LandmarkLines as marks
+use Rattle.lower_bounds.specs.LandmarkLines.{LandmarkLine, NumberedLandmarks, lines_of}
 use Rattle.certificate_definitions.specs.CertificateText.{TableLine, tabled, landmark_line, part, row, atom, claims, constant, last, listed, swapped, version, whole_line}
 use Rattle.certificate_definitions.specs.CertificateNames.{certificate_text, constants_of, named_exchange, parts_of, table_lines}
 use Rattle.certificate.specs.Evidence.{parts_text}

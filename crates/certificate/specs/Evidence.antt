@@ -4,7 +4,7 @@ use Rattle.std.specs.List.{flat_map, list_all}
 use Rattle.lower_bounds.specs.PotentialFunctions.{PotentialFunction}
 use Rattle.lower_bounds.specs.TableFunctions.{SeveralValues}
 use Rattle.table_rows.specs.Tables.{table_of}
-use Rattle.landmark_functions.specs.LandmarkLines.{NumberedLandmarks}
+use Rattle.lower_bounds.specs.LandmarkLines.{NumberedLandmarks}
 use Rattle.certificate_definitions.specs.Certificates.{Version, are_landmarks, are_potentials, are_tables, is_dead_end_weight, is_value_count, is_weight, rows_of}
 use Rattle.certificate_definitions.specs.CertificateNames.{weights_in}
 use Rattle.certificate.specs.declared.evidence.Evidence.{Evidence}

@@ -7,8 +7,8 @@ use Rattle.model.specs.Task.{Task}
 use Rattle.symmetries_definitions.specs.Exchanges.{Exchange}
 use Rattle.lower_bounds.specs.TableFunctions.{Row, Table}
 use Rattle.certificate_definitions.specs.Certificates.{Certificate, StateLine}
-use Rattle.landmark_functions.specs.LandmarkFunctions.{Zone}
-use Rattle.landmark_functions.specs.LandmarkLines.{Share, NumberedLandmarks, zone, value}
+use Rattle.lower_bounds.specs.LandmarkFunctions.{Zone}
+use Rattle.lower_bounds.specs.LandmarkLines.{Share, NumberedLandmarks, zone, value}
 use Rattle.certificate_definitions.specs.CertificateText.{WeightedAtom, atom, landmark_line, listed, part, row, scope, swapped, tabled, whole_line}
 use Rattle.certificate_definitions.specs.CertificateNames.{named_exchange, weighted_atoms}
 

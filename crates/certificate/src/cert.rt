@@ -18,12 +18,20 @@ use task::{Atom, ObjectId};
 
 /// A certificate of a task, within the limits of a certificate's text: its version, claim, exchanges and atoms, the evidence that
 /// its lines rest on, and the states it lists, as sets of its atoms' numbers.
-#[derive(Drop)]
 pub struct Cert {
     header: Header,
     states: States,
     pub ghost within_limits: { IsTrue (keeps_limits (certificate_with header states)) },
     ghost marked: { length states.marks.items ≡ length (pooled_states states.sets) },
+}
+
+impl Drop for Cert {
+    fn drop(self) {
+        let Self {
+            header: _,
+            states: _,
+        } = self;
+    }
 }
 
 impl Cert {

@@ -3,7 +3,7 @@ ghost use Rattle.std.specs.Prelude.{◌≡◌, ◌≤◌, ◌++◌, length, OnOk
 ghost use Rattle.devices.specs.Devices.{AppendsBeginning, CountsDevice};
 ghost use Rattle.certificate_definitions.specs.Certificates.{rows_of};
 ghost use Rattle.landmark_zones.specs.Landmarks.{landmarks_of};
-ghost use Rattle.landmark_functions.specs.LandmarkLines.{most_values, most_zones};
+ghost use Rattle.lower_bounds.specs.LandmarkLines.{most_values, most_zones};
 ghost use Rattle.certificate_reader.specs.Lines.{version_of};
 ghost use Rattle.certificate_reader.specs.declared.part_line.TheConstants.{MAX_ROWS};
 ghost use Rattle.certificate.specs.Evidence.{evidence_of, is_evidence, line_count, parts_text};

@@ -13,9 +13,9 @@ use Rattle.model.specs.Claims.{Claim, bound, none, Allows, Line}
 use Rattle.certificate_definitions.specs.Evidence.{bare}
 use Rattle.model.specs.Fluents.{is_fluent}
 use Rattle.certificate_definitions.specs.Certificates.{Version, one, two, three, four, dead_by, is_dead_by_landmark, landmark_function, Certificate, StateLine, potentials_of, several_of, lines_of, state_of_line, is_symmetry_for, AreFairIn, IsSupported, IsClosedFor}
-use Rattle.landmark_functions.specs.LandmarkFunctions.{LandmarkFunction}
-use Rattle.landmark_functions.specs.LandmarkLines.{functions_of as landmark_functions}
-use Rattle.landmark_functions.specs.FairLandmarks.{IsFair, IsDeadFair}
+use Rattle.lower_bounds.specs.LandmarkFunctions.{LandmarkFunction}
+use Rattle.lower_bounds.specs.LandmarkLines.{functions_of as landmark_functions}
+use Rattle.lower_bounds.specs.FairLandmarks.{IsFair, IsDeadFair}
 use Rattle.symmetries_definitions.specs.Exchanges.{Exchange}
 use Rattle.certificate_definitions.specs.CertificateRefusals.{Reason, not_fluent, repeated, no_initial, unfair, unfair_goal, goal_open, successor_missing, successor_dearer, cut_weak, cut_not_allowed, plan_invalid, plan_dearer, limit, dead_unfair, dead_unfair_goal, not_dead, not_symmetry, value_not_dead, value_unfair, MayLose, MayLoseByTables, IsUnfairIn, IsUnfairAtGoalsIn, IsDeadUnfairIn, IsDeadUnfairAtGoalsIn, IsWrongAt, IsWrong, IsPlanWithin}
 use Rattle.lower_bounds.specs.PotentialFunctions.{PotentialFunction}

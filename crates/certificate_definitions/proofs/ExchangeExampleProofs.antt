@@ -29,7 +29,7 @@ use Rattle.lower_bounds.specs.TableFunctions.{Row, Table}
 use Rattle.lower_bounds.specs.FairTables.{AreFairAt, IsFair, AreFair, is_asked}
 use Rattle.lower_bounds.specs.TableLaws.{without_tables}
 use Rattle.lower_bounds.proofs.WithoutTables.{potentials_are_table_functions}
-use Rattle.landmark_functions.specs.FairLandmarks.{IsDeadFair}
+use Rattle.lower_bounds.specs.FairLandmarks.{IsDeadFair}
 use Rattle.certificate_definitions.specs.Certificates.{Certificate, StateLine, dead_by, landmark_function, lines_of, is_symmetry_for, AreAlikeFor, state_of_line, IsSupported, IsClosedFor}
 use Rattle.certificate_definitions.specs.CertificateExamples.{expanded_at, cut_at, zeros}
 use Rattle.certificate_definitions.specs.ExchangeExamples.{lit, light, lamps, dark, second_lit, lamp_atoms, by_exchange, one_of_two, dearer_first, AreExchangesJudged}

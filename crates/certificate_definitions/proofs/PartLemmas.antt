@@ -2,7 +2,7 @@
 use Rattle.std.proofs.Common.{◌≡◌, ℕ, ◌+◌, ◌≤◌, Bool, true, List, [], ◌∷◌, ◌++◌, length, refl, arith}
 use Rattle.std.specs.Prelude.{◌&&◌, nat_le, nat_lt, IsTrue}
 use Rattle.std.proofs.lemmas.Bool.{and_parts, leb-true, le-leb, ltb-true}
-use Rattle.landmark_functions.specs.LandmarkLines.{zone, value, most_entries, most_values, most_zones}
+use Rattle.lower_bounds.specs.LandmarkLines.{zone, value, most_entries, most_values, most_zones}
 use Rattle.certificate_definitions.specs.Parts.{Part, tabled, landmark_line, scope, row, PartCounts, no_parts, how_many, counted, may_follow, has_room, are_few, are_in_order, counts_after, most_tables, most_rows}
 
 both_true : (a b : Bool) → a ≡ true → b ≡ true → a && b ≡ true

@@ -8,7 +8,7 @@ use Rattle.model.specs.Resolution.{is_same}
 use Rattle.model.specs.PlanText.{object_names}
 use Rattle.model.specs.PlanWriting.{object_name, are_lower_names}
 use Rattle.certificate_definitions.specs.Certificates.{Version, one, two, three, four, Certificate}
-use Rattle.landmark_functions.specs.LandmarkLines.{LandmarkLine, lines_of}
+use Rattle.lower_bounds.specs.LandmarkLines.{LandmarkLine, lines_of}
 use Rattle.lower_bounds.specs.TableFunctions.{Table}
 use Rattle.symmetries_definitions.specs.Exchanges.{Exchange, objects_in, are_different}
 use Rattle.lower_bounds.specs.PotentialFunctions.{PotentialFunction}

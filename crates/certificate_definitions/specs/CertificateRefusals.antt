@@ -19,9 +19,9 @@ use Rattle.symmetries_definitions.specs.Exchanges.{Exchange}
 use Rattle.certificate_definitions.specs.Certificates.{Version, one, two, three, four, landmark_function, StateLine, Certificate, potentials_of, several_of, rows_of, state_of_line, lines_of, is_symmetry_for, AreAlikeFor, value_by, is_dead_end_by}
 use Rattle.certificate_definitions.specs.Evidence as evidence
 use Rattle.certificate_definitions.specs.Evidence.{Basis, landmark}
-use Rattle.landmark_functions.specs.LandmarkFunctions.{LandmarkFunction}
-use Rattle.landmark_functions.specs.LandmarkLines.{functions_of as landmark_functions}
-use Rattle.landmark_functions.specs.FairLandmarks.{IsFair, IsDeadFair}
+use Rattle.lower_bounds.specs.LandmarkFunctions.{LandmarkFunction}
+use Rattle.lower_bounds.specs.LandmarkLines.{functions_of as landmark_functions}
+use Rattle.lower_bounds.specs.FairLandmarks.{IsFair, IsDeadFair}
 
 -- the reasons, each with the number that is reported
 pub data Reason : Type 0 where

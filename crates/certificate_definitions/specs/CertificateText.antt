@@ -5,7 +5,7 @@ use Rattle.std.specs.Fmt.{decimal}
 use Rattle.std.specs.List.{flat_map, list_all, list_any}
 use Rattle.model.specs.Claims.{Claim, bound, none}
 use Rattle.certificate_definitions.specs.Evidence.{of_all, landmark, LineMark, expanded, cut, dead}
-use Rattle.landmark_functions.specs.LandmarkLines.{cut_by_text, dead_by_text}
+use Rattle.lower_bounds.specs.LandmarkLines.{cut_by_text, dead_by_text}
 use Rattle.certificate_definitions.specs.Certificates.{Version, one, two, three, four, StateLine, has_basis, is_number, is_weight, is_claim, is_state_line, are_weights, has_exchanges}
 pub use Rattle.certificate_definitions.specs.Parts.{longest_line, after_blank, weights_text, numbers_text, Format, TableLine, scope, row, Part, tabled, landmark_line, part_text, is_part, PartCounts, no_parts, counts_after, may_follow, has_room, are_in_order}
 use Rattle.model.specs.Resolution.{is_same}

@@ -4,7 +4,7 @@ use Rattle.std.specs.Prelude.{◌≡◌, ℕ, ℤ, pos, false, true, List, [], �
 use Rattle.model.specs.Examples.{tie_task}
 use Rattle.model.specs.Claims.{bound}
 use Rattle.lower_bounds.specs.PotentialExamples.{potentials, minus}
-use Rattle.landmark_functions.specs.LandmarkLines.{zone, value, share, zone_of}
+use Rattle.lower_bounds.specs.LandmarkLines.{zone, value, share, zone_of}
 use Rattle.certificate_definitions.specs.Evidence.{landmark, cut}
 use Rattle.certificate_definitions.specs.Certificates.{Version, one, two, three, four, Certificate, StateLine, keeps_limits, no_landmarks}
 use Rattle.certificate_definitions.specs.CertificateText.{WeightedAtom, scope, row, tabled, landmark_line, no_parts, TextLine, version, claims, constant, swapped, atom, part, listed, last, NamedCertificate}

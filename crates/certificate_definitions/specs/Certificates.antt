@@ -15,11 +15,11 @@ use Rattle.lower_bounds.specs.TableFunctions.{Row, Table, SeveralValues, functio
 use Rattle.lower_bounds.specs.FairTables as fair_tables
 use Rattle.symmetries_definitions.specs.Exchanges.{Exchange}
 use Rattle.certificate_definitions.specs.Evidence.{Basis, of_all, landmark, LineMark, expanded, cut, dead, bare}
-use Rattle.landmark_functions.specs.LandmarkFunctions as landmarks
-use Rattle.landmark_functions.specs.LandmarkFunctions.{LandmarkFunction}
-use Rattle.landmark_functions.specs.LandmarkLines.{NumberedLandmarks, functions_of as landmark_functions, keep_limits, most_values}
-pub use Rattle.landmark_functions.specs.LandmarkLines.{rise}
-use Rattle.landmark_functions.specs.FairLandmarks.{IsFair, IsDeadFair}
+use Rattle.lower_bounds.specs.LandmarkFunctions as landmarks
+use Rattle.lower_bounds.specs.LandmarkFunctions.{LandmarkFunction}
+use Rattle.lower_bounds.specs.LandmarkLines.{NumberedLandmarks, functions_of as landmark_functions, keep_limits, most_values}
+pub use Rattle.lower_bounds.specs.LandmarkLines.{rise}
+use Rattle.lower_bounds.specs.FairLandmarks.{IsFair, IsDeadFair}
 use Rattle.symmetries_definitions.specs.Symmetries.{is_symmetry}
 use Rattle.symmetries_definitions.specs.Orbits.{AreAlike, keeps_atoms}
 

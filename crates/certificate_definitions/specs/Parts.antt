@@ -4,7 +4,7 @@ use Rattle.std.specs.Prelude.{ℕ, ◌+◌, Bool, true, ◌&&◌, ◌==◌, nat_
 use Rattle.std.specs.Fmt.{decimal, signed_decimal}
 use Rattle.std.specs.List.{flat_map}
 use Rattle.certificate_definitions.specs.Certificates.{Version, rise, are_weights, has_landmarks, has_tables}
-use Rattle.landmark_functions.specs.LandmarkLines.{LandmarkLine, zone, value, line_text, is_zone, is_value, most_zones, most_values, most_entries}
+use Rattle.lower_bounds.specs.LandmarkLines.{LandmarkLine, zone, value, line_text, is_zone, is_value, most_zones, most_values, most_entries}
 use Rattle.lower_bounds.specs.TableFunctions.{Row}
 
 -- ---- numbers and weights of a line

@@ -9,8 +9,8 @@ use Rattle.std.proofs.lemmas.Slice.Eq.{bytes_eq-Decides}
 use Rattle.std.proofs.lemmas.Bool.{and_parts, leb-true, le-leb, ltb-true, lt-ltb}
 use Rattle.std.proofs.lemmas.Str.Parse.{tells_digits}
 use Rattle.lower_bounds.specs.TableFunctions.{is_among}
-use Rattle.landmark_functions.specs.LandmarkFunctions.{Zone}
-use Rattle.landmark_functions.specs.LandmarkLines.{Share, zone, value, is_zone, is_share, is_value, line_text, most_zones}
+use Rattle.lower_bounds.specs.LandmarkFunctions.{Zone}
+use Rattle.lower_bounds.specs.LandmarkLines.{Share, zone, value, is_zone, is_share, is_value, line_text, most_zones}
 use Rattle.certificate_definitions.specs.Certificates.{has_landmarks, is_number, rise}
 use Rattle.certificate_definitions.specs.CertificateText.{scope, row, tabled, landmark_line, Part, Format, is_part, longest_line, most_atoms, part}
 use Rattle.certificate_reader.specs.Words.{AreLeading, IsFirstWord, IsPartReadAs, IsShareFirst, may_be_share, numbers_then, shares_then, text_in, then_negated, then_numbers, then_words, with_rest}

@@ -12,8 +12,8 @@ use Rattle.model.specs.Words.{is_name, is_name_byte}
 use Rattle.model.specs.PlanWriting.{is_lower_name}
 use Rattle.model.specs.Claims.{bound, none}
 use Rattle.certificate_definitions.specs.Evidence.{of_all, landmark, LineMark, expanded, cut, dead}
-use Rattle.landmark_functions.specs.LandmarkLines.{Share, zone, value, negated_text, number_text, share_text}
-use Rattle.landmark_functions.specs.LandmarkLines as landmarks
+use Rattle.lower_bounds.specs.LandmarkLines.{Share, zone, value, negated_text, number_text, share_text}
+use Rattle.lower_bounds.specs.LandmarkLines as landmarks
 use Rattle.certificate_definitions.specs.Certificates.{is_number, is_weight}
 use Rattle.certificate_definitions.specs.CertificateText.{scope, row, tabled, landmark_line, Part, part_text, TextLine, version, claims, constant, swapped, atom, part, listed, last, after_blank, line_text, weights_text, numbers_text}
 use Rattle.certificate_reader.specs.Words.{is_blank, is_word, atom_rest, line_head, line_rest, mark_head, shares_then, then_negated, then_numbers, then_words, with_rest, part_head, part_rest}

@@ -11,7 +11,7 @@ use Rattle.std.proofs.lemmas.List.{append_cancel_left, append_cancel_right}
 use Rattle.model.specs.PlanWriting.{is_lower_name}
 use Rattle.certificate_definitions.specs.Evidence.{of_all, landmark, LineMark, expanded, cut, dead}
 use Rattle.certificate_definitions.specs.Certificates.{Version, one, two, three, four, is_number, is_mark, is_weight, are_weights, has_exchanges, has_landmarks, rise}
-use Rattle.landmark_functions.specs.LandmarkLines.{zone, value, most_values}
+use Rattle.lower_bounds.specs.LandmarkLines.{zone, value, most_values}
 use Rattle.certificate_definitions.specs.CertificateText.{NamedAtom, WeightedAtom, scope, row, tabled, landmark_line, Part, Format, TextLine, version, claims, constant, swapped, atom, part, listed, last, after_blank, are_exchanged, is_weight_count, is_line, line_text, longest_line}
 use Rattle.certificate_reader.specs.Words.{IsBasisFirst, IsCut, IsFirstWord, IsLeading, IsNumbered, IsReadAs, are_lower, atom_rest, is_part_word, is_state_word, line_rest, mark_head, part_head, then_weights, then_words, with_rest}
 use Rattle.certificate_reader.proofs.WordLemmas.{one_first}

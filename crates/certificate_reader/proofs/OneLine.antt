@@ -9,7 +9,7 @@ use Rattle.model.specs.Claims.{Claim, bound, none}
 use Rattle.certificate_definitions.specs.Evidence.{of_all, landmark, LineMark, expanded, cut, dead}
 use Rattle.model.specs.PlanWriting.{is_lower_name}
 use Rattle.certificate_definitions.specs.Certificates.{Version, one, two, three, four, StateLine, is_claim, is_weight, are_weights, has_exchanges, has_landmarks, has_tables, rise}
-use Rattle.landmark_functions.specs.LandmarkLines.{zone, value, is_zone, is_value, most_zones}
+use Rattle.lower_bounds.specs.LandmarkLines.{zone, value, is_zone, is_value, most_zones}
 use Rattle.lower_bounds.specs.TableFunctions.{Row}
 use Rattle.certificate_definitions.specs.CertificateText.{NamedAtom, WeightedAtom, scope, row, tabled, landmark_line, Part, is_part, Format, TextLine, version, claims, constant, swapped, atom, part, listed, last, are_exchanged, are_paired, differ, is_weight_count, is_line, line_text, numbers_text, longest_line, most_atoms, version_number}
 use Rattle.certificate_reader.specs.Words.{IsCut, IsLeading, IsNumbered, IsReadAs, are_lower, atom_rest, claim_rest, line_head, line_rest, mark_head, mark_rest, part_head, part_rest, then_numbers, then_weights, then_words}

@@ -15,8 +15,8 @@ use Rattle.model.specs.PlanWriting.{is_lower_name}
 use Rattle.model.specs.Claims.{bound, none}
 use Rattle.certificate_definitions.specs.Evidence.{of_all, landmark, LineMark, expanded, cut, dead}
 use Rattle.certificate_definitions.specs.Certificates.{Version, one, two, three, four, is_basis, is_mark, is_number, is_weight, are_weights, has_exchanges, has_landmarks, has_tables, rise}
-use Rattle.landmark_functions.specs.LandmarkLines.{Share, zone, value, is_zone, is_value, most_values, most_zones, negated_text, number_text, share_text}
-use Rattle.landmark_functions.specs.LandmarkLines as landmarks
+use Rattle.lower_bounds.specs.LandmarkLines.{Share, zone, value, is_zone, is_value, most_values, most_zones, negated_text, number_text, share_text}
+use Rattle.lower_bounds.specs.LandmarkLines as landmarks
 use Rattle.certificate_definitions.specs.CertificateText.{scope, row, tabled, landmark_line, Part, part_text, is_part, Format, NamedCertificate, TextLine, version, claims, constant, swapped, atom, part, listed, last, after_blank, are_exchanged, are_paired, differ, is_weight_count, is_line, line_text, mark_text, weights_text, numbers_text, text_of, text_lines, IsCertificateText, longest_line, most_atoms}
 use Rattle.certificate_definitions.specs.CertificateMachine.{CertificatePlace, at_version, ended, format_at, next_place, place_from}
 use Rattle.certificate_definitions.proofs.Beginnings.{one_whole_text}

@@ -8,7 +8,7 @@ use Rattle.std.specs.Fmt.{decimal}
 use Rattle.std.specs.Str.{bytes_eq}
 use Rattle.std.proofs.lemmas.Slice.Eq.{bytes_eq-Decides}
 use Rattle.certificate_definitions.specs.Certificates.{Version, one, two, three, four, is_number, is_mark, is_weight, are_weights, has_exchanges, has_landmarks, has_tables, rise}
-use Rattle.landmark_functions.specs.LandmarkLines.{Share, zone, value, is_share, is_zone, is_value, most_zones}
+use Rattle.lower_bounds.specs.LandmarkLines.{Share, zone, value, is_share, is_zone, is_value, most_zones}
 use Rattle.lower_bounds.specs.TableFunctions.{is_among}
 use Rattle.certificate_definitions.specs.Evidence.{of_all, dead}
 use Rattle.model.specs.PlanWriting.{is_lower_name}

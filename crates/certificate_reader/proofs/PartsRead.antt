@@ -6,7 +6,7 @@ use Rattle.std.specs.Str.{bytes_eq}
 use Rattle.std.proofs.lemmas.Slice.Eq.{bytes_eq-Decides}
 use Rattle.std.proofs.lemmas.Bool.{and_parts, eqb-true, le-leb}
 use Rattle.lower_bounds.specs.TableFunctions.{Row}
-use Rattle.landmark_functions.specs.LandmarkLines.{zone, value}
+use Rattle.lower_bounds.specs.LandmarkLines.{zone, value}
 use Rattle.certificate_definitions.specs.Certificates.{is_weight, are_weights, has_tables, rise}
 use Rattle.certificate_definitions.specs.CertificateText.{scope, row, tabled, landmark_line, Part, Format, TextLine, version, claims, constant, swapped, atom, part, listed, last}
 use Rattle.certificate_reader.specs.declared.part_line.PartLine.{PartLine}

@@ -3,7 +3,7 @@ use Rattle.std.specs.Prelude.{◌≡◌, ℕ, ℤ, nat_lt, Bool, ◌&&◌, ◌||
 use Rattle.std.specs.Fmt.{decimal, signed_decimal}
 use Rattle.std.specs.List.{flat_map}
 use Rattle.std.specs.Str.{bytes_eq}
-use Rattle.landmark_functions.specs.LandmarkLines.{Share, zone, value, is_share, most_zones}
+use Rattle.lower_bounds.specs.LandmarkLines.{Share, zone, value, is_share, most_zones}
 use Rattle.certificate_definitions.specs.Parts.{Format, Part, tabled, landmark_line, scope, row, is_part}
 
 -- a word, and the rest after a blank, if there is one

@@ -1,6 +1,6 @@
 -- The code's parts of a certificate's text, in the model's terms, and the result of parsing and of counting one.
 use Rattle.std.specs.Prelude.{◌≡◌, ℕ, false, List, map, Result, Ok, Err, IsTrue}
-use Rattle.landmark_functions.specs.LandmarkLines.{zone, value}
+use Rattle.lower_bounds.specs.LandmarkLines.{zone, value}
 use Rattle.landmark_zones.specs.Landmarks.{share_of}
 use Rattle.certificate_definitions.specs.Parts as parts
 use Rattle.certificate_definitions.specs.Parts.{Format, Part, tabled, landmark_line, scope, row, may_follow, has_room, counted}

@@ -10,7 +10,7 @@ use Rattle.model.specs.PlanWriting.{is_lower_name}
 use Rattle.model.specs.Claims.{Claim, bound, none}
 use Rattle.certificate_definitions.specs.Evidence.{of_all, landmark, LineMark, expanded, cut, dead}
 use Rattle.certificate_definitions.specs.Certificates.{Version, has_landmarks, is_number, is_weight, rise}
-use Rattle.landmark_functions.specs.LandmarkLines.{most_values}
+use Rattle.lower_bounds.specs.LandmarkLines.{most_values}
 pub use Rattle.certificate_reader.specs.PartWords.{with_rest, then_words, then_weights, numbers_then, then_numbers, then_negated, share_words, shares_then, part_head, is_part_word, part_rest, IsPartReadAs, may_be_share, IsShareFirst}
 use Rattle.certificate_definitions.specs.CertificateText.{NamedAtom, Format, TextLine, version, claims, constant, swapped, atom, part, listed, last, after_blank, numbers_text, is_line, version_number}
 

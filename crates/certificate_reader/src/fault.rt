@@ -16,7 +16,7 @@ pub enum TextFault {
 }
 
 /// Why there is no next line.
-#[derive(Clone, Copy, Debug, PartialEq, Eq)]
+#[derive(Clone, Copy)]
 pub(crate) enum NextFault {
     /// The text is faulty.
     Text(TextFault),

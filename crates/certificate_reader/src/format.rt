@@ -7,7 +7,7 @@ ghost use Rattle.certificate_reader.specs.Lines.{version_of};
 use crate::line::{MAX_CONSTANTS, Version};
 
 /// The parameters given by the lines before a line.
-#[derive(Clone, Copy, Debug, PartialEq, Eq)]
+#[derive(Clone, Copy)]
 pub(crate) struct Format {
     /// The version of the text.
     pub(crate) version: Version,

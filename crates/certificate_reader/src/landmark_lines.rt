@@ -1,7 +1,7 @@
 //! Parsers for the lines of landmark values: zones, and values over them.
 ghost use Rattle.std.specs.Prelude.{◌≡◌, ◌≢◌, ℕ, ◌≤◌, codes, IfNone, IfOk, IfSome, IsTrue, List, None, Option, Some, length, map};
 ghost use Rattle.std.specs.List.{list_all};
-ghost use Rattle.landmark_functions.specs.LandmarkLines as lines;
+ghost use Rattle.lower_bounds.specs.LandmarkLines as lines;
 ghost use Rattle.landmark_zones.specs.Landmarks.{share_of};
 ghost use Rattle.certificate_definitions.specs.Certificates.{rise};
 ghost use Rattle.certificate_definitions.specs.CertificateText.{longest_line, most_atoms};

@@ -75,7 +75,7 @@ pub enum Mark {
 }
 
 /// A state of the listing.
-#[derive(Debug, PartialEq, Eq, Drop)]
+#[derive(PartialEq, Eq, Drop)]
 pub struct StateLine {
     /// The cost at which the state is listed.
     pub cost: u64,
@@ -86,7 +86,7 @@ pub struct StateLine {
 }
 
 /// An atom, by the names of its predicate and objects, in lower case.
-#[derive(Debug, PartialEq, Eq, Drop)]
+#[derive(PartialEq, Eq, Drop)]
 pub struct NamedAtom {
     /// The predicate's name.
     pub predicate: Vec<u8>,
@@ -95,7 +95,7 @@ pub struct NamedAtom {
 }
 
 /// A line of a certificate's text.
-#[derive(Debug, PartialEq, Eq, Drop)]
+#[derive(PartialEq, Eq, Drop)]
 pub enum CertLine {
     /// The first line: `pddl-cert 2`.
     Head(Version),

@@ -2,8 +2,8 @@
 //! of evidence has its variants here.
 ghost use Rattle.std.specs.Prelude.{◌≡◌, ◌==◌, ◌≤◌, ◌+◌, ℕ, codes, IsTrue, List, Some, length, map};
 ghost use Rattle.lower_bounds.specs.TableFunctions.{Row};
-ghost use Rattle.landmark_functions.specs.LandmarkFunctions.{Zone};
-ghost use Rattle.landmark_functions.specs.LandmarkLines.{zone, value};
+ghost use Rattle.lower_bounds.specs.LandmarkFunctions.{Zone};
+ghost use Rattle.lower_bounds.specs.LandmarkLines.{zone, value};
 ghost use Rattle.landmark_zones.specs.Landmarks.{share_of};
 ghost use Rattle.certificate_definitions.specs.CertificateText.{longest_line, most_atoms};
 ghost use Rattle.certificate_definitions.specs.Parts.{are_few, how_many, landmark_line, no_parts, row, scope, tabled};
@@ -26,7 +26,7 @@ pub const MAX_TABLES: usize = 4_194_304;
 pub const MAX_ROWS: usize = 4_194_304;
 
 /// A part of a certificate's text.
-#[derive(Debug, PartialEq, Eq, Drop)]
+#[derive(PartialEq, Eq, Drop)]
 pub enum PartLine {
     /// A table over these atoms: `table 0 2`.
     Table {
@@ -55,7 +55,7 @@ pub enum PartLine {
 }
 
 /// The numbers of parts so far, by kind.
-#[derive(Clone, Copy, Debug, PartialEq, Eq)]
+#[derive(Clone, Copy)]
 pub(crate) struct PartCounts {
     /// The number of tables.
     pub(crate) tables: usize,

@@ -10,7 +10,7 @@ use crate::waiting::Waiting;
 use devices::{IoFault, Source};
 
 /// What is buffered of a text.
-#[derive(Clone, Copy, Debug, PartialEq, Eq)]
+#[derive(Clone, Copy)]
 pub(crate) enum Ready {
     /// A line of this length, with its LF.
     Line(usize),

@@ -16,7 +16,7 @@ use crate::part_line::{PartCounts, PartLine};
 use std::alloc::Global;
 
 /// The lines that may come next.
-#[derive(Clone, Copy, Debug, PartialEq, Eq)]
+#[derive(Clone, Copy)]
 pub(crate) enum Stage {
     /// The version.
     Version,
@@ -31,7 +31,7 @@ pub(crate) enum Stage {
 }
 
 /// The lines after the constants so far: exchanges, then atoms (counted by the format), then parts, then states.
-#[derive(Clone, Copy, Debug, PartialEq, Eq)]
+#[derive(Clone, Copy)]
 pub(crate) struct Body {
     /// The form of lines.
     pub(crate) format: Format,

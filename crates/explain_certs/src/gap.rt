@@ -51,7 +51,6 @@ pub(crate) fn gap_at(
 }
 
 /// The listed states of a certificate without exchanges.
-#[derive(Drop)]
 struct Listing<'a> {
     alloc: Global,
     cert: CheckedCert<'a>,
@@ -59,6 +58,17 @@ struct Listing<'a> {
     atoms: IndexSet<Atom>,
     /// The fluent predicates of the task.
     fluents: FluentPredicates,
+}
+
+impl Drop for Listing<'_> {
+    fn drop(self) {
+        let Self {
+            alloc: _,
+            cert: _,
+            atoms: _,
+            fluents: _,
+        } = self;
+    }
 }
 
 impl Listing<'_> {

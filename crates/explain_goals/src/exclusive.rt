@@ -12,7 +12,7 @@ use crate::mutex_groups::mutex_group;
 use crate::reached::has;
 use crate::relaxation::Relaxation;
 use abstractions::found_groups;
-use faults::NoMemory;
+use faults::{DraftMemory, NoMemory};
 use formulas::{Atom, Literal, State};
 use std::alloc::Global;
 
@@ -41,7 +41,8 @@ impl Relaxation<'_, '_> {
             return Ok(None);
         }
         let initial = self.ground.initial(alloc)?;
-        let groups = found_groups(alloc, self.ground, &initial)?;
+        let memory = DraftMemory::new(alloc);
+        let groups = memory.finish(found_groups(&memory, self.ground, &initial))?;
         'groups: for numbers in &groups {
             if self.are_two_required(numbers) {
                 if let Some(found) = self.exclusive_in(alloc, literals, numbers)? {

@@ -18,8 +18,7 @@ ghost use Rattle.explain_goals.specs.Relaxation.{sure_of_instance};
 use crate::relaxation::Relaxation;
 use faults::NoMemory;
 use formulas::{Atom, Instance, Literal, State, sure};
-use grounding::CountingChange;
-use potentials::instance_count;
+use grounding::{CountingChange, instance_count};
 use std::alloc::Global;
 
 /// The maximum number of atoms in a link of a chain.

@@ -10,9 +10,8 @@ ghost use Rattle.explain_goals.specs.Settled as defined;
 ghost use Rattle.explain_goals.specs.Settled.{AreMade, AreSettledBelow, IsGrown, IsGrownTo, IsLeastSettled};
 
 use faults::NoMemory;
-use grounding::{CountingChange, Ground, NumberedLiteral};
+use grounding::{CountingChange, Ground, NumberedLiteral, instance_count};
 use packed_state::Packed;
-use potentials::instance_count;
 use std::alloc::Global;
 
 /// The least set of atoms, by number, that has the initial ones and to which no instance adds, if deletes and negative literals are

@@ -16,7 +16,7 @@ use Rattle.symmetries_definitions.specs.Exchanges.{Exchange, objects_in}
 use Rattle.certificate_definitions.specs.CertificateText.{after_blank, swapped, line_text, longest_line}
 use Rattle.certificate_definitions.specs.CertificateNames.{has_atom_names, predicate_names, named_exchange, is_exchange_of}
 use Rattle.cert_checker.specs.Exchanged.{is_short}
-use Rattle.ground_listings.specs.Exchanges.{can_be_named, most_pairs}
+use Rattle.search_spaces.specs.Exchanges.{can_be_named, most_pairs}
 
 module _ (task : Task) (has : IsTrue (has_atom_names task)) where
   lowers : list_all is_lower_name (object_names task) ≡ true

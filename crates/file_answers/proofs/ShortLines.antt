@@ -6,7 +6,7 @@ use Rattle.std.specs.List.{flat_map, list_all}
 use Rattle.std.proofs.lemmas.Bool.{and_from, and_parts, leb-true, ltb-true}
 use Rattle.std.proofs.lemmas.Fmt.{length-decimal-le}
 use Rattle.model.specs.Task.{Task}
-use Rattle.landmark_functions.specs.LandmarkLines.{Share, is_share, is_value, is_zone, literal_count, most_entries, most_values, most_zones, number_text, rise, share_count, share_text, value}
+use Rattle.lower_bounds.specs.LandmarkLines.{Share, is_share, is_value, is_zone, literal_count, most_entries, most_values, most_zones, number_text, rise, share_count, share_text, value}
 use Rattle.certificate_definitions.specs.Certificates.{Certificate, has_landmarks, keeps_limits}
 use Rattle.certificate_definitions.specs.CertificateText.{landmark_line, line_text, longest_line, part}
 use Rattle.certificate.proofs.LimitsLemmas.{limits_of}

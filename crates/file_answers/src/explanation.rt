@@ -29,7 +29,6 @@ pub struct Explanation {
 }
 
 /// A further fault.
-#[derive(Drop)]
 pub struct FurtherFault {
     /// The refusal and its place.
     pub fault: FileRefusal,
@@ -37,8 +36,13 @@ pub struct FurtherFault {
     pub text: String,
 }
 
+impl Drop for FurtherFault {
+    fn drop(self) {
+        let Self { fault: _, text: _ } = self;
+    }
+}
+
 /// A place in a file, as an editor shows it.
-#[derive(Drop)]
 pub struct Location {
     /// The name of the file, as given.
     pub file: String,
@@ -48,6 +52,17 @@ pub struct Location {
     pub column: usize,
     /// Its length in bytes.
     pub length: usize,
+}
+
+impl Drop for Location {
+    fn drop(self) {
+        let Self {
+            file: _,
+            line: _,
+            column: _,
+            length: _,
+        } = self;
+    }
 }
 
 impl Location {

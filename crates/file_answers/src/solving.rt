@@ -12,8 +12,7 @@ ghost use Rattle.model.specs.Files.{IsTaskOf, IsTaskFault};
 ghost use Rattle.model.specs.PlanWriting.{has_names};
 
 use crate::files::{FileFault, TaskFiles, task_of_files};
-use devices::{Sink, Unheard};
-use devices_clock::Clock;
+use devices::{Clock, Sink, Unheard};
 use faults::NoMemory;
 use solver::{Answer, Limits, solve_and_say};
 use std::alloc::Global;

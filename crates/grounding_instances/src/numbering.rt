@@ -24,7 +24,6 @@ use task::{Atom, Formula, PredicateId, Task};
 
 /// The kept instances of a task and its numbered atoms, each at the index of its number, from 0. The atoms are of fluent
 /// predicates, and each has exactly one number.
-#[derive(Drop)]
 pub struct Numbering<'t> {
     statics: Statics<'t>,
     atoms: IndexSet<Atom>,
@@ -33,6 +32,16 @@ pub struct Numbering<'t> {
     ghost kept: { map instance_of instances.items ≡ kept_instances (task_of statics.task.now) } by { Prim.hlevel props },
     ghost fluent: { (a : model_task.Atom) → occurs_in (map atom_of atoms.keys) a ≡ true → is_fluent (task_of statics.task.now) a.predicate ≡ true } by { Prim.hlevel props },
     ghost distinct: { are_distinct (map atom_of atoms.keys) ≡ true } by { Prim.hlevel props },
+}
+
+impl Drop for Numbering<'_> {
+    fn drop(self) {
+        let Self {
+            statics: _,
+            atoms: _,
+            instances: _,
+        } = self;
+    }
 }
 
 impl<'t> Numbering<'t> {

@@ -17,7 +17,6 @@ use std::alloc::Global;
 use task::{Atom, Formula, PredicateId, Task, TypeUnion};
 
 /// A task with its fluent predicates and its initial state, and the allocator of what is made from them.
-#[derive(Drop)]
 pub(crate) struct Statics<'t> {
     pub(crate) alloc: Global,
     pub(crate) task: &'t Task,
@@ -25,6 +24,17 @@ pub(crate) struct Statics<'t> {
     initial: InitialAtoms,
     ghost are_fluents: { AreFluentsOf (task_of task.now) fluents } by { Prim.hlevel props },
     ghost is_initial: { (a : model_task.Atom) → contains (facts_of initial) a ≡ contains (initial_state (task_of task.now)) a } by { Prim.hlevel props },
+}
+
+impl Drop for Statics<'_> {
+    fn drop(self) {
+        let Self {
+            alloc: _,
+            task: _,
+            fluents: _,
+            initial: _,
+        } = self;
+    }
 }
 
 impl<'t> Statics<'t> {

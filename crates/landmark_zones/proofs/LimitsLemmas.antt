@@ -10,9 +10,9 @@ use Rattle.std.proofs.lemmas.List.Sorted.{searched}
 use Rattle.std.proofs.lemmas.List.Sums.{sum_by-cons}
 use Rattle.std.proofs.lemmas.Option.{slice_get_within, get_or_from_slice_get}
 use Rattle.lower_bounds.specs.TableFunctions.{is_among}
-use Rattle.landmark_functions.specs.LandmarkFunctions.{Zone}
-use Rattle.landmark_functions.specs.LandmarkLines as lines
-use Rattle.landmark_functions.specs.LandmarkLines.{rise, literal_count, share_count}
+use Rattle.lower_bounds.specs.LandmarkFunctions.{Zone}
+use Rattle.lower_bounds.specs.LandmarkLines as lines
+use Rattle.lower_bounds.specs.LandmarkLines.{rise, literal_count, share_count}
 use Rattle.landmark_zones.specs.declared.values.Share.{Share}
 use Rattle.landmark_zones.specs.declared.zones.ZoneEnd.{ZoneEnd}
 use Rattle.landmark_zones.specs.Landmarks.{share_of}

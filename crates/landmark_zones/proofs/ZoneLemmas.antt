@@ -2,7 +2,7 @@
 use Rattle.std.proofs.Common.{◌≡◌, ◌∙◌, ℕ, zero, suc, ◌+◌, ◌-◌, ◌<◌, ◌≤◌, true, List, [], ◌∷◌, ◌++◌, length, get_or, Some, refl, sym, ap, subst, arith, length-append}
 use Rattle.std.specs.Prelude.{◌&&◌, ◌==◌, nat_le, slice_get}
 use Rattle.std.proofs.lemmas.Bool.{and_parts, and_from, eqb-true, eq-eqb, leb-true, le-leb}
-use Rattle.landmark_functions.specs.LandmarkFunctions.{Zone}
+use Rattle.lower_bounds.specs.LandmarkFunctions.{Zone}
 use Rattle.landmark_zones.specs.declared.zones.ZoneEnd.{ZoneEnd}
 use Rattle.landmark_zones.specs.Rows.{between, zones_from, are_zone_ends, zone_start}
 use Rattle.landmark_zones.proofs.RowLemmas.{between-append, between-rest}

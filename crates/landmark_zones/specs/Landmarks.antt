@@ -1,8 +1,8 @@
 -- The code's landmarks, in the model's terms.
 use Rattle.std.specs.Prelude.{List, [], ◌∷◌, ◌++◌, map}
-use Rattle.landmark_functions.specs.LandmarkFunctions.{Zone}
-use Rattle.landmark_functions.specs.LandmarkLines as lines
-use Rattle.landmark_functions.specs.LandmarkLines.{NumberedLandmarks}
+use Rattle.lower_bounds.specs.LandmarkFunctions.{Zone}
+use Rattle.lower_bounds.specs.LandmarkLines as lines
+use Rattle.lower_bounds.specs.LandmarkLines.{NumberedLandmarks}
 use Rattle.landmark_zones.specs.declared.values.Share.{Share}
 use Rattle.landmark_zones.specs.declared.landmarks.Landmarks.{Landmarks}
 use Rattle.landmark_zones.specs.Rows.{rows_of, zones_of}

@@ -1,6 +1,6 @@
 -- Rows of any length in memory: their entries in one list, and where each row ends.
 use Rattle.std.specs.Prelude.{ℕ, zero, suc, ◌-◌, ◌==◌, nat_le, Bool, ◌&&◌, List, [], ◌∷◌, length, take, drop}
-use Rattle.landmark_functions.specs.LandmarkFunctions.{Zone}
+use Rattle.lower_bounds.specs.LandmarkFunctions.{Zone}
 use Rattle.landmark_zones.specs.declared.values.Share.{Share}
 use Rattle.landmark_zones.specs.declared.values.Values.{Values}
 use Rattle.landmark_zones.specs.declared.zones.ZoneEnd.{ZoneEnd}

@@ -11,7 +11,6 @@ use std::alloc::Global;
 
 /// Zones, and landmark values over them: the value of a state is the sum of the weights of the zones that are whole in it. Zones and
 /// values are numbered from 0, each by itself.
-#[derive(Drop)]
 pub struct Landmarks {
     zones: Zones,
     values: Values,
@@ -19,11 +18,20 @@ pub struct Landmarks {
     ghost values_fit: { IsTrue (are_rows values) } by { Prim.hlevel props },
 }
 
+impl Drop for Landmarks {
+    fn drop(self) {
+        let Self {
+            zones: _,
+            values: _,
+        } = self;
+    }
+}
+
 impl Landmarks {
     ghost use Rattle.std.specs.Prelude.{◌≡◌, ◌<◌, [], OnErr, OnOk, Some, length, map, slice_get};
     ghost use Rattle.std.specs.Prelude.{◌&&◌, nat_le};
     ghost use Rattle.std.specs.List.{list_all};
-    ghost use Rattle.landmark_functions.specs.LandmarkLines as lines;
+    ghost use Rattle.lower_bounds.specs.LandmarkLines as lines;
     ghost use Rattle.landmark_zones.specs.Landmarks.{landmarks_of, share_of, with_value, with_zone};
 
     /// No zones and no values.

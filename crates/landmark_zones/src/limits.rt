@@ -1,8 +1,8 @@
 //! What a certificate's text may have of zones and values.
 ghost use Rattle.std.specs.Prelude.{◌≡◌, IsTrue, map, nat_le, ◌+◌, length};
 ghost use Rattle.std.specs.List.{list_all};
-ghost use Rattle.landmark_functions.specs.LandmarkLines as lines;
-ghost use Rattle.landmark_functions.specs.LandmarkLines.{is_share, is_value, is_zone, rise};
+ghost use Rattle.lower_bounds.specs.LandmarkLines as lines;
+ghost use Rattle.lower_bounds.specs.LandmarkLines.{is_share, is_value, is_zone, rise};
 ghost use Rattle.landmark_zones.specs.Landmarks.{share_of};
 ghost use Rattle.landmark_zones.specs.Limits.{are_others};
 

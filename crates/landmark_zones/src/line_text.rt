@@ -2,8 +2,8 @@
 ghost use Rattle.std.specs.Prelude.{◌≡◌, ◌++◌, OnOk, map};
 ghost use Rattle.std.specs.Fmt.{decimal};
 ghost use Rattle.std.specs.List.{flat_map};
-ghost use Rattle.landmark_functions.specs.LandmarkLines as line;
-ghost use Rattle.landmark_functions.specs.LandmarkLines.{cut_by_text, dead_by_text, negated_text, number_text, numbers_text, share_text, whole_line};
+ghost use Rattle.lower_bounds.specs.LandmarkLines as line;
+ghost use Rattle.lower_bounds.specs.LandmarkLines.{cut_by_text, dead_by_text, negated_text, number_text, numbers_text, share_text, whole_line};
 ghost use Rattle.landmark_zones.specs.Landmarks.{share_of};
 
 use crate::values::Share;

@@ -13,8 +13,8 @@ use Rattle.model.specs.NumberedLiterals.{literals_of_number}
 use Rattle.model.specs.ConditionalChanges.{ConditionalChange, conditional_of_number}
 use Rattle.model.proofs.ListLemmas.{Contains-here, Contains-there}
 use Rattle.lower_bounds.specs.TableFunctions.{is_among}
-use Rattle.landmark_functions.specs.LandmarkFunctions.{Zone, is_in, has_any}
-use Rattle.landmark_functions.specs.FairLandmarks.{makes_one, may_take_effect, may_break, charge}
+use Rattle.lower_bounds.specs.LandmarkFunctions.{Zone, is_in, has_any}
+use Rattle.lower_bounds.specs.FairLandmarks.{makes_one, may_take_effect, may_break, charge}
 use Rattle.landmark_zones.specs.declared.values.Share.{Share}
 use Rattle.landmark_zones.specs.Landmarks.{share_of}
 use Rattle.landmarks.specs.declared.counters.Counters.{Counters}

@@ -13,9 +13,9 @@ use Rattle.model.specs.NumberedLiterals.{literals_of_instance, literals_of_numbe
 use Rattle.model.specs.ConditionalChanges.{conditional_of_instance, conditional_of_number}
 use Rattle.lower_bounds.specs.FairPotentials.{nothing}
 use Rattle.lower_bounds.specs.TableFunctions.{Table}
-use Rattle.landmark_functions.specs.LandmarkFunctions.{Zone, LandmarkFunction}
-use Rattle.landmark_functions.specs.FairLandmarks.{charge, charges, AreFairAt, IsFair, IsDeadFair}
-use Rattle.landmark_functions.specs.LandmarkLines.{Share, NumberedLandmarks, share_count}
+use Rattle.lower_bounds.specs.LandmarkFunctions.{Zone, LandmarkFunction}
+use Rattle.lower_bounds.specs.FairLandmarks.{charge, charges, AreFairAt, IsFair, IsDeadFair}
+use Rattle.lower_bounds.specs.LandmarkLines.{Share, NumberedLandmarks, share_count}
 use Rattle.landmark_zones.specs.declared.values.Share as in_memory
 use Rattle.landmark_zones.specs.Landmarks.{share_of}
 use Rattle.potentials.specs.declared.allowance.Allowance.TheVariants.{Cost, Nothing}

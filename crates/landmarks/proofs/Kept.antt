@@ -5,8 +5,8 @@ use Rattle.std.specs.List.{list_all}
 use Rattle.std.proofs.lemmas.Bool.{and_parts, leb-true}
 use Rattle.lower_bounds.specs.TableFunctions.{is_among}
 use Rattle.lower_bounds.proofs.TableLists.{all-at}
-use Rattle.landmark_functions.specs.LandmarkFunctions.{Zone}
-use Rattle.landmark_functions.specs.LandmarkLines.{is_value, is_zone, literal_count, rise, share_count}
+use Rattle.lower_bounds.specs.LandmarkFunctions.{Zone}
+use Rattle.lower_bounds.specs.LandmarkLines.{is_value, is_zone, literal_count, rise, share_count}
 use Rattle.landmark_zones.proofs.LimitsLemmas.{rise-up}
 use Rattle.landmarks.specs.Breaking.{IsSorted}
 use Rattle.landmarks.specs.Laws.{KeptOnesAreSorted}

@@ -7,9 +7,9 @@ use Rattle.std.proofs.lemmas.Bool.{and_parts, ltb-true}
 use Rattle.std.proofs.lemmas.List.Sums.{sum_by-cons}
 use Rattle.model.proofs.ListLemmas.{Contains-got}
 use Rattle.lower_bounds.proofs.TableLists.{all-at}
-use Rattle.landmark_functions.specs.LandmarkFunctions.{Zone, Landmark}
-use Rattle.landmark_functions.specs.LandmarkLines.{landmark_of}
-use Rattle.landmark_functions.specs.Laws.{is_zone_over}
+use Rattle.lower_bounds.specs.LandmarkFunctions.{Zone, Landmark}
+use Rattle.lower_bounds.specs.LandmarkLines.{landmark_of}
+use Rattle.lower_bounds.specs.LandmarkLaws.{is_zone_over}
 use Rattle.landmark_zones.specs.declared.values.Share.{Share}
 use Rattle.landmark_zones.specs.Landmarks.{share_of}
 

@@ -4,8 +4,8 @@ use Rattle.std.specs.Bool.{beq}
 use Rattle.model.specs.NumberedLiterals.{NumberedChange}
 use Rattle.model.specs.ConditionalChanges.{ConditionalChange}
 use Rattle.landmark_zones.specs.declared.zones.ZoneRef.{ZoneRef}
-use Rattle.landmark_functions.specs.LandmarkFunctions.{Zone}
-use Rattle.landmark_functions.specs.FairLandmarks.{makes_one, may_take_effect}
+use Rattle.lower_bounds.specs.LandmarkFunctions.{Zone}
+use Rattle.lower_bounds.specs.FairLandmarks.{makes_one, may_take_effect}
 
 abbrev pub zone_in : ZoneRef → Zone
 zone_in z = record { atoms = z.atoms.now; negated = z.negated.now }

@@ -8,9 +8,9 @@ use Rattle.model.specs.NumberedLiterals.{literals_of_number}
 use Rattle.model.specs.ConditionalChanges.{conditional_of_number}
 use Rattle.model.specs.Grounding.{ground_system}
 use Rattle.lower_bounds.specs.TableFunctions.{is_among}
-use Rattle.landmark_functions.specs.LandmarkFunctions.{Zone, Landmark}
-use Rattle.landmark_functions.specs.FairLandmarks.{charge}
-use Rattle.landmark_functions.specs.LandmarkLines.{Share}
+use Rattle.lower_bounds.specs.LandmarkFunctions.{Zone, Landmark}
+use Rattle.lower_bounds.specs.FairLandmarks.{charge}
+use Rattle.lower_bounds.specs.LandmarkLines.{Share}
 use Rattle.landmark_zones.specs.declared.values.Share as in_memory
 use Rattle.landmark_zones.specs.Landmarks.{share_of}
 use Rattle.potentials.specs.declared.allowance.Allowance.{Allowance}

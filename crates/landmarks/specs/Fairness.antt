@@ -7,9 +7,9 @@ use Rattle.model.specs.NumberedLiterals.{NumberedLiteral, literals_of_number}
 use Rattle.model.specs.ConditionalChanges.{conditional_of_number}
 use Rattle.lower_bounds.specs.TableFunctions.{Table, is_among}
 use Rattle.lower_bounds.specs.FairTables.{is_asked}
-use Rattle.landmark_functions.specs.LandmarkFunctions.{Zone, has_any, Landmark, LandmarkFunction}
-use Rattle.landmark_functions.specs.FairLandmarks.{charge, IsFair, IsDeadFair}
-use Rattle.landmark_functions.specs.LandmarkLines.{Share, NumberedLandmarks, landmark_of}
+use Rattle.lower_bounds.specs.LandmarkFunctions.{Zone, has_any, Landmark, LandmarkFunction}
+use Rattle.lower_bounds.specs.FairLandmarks.{charge, IsFair, IsDeadFair}
+use Rattle.lower_bounds.specs.LandmarkLines.{Share, NumberedLandmarks, landmark_of}
 use Rattle.landmarks.specs.declared.testing.Fairness.{Fairness}
 use Rattle.landmarks.specs.declared.testing.Fairness.TheVariants.{DeadFair, Fair, Unfair}
 

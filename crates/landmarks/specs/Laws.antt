@@ -1,6 +1,6 @@
 -- What a text may have of zones and values can be tested.
 use Rattle.std.specs.Prelude.{ℕ, ◌≤◌, IsTrue}
-use Rattle.landmark_functions.specs.LandmarkLines.{NumberedLandmarks, keep_limits, share_count}
+use Rattle.lower_bounds.specs.LandmarkLines.{NumberedLandmarks, keep_limits, share_count}
 use Rattle.landmarks.specs.Breaking.{AreSorted}
 
 abbrev pub KeptOnesAreSorted : Type 0

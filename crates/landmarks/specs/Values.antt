@@ -1,11 +1,11 @@
 -- What one share of a value gives, and what it charges.
 use Rattle.std.specs.Prelude.{ℕ, Bool, List}
 use Rattle.std.specs.Option.{option_map_or}
-use Rattle.landmark_functions.specs.LandmarkFunctions.{Zone, gives}
+use Rattle.lower_bounds.specs.LandmarkFunctions.{Zone, gives}
 use Rattle.model.specs.NumberedLiterals.{NumberedLiteral}
 use Rattle.model.specs.ConditionalChanges.{ConditionalChange}
-use Rattle.landmark_functions.specs.FairLandmarks.{charge}
-use Rattle.landmark_functions.specs.LandmarkLines.{Share, landmark_of}
+use Rattle.lower_bounds.specs.FairLandmarks.{charge}
+use Rattle.lower_bounds.specs.LandmarkLines.{Share, landmark_of}
 
 -- the weight of the share, if there is a zone with its number and it is whole in the packed state
 abbrev pub share_gives : List Zone → List Bool → Share → ℕ

@@ -6,8 +6,8 @@ ghost use Rattle.grounding.specs.Changes.{conditional_of};
 ghost use Rattle.model.specs.ConditionalChanges.{changes_in};
 ghost use Rattle.lower_bounds.specs.FairPotentials.{makes};
 ghost use Rattle.lower_bounds.specs.TableFunctions.{is_among};
-ghost use Rattle.landmark_functions.specs.LandmarkFunctions.{has_any, is_in};
-ghost use Rattle.landmark_functions.specs.FairLandmarks as fair;
+ghost use Rattle.lower_bounds.specs.LandmarkFunctions.{has_any, is_in};
+ghost use Rattle.lower_bounds.specs.FairLandmarks as fair;
 ghost use Rattle.landmarks.specs.Breaking.{IsRising, IsSorted, adds_surely, breaks, zone_in};
 
 use grounding::{CountingChange, NumberedLiteral};

@@ -7,7 +7,7 @@ ghost use Rattle.model.specs.NumberedLiterals.{literals_of_number};
 ghost use Rattle.model.specs.ConditionalChanges.{conditional_of_number};
 ghost use Rattle.model.specs.StaticallyFalse.{kept_instances};
 ghost use Rattle.lower_bounds.specs.TableFunctions.{is_among};
-ghost use Rattle.landmark_functions.specs.FairLandmarks as fair;
+ghost use Rattle.lower_bounds.specs.FairLandmarks as fair;
 ghost use Rattle.landmark_zones.specs.Landmarks.{landmarks_of, share_of};
 ghost use Rattle.landmarks.specs.Breaking.{AreSorted, IsSorted, zone_in};
 ghost use Rattle.table_rows.specs.Lists.{list_at};
@@ -34,7 +34,6 @@ pub(crate) struct Charge<'z> {
 
 /// An index of a ground task by which the instances that may break a zone are found: those of each literal that they make true. It
 /// has the kept instances that the tables beside the values do not shut out.
-#[derive(Drop)]
 pub struct CutIndex<'a, 't> {
     pub(crate) ground: &'a Ground<'t>,
     /// The numbers of its instances.
@@ -42,6 +41,16 @@ pub struct CutIndex<'a, 't> {
     pub(crate) makers: Makers,
     ghost kept: { All (λ number. number < length (kept_instances (task_in ground.now))) asked.now } by { Prim.hlevel props },
     ghost made: { AreMakers (task_in ground.now) (atoms_in ground.now) asked.now makers } by { Prim.hlevel props },
+}
+
+impl Drop for CutIndex<'_, '_> {
+    fn drop(self) {
+        let Self {
+            ground: _,
+            asked: _,
+            makers: _,
+        } = self;
+    }
 }
 
 impl<'a, 't> CutIndex<'a, 't> {

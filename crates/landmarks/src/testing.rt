@@ -3,7 +3,7 @@ ghost use Rattle.std.specs.Prelude.{◌≡◌, ◌≤◌, ◌∷◌, [], IfOk, L
 ghost use Rattle.std.specs.List.{filter_map, list_all};
 ghost use Rattle.grounding.specs.Views.{numbered_of};
 ghost use Rattle.lower_bounds.specs.TableFunctions as tables;
-ghost use Rattle.landmark_functions.specs.LandmarkLines.{landmark_of, share_count};
+ghost use Rattle.lower_bounds.specs.LandmarkLines.{landmark_of, share_count};
 ghost use Rattle.landmark_zones.specs.Landmarks.{landmarks_of, share_of};
 ghost use Rattle.landmarks.specs.Breaking.{AreSorted};
 ghost use Rattle.landmarks.specs.Counters.{AreCounters};

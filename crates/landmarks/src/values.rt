@@ -2,10 +2,10 @@
 ghost use Rattle.std.specs.Prelude.{◌≡◌, ◌<◌, ◌≤◌, IsTrue, get_or, length, map, nat_le, nat_lt, not, false, sum_by};
 ghost use Rattle.std.specs.List.{filter_map, list_all};
 ghost use Rattle.packed_state.specs.Packed.{bits_of};
-ghost use Rattle.landmark_functions.specs.LandmarkFunctions as landmarks;
-ghost use Rattle.landmark_functions.specs.LandmarkFunctions.{gives};
-ghost use Rattle.landmark_functions.specs.LandmarkLines.{landmark_of};
-ghost use Rattle.landmark_functions.specs.Laws.{is_zone_over};
+ghost use Rattle.lower_bounds.specs.LandmarkFunctions as landmarks;
+ghost use Rattle.lower_bounds.specs.LandmarkFunctions.{gives};
+ghost use Rattle.lower_bounds.specs.LandmarkLines.{landmark_of};
+ghost use Rattle.lower_bounds.specs.LandmarkLaws.{is_zone_over};
 ghost use Rattle.landmark_zones.specs.Landmarks.{landmarks_of, share_of};
 ghost use Rattle.landmarks.specs.Breaking.{zone_in};
 ghost use Rattle.landmarks.specs.Values.{share_gives};

@@ -12,12 +12,12 @@ use Rattle.model.proofs.ListLemmas.{Contains-got}
 use Rattle.lower_bounds.specs.TableFunctions.{is_among}
 use Rattle.lower_bounds.specs.TableLaws.{AreAllNumbered}
 use Rattle.lower_bounds.proofs.TableLists.{all-at}
-use Rattle.landmark_functions.specs.LandmarkFunctions.{Zone, Landmark, gives, is_whole, value}
-use Rattle.landmark_functions.specs.LandmarkLines.{NumberedLandmarks, Share, functions_of, landmark_of, is_share, is_value, is_zone, keep_limits, literal_count, rise, share_count}
-use Rattle.landmark_functions.specs.FairLandmarks.{AreClosed, IsDeadFair}
-use Rattle.landmark_functions.specs.Laws.{IsOver, is_zone_over}
-use Rattle.landmark_functions.proofs.Kept.{kept_ones_are_over}
-use Rattle.landmark_functions.proofs.LowerBound.{dead_fair_ones_report_dead_ends, fair_ones_are_lower_bounds}
+use Rattle.lower_bounds.specs.LandmarkFunctions.{Zone, Landmark, gives, is_whole, value}
+use Rattle.lower_bounds.specs.LandmarkLines.{NumberedLandmarks, Share, functions_of, landmark_of, is_share, is_value, is_zone, keep_limits, literal_count, rise, share_count}
+use Rattle.lower_bounds.specs.FairLandmarks.{AreClosed, IsDeadFair}
+use Rattle.lower_bounds.specs.LandmarkLaws.{IsOver, is_zone_over}
+use Rattle.lower_bounds.proofs.KeptLandmarks.{kept_ones_are_over}
+use Rattle.lower_bounds.proofs.LandmarkLowerBound.{dead_fair_ones_report_dead_ends, fair_ones_are_lower_bounds}
 use Rattle.landmark_zones.specs.Landmarks.{landmarks_of}
 use Rattle.landmarks.specs.declared.testing.Fairness.{Fairness}
 use Rattle.landmarks.specs.Fairness.{AreFairness, IsFairness, function_over, is_dead_fair, is_unfair}

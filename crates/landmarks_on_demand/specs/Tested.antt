@@ -4,9 +4,9 @@ use Rattle.model.specs.Task.{Atom, Task}
 use Rattle.model.specs.Grounding.{ground_system}
 use Rattle.search.specs.Estimates.{IsAdmissible}
 use Rattle.search.specs.DeadEnds.{ReportsDeadEnds}
-use Rattle.landmark_functions.specs.LandmarkFunctions.{LandmarkFunction, value}
-use Rattle.landmark_functions.specs.LandmarkLines.{NumberedLandmarks, keep_limits}
-use Rattle.landmark_functions.specs.FairLandmarks.{IsFair, IsDeadFair}
+use Rattle.lower_bounds.specs.LandmarkFunctions.{LandmarkFunction, value}
+use Rattle.lower_bounds.specs.LandmarkLines.{NumberedLandmarks, keep_limits}
+use Rattle.lower_bounds.specs.FairLandmarks.{IsFair, IsDeadFair}
 use Rattle.landmark_zones.specs.Landmarks.{landmarks_of}
 use Rattle.landmarks.specs.Fairness.{function_over}
 use Rattle.landmarks_on_demand.specs.declared.tested.TestedValue.{TestedValue}

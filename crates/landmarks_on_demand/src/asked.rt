@@ -7,8 +7,7 @@ ghost use Rattle.lower_bounds.specs.FairTables.{is_asked};
 ghost use Rattle.landmarks.specs.Fairness.{AreAsked};
 
 use faults::NoMemory;
-use grounding::Ground;
-use potentials::instance_count;
+use grounding::{Ground, instance_count};
 use std::alloc::Global;
 
 /// The numbers of the kept instances for which a value without tables is tested: all but those that need an atom without a number.

@@ -57,7 +57,6 @@ impl DraftLimits {
 
 /// Landmark values of a ground task, drafted by LM-cut where a search asks for them. Each is tested before it is used. It serves the
 /// state for which it was drafted, and those that are reached from there.
-#[derive(Drop)]
 pub struct LandmarksOnDemand<'i, 'g, 't> {
     alloc: Global,
     index: &'i CutIndex<'g, 't>,
@@ -79,6 +78,23 @@ pub struct LandmarksOnDemand<'i, 'g, 't> {
     ghost asked: { AreAsked (task_of index.now) (atoms_of index.now) [] (asked_in index.now) } by { Prim.hlevel props },
     ghost drafts: { atom_count_of drafter ≡ length (atoms_of index.now) } by { Prim.hlevel props },
     ghost tested: { All (IsTestedIfKept (task_of index.now) (atoms_of index.now)) values.items } by { Prim.hlevel props },
+}
+
+impl Drop for LandmarksOnDemand<'_, '_, '_> {
+    fn drop(self) {
+        let Self {
+            alloc: _,
+            index: _,
+            drafter: _,
+            limits: _,
+            drafted: _,
+            asked_for: _,
+            may_forget_at: _,
+            values: _,
+            entries: _,
+            dead: _,
+        } = self;
+    }
 }
 
 impl<'i, 'g, 't> LandmarksOnDemand<'i, 'g, 't> {

@@ -10,11 +10,19 @@ use std::alloc::Global;
 
 /// Some of the values on demand, with numbers of their own: in the order in which they were first named. Nothing is promised of
 /// them: what a certificate has is tested.
-#[derive(Drop)]
 pub struct UsedValues {
     /// For each value on demand its number here, if it has one.
     numbers: Vec<Option<u32>>,
     landmarks: Landmarks,
+}
+
+impl Drop for UsedValues {
+    fn drop(self) {
+        let Self {
+            numbers: _,
+            landmarks: _,
+        } = self;
+    }
 }
 
 impl UsedValues {
@@ -94,7 +102,11 @@ impl UsedValues {
 
     /// All of them.
     pub fn into_landmarks(self) -> Landmarks {
-        self.landmarks
+        let Self {
+            numbers: _,
+            landmarks,
+        } = self;
+        landmarks
     }
 }
 

@@ -8,9 +8,9 @@ use Rattle.model.specs.Task.{Atom, Task}
 use Rattle.lower_bounds.specs.TableFunctions.{Table, has_rows}
 use Rattle.lower_bounds.proofs.TableLists.{all-at}
 use Rattle.model.proofs.ListLemmas.{Contains-got}
-use Rattle.landmark_functions.specs.LandmarkFunctions.{LandmarkFunction, gives, value}
-use Rattle.landmark_functions.specs.LandmarkLines.{NumberedLandmarks}
-use Rattle.landmark_functions.specs.FairLandmarks.{IsFair}
+use Rattle.lower_bounds.specs.LandmarkFunctions.{LandmarkFunction, gives, value}
+use Rattle.lower_bounds.specs.LandmarkLines.{NumberedLandmarks}
+use Rattle.lower_bounds.specs.FairLandmarks.{IsFair}
 use Rattle.landmarks.specs.declared.testing.Fairness.{Fairness}
 use Rattle.landmarks.specs.declared.testing.Fairness.TheVariants.{Unfair}
 use Rattle.landmarks.specs.Fairness.{AreAsked, AreFairness, is_unfair}

@@ -4,9 +4,9 @@ use Rattle.std.specs.List.{list_all}
 use Rattle.model.specs.Task.{Atom, Task}
 use Rattle.lower_bounds.specs.TableFunctions as tables
 use Rattle.lower_bounds.specs.TableFunctions.{SeveralValues, Table, dead_ends_of, functions_of, greatest_value}
-use Rattle.landmark_functions.specs.LandmarkFunctions.{LandmarkFunction, value}
-use Rattle.landmark_functions.specs.LandmarkLines.{NumberedLandmarks, Share, keep_limits}
-use Rattle.landmark_functions.specs.FairLandmarks.{IsFair, IsDeadFair}
+use Rattle.lower_bounds.specs.LandmarkFunctions.{LandmarkFunction, value}
+use Rattle.lower_bounds.specs.LandmarkLines.{NumberedLandmarks, Share, keep_limits}
+use Rattle.lower_bounds.specs.FairLandmarks.{IsFair, IsDeadFair}
 use Rattle.landmarks.specs.declared.testing.Fairness.{Fairness}
 use Rattle.landmarks.specs.Fairness.{function_over, is_dead_fair}
 use Rattle.certificate_definitions.specs.Evidence.{Basis, LineMark, of_all, landmark, expanded, cut, dead}

@@ -99,10 +99,15 @@ fn marks_by<L: StateListing>(
 }
 
 /// A state, and what is known of the values of one.
-#[derive(Drop)]
 pub(crate) struct Evaluation {
     pub(crate) state: Packed,
     pub(crate) known: KnownState,
+}
+
+impl Drop for Evaluation {
+    fn drop(self) {
+        let Self { state: _, known: _ } = self;
+    }
 }
 
 /// What lines rest on, chosen one after another, and the landmark values among it.

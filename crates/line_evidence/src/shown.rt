@@ -8,7 +8,7 @@ ghost use Rattle.grounding.specs.Ground.{atoms_in, task_in};
 ghost use Rattle.packed_state.specs.Packed.{bits_of};
 ghost use Rattle.certificate_reader.specs.Lines.{basis_of, mark_of};
 ghost use Rattle.certificate_definitions.specs.Evidence.{landmark};
-ghost use Rattle.landmark_functions.specs.LandmarkLines.{keep_limits};
+ghost use Rattle.lower_bounds.specs.LandmarkLines.{keep_limits};
 ghost use Rattle.landmark_zones.specs.Landmarks.{landmarks_of, share_of};
 ghost use Rattle.landmarks.specs.Fairness.{AreFairness, is_unfair};
 ghost use Rattle.table_guides.specs.FairTables.{functions_in, ground_in};

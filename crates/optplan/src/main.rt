@@ -4,8 +4,7 @@
 mod looks;
 
 use crate::looks::{look_at, look_line};
-use devices::{Device, Sink, write_all};
-use devices_clock::{SystemClock, Timed};
+use devices::{Device, Sink, SystemClock, Timed, write_all};
 use planner_main::{Order, SystemFiles, read_words, report_no_memory, run};
 use std::alloc::AllocError;
 use std::process::ExitCode;

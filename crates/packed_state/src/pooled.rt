@@ -12,11 +12,16 @@ use faults::NoMemory;
 use std::alloc::Global;
 
 /// A list of distinct sets, all in one vector.
-#[derive(Drop)]
 pub struct PooledStore {
     width: u32,
     pool: Pool,
     ghost pooled: { IsPoolOf width pool } by { Prim.hlevel props },
+}
+
+impl Drop for PooledStore {
+    fn drop(self) {
+        let Self { width: _, pool: _ } = self;
+    }
 }
 
 /// Slots of a new table: a power of two, since it grows by doubling, and a key names its slot by its lowest bits.

@@ -11,7 +11,7 @@ pub enum TaskFile {
 }
 
 /// A predicate applied to terms.
-#[derive(Debug, Drop)]
+#[derive(Drop)]
 pub struct Atom<'a> {
     /// The predicate's name.
     pub predicate: Name<'a>,
@@ -20,7 +20,6 @@ pub struct Atom<'a> {
 }
 
 /// A goal description: a precondition or a goal.
-#[derive(Debug, Drop)]
 pub enum Formula<'a> {
     /// An atom.
     Atom(Atom<'a>),
@@ -40,8 +39,22 @@ pub enum Formula<'a> {
     Forall(Vec<Group<'a>>, Box<Formula<'a>>),
 }
 
+impl Drop for Formula<'_> {
+    fn drop(self) {
+        match self {
+            Self::Atom(_) => {}
+            Self::Equal(_, _) => {}
+            Self::And(_) => {}
+            Self::Or(_) => {}
+            Self::Not(_) => {}
+            Self::Imply(_, _) => {}
+            Self::Exists(_, _) => {}
+            Self::Forall(_, _) => {}
+        }
+    }
+}
+
 /// A literal of an effect.
-#[derive(Debug, Drop)]
 pub enum EffectLiteral<'a> {
     /// An atom that becomes true.
     Add(Atom<'a>),
@@ -49,8 +62,16 @@ pub enum EffectLiteral<'a> {
     Delete(Atom<'a>),
 }
 
+impl Drop for EffectLiteral<'_> {
+    fn drop(self) {
+        match self {
+            Self::Add(_) => {}
+            Self::Delete(_) => {}
+        }
+    }
+}
+
 /// An effect of an action.
-#[derive(Debug, Drop)]
 pub enum Effect<'a> {
     /// An atom that becomes true, or false.
     Literal(EffectLiteral<'a>),
@@ -62,8 +83,18 @@ pub enum Effect<'a> {
     When(Formula<'a>, Vec<EffectLiteral<'a>>),
 }
 
+impl Drop for Effect<'_> {
+    fn drop(self) {
+        match self {
+            Self::Literal(_) => {}
+            Self::And(_) => {}
+            Self::Forall(_, _) => {}
+            Self::When(_, _) => {}
+        }
+    }
+}
+
 /// Names or variables of one type, such as `a b - place` or `?x ?y - (either t u)`. A typed list is a list of groups.
-#[derive(Debug, Drop)]
 pub struct Group<'a> {
     /// The names, in order. There is at least one.
     pub names: Vec<Name<'a>>,
@@ -71,8 +102,13 @@ pub struct Group<'a> {
     pub types: Vec<Name<'a>>,
 }
 
+impl Drop for Group<'_> {
+    fn drop(self) {
+        let Self { names: _, types: _ } = self;
+    }
+}
+
 /// A declaration of a predicate or of a function.
-#[derive(Debug, Drop)]
 pub struct Predicate<'a> {
     /// The name of the predicate or the function.
     pub name: Name<'a>,
@@ -80,8 +116,17 @@ pub struct Predicate<'a> {
     pub parameters: Vec<Group<'a>>,
 }
 
+impl Drop for Predicate<'_> {
+    fn drop(self) {
+        let Self {
+            name: _,
+            parameters: _,
+        } = self;
+    }
+}
+
 /// The amount of an increase of the total cost.
-#[derive(Debug, Drop)]
+#[derive(Drop)]
 pub enum Amount<'a> {
     /// A number, from 0 to 2,147,483,647.
     Number(u32),
@@ -90,7 +135,6 @@ pub enum Amount<'a> {
 }
 
 /// An increase of the total cost.
-#[derive(Debug, Drop)]
 pub struct Increase<'a> {
     /// Its word `increase`.
     pub word: Name<'a>,
@@ -98,8 +142,13 @@ pub struct Increase<'a> {
     pub amount: Amount<'a>,
 }
 
+impl Drop for Increase<'_> {
+    fn drop(self) {
+        let Self { word: _, amount: _ } = self;
+    }
+}
+
 /// An action schema.
-#[derive(Debug, Drop)]
 pub struct Action<'a> {
     /// The action's name.
     pub name: Name<'a>,
@@ -113,8 +162,19 @@ pub struct Action<'a> {
     pub increases: Vec<Increase<'a>>,
 }
 
+impl Drop for Action<'_> {
+    fn drop(self) {
+        let Self {
+            name: _,
+            parameters: _,
+            precondition: _,
+            effect: _,
+            increases: _,
+        } = self;
+    }
+}
+
 /// A domain file.
-#[derive(Debug, Drop)]
 pub struct Domain<'a> {
     /// The domain's name.
     pub name: Name<'a>,
@@ -130,8 +190,21 @@ pub struct Domain<'a> {
     pub actions: Vec<Action<'a>>,
 }
 
+impl Drop for Domain<'_> {
+    fn drop(self) {
+        let Self {
+            name: _,
+            types: _,
+            constants: _,
+            predicates: _,
+            functions: _,
+            actions: _,
+        } = self;
+    }
+}
+
 /// A predicate applied to objects.
-#[derive(Debug, Drop)]
+#[derive(Drop)]
 pub struct GroundAtom<'a> {
     /// The predicate's name.
     pub predicate: Name<'a>,
@@ -140,7 +213,7 @@ pub struct GroundAtom<'a> {
 }
 
 /// The fact `(= (total-cost) N)` of `:init`.
-#[derive(Clone, Copy, Debug)]
+#[derive(Clone, Copy)]
 pub struct InitialCost<'a> {
     /// Its word `=`.
     pub equals: Name<'a>,
@@ -153,7 +226,7 @@ pub struct InitialCost<'a> {
 }
 
 /// The fact `(= (f o ..) N)` of `:init`.
-#[derive(Debug, Drop)]
+#[derive(Drop)]
 pub struct InitialValue<'a> {
     /// The function applied to objects, stored like an atom: the function's name takes the place of the predicate's.
     pub function: GroundAtom<'a>,
@@ -162,7 +235,6 @@ pub struct InitialValue<'a> {
 }
 
 /// A fact of `:init`.
-#[derive(Debug, Drop)]
 pub enum Fact<'a> {
     /// An atom that is initially true.
     Atom(GroundAtom<'a>),
@@ -174,8 +246,18 @@ pub enum Fact<'a> {
     InitialValue(InitialValue<'a>),
 }
 
+impl Drop for Fact<'_> {
+    fn drop(self) {
+        match self {
+            Self::Atom(_) => {}
+            Self::Negated(_, _) => {}
+            Self::InitialCost(_) => {}
+            Self::InitialValue(_) => {}
+        }
+    }
+}
+
 /// A problem file.
-#[derive(Debug, Drop)]
 pub struct Problem<'a> {
     /// The problem's name.
     pub name: Name<'a>,
@@ -189,4 +271,17 @@ pub struct Problem<'a> {
     pub goal: Formula<'a>,
     /// The word `total-cost` of `:metric`, if the file has one.
     pub metric: Option<Name<'a>>,
+}
+
+impl Drop for Problem<'_> {
+    fn drop(self) {
+        let Self {
+            name: _,
+            domain: _,
+            objects: _,
+            init: _,
+            goal: _,
+            metric: _,
+        } = self;
+    }
 }

@@ -13,12 +13,20 @@ use file_answers::Checked;
 use std::alloc::{AllocError, Global};
 
 /// The checker's answer to a certificate, with words beside it.
-#[derive(Drop)]
 pub struct ExplainedCheck {
     /// The task, and the checker's answer.
     pub checked: Checked,
     /// What the answer means, in lines, each with LF.
     pub words: String,
+}
+
+impl Drop for ExplainedCheck {
+    fn drop(self) {
+        let Self {
+            checked: _,
+            words: _,
+        } = self;
+    }
 }
 
 /// The line of the answer, and the words. The only error, here and in the functions below, is that an allocation failed.

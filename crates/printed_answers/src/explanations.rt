@@ -13,7 +13,6 @@ use std::alloc::{AllocError, Global};
 use validator::Verdict;
 
 /// The fields of the object of a fault that do not depend on its place.
-#[derive(Drop)]
 struct FaultFields<'a> {
     code: Code,
     /// The lines of each further fault.
@@ -22,12 +21,32 @@ struct FaultFields<'a> {
     lines: &'a str,
 }
 
+impl Drop for FaultFields<'_> {
+    fn drop(self) {
+        let Self {
+            code: _,
+            further: _,
+            hints: _,
+            lines: _,
+        } = self;
+    }
+}
+
 /// The fields of the object of a task that do not depend on the outcome of grounding.
-#[derive(Drop)]
 struct TaskFields<'a> {
     holds: Summary,
     notes: &'a [String],
     lines: &'a str,
+}
+
+impl Drop for TaskFields<'_> {
+    fn drop(self) {
+        let Self {
+            holds: _,
+            notes: _,
+            lines: _,
+        } = self;
+    }
 }
 
 /// The object of an explanation, as compact text. The only error, here and in the functions below, is that an allocation failed.

@@ -21,10 +21,18 @@ pub(crate) struct Rest {
 
 /// What the value of each found state rests on, by its place, in 12 bytes. Nothing is stored past the last place that has a basis: so no
 /// bytes are taken where no value is found on demand.
-#[derive(Drop)]
 pub struct Bases {
     words: Vec<u32>,
     values: Vec<u64>,
+}
+
+impl Drop for Bases {
+    fn drop(self) {
+        let Self {
+            words: _,
+            values: _,
+        } = self;
+    }
 }
 
 impl Bases {

@@ -11,7 +11,6 @@ use packed_state::Packed;
 use std::alloc::Global;
 
 /// Buffers that all expansions share.
-#[derive(Drop)]
 pub(crate) struct Buffers<R> {
     /// The state that is being expanded.
     pub(crate) state: Packed,
@@ -27,6 +26,20 @@ pub(crate) struct Buffers<R> {
     pub(crate) keys: Vec<u32>,
     /// What was read of their slots. Nothing depends on it.
     pub(crate) touched: u32,
+}
+
+impl<R: Drop> Drop for Buffers<R> {
+    fn drop(self) {
+        let Self {
+            state: _,
+            next: _,
+            applicable: _,
+            asks: _,
+            scratch: _,
+            keys: _,
+            touched: _,
+        } = self;
+    }
 }
 
 impl<R: Drop> Buffers<R> {

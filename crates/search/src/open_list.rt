@@ -25,12 +25,17 @@ const FAR: u64 = 1_048_576;
 const PLACES: u64 = 16_777_216;
 
 /// The waiting states. Entries may be stale.
-#[derive(Drop)]
 pub(crate) struct OpenList {
     /// The entries of small sums, each in one word.
     near: BinaryHeap<Reverse<u64>>,
     /// The others.
     far: BinaryHeap<OpenListEntry>,
+}
+
+impl Drop for OpenList {
+    fn drop(self) {
+        let Self { near: _, far: _ } = self;
+    }
 }
 
 impl OpenList {

@@ -14,13 +14,13 @@ use Rattle.search.specs.Outcome as search
 use Rattle.search.specs.declared.best.Outcome.{Outcome}
 use Rattle.search.specs.declared.best.Outcome.TheVariants.{Found, Exhausted, States}
 use Rattle.search.specs.Outcome.{lines_of, AreEstimates, AreFound, AreOfOneClass, AreClassesOf, HasEstimates, IsTrueOutcome}
-use Rattle.ground_listings.specs.GroundListing.{listed_states}
-use Rattle.ground_listings.specs.Plans.{IsCarriedOut}
-use Rattle.ground_listings.specs.Reachable.{AreMoreReachable}
-use Rattle.ground_listings.specs.SearchSpace as search_space
-use Rattle.ground_listings.specs.SearchSpace.{class_in}
-use Rattle.ground_listings.specs.declared.ground_listing.GroundListing.{GroundListing}
-use Rattle.ground_listings.specs.declared.search_space.SearchSpace.{SearchSpace}
+use Rattle.search_spaces.specs.GroundListing.{listed_states}
+use Rattle.search_spaces.specs.Plans.{IsCarriedOut}
+use Rattle.search_spaces.specs.Reachable.{AreMoreReachable}
+use Rattle.search_spaces.specs.SearchSpace as search_space
+use Rattle.search_spaces.specs.SearchSpace.{class_in}
+use Rattle.search_spaces.specs.declared.ground_listing.GroundListing.{GroundListing}
+use Rattle.search_spaces.specs.declared.search_space.SearchSpace.{SearchSpace}
 use Rattle.solver.specs.Limit.{is_limit}
 use Rattle.solver.specs.Guidance.{Guidance, estimate_by, reports_dead, CanBeWritten}
 use Rattle.solver.specs.Guided.{found_in, AreMarksOf, CanBeMarked, IsSearched}
@@ -30,7 +30,7 @@ use Rattle.search.proofs.Closed.{cut_reported, lines_are_true}
 use Rattle.solver.proofs.FoundLines.{found_line, node_at}
 use Rattle.solver.proofs.ByCost.{more_by_cost}
 use Rattle.solver.proofs.LimitLemmas.{limit_claim}
-use Rattle.ground_listings.proofs.TaskLemmas.{length-reachable, more_reachable, task_costs_at_least}
+use Rattle.search_spaces.proofs.TaskLemmas.{length-reachable, more_reachable, task_costs_at_least}
 use Rattle.model.specs.Task.{Task, Atom, Instance}
 use Rattle.model.specs.Runs.{System, run, cost_of_all, Solves, CostsAtLeast, IsOptimal}
 use Rattle.model.specs.Claims.{Claim, bound, none, Line, IsClosed}

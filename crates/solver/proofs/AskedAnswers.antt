@@ -14,7 +14,7 @@ use Rattle.model.specs.NumberedAtoms.{numbered_atoms}
 use Rattle.lower_bounds.specs.FairTables as fair_tables
 use Rattle.lower_bounds.specs.Settled.{initial_value}
 use Rattle.lower_bounds.specs.TableFunctions.{SeveralValues, functions_of, greatest_value}
-use Rattle.landmark_functions.specs.LandmarkLines.{NumberedLandmarks}
+use Rattle.lower_bounds.specs.LandmarkLines.{NumberedLandmarks}
 use Rattle.landmark_zones.specs.Landmarks.{landmarks_of}
 use Rattle.certificate_definitions.specs.Certificates.{Certificate, four, keeps_limits}
 use Rattle.certificate_definitions.specs.Evidence.{LineMark}
@@ -23,16 +23,16 @@ use Rattle.certificate.specs.CertificateParts.{listed_of}
 use Rattle.certificate.specs.declared.cert.Cert.{Cert}
 use Rattle.certificate.specs.Evidence.{is_evidence}
 use Rattle.certificate.specs.ListedSets.{Marked}
-use Rattle.ground_listings.specs.GroundListing.{listed_states}
-use Rattle.ground_listings.specs.SearchSpace.{class_in, exchanges_in, ground_in, system_of, IsSearchSpace}
-use Rattle.ground_listings.specs.declared.search_space.SearchSpace.{SearchSpace}
+use Rattle.search_spaces.specs.GroundListing.{listed_states}
+use Rattle.search_spaces.specs.SearchSpace.{class_in, exchanges_in, ground_in, system_of, IsSearchSpace}
+use Rattle.search_spaces.specs.declared.search_space.SearchSpace.{SearchSpace}
 use Rattle.search.specs.Estimates.{IsConsistent}
 use Rattle.search.specs.Outcome as search
 use Rattle.search.specs.Outcome.{AreFound, AreExpandedWithin}
 use Rattle.search.specs.declared.nodes.FoundStates.{FoundStates}
 use Rattle.search.specs.declared.nodes.Node.{Node}
 use Rattle.search.specs.declared.under_way.Stop.{Stop}
-use Rattle.ground_listings.specs.declared.ground_listing.GroundListing.{GroundListing}
+use Rattle.search_spaces.specs.declared.ground_listing.GroundListing.{GroundListing}
 use Rattle.line_evidence.specs.Roles.{role_in, role_of_line, Role}
 use Rattle.line_evidence.specs.Shown.{AreSupported, IsShown}
 use Rattle.line_evidence.specs.declared.marked.Marked as in_memory

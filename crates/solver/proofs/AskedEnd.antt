@@ -13,11 +13,11 @@ use Rattle.packed_state.proofs.PackedLemmas.{length-bits}
 use Rattle.grounding.specs.Ground.{task_in, atoms_in}
 use Rattle.lower_bounds.specs.TableFunctions.{SeveralValues, dead_ends_of, functions_of, greatest_value, is_dead_by}
 use Rattle.landmark_zones.specs.Landmarks.{landmarks_of}
-use Rattle.ground_listings.specs.GroundListing.{listed_states, listed_width}
-use Rattle.ground_listings.specs.SearchSpace.{class_in, ground_in, system_of, IsSearchSpace}
-use Rattle.ground_listings.specs.declared.ground_listing.GroundListing.{GroundListing}
-use Rattle.ground_listings.specs.declared.ground_listing.GroundListing.TheVariants as listing
-use Rattle.ground_listings.specs.declared.search_space.SearchSpace.{SearchSpace}
+use Rattle.search_spaces.specs.GroundListing.{listed_states, listed_width}
+use Rattle.search_spaces.specs.SearchSpace.{class_in, ground_in, system_of, IsSearchSpace}
+use Rattle.search_spaces.specs.declared.ground_listing.GroundListing.{GroundListing}
+use Rattle.search_spaces.specs.declared.ground_listing.GroundListing.TheVariants as listing
+use Rattle.search_spaces.specs.declared.search_space.SearchSpace.{SearchSpace}
 use Rattle.search.specs.Nodes.{found_of as found_nodes}
 use Rattle.search.specs.OnDemand.{AreValued, OnDemand, rest_at}
 use Rattle.search.specs.Outcome.{AreFound}

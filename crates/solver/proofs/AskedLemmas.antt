@@ -14,10 +14,10 @@ use Rattle.search.specs.Outcome as search
 use Rattle.search.specs.Outcome.{AreFound, AreExpandedWithin, AreOfOneClass, IsReachableAt}
 use Rattle.lower_bounds.specs.TableFunctions as tables
 use Rattle.lower_bounds.specs.TableFunctions.{SeveralValues, dead_ends_of, functions_of, greatest_value}
-use Rattle.landmark_functions.specs.LandmarkFunctions as landmarks
-use Rattle.landmark_functions.specs.LandmarkFunctions.{LandmarkFunction}
-use Rattle.landmark_functions.specs.LandmarkLines.{NumberedLandmarks, Share, functions_of as landmark_functions, landmark_of}
-use Rattle.landmark_functions.specs.FairLandmarks.{IsFair, IsDeadFair}
+use Rattle.lower_bounds.specs.LandmarkFunctions as landmarks
+use Rattle.lower_bounds.specs.LandmarkFunctions.{LandmarkFunction}
+use Rattle.lower_bounds.specs.LandmarkLines.{NumberedLandmarks, Share, functions_of as landmark_functions, landmark_of}
+use Rattle.lower_bounds.specs.FairLandmarks.{IsFair, IsDeadFair}
 use Rattle.line_evidence.specs.Roles.{role_in, role_of_line}
 use Rattle.line_evidence.specs.Shown.{IsFairMark, IsShown, function_at, value_by}
 use Rattle.model.specs.Task.{Task, Atom}
@@ -37,8 +37,8 @@ use Rattle.symmetries_definitions.specs.Orbits.{AreAlike}
 use Rattle.model.proofs.BisimilarListings.{closed_forth}
 use Rattle.model.proofs.ListLemmas.{map-Contains}
 use Rattle.model.proofs.LimitsLemmas.{numbered_again}
-use Rattle.ground_listings.proofs.GroundLemmas.{distinct_states}
-use Rattle.ground_listings.proofs.TaskLemmas.{ground_does, length-reachable, reached_at}
+use Rattle.search_spaces.proofs.GroundLemmas.{distinct_states}
+use Rattle.search_spaces.proofs.TaskLemmas.{ground_does, length-reachable, reached_at}
 use Rattle.solver.specs.Asked.{asked_certificate}
 use Rattle.solver.specs.Listing.{AreLinesExpandedWithin}
 use Rattle.solver.proofs.ClassLemmas.{AreClassesBy}

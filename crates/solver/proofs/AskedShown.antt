@@ -14,7 +14,7 @@ use Rattle.search.proofs.Consistent.{falls_along}
 use Rattle.lower_bounds.specs.Settled.{initial_value}
 use Rattle.lower_bounds.specs.TableFunctions.{SeveralValues, dead_ends_of, functions_of, greatest_value, is_dead_by}
 use Rattle.lower_bounds.specs.FairTables as fair_tables
-use Rattle.landmark_functions.specs.LandmarkLines.{NumberedLandmarks, is_value, is_zone, keep_limits, literal_count, share_count}
+use Rattle.lower_bounds.specs.LandmarkLines.{NumberedLandmarks, is_value, is_zone, keep_limits, literal_count, share_count}
 use Rattle.line_evidence.specs.Roles.{role_in, role_of_line}
 use Rattle.line_evidence.specs.Shown.{AreSupported, IsFairMark, IsShown}
 use Rattle.model.specs.Task.{Task, Atom}
@@ -38,8 +38,8 @@ use Rattle.certificate.proofs.WithinLimits.{one_weight_each, weights_of_each}
 use Rattle.symmetries_definitions.specs.Exchanges.{Exchange}
 use Rattle.symmetries_definitions.specs.Orbits.{keeps_atoms}
 use Rattle.symmetries_definitions.specs.Symmetries.{is_symmetry}
-use Rattle.ground_listings.specs.Exchanges.{can_be_named}
-use Rattle.ground_listings.proofs.TaskLemmas.{task_costs_at_least}
+use Rattle.search_spaces.specs.Exchanges.{can_be_named}
+use Rattle.search_spaces.proofs.TaskLemmas.{task_costs_at_least}
 use Rattle.solver.specs.Asked.{AreLines, asked_certificate}
 use Rattle.solver.specs.AtLimit.{IsCutOf, IsAtLimit}
 use Rattle.solver.specs.Guidance.{by_tables, first_value, CanBeWritten}

@@ -2,7 +2,7 @@
 use Rattle.std.proofs.Common.{Bool, ℕ, arith}
 use Rattle.model.specs.Runs.{System}
 use Rattle.search.specs.Outcome as search
-use Rattle.ground_listings.specs.Reachable.{PrecedesPlans, is_initial, is_next, AreMoreReachable}
+use Rattle.search_spaces.specs.Reachable.{PrecedesPlans, is_initial, is_next, AreMoreReachable}
 
 precedes_by_cost : {S A : Type 0} (t : System S A) (value : S → ℕ) (is_dead : S → Bool) (s : S) → search.PrecedesPlans t value is_dead s → PrecedesPlans t s
 precedes_by_cost t value is_dead s (search.is_initial is) = is_initial is

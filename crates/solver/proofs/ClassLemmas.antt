@@ -13,9 +13,9 @@ use Rattle.symmetries_definitions.specs.Exchanges.{Exchange}
 use Rattle.symmetries_definitions.specs.Symmetries.{is_symmetry}
 use Rattle.symmetries_definitions.specs.Orbits.{representative, AreAlike, keeps_atoms, packed_representative}
 use Rattle.symmetries_definitions.proofs.PackedOrbits.{alike_seen}
-use Rattle.ground_listings.specs.SearchSpace.{ground_in, exchanges_in, class_in, IsSearchSpace}
-use Rattle.ground_listings.specs.declared.search_space.SearchSpace.{SearchSpace}
-use Rattle.ground_listings.specs.declared.search_space.SearchSpace.TheVariants as space
+use Rattle.search_spaces.specs.SearchSpace.{ground_in, exchanges_in, class_in, IsSearchSpace}
+use Rattle.search_spaces.specs.declared.search_space.SearchSpace.{SearchSpace}
+use Rattle.search_spaces.specs.declared.search_space.SearchSpace.TheVariants as space
 
 -- The exchanges are symmetries of the task that keep its numbered atoms, and packed states of one class stand for states that are alike.
 pub record AreClassesBy (task : Task) (exchanges : List Exchange) (class_of : List Bool → List Bool) : Type 0 where

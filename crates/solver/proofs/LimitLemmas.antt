@@ -21,7 +21,7 @@ use Rattle.model.specs.Grounding.{state_of_bits, ground_system}
 use Rattle.model.proofs.ListLemmas.{Contains-map, map-Contains}
 use Rattle.model.specs.Fluents.{static_atoms}
 use Rattle.std.specs.FinSet.{from_list}
-use Rattle.ground_listings.proofs.TaskLemmas.{task_costs_at_least}
+use Rattle.search_spaces.proofs.TaskLemmas.{task_costs_at_least}
 use Rattle.certificate_definitions.specs.Evidence as evidence
 use Rattle.certificate_definitions.specs.Evidence.{Basis, of_all}
 use Rattle.certificate_definitions.specs.Certificates.{Certificate, StateLine, is_claim, state_of_line, value_by, value_of}

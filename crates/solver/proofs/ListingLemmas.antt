@@ -19,12 +19,12 @@ use Rattle.lower_bounds.specs.Settled.{initial_value}
 use Rattle.solver.specs.Improved.{AreSettledOrHigh, AreDeadSettledOrHigh, HasSettledOrHigh}
 use Rattle.solver.specs.Listing.{numbers_in, by_all, state_line, found_certificate, IsShownBy, AreLinesExpandedWithin}
 use Rattle.solver.proofs.TypedLemmas.{numbered_typed}
-use Rattle.ground_listings.proofs.GroundLemmas.{distinct_states}
+use Rattle.search_spaces.proofs.GroundLemmas.{distinct_states}
 use Rattle.solver.specs.Guidance.{Guidance, by_potentials, by_tables, CanBeWritten, AreFairBy, estimate_by, reports_dead, version_by, values_by, first_value}
 use Rattle.certificate.proofs.WithinLimits.{one_weight_each, weights_of_each}
 use Rattle.solver.proofs.GuidanceLemmas.{AreLimits, limits_of, most_value, estimate-most, mark-passes, value-found, value-at-start, dead-found, fair-found}
 use Rattle.solver.proofs.FoundLines.{bare-by_all, expanded_of_open, dead_of_reported, found_line, have_bases, length-lines, node_at, none-dead_by}
-use Rattle.landmark_functions.specs.FairLandmarks.{IsFair, IsDeadFair}
+use Rattle.lower_bounds.specs.FairLandmarks.{IsFair, IsDeadFair}
 use Rattle.model.specs.Task.{Task, Atom}
 use Rattle.model.specs.WellTyped.{is_task, is_atom}
 use Rattle.model.specs.Runs.{System}
@@ -38,9 +38,9 @@ use Rattle.certificate_definitions.specs.Evidence.{bare}
 use Rattle.symmetries_definitions.specs.Exchanges.{Exchange}
 use Rattle.symmetries_definitions.specs.Symmetries.{is_symmetry}
 use Rattle.symmetries_definitions.specs.Orbits.{AreAlike, keeps_atoms}
-use Rattle.ground_listings.specs.Exchanges.{can_be_named}
+use Rattle.search_spaces.specs.Exchanges.{can_be_named}
 use Rattle.solver.proofs.ClassLemmas.{AreClassesBy}
-use Rattle.ground_listings.proofs.TaskLemmas.{ground_does, length-reachable, reached_at}
+use Rattle.search_spaces.proofs.TaskLemmas.{ground_does, length-reachable, reached_at}
 use Rattle.lower_bounds.specs.TableFunctions.{SeveralValues}
 use Rattle.model.proofs.ListLemmas.{map-Contains}
 use Rattle.model.proofs.LimitsLemmas.{numbered_again}

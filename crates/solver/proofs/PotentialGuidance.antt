@@ -16,10 +16,10 @@ use Rattle.lower_bounds.proofs.WithoutTables.{potentials_are_table_functions}
 use Rattle.solver.specs.Guidance.{by_potentials, by_tables, over_no_tables, estimate_by, reports_dead, CanBeWritten, AreFairBy}
 use Rattle.solver.specs.Guided.{IsGuidanceFor}
 use Rattle.solver.specs.Improved.{AreSettledOrHigh, AreDeadSettledOrHigh}
-use Rattle.ground_listings.specs.SearchSpace.{ground_in, IsSearchSpace}
+use Rattle.search_spaces.specs.SearchSpace.{ground_in, IsSearchSpace}
 use Rattle.solver.specs.Written.{by_potentials_of}
-use Rattle.ground_listings.specs.declared.search_space.SearchSpace.{SearchSpace}
-use Rattle.ground_listings.specs.declared.search_space.SearchSpace.TheVariants as space
+use Rattle.search_spaces.specs.declared.search_space.SearchSpace.{SearchSpace}
+use Rattle.search_spaces.specs.declared.search_space.SearchSpace.TheVariants as space
 use Rattle.solver.proofs.GuidanceLemmas.{potentials-written}
 use Rattle.solver.proofs.PotentialLemmas.{potentials-pass}
 

@@ -1,8 +1,8 @@
 -- The versions of certificates that searches make.
 use Rattle.std.proofs.Common.{◌≡◌, ◌≤◌, refl, arith}
 use Rattle.lower_bounds.specs.PotentialFunctions.{PotentialFunction}
-use Rattle.ground_listings.specs.declared.search_space.SearchSpace.{SearchSpace}
-use Rattle.ground_listings.specs.declared.search_space.SearchSpace.TheVariants as space
+use Rattle.search_spaces.specs.declared.search_space.SearchSpace.{SearchSpace}
+use Rattle.search_spaces.specs.declared.search_space.SearchSpace.TheVariants as space
 use Rattle.solver.specs.Guidance.{version_by}
 use Rattle.solver.specs.Versions.{number_of}
 use Rattle.solver.specs.Written.{by_potentials_of, version_in}

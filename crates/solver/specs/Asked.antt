@@ -3,16 +3,16 @@ use Rattle.std.specs.Prelude.{◌≡◌, ℕ, ◌<◌, ◌≤◌, ⊤, Bool, fal
 use Rattle.model.specs.Task.{Atom}
 use Rattle.model.specs.Claims.{Claim}
 use Rattle.lower_bounds.specs.TableFunctions.{SeveralValues, dead_ends_of, functions_of, greatest_value, is_dead_by}
-use Rattle.landmark_functions.specs.LandmarkLines.{NumberedLandmarks}
+use Rattle.lower_bounds.specs.LandmarkLines.{NumberedLandmarks}
 use Rattle.landmark_zones.specs.Landmarks.{landmarks_of}
 use Rattle.symmetries_definitions.specs.Exchanges.{Exchange}
 use Rattle.certificate_definitions.specs.Certificates.{Certificate, four}
 use Rattle.certificate.specs.ListedSets.{Marked, lines_with}
 use Rattle.grounding.specs.Ground.{task_in, atoms_in}
-use Rattle.ground_listings.specs.GroundListing.{listed_states}
-use Rattle.ground_listings.specs.SearchSpace.{class_in, ground_in, system_of}
-use Rattle.ground_listings.specs.declared.ground_listing.GroundListing.{GroundListing}
-use Rattle.ground_listings.specs.declared.search_space.SearchSpace.{SearchSpace}
+use Rattle.search_spaces.specs.GroundListing.{listed_states}
+use Rattle.search_spaces.specs.SearchSpace.{class_in, ground_in, system_of}
+use Rattle.search_spaces.specs.declared.ground_listing.GroundListing.{GroundListing}
+use Rattle.search_spaces.specs.declared.search_space.SearchSpace.{SearchSpace}
 use Rattle.search.specs.DeadEnds.{ReportsDeadEnds}
 use Rattle.search.specs.Estimates.{IsAdmissible}
 use Rattle.search.specs.UnderWay.{IsTrueStop}

@@ -1,7 +1,7 @@
 -- What a search may go by, if its certificate is to have it, and what it came to.
 use Rattle.std.specs.Prelude.{◌≡◌, ℕ, ◌≤◌, Bool, IsTrue, List, is_some, length, map}
-use Rattle.ground_listings.specs.GroundListing.{listed_states}
-use Rattle.ground_listings.specs.declared.ground_listing.GroundListing.{GroundListing}
+use Rattle.search_spaces.specs.GroundListing.{listed_states}
+use Rattle.search_spaces.specs.declared.ground_listing.GroundListing.{GroundListing}
 use Rattle.grounding.specs.Ground.{task_in, atoms_in}
 use Rattle.certificate.specs.CertificateParts.{listed_of}
 use Rattle.certificate.specs.declared.states.Listed.{Listed}
@@ -21,8 +21,8 @@ use Rattle.solver.specs.declared.searched.Ending.{Ending}
 use Rattle.solver.specs.declared.searched.Ending.TheVariants.{Complete, OutOfTime}
 use Rattle.solver.specs.declared.searched.Halted.{Halted}
 use Rattle.solver.specs.Improved.{AreSettledOrHigh, AreDeadSettledOrHigh}
-use Rattle.ground_listings.specs.SearchSpace.{class_in, ground_in, exchanges_in, system_of}
-use Rattle.ground_listings.specs.declared.search_space.SearchSpace.{SearchSpace}
+use Rattle.search_spaces.specs.SearchSpace.{class_in, ground_in, exchanges_in, system_of}
+use Rattle.search_spaces.specs.declared.search_space.SearchSpace.{SearchSpace}
 use Rattle.certificate_definitions.specs.Certificates.{are_exchanges}
 use Rattle.solver.specs.Listing.{mark_of_line}
 

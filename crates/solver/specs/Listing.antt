@@ -14,7 +14,7 @@ use Rattle.symmetries_definitions.specs.Exchanges.{Exchange}
 use Rattle.certificate_definitions.specs.Certificates.{two, three, four, no_landmarks, Certificate, StateLine, IsClosedFor, keeps_limits, lines_of, value_of, is_dead_end_of}
 use Rattle.certificate.specs.ListedSets.{Marked}
 use Rattle.model.specs.NumberedAtoms.{numbered_atoms}
-use Rattle.ground_listings.specs.Exchanges.{can_be_named}
+use Rattle.search_spaces.specs.Exchanges.{can_be_named}
 use Rattle.line_evidence.specs.Shown.{has_few_zones}
 use Rattle.solver.specs.Guidance.{Guidance, version_by, values_by, estimate_by, reports_dead}
 

@@ -3,7 +3,7 @@ use Rattle.std.specs.Prelude.{◌≡◌, ℕ, ◌≤◌, Bool, true, false, IsTr
 use Rattle.std.specs.Fmt.{decimal}
 use Rattle.devices.specs.Devices.{IsWritten}
 use Rattle.devices.specs.Progress.{Stream}
-use Rattle.ground_listings.specs.Reachable.{AreMoreReachable, AreReachable}
+use Rattle.search_spaces.specs.Reachable.{AreMoreReachable, AreReachable}
 use Rattle.packed_state.specs.Store.{AreDistinct}
 use Rattle.search.specs.Outcome.{AreClassesOf, AreOfOneClass, IsReachableAt}
 use Rattle.solver.specs.declared.reports.Report.{Report}

@@ -13,7 +13,7 @@ use Rattle.solver.specs.Versions.{number_of}
 use Rattle.solver.specs.Improved.{HasSettledOrHigh}
 use Rattle.solver.specs.Listing.{IsShownBy, AreLinesExpandedWithin}
 use Rattle.solver.specs.AtLimit.{IsAtLimit}
-use Rattle.ground_listings.specs.Reachable.{AreMoreReachable}
+use Rattle.search_spaces.specs.Reachable.{AreMoreReachable}
 use Rattle.model.specs.Task.{Task}
 use Rattle.model.specs.Runs.{cost_of_all, CostsAtLeast, IsOptimal, IsUnsolvable}
 use Rattle.model.specs.Claims.{bound, none}

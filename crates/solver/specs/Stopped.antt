@@ -1,7 +1,7 @@
 -- The states that a search found, and the nodes that say how it reached them.
 use Rattle.std.specs.Prelude.{◌≡◌, ◌≤◌, List, length}
-use Rattle.ground_listings.specs.GroundListing.{listed_states}
-use Rattle.ground_listings.specs.declared.ground_listing.GroundListing.{GroundListing}
+use Rattle.search_spaces.specs.GroundListing.{listed_states}
+use Rattle.search_spaces.specs.declared.ground_listing.GroundListing.{GroundListing}
 use Rattle.search.specs.declared.nodes.Node.{Node}
 
 -- there is one for each, and they are no more than a search may list

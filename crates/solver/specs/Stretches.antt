@@ -1,8 +1,8 @@
 -- How far a search of the ground task by an estimate and a test for dead ends came, of as many states as may be listed.
 use Rattle.std.specs.Prelude.{ℕ, ◌≤◌, Bool, List, length}
 use Rattle.grounding.specs.Ground.{task_in, atoms_in}
-use Rattle.ground_listings.specs.GroundListing.{listed_class, listed_states, listed_width}
-use Rattle.ground_listings.specs.declared.ground_listing.GroundListing.{GroundListing}
+use Rattle.search_spaces.specs.GroundListing.{listed_class, listed_states, listed_width}
+use Rattle.search_spaces.specs.declared.ground_listing.GroundListing.{GroundListing}
 use Rattle.search.specs.Nodes.{AreClosed}
 use Rattle.search.specs.Estimates.{IsAdmissible}
 use Rattle.search.specs.DeadEnds.{ReportsDeadEnds}
@@ -18,8 +18,8 @@ use Rattle.solver.specs.declared.parts.Part.TheVariants as part
 use Rattle.solver.specs.declared.parts.Parts.{Parts}
 use Rattle.solver.specs.declared.parts.Parts.TheVariants.{ByTables, ByGuide}
 use Rattle.solver.specs.declared.limits.Limits.{Limits}
-use Rattle.ground_listings.specs.SearchSpace.{class_in, ground_in, system_of}
-use Rattle.ground_listings.specs.declared.search_space.SearchSpace.{SearchSpace}
+use Rattle.search_spaces.specs.SearchSpace.{class_in, ground_in, system_of}
+use Rattle.search_spaces.specs.declared.search_space.SearchSpace.{SearchSpace}
 use Rattle.solver.specs.Guided.{IsEnding}
 use Rattle.solver.specs.Solver.{IsAnswerWithin}
 

@@ -3,8 +3,8 @@ use Rattle.certificate.specs.Evidence.{evidence_of, potential_of}
 use Rattle.lower_bounds.specs.PotentialFunctions.{PotentialFunction}
 use Rattle.certificate_definitions.specs.Certificates.{Version, two, three}
 use Rattle.solver.specs.Guidance.{Guidance, by_potentials, by_tables, over_no_tables}
-use Rattle.ground_listings.specs.declared.search_space.SearchSpace.{SearchSpace}
-use Rattle.ground_listings.specs.declared.search_space.SearchSpace.TheVariants as space
+use Rattle.search_spaces.specs.declared.search_space.SearchSpace.{SearchSpace}
+use Rattle.search_spaces.specs.declared.search_space.SearchSpace.TheVariants as space
 use Rattle.solver.specs.declared.guidance.Guidance as written
 use Rattle.solver.specs.declared.guidance.Guidance.TheVariants.{Potentials, Tables}
 

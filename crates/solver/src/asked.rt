@@ -2,8 +2,8 @@
 ghost use Rattle.std.specs.Prelude.{◌≡◌, ◌≤◌, [], IfOk, IfSome, IsTrue, length, map};
 ghost use Rattle.grounding.specs.Ground.{task_in, atoms_in, IsGroundOf};
 ghost use Rattle.packed_state.specs.PooledView.{pooled_states};
-ghost use Rattle.ground_listings.specs.GroundListing.{listed_states};
-ghost use Rattle.ground_listings.specs.SearchSpace.{exchanges_in, ground_in, IsSearchSpace};
+ghost use Rattle.search_spaces.specs.GroundListing.{listed_states};
+ghost use Rattle.search_spaces.specs.SearchSpace.{exchanges_in, ground_in, IsSearchSpace};
 ghost use Rattle.landmark_zones.specs.Landmarks.{landmarks_of};
 ghost use Rattle.certificate_reader.specs.Lines.{claim_of, version_of};
 ghost use Rattle.certificate_reader.specs.declared.line.TheConstants.{MAX_ATOMS, MAX_STATE_LINES};
@@ -24,9 +24,9 @@ use crate::listing::{copied, sets_of};
 use crate::setting::Setting;
 use certificate::{Cert, Claim, Evidence, Header, NUMBER_LIMIT, States, Version};
 use faults::NoMemory;
-use ground_listings::{GroundListing, plan_of};
 use line_evidence::Marked;
 use search::{FoundStates, Outcome, Stop};
+use search_spaces::{GroundListing, plan_of};
 
 /// The answer of a search by these values that asked for landmark values. `None` if a certificate cannot have them, or a cost so high.
 pub(crate) fn answer_of_asked(

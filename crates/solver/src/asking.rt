@@ -5,8 +5,8 @@
 ghost use Rattle.std.specs.Prelude.{◌≡◌, ◌≤◌, IfOk, IfSome, length};
 ghost use Rattle.grounding.specs.Ground.{task_in, atoms_in};
 ghost use Rattle.devices.specs.Progress.{MayContinue};
-ghost use Rattle.ground_listings.specs.GroundListing.{listed_states};
-ghost use Rattle.ground_listings.specs.SearchSpace.{class_in, ground_in, system_of, IsSearchSpace};
+ghost use Rattle.search_spaces.specs.GroundListing.{listed_states};
+ghost use Rattle.search_spaces.specs.SearchSpace.{class_in, ground_in, system_of, IsSearchSpace};
 ghost use Rattle.search.specs.UnderWay.{IsTrueStopBy};
 ghost use Rattle.table_guides.specs.FairTables as guides;
 ghost use Rattle.table_guides.specs.FairTables.{functions_in};
@@ -17,10 +17,8 @@ ghost use Rattle.solver.specs.Stretches.{IsHaltBy, IsUnderWayBy};
 use crate::pauses::next_pause;
 use crate::searched::{found_in, say_news};
 use crate::setting::{Session, Setting};
-use devices::Sink;
-use devices_clock::Clock;
+use devices::{Clock, Sink};
 use faults::NoMemory;
-use ground_listings::{GroundListing, GroundSystem};
 use landmarks::CutIndex;
 use landmarks_on_demand::{DraftLimits, LandmarksOnDemand, tested_instances};
 use line_evidence::{Budget, Marked, tested_marks};
@@ -28,6 +26,7 @@ use search::{
     FoundStates, Guide, Halt, Problem, Search, StateListing, Stop, ValuesOnDemand, begin_asking,
     go_on_asking, stop_asking,
 };
+use search_spaces::{GroundListing, GroundSystem};
 use table_guides::FairTables;
 
 /// A search that asked for landmark values, at its end or stopped since its time is over, and the marks of its found states.

@@ -8,7 +8,7 @@ ghost use Rattle.certificate.specs.Evidence.{is_evidence, evidence_of, potential
 ghost use Rattle.certificate_definitions.specs.Certificates.{no_landmarks, three};
 ghost use Rattle.grounding.specs.Ground.{task_in, atoms_in, IsGroundOf};
 ghost use Rattle.model.specs.Grounding.{ground_system};
-ghost use Rattle.ground_listings.specs.GroundListing.{listed_width};
+ghost use Rattle.search_spaces.specs.GroundListing.{listed_width};
 ghost use Rattle.lower_bounds.specs.Settled.{initial_value};
 ghost use Rattle.potentials.specs.Potentials.{potentials_of};
 ghost use Rattle.solver.specs.Asked.{IsTablesEnding};
@@ -16,7 +16,7 @@ ghost use Rattle.solver.specs.Attempts.{IfDone};
 ghost use Rattle.solver.specs.Guidance.{by_tables, estimate_by, first_value, reports_dead};
 ghost use Rattle.solver.specs.Guided.{IsEnding, IsGuidanceFor};
 ghost use Rattle.solver.specs.Improved.{AreSettledOrHigh, AreDeadSettledOrHigh};
-ghost use Rattle.ground_listings.specs.SearchSpace.{ground_in, IsSearchSpace};
+ghost use Rattle.search_spaces.specs.SearchSpace.{ground_in, IsSearchSpace};
 ghost use Rattle.devices.specs.Progress.{MayContinue};
 ghost use Rattle.solver.specs.Said.{IsLineWithin};
 ghost use Rattle.solver.specs.Solver.{IsAnswerWithin};
@@ -38,14 +38,13 @@ use crate::searched::{Ending, search_by};
 use crate::setting::Setting;
 use crate::stopped::Stopped;
 use certificate::{Evidence, Landmarks, Version, WrittenPotentials};
-use cost_partitioning::{DraftInput, DraftedTables, drafted_tables};
-use devices::Sink;
-use devices_clock::Clock;
+use devices::{Clock, Sink};
 use faults::NoMemory;
-use ground_listings::SearchSpace;
 use potentials::Potentials;
+use search_spaces::SearchSpace;
 use std::alloc::Global;
 use table_guides::FairTables;
+use tables_drafted::{DraftInput, DraftedTables, drafted_tables};
 
 /// A draft of values over tables: as a certificate has them, and their constants and weights of atoms as potentials.
 #[derive(Drop)]

@@ -10,7 +10,7 @@ ghost use Rattle.lower_bounds.specs.TableFunctions.{functions_of, greatest_value
 ghost use Rattle.potentials.specs.Potentials.{potentials_of};
 ghost use Rattle.solver.specs.Attempts.{IfDone};
 ghost use Rattle.solver.specs.Guidance.{by_tables, estimate_by};
-ghost use Rattle.ground_listings.specs.SearchSpace.{ground_in, IsSearchSpace};
+ghost use Rattle.search_spaces.specs.SearchSpace.{ground_in, IsSearchSpace};
 ghost use Rattle.solver.specs.SeveralOver.{several_over};
 ghost use Rattle.table_guides.specs.FairTables as guides;
 ghost use Rattle.table_guides.specs.FairTables.{functions_in};
@@ -21,7 +21,7 @@ ghost use Rattle.tables.specs.Several.{several_of, width_of};
 use crate::attempt::Attempt;
 use crate::by_tables::ValuesOver;
 use crate::setting::Setting;
-use devices_clock::Clock;
+use devices::Clock;
 use faults::NoMemory;
 use grounding::Ground;
 use potentials::Potentials;

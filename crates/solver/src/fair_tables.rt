@@ -2,8 +2,8 @@
 //! to pay, and else on trial.
 ghost use Rattle.std.specs.Prelude.{◌≡◌, ◌≤◌, [], IfOk, length};
 ghost use Rattle.grounding.specs.Ground.{task_in, atoms_in, IsGroundOf};
-ghost use Rattle.ground_listings.specs.GroundListing.{listed_width};
-ghost use Rattle.ground_listings.specs.SearchSpace.{ground_in, IsSearchSpace};
+ghost use Rattle.search_spaces.specs.GroundListing.{listed_width};
+ghost use Rattle.search_spaces.specs.SearchSpace.{ground_in, IsSearchSpace};
 ghost use Rattle.devices.specs.Progress.{MayContinue};
 ghost use Rattle.lower_bounds.specs.TableFunctions.{dead_ends_of, functions_of, greatest_value, is_dead_by};
 ghost use Rattle.potentials.specs.Potentials.{potentials_of};
@@ -22,12 +22,11 @@ use crate::asking::{Asked, search_asking};
 use crate::parts::{Drafting, Parts, finish_with_tables};
 use crate::searched::{Stretch, begin_by, go_on_by};
 use crate::setting::{Session, Setting};
-use devices::Sink;
-use devices_clock::Clock;
+use devices::{Clock, Sink};
 use faults::NoMemory;
-use ground_listings::GroundListing;
 use line_evidence::{Budget, Paused, budget_for_trial, pays};
 use search::Search;
+use search_spaces::GroundListing;
 use table_guides::FairTables;
 use tables::KnownState;
 

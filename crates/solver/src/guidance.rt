@@ -10,8 +10,8 @@ ghost use Rattle.solver.specs.Written.{guidance_of, by_potentials_of};
 
 use certificate::{Evidence, Landmarks, Version, WrittenPotentials};
 use faults::NoMemory;
-use ground_listings::SearchSpace;
 use potentials_improved::Potentials;
+use search_spaces::SearchSpace;
 use std::alloc::Global;
 
 /// Values that are lower bounds of the remaining cost, and one that reports dead ends.

@@ -3,7 +3,7 @@ ghost use Rattle.std.specs.Prelude.{◌≡◌, IsTrue, is_some};
 ghost use Rattle.solver.specs.Limit.{is_limit};
 
 use crate::max_version::MaxVersion;
-use devices_clock::Clock;
+use devices::Clock;
 
 /// The greatest value of a limit.
 pub const MAX_LIMIT: u32 = 16_777_216;

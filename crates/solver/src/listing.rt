@@ -9,7 +9,7 @@
 ghost use Rattle.std.specs.Prelude.{◌≡◌, ◌≤◌, List, length, map, IfOk, IsTrue};
 ghost use Rattle.task.specs.TaskParts.{atom_of};
 ghost use Rattle.packed_state.specs.PooledView.{pooled_states};
-ghost use Rattle.ground_listings.specs.GroundListing.{listed_states, listed_width};
+ghost use Rattle.search_spaces.specs.GroundListing.{listed_states, listed_width};
 ghost use Rattle.certificate_reader.specs.Lines.{claim_of};
 ghost use Rattle.certificate.specs.Certificate.{certificate_of};
 ghost use Rattle.certificate.specs.CertificateParts.{certificate_with_lines};
@@ -18,7 +18,7 @@ ghost use Rattle.search.specs.Outcome.{AreFound};
 ghost use Rattle.grounding.specs.Ground.{task_in, atoms_in};
 ghost use Rattle.solver.specs.Guidance.{estimate_by, reports_dead, version_by, CanBeWritten};
 ghost use Rattle.solver.specs.Guided.{AreMarksOf};
-ghost use Rattle.ground_listings.specs.SearchSpace.{class_in, ground_in, exchanges_in, system_of, IsSearchSpace};
+ghost use Rattle.search_spaces.specs.SearchSpace.{class_in, ground_in, exchanges_in, system_of, IsSearchSpace};
 ghost use Rattle.solver.specs.Listing.{certificate_by, found_certificate};
 ghost use Rattle.solver.specs.Written.{guidance_of};
 ghost use Rattle.model.specs.NumberedAtoms.{are_distinct};
@@ -28,10 +28,10 @@ use crate::guidance::Guidance;
 use certificate::{Cert, Claim, Header, Listed, States};
 use faults::NoMemory;
 use formulas::Atom;
-use ground_listings::{GroundListing, SearchSpace};
 use indexmap::IndexSet;
 use packed_state::{Packed, PooledStore, StateStore};
 use search::{FoundStates, OwnClasses, StateListing};
+use search_spaces::{GroundListing, SearchSpace};
 use std::alloc::Global;
 
 /// The certificate of a search by this guidance, which found these states and marked them so.

@@ -1,12 +1,12 @@
 //! A search that pauses to look for better values: one by potentials, or by tables that were found before.
 ghost use Rattle.std.specs.Prelude.{◌≡◌, ◌≤◌, [], IfOk, length};
 ghost use Rattle.grounding.specs.Ground.{task_in, atoms_in, IsGroundOf};
-ghost use Rattle.ground_listings.specs.GroundListing.{listed_width};
+ghost use Rattle.search_spaces.specs.GroundListing.{listed_width};
 ghost use Rattle.potentials.specs.Potentials.{potentials_of};
 ghost use Rattle.search.specs.UnderWay.{store_in, nodes_of};
 ghost use Rattle.solver.specs.Attempts.{IfDone};
 ghost use Rattle.solver.specs.Improved.{AreSettledOrHigh, AreDeadSettledOrHigh};
-ghost use Rattle.ground_listings.specs.SearchSpace.{ground_in, system_of, IsSearchSpace};
+ghost use Rattle.search_spaces.specs.SearchSpace.{ground_in, system_of, IsSearchSpace};
 ghost use Rattle.devices.specs.Progress.{MayContinue};
 ghost use Rattle.solver.specs.Said.{IsLineWithin};
 ghost use Rattle.solver.specs.Solver.{IsAnswerWithin};
@@ -21,13 +21,12 @@ use crate::by_tables::{solve_by_later_tables, solve_by_tables};
 use crate::searched::{Ending, Stretch, begin_by, finish_by, go_on_by, stop_by};
 use crate::setting::{Session, Setting};
 use crate::stopped::Stopped;
-use cost_partitioning::Effort;
-use devices::Sink;
-use devices_clock::Clock;
+use devices::{Clock, Sink};
 use faults::NoMemory;
-use ground_listings::{GroundListing, SearchSpace};
 use potentials::Potentials;
 use search::{Guide, Search};
+use search_spaces::{GroundListing, SearchSpace};
+use tables_drafted::Effort;
 
 /// A pause of a search, at which landmark values are tried and tables are drafted.
 #[derive(Clone, Copy)]

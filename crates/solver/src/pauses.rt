@@ -5,8 +5,8 @@
 //! is looked at in each pause.
 ghost use Rattle.std.specs.Prelude.{◌<◌, ◌≤◌, ◌+◌, ◌*◌, ◌/◌, ◌⊎◌, ◌↔◌, IsTrue};
 
-use ground_listings::GroundListing;
 use search::{Search, StateListing};
+use search_spaces::GroundListing;
 
 /// The number of listed states at the first pause, at least.
 const FIRST_PAUSE: u32 = 1_024;

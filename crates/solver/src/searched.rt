@@ -7,7 +7,7 @@ ghost use Rattle.grounding.specs.Ground.{task_in, atoms_in};
 ghost use Rattle.search.specs.Outcome.{is_expanded};
 ghost use Rattle.solver.specs.Guided as guided;
 ghost use Rattle.solver.specs.Guided.{AreMarksOf, CanBeMarked, IsEnding, IsMarkOf};
-ghost use Rattle.ground_listings.specs.SearchSpace.{ground_in, system_of, IsSearchSpace};
+ghost use Rattle.search_spaces.specs.SearchSpace.{ground_in, system_of, IsSearchSpace};
 ghost use Rattle.devices.specs.Progress.{MayContinue};
 ghost use Rattle.solver.specs.Said.{IsLineWithin};
 ghost use Rattle.solver.specs.Stretches.{IsSound, IsStretch, IsUnderWay};
@@ -16,14 +16,13 @@ use crate::pauses::{Milestone, is_news, next_pause};
 use crate::reports::{Report, say};
 use crate::setting::{Session, Setting};
 use certificate::{Basis, Listed, Mark};
-use devices::Sink;
-use devices_clock::Clock;
+use devices::{Clock, Sink};
 use faults::NoMemory;
-use ground_listings::{GroundListing, GroundSystem};
 use search::{
     FoundStates, Guide, Halt, Node, NodeStatus, Outcome, Search, StateListing, Stop, begin, go_on,
     stop_at_pause,
 };
+use search_spaces::{GroundListing, GroundSystem};
 use std::alloc::Global;
 
 /// The outcome of a search, and the certificate's mark of each found state, in order.

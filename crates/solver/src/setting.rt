@@ -1,7 +1,7 @@
 //! What the parts of a solution share.
 
 use crate::limits::Limits;
-use ground_listings::SearchSpace;
+use search_spaces::SearchSpace;
 use std::alloc::Global;
 
 /// A ground task that is to be solved within limits: its search space, and where memory comes from.

@@ -1,18 +1,18 @@
 //! A paused search, and how many of its expansions other values would have saved.
 ghost use Rattle.std.specs.Prelude.{◌≡◌};
-ghost use Rattle.ground_listings.specs.GroundListing.{listed_width};
+ghost use Rattle.search_spaces.specs.GroundListing.{listed_width};
 ghost use Rattle.solver.specs.Stopped.{IsStopped};
 ghost use Rattle.tables.specs.Several.{width_of};
 
-use cost_partitioning::Effort;
 use faults::NoMemory;
-use ground_listings::GroundListing;
 use line_evidence::Paused;
 use packed_state::Packed;
 use potentials::Potentials;
 use search::{Node, StateListing};
+use search_spaces::GroundListing;
 use std::alloc::Global;
 use tables::TableFunctions;
+use tables_drafted::Effort;
 
 /// The number of sample states, at most.
 const MAX_SAMPLES: usize = 32;

@@ -16,13 +16,21 @@ use std::alloc::Global;
 use task::{ObjectId, Task};
 
 /// Pairs of objects that change places. All objects are different.
-#[derive(Drop)]
 pub struct Exchange {
     pairs: Vec<(ObjectId, ObjectId)>,
     /// The image of each of these objects.
     images: IndexMap<ObjectId, ObjectId>,
     ghost different: { exchanges.are_different (objects_in (pairs_in pairs.items)) ≡ true } by { Prim.hlevel props },
     ghost imaged: { (o : ℕ) → image_in images.entries o ≡ image_of_object (pairs_in pairs.items) o } by { Prim.hlevel props },
+}
+
+impl Drop for Exchange {
+    fn drop(self) {
+        let Self {
+            pairs: _,
+            images: _,
+        } = self;
+    }
 }
 
 impl Exchange {

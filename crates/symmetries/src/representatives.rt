@@ -24,7 +24,6 @@ use packed_state::Packed;
 use std::alloc::Global;
 
 /// Exchanges of objects acting on the packed states of a ground task. A state's representative stands for its images.
-#[derive(Drop)]
 pub struct Representatives<'g, 't, 'e> {
     ground: &'g Ground<'t>,
     exchanges: &'e [Exchange],
@@ -36,6 +35,17 @@ pub struct Representatives<'g, 't, 'e> {
     ghost made: { swaps_in_runs swaps.items ≡ swaps_of_all (atoms_in ground.now) (map exchange_of exchanges.now) } by { Prim.hlevel props },
     ghost apart: { AreAllNeighbours (swaps_in_runs swaps.items) neighbours.items } by { Prim.hlevel props },
     ghost each: { length neighbours.items ≡ length swaps.items },
+}
+
+impl Drop for Representatives<'_, '_, '_> {
+    fn drop(self) {
+        let Self {
+            ground: _,
+            exchanges: _,
+            swaps: _,
+            neighbours: _,
+        } = self;
+    }
 }
 
 impl<'g, 't, 'e> Representatives<'g, 't, 'e> {

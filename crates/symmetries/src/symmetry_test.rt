@@ -23,7 +23,6 @@ use std::alloc::Global;
 use task::{Atom, Formula, ObjectId, PredicateId, Task};
 
 /// Tests whether exchanges are symmetries of a task. Data shared by several tests is computed once.
-#[derive(Drop)]
 pub struct SymmetryTest<'t> {
     task: &'t Task,
     named: NamedObjects,
@@ -42,6 +41,21 @@ pub struct SymmetryTest<'t> {
     ghost covers_functions: { Covers (functions_of (task_of task.now).values) functions } by { Prim.hlevel props },
     ghost are_conjuncts: { PassAlike (formulas_lent conjuncts.items) (defined.conjuncts (task_of task.now).goal) } by { Prim.hlevel props },
     ghost covers_goal: { Indexes (formulas_lent conjuncts.items) goals } by { Prim.hlevel props },
+}
+
+impl Drop for SymmetryTest<'_> {
+    fn drop(self) {
+        let Self {
+            task: _,
+            named: _,
+            fluents: _,
+            initial: _,
+            atoms: _,
+            functions: _,
+            conjuncts: _,
+            goals: _,
+        } = self;
+    }
 }
 
 impl<'t> SymmetryTest<'t> {

@@ -23,7 +23,6 @@ pub(crate) struct When {
 }
 
 /// An instance's changes of a scope's atoms.
-#[derive(Drop)]
 pub(crate) struct PlacedChanges {
     /// The places that are deleted unconditionally.
     pub(crate) deletes: Mask,
@@ -33,16 +32,35 @@ pub(crate) struct PlacedChanges {
     pub(crate) whens: Vec<When>,
 }
 
+impl Drop for PlacedChanges {
+    fn drop(self) {
+        let Self {
+            deletes: _,
+            adds: _,
+            whens: _,
+        } = self;
+    }
+}
+
 /// Free places enough for more ways than a table can have rows, 2^24.
 const ENOUGH: usize = 25;
 
 /// Scratch for one row: the row, what unconditional changes make of it, and its free places: those that changes under a
 /// `when` may still turn.
-#[derive(Drop)]
 pub(crate) struct Scratch {
     pub(crate) row: Packed,
     pub(crate) left: Packed,
     pub(crate) free: Vec<u32>,
+}
+
+impl Drop for Scratch {
+    fn drop(self) {
+        let Self {
+            row: _,
+            left: _,
+            free: _,
+        } = self;
+    }
 }
 
 impl Scratch {

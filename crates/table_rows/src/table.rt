@@ -11,7 +11,6 @@ use std::alloc::Global;
 
 /// A table: a scope, which is a rising list of atom numbers, and rows. A row is a set of atoms of the scope, by their indices in it,
 /// with a weight for each value.
-#[derive(Drop)]
 pub struct Table {
     scope: Vec<u32>,
     count: u32,
@@ -20,6 +19,16 @@ pub struct Table {
     ghost rising: { IsTrue (rows_in_memory.are_rising scope.items) } by { Prim.hlevel props },
     ghost wide: { pooled_width rows.sets ≡ length scope.items } by { Prim.hlevel props },
     ghost weighed: { length rows.weights.items ≡ count * length (pooled_states rows.sets) } by { Prim.hlevel props },
+}
+
+impl Drop for Table {
+    fn drop(self) {
+        let Self {
+            scope: _,
+            count: _,
+            rows: _,
+        } = self;
+    }
 }
 
 impl Table {

@@ -10,8 +10,7 @@ ghost use Rattle.tables.specs.Several.{several_of};
 use crate::fairness::is_instance_shut_out;
 use crate::several::TableFunctions;
 use faults::NoMemory;
-use grounding::Ground;
-use potentials::instance_count;
+use grounding::{Ground, instance_count};
 use std::alloc::Global;
 
 impl TableFunctions<'_> {

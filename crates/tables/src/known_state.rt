@@ -13,12 +13,17 @@ use potentials::Potentials;
 use std::alloc::Global;
 
 /// What is known of one state, at which it stands, so that another is evaluated by its difference.
-#[derive(Drop)]
 pub struct KnownState {
     /// Its rows.
     pub(crate) rows: KnownRows,
     /// The score of its atoms by each value, and last by that for dead ends.
     pub(crate) scores: Vec<i64>,
+}
+
+impl Drop for KnownState {
+    fn drop(self) {
+        let Self { rows: _, scores: _ } = self;
+    }
 }
 
 impl TableFunctions<'_> {

@@ -26,7 +26,6 @@ pub(crate) enum Standing {
 }
 
 /// What an instance loses at most by some tables.
-#[derive(Drop)]
 pub(crate) struct Losses {
     /// The instance's number.
     pub(crate) number: u32,
@@ -38,6 +37,18 @@ pub(crate) struct Losses {
     pub(crate) total: Vec<i64>,
     /// Scratch for the most that it may lose by one of them.
     by_table: Vec<i64>,
+}
+
+impl Drop for Losses {
+    fn drop(self) {
+        let Self {
+            number: _,
+            standing: _,
+            named: _,
+            total: _,
+            by_table: _,
+        } = self;
+    }
 }
 
 impl IndexedTables<'_> {

@@ -12,12 +12,21 @@ use std::alloc::Global;
 
 /// Several values over the same tables, of which the greatest counts, and one for dead ends. A row has a weight for each value, in
 /// this order, and last one for dead ends.
-#[derive(Drop)]
 pub struct TableFunctions<'a> {
     pub(crate) values: Vec<Potentials>,
     pub(crate) dead_ends: Potentials,
     pub(crate) tables: IndexedTables<'a>,
     ghost together: { FitTogether values.items dead_ends tables } by { Prim.hlevel props },
+}
+
+impl Drop for TableFunctions<'_> {
+    fn drop(self) {
+        let Self {
+            values: _,
+            dead_ends: _,
+            tables: _,
+        } = self;
+    }
 }
 
 /// Whether all values are fair for a ground task and that for dead ends is dead-fair, or the first fault: value by value, instances

@@ -17,7 +17,6 @@ use std::alloc::Global;
 use table_rows::{IndexedTable, Lists, Table};
 
 /// Tables whose rows have a weight for each value. Tables and indices in scopes are listed by atom, rows by key.
-#[derive(Drop)]
 pub struct IndexedTables<'a> {
     tables: Vec<IndexedTable<'a>>,
     count: u32,
@@ -29,6 +28,18 @@ pub struct IndexedTables<'a> {
     ghost rows_of_each: { map indexed_in rows.items ≡ map indexed_of tables.items } by { Prim.hlevel props },
     ghost named: { IsByAtom (map indexed_of tables.items) (length tables.items) by_atom } by { Prim.hlevel props },
     ghost placed: { AreScopePlaces (scopes_of (map indexed_of tables.items)) scope_places } by { Prim.hlevel props },
+}
+
+impl Drop for IndexedTables<'_> {
+    fn drop(self) {
+        let Self {
+            tables: _,
+            count: _,
+            rows: _,
+            by_atom: _,
+            scope_places: _,
+        } = self;
+    }
 }
 
 impl<'a> IndexedTables<'a> {

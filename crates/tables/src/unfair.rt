@@ -15,8 +15,7 @@ ghost use Rattle.tables.specs.Unfair as model;
 use crate::losses::{Losses, Standing};
 use crate::several::TableFunctions;
 use faults::NoMemory;
-use grounding::Ground;
-use potentials::instance_count;
+use grounding::{Ground, instance_count};
 use std::alloc::Global;
 
 /// The first of several values that is not fair for an instance, and the first such instance.

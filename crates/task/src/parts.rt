@@ -4,7 +4,6 @@ use crate::schemas::{Formula, Predicate, Schema};
 use indexmap::IndexMap;
 
 /// The parts of a task. Each entry of a table by name is at the index of its number, and its name is in lower case.
-#[derive(Drop)]
 pub struct TaskParts {
     /// The types, `object` first, each with all its supertypes (itself included).
     pub types: IndexMap<Vec<u8>, Vec<TypeId>>,
@@ -26,4 +25,21 @@ pub struct TaskParts {
     pub goal_names: Vec<Vec<u8>>,
     /// Whether the total cost is minimized; otherwise the number of steps is.
     pub has_metric: bool,
+}
+
+impl Drop for TaskParts {
+    fn drop(self) {
+        let Self {
+            types: _,
+            objects: _,
+            predicates: _,
+            functions: _,
+            schemas: _,
+            init: _,
+            values: _,
+            goal: _,
+            goal_names: _,
+            has_metric: _,
+        } = self;
+    }
 }

@@ -19,7 +19,7 @@ impl TypeUnion {
 }
 
 /// A precondition or a goal.
-#[derive(Debug, Drop)]
+#[derive(Debug)]
 pub enum Formula {
     /// An atom.
     Atom(LiftedAtom),
@@ -39,8 +39,23 @@ pub enum Formula {
     Forall(TypeUnion, Box<Formula>),
 }
 
+impl Drop for Formula {
+    fn drop(self) {
+        match self {
+            Self::Atom(_) => {}
+            Self::Equal(_, _) => {}
+            Self::And(_) => {}
+            Self::Or(_) => {}
+            Self::Not(_) => {}
+            Self::Imply(_, _) => {}
+            Self::Exists(_, _) => {}
+            Self::Forall(_, _) => {}
+        }
+    }
+}
+
 /// A literal of an effect.
-#[derive(Debug, Drop)]
+#[derive(Debug)]
 pub enum EffectLiteral {
     /// An atom that becomes true.
     Add(LiftedAtom),
@@ -48,8 +63,17 @@ pub enum EffectLiteral {
     Delete(LiftedAtom),
 }
 
+impl Drop for EffectLiteral {
+    fn drop(self) {
+        match self {
+            Self::Add(_) => {}
+            Self::Delete(_) => {}
+        }
+    }
+}
+
 /// An effect of an action.
-#[derive(Debug, Drop)]
+#[derive(Debug)]
 pub enum Effect {
     /// A literal.
     Literal(EffectLiteral),
@@ -61,6 +85,17 @@ pub enum Effect {
     When(Formula, Vec<EffectLiteral>),
 }
 
+impl Drop for Effect {
+    fn drop(self) {
+        match self {
+            Self::Literal(_) => {}
+            Self::And(_) => {}
+            Self::Forall(_, _) => {}
+            Self::When(_, _) => {}
+        }
+    }
+}
+
 /// A declaration of a predicate or of a function.
 #[derive(Debug, Drop)]
 pub struct Predicate {
@@ -69,7 +104,7 @@ pub struct Predicate {
 }
 
 /// The amount by which an action increases the total cost.
-#[derive(Debug, Drop)]
+#[derive(Debug)]
 pub enum Increase {
     /// A number from 0 to 2,147,483,647: 0 if there is no increase.
     Number(u32),
@@ -77,8 +112,17 @@ pub enum Increase {
     Function(LiftedAtom),
 }
 
+impl Drop for Increase {
+    fn drop(self) {
+        match self {
+            Self::Number(_) => {}
+            Self::Function(_) => {}
+        }
+    }
+}
+
 /// An action schema.
-#[derive(Debug, Drop)]
+#[derive(Debug)]
 pub struct Schema {
     /// The types of each parameter.
     pub parameters: Vec<TypeUnion>,
@@ -90,4 +134,16 @@ pub struct Schema {
     pub effect: Effect,
     /// The increase of the total cost.
     pub increase: Increase,
+}
+
+impl Drop for Schema {
+    fn drop(self) {
+        let Self {
+            parameters: _,
+            precondition: _,
+            precondition_names: _,
+            effect: _,
+            increase: _,
+        } = self;
+    }
 }

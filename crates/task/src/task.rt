@@ -12,12 +12,17 @@ use indexmap::IndexMap;
 use std::alloc::Global;
 
 /// A well-typed planning task with numbers for names.
-#[derive(Drop)]
 pub struct Task {
     parts: TaskParts,
     ghost few_types: { length parts.types.entries ≤ 4096 },
     ghost few_objects: { length parts.objects.entries ≤ 65535 },
     ghost well_typed: { IsTrue (is_task (task_of_parts parts)) },
+}
+
+impl Drop for Task {
+    fn drop(self) {
+        let Self { parts: _ } = self;
+    }
 }
 
 impl Task {

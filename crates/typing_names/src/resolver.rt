@@ -8,7 +8,6 @@ use indexmap::IndexMap;
 use task::TypeUnion;
 
 /// Resolves formulas and effects: the faults found so far, and the names visible where the walk is.
-#[derive(Drop)]
 pub struct Resolver<'g> {
     /// The faults found so far.
     pub walk: Walk,
@@ -18,6 +17,17 @@ pub struct Resolver<'g> {
     pub variables: IndexMap<Vec<u8>, TypeUnion>,
     /// The names of the variables that came into scope since the last precondition or goal began, as in the file, in textual order.
     pub names: Vec<Vec<u8>>,
+}
+
+impl Drop for Resolver<'_> {
+    fn drop(self) {
+        let Self {
+            walk: _,
+            globals: _,
+            variables: _,
+            names: _,
+        } = self;
+    }
 }
 
 impl<'g> Resolver<'g> {
@@ -44,7 +54,12 @@ impl<'g> Resolver<'g> {
     pub fn into_walk(self) -> Walk
         ensures { found_by result ≡ found_by self.entry.walk }
     {
-        let Resolver { walk, .. } = self;
+        let Self {
+            walk,
+            globals: _,
+            variables: _,
+            names: _,
+        } = self;
         walk
     }
 

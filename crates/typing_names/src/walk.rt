@@ -15,7 +15,6 @@ use std::alloc::Global;
 pub const MAX_LISTED: usize = 1000;
 
 /// The faults found so far.
-#[derive(Drop)]
 pub struct FoundFaults {
     /// The least one, if any.
     least: Option<TaskRefusal>,
@@ -23,6 +22,15 @@ pub struct FoundFaults {
     /// memory.
     listed: Vec<TaskRefusal>,
     ghost room: { MAX_LISTED ≤ vec_capacity listed },
+}
+
+impl Drop for FoundFaults {
+    fn drop(self) {
+        let Self {
+            least: _,
+            listed: _,
+        } = self;
+    }
 }
 
 impl FoundFaults {
@@ -80,7 +88,7 @@ impl FoundFaults {
         ensures none { IfOk result (λ t. (t ≡ made) × ((found_in self).least ≡ None)) }
         ensures some { IfErr result (ReportsFound (found_in self)) }
     {
-        let FoundFaults { least, listed, .. } = self;
+        let Self { least, listed } = self;
         match least {
             None => Ok(made),
             Some(first) => Err(Refused::At(PairRefusal { first, listed })),
@@ -89,7 +97,6 @@ impl FoundFaults {
 }
 
 /// What a walk over the trees carries along: the faults found so far, and a buffer for a name in lower case.
-#[derive(Drop)]
 pub struct Walk {
     /// The allocator.
     pub alloc: Global,
@@ -97,6 +104,16 @@ pub struct Walk {
     found: FoundFaults,
     /// A buffer for a name in lower case.
     pub folded: Vec<u8>,
+}
+
+impl Drop for Walk {
+    fn drop(self) {
+        let Self {
+            alloc: _,
+            found: _,
+            folded: _,
+        } = self;
+    }
 }
 
 /// Writes the name in lower case into the buffer.
@@ -153,7 +170,11 @@ impl Walk {
         ensures none { IfOk result (λ t. (t ≡ made) × ((found_by self).least ≡ None)) }
         ensures some { IfErr result (ReportsFound (found_by self)) }
     {
-        let Walk { found, .. } = self;
+        let Self {
+            alloc: _,
+            found,
+            folded: _,
+        } = self;
         found.end(made)
     }
 }

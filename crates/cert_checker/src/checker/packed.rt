@@ -19,7 +19,6 @@ use tables::KnownState;
 
 /// A certificate over a ground task that numbers the certificate's atoms first: its packed states, what its lines rest on, and its
 /// classes of states. Versions 1 and 2 have no classes.
-#[derive(Drop)]
 pub(super) struct PackedListing<'a, 't> {
     pub(super) grounded: &'a Ground<'t>,
     pub(super) cert: &'a Cert,
@@ -29,6 +28,17 @@ pub(super) struct PackedListing<'a, 't> {
     ghost valued: { IsEvidenceOf (certificate_of cert.now) (length (atoms_in grounded.now)) evidence } by { Prim.hlevel props },
     ghost symmetric: { AreSymmetries (task_in grounded.now) (certificate_of cert.now) } by { Prim.hlevel props },
     ghost classified: { AreClassified (task_in grounded.now) (atoms_in grounded.now) (certificate_of cert.now) (store_in cert.now) classes } by { Prim.hlevel props },
+}
+
+impl Drop for PackedListing<'_, '_> {
+    fn drop(self) {
+        let Self {
+            grounded: _,
+            cert: _,
+            evidence: _,
+            classes: _,
+        } = self;
+    }
 }
 
 impl<'a, 't> PackedListing<'a, 't> {

@@ -49,11 +49,20 @@ pub(super) struct CheckAsked<'a> {
 }
 
 /// The texts of the files that are read before the certificate, and the options of `check`.
-#[derive(Drop)]
 struct InputTexts<'a> {
     pair: TaskTexts,
     plan: Option<Vec<u8>>,
     asked: CheckAsked<'a>,
+}
+
+impl Drop for InputTexts<'_> {
+    fn drop(self) {
+        let Self {
+            pair: _,
+            plan: _,
+            asked: _,
+        } = self;
+    }
 }
 
 /// What the certificate in a file shows about the task of two files, and about the plan in a third, if one is named. The

@@ -19,12 +19,20 @@ pub(super) struct PairNames<'a> {
 }
 
 /// The texts of a domain file and a problem file.
-#[derive(Drop)]
 pub(super) struct TaskTexts {
     /// The domain file's text.
     pub(super) domain: Vec<u8>,
     /// The problem file's text.
     pub(super) problem: Vec<u8>,
+}
+
+impl Drop for TaskTexts {
+    fn drop(self) {
+        let Self {
+            domain: _,
+            problem: _,
+        } = self;
+    }
 }
 
 /// The texts of two files.

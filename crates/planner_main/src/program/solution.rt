@@ -14,8 +14,7 @@ ghost use Rattle.solver.specs.Versions.{number_of};
 
 use crate::failures::Failure;
 use crate::program::inputs::{PairNames, TaskTexts, read_pair};
-use devices::{Files, Sink};
-use devices_clock::{Clock, Quiet};
+use devices::{Clock, Files, Quiet, Sink};
 use file_answers::{FileFault, Solved, TaskFiles, solve_files_and_say};
 use printed_answers::Report;
 use solver::Limits;

@@ -4,7 +4,7 @@ use Rattle.task.specs.TaskParts.{atom_of}
 use Rattle.model.specs.Task.{Atom}
 use Rattle.model.specs.Claims.{bound}
 use Rattle.symmetries_definitions.specs.Exchanges as code
-use Rattle.landmark_functions.specs.LandmarkLines.{NumberedLandmarks}
+use Rattle.lower_bounds.specs.LandmarkLines.{NumberedLandmarks}
 use Rattle.certificate_definitions.specs.Certificates.{one, no_landmarks}
 use Rattle.certificate.specs.CertificateParts.{exchange_in}
 use Rattle.certificate.specs.Evidence.{potential_of}

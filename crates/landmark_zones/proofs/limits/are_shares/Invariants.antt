@@ -1,6 +1,6 @@
 use Rattle.std.proofs.Common.{◌≡◌, drop, map}
 use Rattle.std.specs.List.{list_all}
-use Rattle.landmark_functions.specs.LandmarkLines.{is_share}
+use Rattle.lower_bounds.specs.LandmarkLines.{is_share}
 use Rattle.landmark_zones.specs.Landmarks.{share_of}
 use Rattle.landmark_zones.proofs.limits.are_shares.Given as goal
 

@@ -1,5 +1,5 @@
 use Rattle.std.proofs.Common.{◌≡◌, drop}
-use Rattle.landmark_functions.specs.LandmarkLines.{rise}
+use Rattle.lower_bounds.specs.LandmarkLines.{rise}
 use Rattle.landmark_zones.proofs.limits.rise.Given as goal
 
 -- the remaining numbers decide

@@ -1,6 +1,6 @@
 use Rattle.std.proofs.Common.{◌≡◌, drop, map}
-use Rattle.landmark_functions.specs.LandmarkLines as lines
-use Rattle.landmark_functions.specs.LandmarkLines.{rise}
+use Rattle.lower_bounds.specs.LandmarkLines as lines
+use Rattle.lower_bounds.specs.LandmarkLines.{rise}
 use Rattle.landmark_zones.specs.Landmarks.{share_of}
 use Rattle.landmark_zones.proofs.limits.zones_rise.Given as goal
 

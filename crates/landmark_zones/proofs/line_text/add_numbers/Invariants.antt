@@ -1,5 +1,5 @@
 use Rattle.std.proofs.Common.{◌≡◌, ◌++◌, take}
-use Rattle.landmark_functions.specs.LandmarkLines.{numbers_text}
+use Rattle.lower_bounds.specs.LandmarkLines.{numbers_text}
 use Rattle.landmark_zones.proofs.line_text.add_numbers.Given as goal
 
 -- the text has the numbers so far

@@ -1,6 +1,6 @@
 use Rattle.std.proofs.Common.{◌≡◌, ◌++◌, map, take}
 use Rattle.std.specs.List.{flat_map}
-use Rattle.landmark_functions.specs.LandmarkLines.{share_text}
+use Rattle.lower_bounds.specs.LandmarkLines.{share_text}
 use Rattle.landmark_zones.specs.Landmarks.{share_of}
 use Rattle.landmark_zones.proofs.line_text.add_shares.Given as goal
 

@@ -1,6 +1,6 @@
 use Rattle.std.proofs.Common.{◌≡◌, drop, map}
 use Rattle.grounding.specs.Views.{numbered_of}
-use Rattle.landmark_functions.specs.LandmarkFunctions.{has_any}
+use Rattle.lower_bounds.specs.LandmarkFunctions.{has_any}
 use Rattle.landmarks.specs.Breaking.{zone_in}
 use Rattle.landmarks.proofs.breaking.has_any.Given as goal
 

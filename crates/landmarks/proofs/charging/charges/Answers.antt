@@ -1,7 +1,7 @@
 use Rattle.std.proofs.Common.{◌∙◌, map, sum_by}
 use Rattle.std.specs.List.{filter_map}
-use Rattle.landmark_functions.specs.FairLandmarks.{charge}
-use Rattle.landmark_functions.specs.LandmarkLines.{landmark_of}
+use Rattle.lower_bounds.specs.FairLandmarks.{charge}
+use Rattle.lower_bounds.specs.LandmarkLines.{landmark_of}
 use Rattle.landmark_zones.specs.Landmarks.{landmarks_of, share_of}
 use Rattle.landmarks.proofs.charging.charges.Goals as goal
 

@@ -2,7 +2,7 @@ use Rattle.std.proofs.Common.{◌∙◌, map, sum_by, ap}
 use Rattle.std.proofs.lemmas.List.{take_all}
 use Rattle.grounding.specs.Views.{numbered_of}
 use Rattle.grounding.specs.Changes.{conditional_of}
-use Rattle.landmark_functions.specs.FairLandmarks.{charge}
+use Rattle.lower_bounds.specs.FairLandmarks.{charge}
 use Rattle.landmark_zones.specs.declared.values.Share.{Share}
 use Rattle.landmark_zones.specs.Landmarks.{landmarks_of, share_of}
 use Rattle.landmarks.specs.Values.{share_charge}

@@ -1,7 +1,7 @@
 use Rattle.std.proofs.Common.{◌≡◌, drop, map}
 use Rattle.std.specs.List.{filter_map, list_all}
 use Rattle.grounding.specs.Views.{numbered_of}
-use Rattle.landmark_functions.specs.LandmarkLines.{landmark_of}
+use Rattle.lower_bounds.specs.LandmarkLines.{landmark_of}
 use Rattle.landmark_zones.specs.Landmarks.{landmarks_of, share_of}
 use Rattle.landmarks.specs.Fairness.{has_one}
 use Rattle.landmarks.proofs.testing.are_of_goal.Given as goal

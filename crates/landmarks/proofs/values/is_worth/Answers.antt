@@ -5,8 +5,8 @@ use Rattle.std.proofs.lemmas.Bool.{le-leb}
 use Rattle.std.proofs.lemmas.List.{take_all}
 use Rattle.std.proofs.lemmas.List.Sums.{sum_by-take-le}
 use Rattle.packed_state.specs.Packed.{bits_of}
-use Rattle.landmark_functions.specs.LandmarkFunctions.{gives}
-use Rattle.landmark_functions.specs.LandmarkLines.{landmark_of}
+use Rattle.lower_bounds.specs.LandmarkFunctions.{gives}
+use Rattle.lower_bounds.specs.LandmarkLines.{landmark_of}
 use Rattle.landmark_zones.specs.declared.values.Share.{Share}
 use Rattle.landmark_zones.specs.Landmarks.{landmarks_of, share_of}
 use Rattle.landmarks.specs.Values.{share_gives}

@@ -1,7 +1,7 @@
 use Rattle.std.proofs.Common.{◌∙◌, sum_by, ap}
 use Rattle.std.proofs.lemmas.List.{take_all}
 use Rattle.packed_state.specs.Packed.{bits_of}
-use Rattle.landmark_functions.specs.LandmarkFunctions.{gives}
+use Rattle.lower_bounds.specs.LandmarkFunctions.{gives}
 use Rattle.landmark_zones.specs.declared.values.Share.{Share}
 use Rattle.landmark_zones.specs.Landmarks.{landmarks_of, share_of}
 use Rattle.landmarks.specs.Values.{share_gives}

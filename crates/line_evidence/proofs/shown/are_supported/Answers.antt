@@ -6,7 +6,7 @@ use Rattle.std.proofs.lemmas.List.{length-map}
 use Rattle.std.proofs.lemmas.Option.{slice_get_read, slice_get-map, slice_get_within}
 use Rattle.grounding.specs.Ground.{atoms_in, task_in}
 use Rattle.lower_bounds.specs.TableFunctions.{SeveralValues}
-use Rattle.landmark_functions.specs.LandmarkLines.{keep_limits}
+use Rattle.lower_bounds.specs.LandmarkLines.{keep_limits}
 use Rattle.landmark_zones.specs.Landmarks.{landmarks_of}
 use Rattle.landmarks.specs.Fairness.{AreFairness, is_unfair}
 use Rattle.certificate.specs.CertificateParts.{listed_of}

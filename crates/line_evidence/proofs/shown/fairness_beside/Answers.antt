@@ -2,7 +2,7 @@ use Rattle.std.proofs.Common.{◌≡◌, ◌∙◌, ℕ, true, length, sym, ap, 
 use Rattle.grounding.specs.declared.ground.Ground.{Ground}
 use Rattle.grounding.specs.Ground.{task_in, atoms_in}
 use Rattle.lower_bounds.specs.TableFunctions.{SeveralValues}
-use Rattle.landmark_functions.specs.LandmarkLines.{keep_limits}
+use Rattle.lower_bounds.specs.LandmarkLines.{keep_limits}
 use Rattle.landmark_zones.specs.Landmarks.{landmarks_of}
 use Rattle.landmarks.specs.Fairness.{AreFairness}
 use Rattle.landmarks.proofs.Kept.{kept-sorted}

@@ -4,8 +4,8 @@ use Rattle.std.specs.List.{list_all}
 use Rattle.std.proofs.lemmas.List.{length-map}
 use Rattle.std.proofs.lemmas.Option.{get_or_from_slice_get}
 use Rattle.packed_state.specs.Packed.{bits_of}
-use Rattle.landmark_functions.specs.LandmarkFunctions.{value}
-use Rattle.landmark_functions.specs.Laws.{is_zone_over}
+use Rattle.lower_bounds.specs.LandmarkFunctions.{value}
+use Rattle.lower_bounds.specs.LandmarkLaws.{is_zone_over}
 use Rattle.landmark_zones.specs.Landmarks.{landmarks_of, share_of}
 use Rattle.landmarks.specs.Fairness.{function_over}
 use Rattle.landmarks.proofs.FairnessLemmas.{few-of}

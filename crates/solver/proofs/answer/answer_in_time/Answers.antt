@@ -4,9 +4,9 @@ use Rattle.task.specs.TaskParts.{atom_of}
 use Rattle.certificate.specs.Certificate.{certificate_of}
 use Rattle.grounding.specs.Ground.{task_in, atoms_in}
 use Rattle.model.specs.Claims.{bound}
-use Rattle.ground_listings.specs.GroundListing.{listed_states}
-use Rattle.ground_listings.specs.SearchSpace.{class_in, ground_in, exchanges_in}
-use Rattle.ground_listings.proofs.TaskLemmas.{task_costs_at_least}
+use Rattle.search_spaces.specs.GroundListing.{listed_states}
+use Rattle.search_spaces.specs.SearchSpace.{class_in, ground_in, exchanges_in}
+use Rattle.search_spaces.proofs.TaskLemmas.{task_costs_at_least}
 use Rattle.solver.specs.AtLimit.{IsAtLimit}
 use Rattle.solver.specs.Solver.{IsUpTo}
 use Rattle.solver.specs.Versions.{number_of}

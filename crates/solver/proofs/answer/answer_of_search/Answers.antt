@@ -12,11 +12,11 @@ use Rattle.model.specs.Runs.{Solves}
 use Rattle.model.specs.Meaning as meaning
 use Rattle.model.specs.NumberedAtoms.{numbered_atoms}
 use Rattle.model.specs.Grounding.{ground_system}
-use Rattle.ground_listings.specs.GroundListing.{listed_states}
-use Rattle.ground_listings.specs.Plans.{IsCarriedOut}
-use Rattle.ground_listings.specs.SearchSpace.{class_in, ground_in, exchanges_in, system_of}
-use Rattle.ground_listings.specs.declared.ground_listing.GroundListing.{GroundListing}
-use Rattle.ground_listings.proofs.TaskLemmas.{task_unsolvable, task_costs_at_least, classes_reach_alike}
+use Rattle.search_spaces.specs.GroundListing.{listed_states}
+use Rattle.search_spaces.specs.Plans.{IsCarriedOut}
+use Rattle.search_spaces.specs.SearchSpace.{class_in, ground_in, exchanges_in, system_of}
+use Rattle.search_spaces.specs.declared.ground_listing.GroundListing.{GroundListing}
+use Rattle.search_spaces.proofs.TaskLemmas.{task_unsolvable, task_costs_at_least, classes_reach_alike}
 use Rattle.solver.specs.Guidance.{estimate_by, reports_dead}
 use Rattle.solver.specs.Guided.{found_in, AreMarksOf}
 use Rattle.solver.specs.Solver.{IsUpTo}

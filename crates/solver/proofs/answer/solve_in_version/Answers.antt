@@ -1,6 +1,6 @@
 use Rattle.std.proofs.Common.{map, sym, subst}
 use Rattle.symmetries.specs.Exchange.{exchange_of}
-use Rattle.ground_listings.specs.Exchanges.{AreExchangesFor}
+use Rattle.search_spaces.specs.Exchanges.{AreExchangesFor}
 use Rattle.solver.proofs.VersionLemmas.{at_least_two}
 use Rattle.solver.proofs.answer.solve_in_version.Goals as goal
 

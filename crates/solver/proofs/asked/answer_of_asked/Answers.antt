@@ -7,10 +7,10 @@ use Rattle.certificate_definitions.specs.Certificates.{four}
 use Rattle.grounding.specs.Ground.{task_in, atoms_in}
 use Rattle.landmark_zones.specs.Landmarks.{landmarks_of}
 use Rattle.model.specs.Claims.{bound}
-use Rattle.ground_listings.specs.GroundListing.{listed_states}
-use Rattle.ground_listings.specs.SearchSpace.{ground_in}
-use Rattle.ground_listings.specs.declared.ground_listing.GroundListing.{GroundListing}
-use Rattle.ground_listings.proofs.TaskLemmas.{task_costs_at_least}
+use Rattle.search_spaces.specs.GroundListing.{listed_states}
+use Rattle.search_spaces.specs.SearchSpace.{ground_in}
+use Rattle.search_spaces.specs.declared.ground_listing.GroundListing.{GroundListing}
+use Rattle.search_spaces.proofs.TaskLemmas.{task_costs_at_least}
 use Rattle.search.specs.declared.under_way.Stop.{Stop}
 use Rattle.search.specs.declared.under_way.Stop.TheVariants.{Waiting}
 use Rattle.solver.specs.Asked.{IsAsked}

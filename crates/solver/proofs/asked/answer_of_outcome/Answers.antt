@@ -13,10 +13,10 @@ use Rattle.model.specs.Runs.{Solves}
 use Rattle.model.specs.Meaning as meaning
 use Rattle.model.specs.NumberedAtoms.{numbered_atoms}
 use Rattle.model.specs.Grounding.{ground_system}
-use Rattle.ground_listings.specs.Plans.{IsCarriedOut}
-use Rattle.ground_listings.specs.SearchSpace.{ground_in, system_of}
-use Rattle.ground_listings.specs.declared.ground_listing.GroundListing.{GroundListing}
-use Rattle.ground_listings.proofs.TaskLemmas.{task_costs_at_least, task_unsolvable}
+use Rattle.search_spaces.specs.Plans.{IsCarriedOut}
+use Rattle.search_spaces.specs.SearchSpace.{ground_in, system_of}
+use Rattle.search_spaces.specs.declared.ground_listing.GroundListing.{GroundListing}
+use Rattle.search_spaces.proofs.TaskLemmas.{task_costs_at_least, task_unsolvable}
 use Rattle.search.specs.declared.best.Outcome.{Outcome}
 use Rattle.search.specs.declared.best.Outcome.TheVariants.{Found, Exhausted, States}
 use Rattle.search.specs.declared.under_way.Stop.TheVariants.{Ended}

@@ -10,8 +10,8 @@ use Rattle.grounding.specs.declared.ground.Ground.{Ground}
 use Rattle.grounding.specs.Ground.{task_in, atoms_in}
 use Rattle.model.specs.NumberedAtoms.{are_distinct}
 use Rattle.model.proofs.GroundTaskLemmas.{numbered-distinct}
-use Rattle.ground_listings.specs.GroundListing.{listed_states}
-use Rattle.ground_listings.specs.SearchSpace.{ground_in, exchanges_in}
+use Rattle.search_spaces.specs.GroundListing.{listed_states}
+use Rattle.search_spaces.specs.SearchSpace.{ground_in, exchanges_in}
 use Rattle.landmark_zones.specs.Landmarks.{landmarks_of}
 use Rattle.solver.proofs.AskedShown.{keeps}
 use Rattle.solver.proofs.asked.asked_cert.Goals as goal

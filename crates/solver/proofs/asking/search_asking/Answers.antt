@@ -13,8 +13,8 @@ use Rattle.landmarks.specs.declared.cut_index.CutIndex.{CutIndex}
 use Rattle.table_guides.specs.FairTables as guides
 use Rattle.table_guides.specs.FairTables.{functions_in}
 use Rattle.table_guides.proofs.GuideLemmas.{all_numbered}
-use Rattle.ground_listings.specs.GroundListing.{listed_states, listed_width}
-use Rattle.ground_listings.specs.declared.ground_listing.GroundListing.{GroundListing}
+use Rattle.search_spaces.specs.GroundListing.{listed_states, listed_width}
+use Rattle.search_spaces.specs.declared.ground_listing.GroundListing.{GroundListing}
 use Rattle.lower_bounds.specs.TableFunctions.{dead_ends_of, functions_of, greatest_value, is_dead_by}
 use Rattle.search.specs.declared.nodes.FoundStates.{FoundStates}
 use Rattle.line_evidence.specs.Roles.{CanBeMarked, HaveRolesOf, marks_in}
@@ -23,7 +23,7 @@ use Rattle.line_evidence.specs.declared.marked.Marked.{Marked}
 use Rattle.landmarks_on_demand.specs.Shown.{shown_by}
 use Rattle.search.specs.UnderWay.{IsTrueStopBy}
 use Rattle.search.specs.declared.under_way.Stop.{Stop}
-use Rattle.ground_listings.specs.SearchSpace.{class_in, ground_in, system_of}
+use Rattle.search_spaces.specs.SearchSpace.{class_in, ground_in, system_of}
 use Rattle.solver.specs.Asked.{IsStoppedWithin, found_at}
 use Rattle.solver.proofs.AnswerLemmas.{most_of_limit}
 use Rattle.solver.proofs.AskedEnd.{asked_of, states_by, wide_by}

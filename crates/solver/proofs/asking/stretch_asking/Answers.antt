@@ -4,9 +4,9 @@ use Rattle.grounding.specs.declared.ground.Ground.{Ground}
 use Rattle.grounding.specs.Ground.{task_in, atoms_in}
 use Rattle.model.specs.Grounding.{ground_system}
 use Rattle.model.specs.Runs.{System}
-use Rattle.ground_listings.specs.GroundListing.{listed_class, listed_states, listed_width}
-use Rattle.ground_listings.specs.SearchSpace.{class_in, ground_in, system_of}
-use Rattle.ground_listings.proofs.TaskLemmas.{classes_reach_alike}
+use Rattle.search_spaces.specs.GroundListing.{listed_class, listed_states, listed_width}
+use Rattle.search_spaces.specs.SearchSpace.{class_in, ground_in, system_of}
+use Rattle.search_spaces.proofs.TaskLemmas.{classes_reach_alike}
 use Rattle.search.specs.Outcome.{AreClassesOf}
 use Rattle.search.specs.UnderWay as under_way
 use Rattle.search.specs.UnderWay.{store_in}

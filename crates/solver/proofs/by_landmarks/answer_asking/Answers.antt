@@ -10,7 +10,7 @@ use Rattle.lower_bounds.specs.FairTables.{AreFair}
 use Rattle.solver.specs.declared.asking.Asked.{Asked}
 use Rattle.solver.specs.Asked.{IsAsked}
 use Rattle.solver.specs.Guidance.{by_tables, estimate_by}
-use Rattle.ground_listings.specs.SearchSpace.{ground_in}
+use Rattle.search_spaces.specs.SearchSpace.{ground_in}
 use Rattle.solver.specs.Improved.{AreSettledOrHigh, AreDeadSettledOrHigh}
 use Rattle.solver.proofs.TablesLemmas.{tables-written}
 use Rattle.solver.proofs.by_landmarks.answer_asking.Goals as goal

@@ -4,7 +4,7 @@ use Rattle.certificate.specs.Evidence.{evidence_of}
 use Rattle.faults.specs.declared.refused.NoMemory.{NoMemory}
 use Rattle.grounding.specs.declared.ground.Ground.{Ground}
 use Rattle.grounding.specs.Ground.{task_in, atoms_in}
-use Rattle.ground_listings.specs.SearchSpace.{ground_in}
+use Rattle.search_spaces.specs.SearchSpace.{ground_in}
 use Rattle.model.specs.Grounding.{ground_system}
 use Rattle.lower_bounds.specs.FairTables.{AreFair}
 use Rattle.lower_bounds.specs.Settled.{initial_value}

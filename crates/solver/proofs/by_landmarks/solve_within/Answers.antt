@@ -1,7 +1,7 @@
 use Rattle.std.proofs.Common.{◌≡◌, Option, sym, subst}
 use Rattle.std.specs.Prelude.{IfSome}
 use Rattle.grounding.specs.Ground.{task_in, atoms_in}
-use Rattle.ground_listings.specs.SearchSpace.{ground_in}
+use Rattle.search_spaces.specs.SearchSpace.{ground_in}
 use Rattle.potentials.specs.Potentials.{potentials_of}
 use Rattle.solver.specs.Improved.{AreDeadSettledOrHigh}
 use Rattle.solver.specs.declared.by_tables.Draft.{Draft}

@@ -10,7 +10,7 @@ use Rattle.solver.specs.declared.searched.Ending.{Ending}
 use Rattle.solver.specs.Attempts.{IfDone}
 use Rattle.solver.specs.Guidance.{by_tables, estimate_by, reports_dead}
 use Rattle.solver.specs.Guided.{IsEnding}
-use Rattle.ground_listings.specs.SearchSpace.{ground_in}
+use Rattle.search_spaces.specs.SearchSpace.{ground_in}
 use Rattle.solver.specs.Improved.{AreSettledOrHigh, AreDeadSettledOrHigh}
 use Rattle.solver.proofs.TablesLemmas.{tables-written}
 use Rattle.solver.proofs.by_tables.answer_by_later_tables.Goals as goal

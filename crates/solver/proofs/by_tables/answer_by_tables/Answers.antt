@@ -10,7 +10,7 @@ use Rattle.solver.specs.declared.fair_tables.TablesEnding.{TablesEnding}
 use Rattle.solver.specs.Attempts.{IfDone}
 use Rattle.solver.specs.Asked.{IsTablesEnding}
 use Rattle.solver.specs.Guidance.{by_tables, estimate_by}
-use Rattle.ground_listings.specs.SearchSpace.{ground_in}
+use Rattle.search_spaces.specs.SearchSpace.{ground_in}
 use Rattle.solver.specs.Improved.{AreSettledOrHigh, AreDeadSettledOrHigh}
 use Rattle.solver.proofs.TablesLemmas.{tables-written}
 use Rattle.solver.proofs.by_tables.answer_by_tables.Goals as goal

@@ -1,7 +1,7 @@
 use Rattle.std.proofs.Common.{subst}
 use Rattle.certificate.specs.Evidence.{evidence_of}
 use Rattle.grounding.specs.Ground.{task_in}
-use Rattle.ground_listings.specs.SearchSpace.{ground_in}
+use Rattle.search_spaces.specs.SearchSpace.{ground_in}
 use Rattle.solver.specs.Guidance.{by_tables, estimate_by, reports_dead}
 use Rattle.solver.specs.Stretches.{IsTrueEnd}
 use Rattle.solver.proofs.by_tables.answer_of_parts.Goals as goal

@@ -2,7 +2,7 @@ use Rattle.std.proofs.Common.{◌≡◌, ◌≤◌, ℕ, Bool, List, length, ap,
 use Rattle.certificate.specs.Evidence.{evidence_of}
 use Rattle.grounding.specs.declared.ground.Ground.{Ground}
 use Rattle.grounding.specs.Ground.{task_in, atoms_in}
-use Rattle.ground_listings.specs.SearchSpace.{ground_in}
+use Rattle.search_spaces.specs.SearchSpace.{ground_in}
 use Rattle.lower_bounds.specs.FairTables.{AreFair}
 use Rattle.lower_bounds.specs.Settled.{initial_value}
 use Rattle.lower_bounds.specs.TableFunctions.{SeveralValues}

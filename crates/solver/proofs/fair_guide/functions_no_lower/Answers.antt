@@ -4,7 +4,7 @@ use Rattle.certificate.specs.Evidence.{is_evidence, evidence_of}
 use Rattle.certificate_definitions.specs.Certificates.{no_landmarks, three}
 use Rattle.grounding.specs.declared.ground.Ground.{Ground}
 use Rattle.grounding.specs.Ground.{task_in, atoms_in}
-use Rattle.ground_listings.specs.SearchSpace.{ground_in}
+use Rattle.search_spaces.specs.SearchSpace.{ground_in}
 use Rattle.model.specs.Grounding.{ground_system}
 use Rattle.lower_bounds.specs.Settled.{initial_value}
 use Rattle.potentials.specs.Potentials.{potentials_of}

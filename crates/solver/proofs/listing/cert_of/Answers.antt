@@ -4,8 +4,8 @@ use Rattle.certificate.specs.ListedSets.{lines_with}
 use Rattle.certificate.specs.CertificateParts.{certificate_with, listed_of}
 use Rattle.packed_state.specs.PooledView.{pooled_states}
 use Rattle.grounding.specs.Ground.{task_in, atoms_in}
-use Rattle.ground_listings.specs.GroundListing.{listed_states}
-use Rattle.ground_listings.specs.SearchSpace.{class_in, ground_in, exchanges_in}
+use Rattle.search_spaces.specs.GroundListing.{listed_states}
+use Rattle.search_spaces.specs.SearchSpace.{class_in, ground_in, exchanges_in}
 use Rattle.solver.specs.Guidance.{estimate_by, reports_dead}
 use Rattle.solver.specs.Listing.{certificate_by, found_certificate}
 use Rattle.solver.specs.Written.{guidance_of}

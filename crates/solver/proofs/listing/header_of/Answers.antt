@@ -4,7 +4,7 @@ use Rattle.certificate_reader.specs.Lines.{claim_of}
 use Rattle.grounding.specs.Ground.{task_in, atoms_in}
 use Rattle.model.specs.NumberedAtoms.{are_distinct}
 use Rattle.model.proofs.GroundTaskLemmas.{numbered-distinct}
-use Rattle.ground_listings.specs.SearchSpace.{ground_in}
+use Rattle.search_spaces.specs.SearchSpace.{ground_in}
 use Rattle.solver.proofs.listing.header_of.Goals as goal
 
 pub copied-requires : goal.copied-requires

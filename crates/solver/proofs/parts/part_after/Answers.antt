@@ -1,6 +1,6 @@
 use Rattle.std.proofs.Common.{subst}
 use Rattle.grounding.specs.Ground.{task_in}
-use Rattle.ground_listings.specs.SearchSpace.{ground_in}
+use Rattle.search_spaces.specs.SearchSpace.{ground_in}
 use Rattle.solver.specs.Attempts.{IfDone}
 use Rattle.solver.specs.Solver.{IsAnswerWithin}
 use Rattle.solver.proofs.parts.part_after.Goals as goal

@@ -4,8 +4,8 @@ use Rattle.std.proofs.lemmas.Bool.{and_parts, leb-true}
 use Rattle.grounding.specs.declared.ground.Ground.{Ground}
 use Rattle.grounding.specs.Ground.{task_in, atoms_in}
 use Rattle.model.specs.Grounding.{ground_system}
-use Rattle.ground_listings.specs.GroundListing.{listed_class, listed_states, listed_width}
-use Rattle.ground_listings.specs.SearchSpace.{class_in}
+use Rattle.search_spaces.specs.GroundListing.{listed_class, listed_states, listed_width}
+use Rattle.search_spaces.specs.SearchSpace.{class_in}
 use Rattle.search.specs.UnderWay as under_way
 use Rattle.solver.specs.Stretches.{IsUnderWay}
 use Rattle.solver.proofs.searched.begin_by.Goals as goal

@@ -1,7 +1,7 @@
 use Rattle.std.proofs.Common.{◌-◌, length}
 use Rattle.grounding.specs.Ground.{task_in}
-use Rattle.ground_listings.specs.SearchSpace.{ground_in}
-use Rattle.ground_listings.specs.GroundListing.{listed_states}
+use Rattle.search_spaces.specs.SearchSpace.{ground_in}
+use Rattle.search_spaces.specs.GroundListing.{listed_states}
 use Rattle.search.specs.UnderWay.{store_in}
 use Rattle.devices.specs.Progress.{MayContinue}
 use Rattle.solver.specs.Said.{IsLineWithin}

@@ -2,7 +2,7 @@ use Rattle.std.proofs.Common.{◌≡◌, ◌∙◌, ◌<◌, ◌≤◌, [], Some
 use Rattle.std.specs.Prelude.{slice_get}
 use Rattle.std.proofs.lemmas.List.{take_all}
 use Rattle.std.proofs.lemmas.Option.{same_Some, slice_get_read, slice_get-get_or}
-use Rattle.ground_listings.specs.GroundListing.{listed_states}
+use Rattle.search_spaces.specs.GroundListing.{listed_states}
 use Rattle.certificate.specs.CertificateParts.{listed_of}
 use Rattle.search.specs.Outcome as search
 use Rattle.solver.specs.Listing.{mark_of_line}

@@ -1,5 +1,5 @@
 use Rattle.std.proofs.Common.{◌≡◌, ℕ, Bool, List, take, map}
-use Rattle.ground_listings.specs.GroundListing.{listed_states}
+use Rattle.search_spaces.specs.GroundListing.{listed_states}
 use Rattle.certificate.specs.CertificateParts.{listed_of}
 use Rattle.search.specs.Outcome as search
 use Rattle.solver.specs.Guided.{CanBeMarked}

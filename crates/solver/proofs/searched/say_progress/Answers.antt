@@ -2,11 +2,11 @@ use Rattle.std.proofs.Common.{◌≡◌, ◌∙◌, ◌≤◌, ℕ, Bool, List, 
 use Rattle.std.specs.Prelude.{count_by}
 use Rattle.std.proofs.lemmas.List.Sums.{count_by-le-length}
 use Rattle.grounding.specs.Ground.{task_in, atoms_in}
-use Rattle.ground_listings.specs.GroundListing.{listed_states}
-use Rattle.ground_listings.specs.Reachable.{AreReachable}
-use Rattle.ground_listings.specs.SearchSpace.{class_in, ground_in, system_of}
-use Rattle.ground_listings.specs.declared.ground_listing.GroundListing.{GroundListing}
-use Rattle.ground_listings.proofs.TaskLemmas.{task_costs_at_least, as_many_reachable, classes_reach_alike}
+use Rattle.search_spaces.specs.GroundListing.{listed_states}
+use Rattle.search_spaces.specs.Reachable.{AreReachable}
+use Rattle.search_spaces.specs.SearchSpace.{class_in, ground_in, system_of}
+use Rattle.search_spaces.specs.declared.ground_listing.GroundListing.{GroundListing}
+use Rattle.search_spaces.proofs.TaskLemmas.{task_costs_at_least, as_many_reachable, classes_reach_alike}
 use Rattle.model.specs.Task.{Atom}
 use Rattle.model.specs.Grounding.{ground_system}
 use Rattle.search.specs.OpenList.{IsLeastSum}

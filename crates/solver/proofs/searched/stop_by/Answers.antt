@@ -1,9 +1,9 @@
 use Rattle.std.proofs.Common.{◌≡◌, ℕ, Bool, List, sym, subst, length}
 use Rattle.model.specs.Runs.{System}
-use Rattle.ground_listings.specs.SearchSpace.{class_in, system_of}
-use Rattle.ground_listings.specs.GroundListing.{listed_class, listed_states}
-use Rattle.ground_listings.specs.declared.ground_listing.GroundListing.{GroundListing}
-use Rattle.ground_listings.proofs.TaskLemmas.{classes_reach_alike}
+use Rattle.search_spaces.specs.SearchSpace.{class_in, system_of}
+use Rattle.search_spaces.specs.GroundListing.{listed_class, listed_states}
+use Rattle.search_spaces.specs.declared.ground_listing.GroundListing.{GroundListing}
+use Rattle.search_spaces.proofs.TaskLemmas.{classes_reach_alike}
 use Rattle.search.specs.Nodes.{AreClosed}
 use Rattle.search.specs.Outcome.{AreClassesOf}
 use Rattle.search.specs.Progress.{IsSearch, nodes_in}

@@ -4,7 +4,7 @@ use Rattle.std.proofs.lemmas.Option.{slice_get_within}
 use Rattle.model.specs.Task.{Task, Atom}
 use Rattle.model.specs.NumberedAtoms.{numbered_atoms}
 use Rattle.lower_bounds.specs.TableFunctions.{Table}
-use Rattle.landmark_functions.specs.LandmarkLines.{NumberedLandmarks, share_count}
+use Rattle.lower_bounds.specs.LandmarkLines.{NumberedLandmarks, share_count}
 use Rattle.landmark_zones.specs.Landmarks.{landmarks_of}
 use Rattle.landmarks.specs.declared.testing.Fairness.{Fairness}
 use Rattle.landmarks.specs.Breaking.{AreSorted}

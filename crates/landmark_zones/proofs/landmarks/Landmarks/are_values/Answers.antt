@@ -1,7 +1,7 @@
 use Rattle.std.proofs.Common.{◌≡◌, ◌∙◌, ◌+◌, drop, length, map, sym, ap}
 use Rattle.std.specs.Prelude.{◌&&◌}
 use Rattle.std.specs.List.{list_all}
-use Rattle.landmark_functions.specs.LandmarkLines.{is_value}
+use Rattle.lower_bounds.specs.LandmarkLines.{is_value}
 use Rattle.landmark_zones.specs.Landmarks.{landmarks_of, share_of}
 use Rattle.landmark_zones.proofs.LimitsLemmas.{one-decides}
 use Rattle.landmark_zones.proofs.landmarks.Landmarks.are_values.Goals as goal

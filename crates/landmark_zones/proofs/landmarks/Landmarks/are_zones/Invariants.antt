@@ -1,6 +1,6 @@
 use Rattle.std.proofs.Common.{◌≡◌, drop}
 use Rattle.std.specs.List.{list_all}
-use Rattle.landmark_functions.specs.LandmarkLines.{is_zone}
+use Rattle.lower_bounds.specs.LandmarkLines.{is_zone}
 use Rattle.landmark_zones.specs.Landmarks.{landmarks_of}
 use Rattle.landmark_zones.proofs.landmarks.Landmarks.are_zones.Given as goal
 

@@ -1,6 +1,6 @@
 use Rattle.std.proofs.Common.{◌≡◌, length}
 use Rattle.packed_state.specs.Packed.{bits_of}
-use Rattle.ground_listings.specs.GroundListing.{listed_width}
+use Rattle.search_spaces.specs.GroundListing.{listed_width}
 use Rattle.solver.proofs.stopped.Stopped.samples.Given as goal
 
 -- the set is as wide as the states

@@ -1,6 +1,6 @@
 use Rattle.std.proofs.Common.{◌≡◌, length}
 use Rattle.packed_state.specs.Packed.{bits_of}
-use Rattle.ground_listings.specs.GroundListing.{listed_width}
+use Rattle.search_spaces.specs.GroundListing.{listed_width}
 use Rattle.tables.specs.Several.{Knows}
 use Rattle.solver.proofs.stopped.Stopped.saving_by.Given as goal
 

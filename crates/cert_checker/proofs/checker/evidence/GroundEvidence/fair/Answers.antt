@@ -3,8 +3,8 @@ use Rattle.std.specs.Prelude.{IsTrue}
 use Rattle.std.specs.List.{list_all}
 use Rattle.grounding.specs.Ground.{task_in, atoms_in}
 use Rattle.certificate.specs.Certificate.{certificate_of}
-use Rattle.landmark_functions.specs.LandmarkLines.{NumberedLandmarks, share_count}
-use Rattle.landmark_functions.specs.Laws.{is_zone_over}
+use Rattle.lower_bounds.specs.LandmarkLines.{NumberedLandmarks, share_count}
+use Rattle.lower_bounds.specs.LandmarkLaws.{is_zone_over}
 use Rattle.tables.specs.Several.{width_of}
 use Rattle.cert_checker.proofs.LandmarkFaultsLemmas.{few_shares, zones_over}
 use Rattle.cert_checker.proofs.PackedListingLemmas.{numbered_after}

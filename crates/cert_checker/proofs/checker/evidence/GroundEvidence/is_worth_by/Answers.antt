@@ -5,8 +5,8 @@ use Rattle.std.proofs.lemmas.Bool.{ltb-true}
 use Rattle.std.proofs.lemmas.List.{length-map}
 use Rattle.std.proofs.lemmas.Option.{slice_get-get_or}
 use Rattle.packed_state.specs.Packed.{bits_of}
-use Rattle.landmark_functions.specs.LandmarkFunctions.{value}
-use Rattle.landmark_functions.specs.Laws.{is_zone_over}
+use Rattle.lower_bounds.specs.LandmarkFunctions.{value}
+use Rattle.lower_bounds.specs.LandmarkLaws.{is_zone_over}
 use Rattle.landmark_zones.specs.Landmarks.{landmarks_of, share_of}
 use Rattle.landmarks.proofs.FairnessLemmas.{few-of}
 use Rattle.tables.proofs.ValueLemmas.{worth-is}
