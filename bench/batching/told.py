@@ -1,4 +1,4 @@
-"""What the program tells on its standard error with --progress (README.md, "How do I use it?")."""
+"""What the program tells on its standard error with --progress (docs/usage.md, "Progress")."""
 
 from __future__ import annotations
 
